@@ -1,0 +1,4 @@
+pub mod RowLaws
+pub mod RecordsLaws
+pub mod CadenceLaws
+pub mod HistoryLaws

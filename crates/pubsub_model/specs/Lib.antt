@@ -1,0 +1,5 @@
+pub mod Rows
+pub mod History
+pub mod Frames
+pub mod Cadence
+pub mod Records
