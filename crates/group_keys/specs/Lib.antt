@@ -1,0 +1,3 @@
+pub mod KeySets
+pub mod Faults
+pub mod Ring
