@@ -1,0 +1,10 @@
+pub mod Causes
+pub mod Counted
+pub mod Decimals
+pub mod Gots
+pub mod Journals
+pub mod Named
+pub mod Ordinary
+pub mod Outputs
+pub mod Told
+pub mod Written

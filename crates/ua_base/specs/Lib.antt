@@ -1,0 +1,17 @@
+pub mod Calls
+pub mod Cause
+pub mod Fates
+pub mod Files
+pub mod Output
+pub mod Journal
+pub mod Net
+pub mod Names
+pub mod MemoryFiles
+pub mod MemoryFolders
+pub mod MemorySinks
+pub mod Marks
+pub mod Loopbacks
+pub mod MemoryLinks
+pub mod Streams
+pub mod StdSinks
+pub mod DirFolders

@@ -1,0 +1,31 @@
+//! Files that are read whole.
+ghost use Rattle.std.specs.Prelude.{◌≡◌, ◌+◌, ◌-◌, ◌^◌, ◌<◌, List, ℕ};
+ghost use Rattle.ua_base.specs.Cause.{HasCause};
+ghost use Rattle.ua_base.specs.Files.{Told, ReadGives};
+
+/// How a read ended. After any answer but `Done` the buffer holds any bytes.
+#[derive(Clone, Copy, Debug, PartialEq, Eq)]
+pub enum ReadEnd {
+    Done,
+    /// A read failed, or there is no file of that name.
+    Failed,
+    /// The file is over the limit; so many bytes of it were read.
+    Long { read: u64 },
+    Memory,
+}
+
+/// Files that are read whole by their names.
+pub trait Folder {
+    /// What is told of the file of a name.
+    ghost tells: { Self → List ℕ → Told };
+
+    /// How often a read has failed.
+    ghost faults: { Self → ℕ };
+
+    /// Reads a whole file of at most `limit` bytes into `into`, which is emptied first.
+    fn read_whole(&mut self, name: &str, limit: u64, into: &mut Vec<u8>) -> ReadEnd
+        requires { limit < 2 ^ 64 - 1 }
+        ensures gives { ReadGives result limit (tells self.old name.now) into.new.items }
+        ensures stands { (other : List ℕ) → tells self.new other ≡ tells self.old other }
+        ensures cause { HasCause (faults self.old) (faults self.new) (result ≡ ReadEnd.Failed) };
+}

@@ -1,0 +1,19 @@
+//! A gate before and after each item of a thread, by which a test orders threads.
+use std::sync::Wait;
+
+/// The k-th item of a thread is counted from 0. The publisher is thread 8, and its items are its ticks.
+pub trait Gate: Sync {
+    fn before<R: Wait>(&self, rt: &R, thread: u32, k: u32);
+
+    fn after<R: Wait>(&self, rt: &R, thread: u32, k: u32);
+}
+
+/// A gate that holds nobody.
+#[derive(Clone, Copy)]
+pub struct OpenGate;
+
+impl Gate for OpenGate {
+    fn before<R: Wait>(&self, _rt: &R, _thread: u32, _k: u32) {}
+
+    fn after<R: Wait>(&self, _rt: &R, _thread: u32, _k: u32) {}
+}
