@@ -19,6 +19,12 @@ Sends datagram sent.Done before after = after.journal ≡ before.journal ++ Sent
 Sends datagram sent.Failed before after = after.journal ≡ before.journal ++ SendFailed ∷ []
 Sends datagram sent.Memory before after = after.journal ≡ before.journal
 
+-- a send leaves what waits, and may add behind it; which datagrams it adds is the link's own promise
+abbrev pub Queues : SentEnd → Wire → Wire → Type 0
+Queues sent.Done before after = (added : List (List ℕ)) × (after.waiting ≡ before.waiting ++ added)
+Queues sent.Failed before after = (added : List (List ℕ)) × (after.waiting ≡ before.waiting ++ added)
+Queues sent.Memory before after = after.waiting ≡ before.waiting
+
 -- `into` is the buffer after the call
 abbrev pub Receives : Received → List ℕ → Wire → Wire → Type 0
 Receives (received.Datagram n) into before after =

@@ -15,6 +15,7 @@ mod memory_link;
 mod memory_sink;
 mod name;
 mod no_memory;
+mod session_ends;
 mod sink;
 mod std_sink;
 mod stream;
@@ -29,6 +30,7 @@ pub use memory_link::MemoryLink;
 pub use memory_sink::{MemorySink, SINK_ROOM};
 pub use name::Name;
 pub use no_memory::NoMemory;
+pub use session_ends::{Pumped, Ticked};
 pub use sink::{Sink, WriteEnd};
 pub use std_sink::StdSink;
 

@@ -7,7 +7,7 @@ ghost use Rattle.ua_base.specs.Fates.{AreFates};
 ghost use Rattle.ua_base.specs.Journal.{Wire, Tells, sent_list, received_list};
 ghost use Rattle.ua_base.specs.Loopbacks.{room_in};
 ghost use Rattle.ua_base.specs.Marks.{EndsInNothings};
-ghost use Rattle.ua_base.specs.Net.{Opens, Sends, Receives, FitsBuffer};
+ghost use Rattle.ua_base.specs.Net.{Opens, Sends, Queues, Receives, FitsBuffer};
 
 use crate::loopback::Loopback;
 use crate::{Fate, Link, Opened, Received, Sent};
@@ -147,6 +147,7 @@ impl Link for MemoryLink {
         requires short { length datagram.now < 2 ^ 32 }
 
         ensures entry { Tells (told_by self.old) (told_by self.new) (Sends datagram.now result) }
+        ensures waiting { Tells (told_by self.old) (told_by self.new) (Queues result) }
         ensures open { is_opened self.new ≡ is_opened self.old }
         ensures memory { sending_takes_memory self.new ≡ sending_takes_memory self.old }
         ensures only_where_taken { result ≡ Sent.Memory → IsTrue (sending_takes_memory self.old) }

@@ -190,15 +190,6 @@ fn a_gate_holds_nobody(rt: HostRuntime) {
     OpenGate.after(&rt, 8, 0);
 }
 
-#[test]
-fn want_of_memory_is_one_error(rt: HostRuntime) -> Result<(), Fail> {
-    let alloc = rt.alloc();
-    let mut list: Vec<u8> = Vec::new(alloc);
-    list.push(1)?;
-    assert_eq!(rt; NoMemory::from(AllocError), NoMemory);
-    Ok(())
-}
-
 // Gives pieces of at most three bytes, and fails after so many of them.
 #[derive(Drop)]
 struct Piecewise {

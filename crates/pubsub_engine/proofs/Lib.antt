@@ -1,0 +1,9 @@
+pub mod Readings
+pub mod Entries
+pub mod Turning
+pub mod Stepping
+pub mod Authors
+pub mod Showing
+pub mod DivisionLaws
+mod Rows
+pub mod Published

@@ -1,0 +1,372 @@
+-- Where each received datagram was sent before, what the reader holds is the row of the version that the log has at its number.
+use Rattle.std.proofs.Common.{◌≡◌, refl, sym, ap, ◌∙◌, subst, arith, ℕ, zero, suc, ◌+◌, ◌-◌, ◌%◌, ◌^◌, ◌<◌, ◌≤◌, Bool, true, false, ◌||◌, cond, List, [], ◌∷◌, ◌++◌, length, take, drop, reverse, Option, Some, None, ◌⊎◌, inl, inr, All, append_assoc, length-append}
+use Rattle.std.specs.Prelude.{nat_le, ◌==◌, ◌/◌, find, option_map, filter_map, Contains}
+use Rattle.std.specs.Option.{option_or}
+use Rattle.std.specs.List.{cons_option}
+use Rattle.std.specs.Int.{w16, to_le_bytes}
+use Rattle.std.proofs.lemmas.Bool.Decides.{nat_tests}
+use Rattle.std.proofs.lemmas.List.{append-nil, reverse-append}
+use Rattle.std.proofs.lemmas.List.Elements.{All-nil, All-cons, All-head, All-tail, All-append, All-push, All-weaker, All-contains, Contains-append_left}
+use Rattle.std.proofs.lemmas.List.Folds.{find-append}
+use Rattle.seq_number.specs.Numbers.{wire, place_from}
+use Rattle.ua_base.specs.Journal.{Entry, Sent, SendFailed, Got, Empty, Long, ReceiveFailed, IsHonest}
+use Rattle.pubsub_model.specs.declared.row.Row.{Row}
+use Rattle.pubsub_model.specs.Rows.{cons_if}
+use Rattle.pubsub_model.specs.Frames.{Frame, Whole}
+use Rattle.pubsub_model.specs.Cadence.{log_of}
+use Rattle.pubsub_model.specs.Records.{Item, Arrival, Came, Cut, Held, at, since_cut, records, is_record, held, held_in}
+use Rattle.pubsub_model.proofs.CadenceLaws.{log_of-key}
+use Rattle.frame_codec.specs.declared.frame.KeyFrame.{KeyFrame}
+use Rattle.frame_codec.specs.FrameBytes.{frame_bytes, frame_of}
+use Rattle.frame_codec.proofs.FrameLaws.{length-frame_bytes, frame_of-bytes}
+use Rattle.pubsub_engine.specs.declared.sampled.Sampled.{Sampled}
+use Rattle.pubsub_engine.specs.Datagram.{datagram, has_header, frame_in}
+use Rattle.pubsub_engine.specs.Steps.{Step, Tick, Pump, moment_of, IsPump, send_entry, send_entries}
+use Rattle.pubsub_engine.specs.Publishing.{built_in, Deed, Ticked, turns_in, writer_past, made_in, datagrams_of, turn_at, deeds, sampled_in, sends_of, log_at, journal, IsRun}
+use Rattle.pubsub_engine.specs.Reading.{item_of, arrival_in, arrivals_in, arrivals, numbered, held_frame}
+use Rattle.pubsub_engine.specs.Report.{version_of}
+use Rattle.pubsub_engine.specs.Holding.{HasSample, AreValues, SampleValues, IsPublished}
+use Rattle.pubsub_engine.proofs.Turning.{has_turn, made_is}
+
+-- ---- what is written is read
+
+ten : (s t : ℕ) (rest : List ℕ) → nat_le 10 (length (113 ∷ 5 ∷ 9 ∷ 1 ∷ 0 ∷ s ∷ t ∷ 1 ∷ 1 ∷ 0 ∷ rest)) ≡ true
+ten s t rest = grind (arith, nat_tests)
+
+starts : (sequence number : ℕ) (row : Row) → has_header (datagram sequence number row) ≡ true
+unfolding has_header datagram
+starts sequence number row = rw (ten (sequence % 256) (sequence / 256 % 256) (frame_bytes number row)) refl
+
+pub frame_in-datagram : (sequence number : ℕ) (row : Row) → number < 2 ^ 16 → AreValues row → frame_in (datagram sequence number row) ≡ Some (record { number = number; row = row })
+unfolding frame_in datagram
+frame_in-datagram sequence number row small v =
+    rw (starts sequence number row) (sym (ap frame_of (append-nil (frame_bytes number row))) ∙ frame_of-bytes number 0 row small v.a v.b v.c v.d)
+
+-- ---- the log after one more step
+
+-- at a tick: the log as it was, or with the place and version of its turn
+log_on : Bool → List (ℕ × ℕ) → ℕ → List (ℕ × ℕ)
+log_on b log version = log ++ cond b ((length log, version) ∷ []) []
+
+log_case : (b : Bool) (steps : List Step) (ms : ℕ) (closing : Bool) (sample : List Sampled) (done : List Bool) → has_turn steps (moment_of steps + ms) closing ≡ b
+    → log_at (Tick ms closing sample done ∷ steps) ≡ log_on b (log_at steps) (sampled_in sample).version
+unfolding log_on
+log_case true steps ms closing sample done e =
+    let key = log_of-key built_in (turn_at (moment_of steps + ms) closing sample) (writer_past (deeds steps)) refl in
+    let place : 0 + length (log_at steps) ≡ length (log_at steps) = omega arith in
+    rw e (key ∙ ap (λ (n : ℕ). log_at steps ++ (n, (sampled_in sample).version) ∷ []) place)
+log_case false steps ms closing sample done e = rw e (sym (append-nil (log_at steps)))
+
+-- each place is below the length
+abbrev AreBelow : ℕ → List (ℕ × ℕ) → Type 0
+AreBelow n log = All (λ (e : ℕ × ℕ). e.0 < n) log
+
+below_on : (b : Bool) (log : List (ℕ × ℕ)) (version : ℕ) → AreBelow (length log) log → AreBelow (length (log_on b log version)) (log_on b log version)
+unfolding log_on
+below_on true log version all =
+    let grown : length (log ++ (length log, version) ∷ []) ≡ length log + 1 = length-append log ((length log, version) ∷ []) in
+    let here : length log < length (log ++ (length log, version) ∷ []) = omega arith in
+    All-push (λ (e : ℕ × ℕ). e.0 < length (log ++ (length log, version) ∷ [])) log (length log, version)
+    (All-weaker (λ (e : ℕ × ℕ). e.0 < length log) (λ (e : ℕ × ℕ). e.0 < length (log ++ (length log, version) ∷ [])) (λ e lt. omega arith) log all) here
+below_on false log version all = subst (λ (l : List (ℕ × ℕ)). AreBelow (length l) l) (sym (append-nil log)) all
+
+places_below : (steps : List Step) → AreBelow (length (log_at steps)) (log_at steps)
+places_below [] = All-nil (λ (e : ℕ × ℕ). e.0 < 0)
+places_below (Pump entries ∷ before) = places_below before
+places_below (Tick ms closing sample done ∷ before) =
+    let b = has_turn before (moment_of before + ms) closing in
+    subst (λ (l : List (ℕ × ℕ)). AreBelow (length l) l) (sym (log_case b before ms closing sample done refl)) (below_on b (log_at before) (sampled_in sample).version (places_below before))
+
+-- no entry has a number at or above the length
+none_at : (log : List (ℕ × ℕ)) (n : ℕ) → n < 65536 → AreBelow n log → find (λ (e : ℕ × ℕ). wire e.0 == n) log ≡ None
+none_at [] n small all = refl
+none_at (e ∷ log) n small all =
+    let lt : e.0 < n = All-head (λ (x : ℕ × ℕ). x.0 < n) e log all in
+    let other : (wire e.0 == n) ≡ false = grind (arith, nat_tests) in
+    rw other (none_at log n small (All-tail (λ (x : ℕ × ℕ). x.0 < n) e log all))
+
+-- the entry of a turn is found at its place
+logged_now : (log : List (ℕ × ℕ)) (version : ℕ) → length log < 65536 → AreBelow (length log) log → version_of (log ++ (length log, version) ∷ []) (length log) ≡ Some version
+logged_now log version small all =
+    let here : (wire (length log) == length log) ≡ true = grind (arith, nat_tests) in
+    let found : find (λ (e : ℕ × ℕ). wire e.0 == length log) (log ++ (length log, version) ∷ []) ≡ Some (length log, version) =
+    find-append (λ (e : ℕ × ℕ). wire e.0 == length log) log ((length log, version) ∷ [])
+    ∙ ap (λ (o : Option (ℕ × ℕ)). option_or o (find (λ (e : ℕ × ℕ). wire e.0 == length log) ((length log, version) ∷ []))) (none_at log (length log) small all)
+    ∙ rw here refl in
+    ap (option_map (λ (e : ℕ × ℕ). e.1)) found
+
+-- what is found stays found
+still_found : (log more : List (ℕ × ℕ)) (n version : ℕ) (found : Option (ℕ × ℕ)) → find (λ (e : ℕ × ℕ). wire e.0 == n) log ≡ found → option_map (λ (e : ℕ × ℕ). e.1) found ≡ Some version → version_of (log ++ more) n ≡ Some version
+still_found log more n version None e h = absurd (cc)
+still_found log more n version (Some x) e h =
+    ap (option_map (λ (e : ℕ × ℕ). e.1)) (find-append (λ (e : ℕ × ℕ). wire e.0 == n) log more ∙ ap (λ (o : Option (ℕ × ℕ)). option_or o (find (λ (e : ℕ × ℕ). wire e.0 == n) more)) e) ∙ h
+
+still_logged : (b : Bool) (log : List (ℕ × ℕ)) (v n version : ℕ) → version_of log n ≡ Some version → version_of (log_on b log v) n ≡ Some version
+unfolding log_on
+still_logged b log v n version h = still_found log (cond b ((length log, v) ∷ []) []) n version (find (λ (e : ℕ × ℕ). wire e.0 == n) log) refl h
+
+-- ---- what was sent
+
+-- a datagram that a turn of these steps made, with the sample that it publishes
+record SentOf (steps : List Step) (bytes : List ℕ) : Type 0 where
+  sequence : ℕ
+  number : ℕ
+  sample : Sampled
+  small : number < 2 ^ 16
+  values : AreValues sample.row
+  spelled : bytes ≡ datagram sequence number sample.row
+  sampled : HasSample steps sample
+  logged : version_of (log_at steps) number ≡ Some sample.version
+
+sent_pump : (entries : List Entry) (steps : List Step) (bytes : List ℕ) → SentOf steps bytes → SentOf (Pump entries ∷ steps) bytes
+sent_pump entries steps bytes s =
+    record { sequence = s.sequence; number = s.number; sample = s.sample; small = s.small; values = s.values; spelled = s.spelled; sampled = s.sampled; logged = s.logged }
+
+sent_tick : (ms : ℕ) (closing : Bool) (sample : List Sampled) (done : List Bool) (steps : List Step) (bytes : List ℕ) → SentOf steps bytes → SentOf (Tick ms closing sample done ∷ steps) bytes
+sent_tick ms closing sample done steps bytes s = record {
+  sequence = s.sequence;
+  number = s.number;
+  sample = s.sample;
+  small = s.small;
+  values = s.values;
+  spelled = s.spelled;
+  sampled = inr s.sampled;
+  logged =
+      let b = has_turn steps (moment_of steps + ms) closing in
+      ap (λ (l : List (ℕ × ℕ)). version_of l s.number) (log_case b steps ms closing sample done refl) ∙ still_logged b (log_at steps) (sampled_in sample).version s.number s.sample.version s.logged;
+}
+
+-- what an entry says: a sent datagram is of these steps
+abbrev SentEntry : List Step → Entry → Type 0
+SentEntry steps (Sent bytes) = SentOf steps bytes
+SentEntry steps SendFailed = Unit {0}
+SentEntry steps (Got bytes) = Unit {0}
+SentEntry steps Empty = Unit {0}
+SentEntry steps (Long size) = Unit {0}
+SentEntry steps ReceiveFailed = Unit {0}
+
+entry_pump : (entries : List Entry) (steps : List Step) (entry : Entry) → SentEntry steps entry → SentEntry (Pump entries ∷ steps) entry
+entry_pump entries steps (Sent bytes) h = sent_pump entries steps bytes h
+entry_pump entries steps SendFailed h = tt
+entry_pump entries steps (Got bytes) h = tt
+entry_pump entries steps Empty h = tt
+entry_pump entries steps (Long size) h = tt
+entry_pump entries steps ReceiveFailed h = tt
+
+entry_tick : (ms : ℕ) (closing : Bool) (sample : List Sampled) (done : List Bool) (steps : List Step) (entry : Entry) → SentEntry steps entry → SentEntry (Tick ms closing sample done ∷ steps) entry
+entry_tick ms closing sample done steps (Sent bytes) h = sent_tick ms closing sample done steps bytes h
+entry_tick ms closing sample done steps SendFailed h = tt
+entry_tick ms closing sample done steps (Got bytes) h = tt
+entry_tick ms closing sample done steps Empty h = tt
+entry_tick ms closing sample done steps (Long size) h = tt
+entry_tick ms closing sample done steps ReceiveFailed h = tt
+
+-- a pump sends nothing
+receive_on : (steps : List Step) (n : ℕ) (x : Entry) (entries : List Entry) → IsPump (suc n) (x ∷ entries) → (IsPump n entries → All (SentEntry steps) entries) → SentEntry steps x × All (SentEntry steps) entries
+receive_on steps n (Sent bytes) entries h go = absurd h
+receive_on steps n SendFailed entries h go = absurd h
+receive_on steps n (Got bytes) entries h go = (tt, go h.1)
+receive_on steps n Empty entries h go = (tt, subst (All (SentEntry steps)) (sym h) (All-nil (SentEntry steps)))
+receive_on steps n (Long size) entries h go = (tt, go h.1)
+receive_on steps n ReceiveFailed entries h go = (tt, subst (All (SentEntry steps)) (sym h) (All-nil (SentEntry steps)))
+
+pump_sent : (steps : List Step) (n : ℕ) (entries : List Entry) → IsPump n entries → All (SentEntry steps) entries
+pump_sent steps zero [] h = All-nil (SentEntry steps)
+pump_sent steps zero (x ∷ entries) h = absurd h
+pump_sent steps (suc n) [] h = absurd h
+pump_sent steps (suc n) (x ∷ entries) h = let r = receive_on steps n x entries h (pump_sent steps n entries) in All-cons (SentEntry steps) x entries r.0 r.1
+
+send_sent : (steps : List Step) (bytes : List ℕ) (done : Bool) → SentOf steps bytes → SentEntry steps (send_entry (bytes, done))
+send_sent steps bytes true s = s
+send_sent steps bytes false s = tt
+
+one_sent : (steps : List Step) (bytes : List ℕ) (done : List Bool) → SentOf steps bytes → All (SentEntry steps) (send_entries (bytes ∷ []) done)
+one_sent steps bytes [] s = All-nil (SentEntry steps)
+one_sent steps bytes (b ∷ done) s = All-cons (SentEntry steps) (send_entry (bytes, b)) [] (send_sent steps bytes b s) (All-nil (SentEntry steps))
+
+logged_turn : (log : List (ℕ × ℕ)) (version : ℕ) → length log < 65536 → AreBelow (length log) log → version_of (log_on true log version) (length log) ≡ Some version
+unfolding log_on
+logged_turn log version small all = logged_now log version small all
+
+-- the datagram of a turn
+turn_sent : (steps : List Step) (ms : ℕ) (closing : Bool) (sample : List Sampled) (done : List Bool) → AreValues (sampled_in sample).row → length (log_at steps) < 65536 → has_turn steps (moment_of steps + ms) closing ≡ true
+    → SentOf (Tick ms closing sample done ∷ steps) (datagram (wire (made_in (turns_in (Ticked (moment_of steps + ms) ∷ deeds steps)))) (length (log_at steps)) (sampled_in sample).row)
+turn_sent steps ms closing sample done v few turns = record {
+  sequence = wire (made_in (turns_in (Ticked (moment_of steps + ms) ∷ deeds steps)));
+  number = length (log_at steps);
+  sample = sampled_in sample;
+  small = few;
+  values = v;
+  spelled = refl;
+  sampled = inl refl;
+  logged = ap (λ (l : List (ℕ × ℕ)). version_of l (length (log_at steps))) (log_case true steps ms closing sample done turns) ∙ logged_turn (log_at steps) (sampled_in sample).version few (places_below steps);
+}
+
+tick_sent : (b : Bool) (steps : List Step) (ms : ℕ) (closing : Bool) (sample : List Sampled) (done : List Bool) → has_turn steps (moment_of steps + ms) closing ≡ b → AreValues (sampled_in sample).row → length (log_at (Tick ms closing sample done ∷ steps)) ≤ 65536
+    → All (SentEntry (Tick ms closing sample done ∷ steps)) (send_entries (sends_of (Tick ms closing sample done ∷ steps)) done)
+unfolding log_on
+tick_sent true steps ms closing sample done e v few =
+    let now = moment_of steps + ms in
+    let grown : length (log_at (Tick ms closing sample done ∷ steps)) ≡ length (log_at steps) + 1 = ap length (log_case true steps ms closing sample done e) ∙ length-append (log_at steps) ((length (log_at steps), (sampled_in sample).version) ∷ []) in
+    let short : length (log_at steps) < 65536 = omega arith in
+    let made = made_is (Ticked now ∷ deeds steps) (turn_at now closing sample) short in
+    let sends : sends_of (Tick ms closing sample done ∷ steps) ≡ datagram (wire (made_in (turns_in (Ticked now ∷ deeds steps)))) (length (log_at steps)) (sampled_in sample).row ∷ [] = rw e made in
+    subst (λ (ds : List (List ℕ)). All (SentEntry (Tick ms closing sample done ∷ steps)) (send_entries ds done)) (sym sends)
+    (one_sent (Tick ms closing sample done ∷ steps) (datagram (wire (made_in (turns_in (Ticked now ∷ deeds steps)))) (length (log_at steps)) (sampled_in sample).row) done (turn_sent steps ms closing sample done v short e))
+tick_sent false steps ms closing sample done e v few =
+    let sends : sends_of (Tick ms closing sample done ∷ steps) ≡ [] = rw e refl in
+    subst (λ (ds : List (List ℕ)). All (SentEntry (Tick ms closing sample done ∷ steps)) (send_entries ds done)) (sym sends) (All-nil (SentEntry (Tick ms closing sample done ∷ steps)))
+
+longer : (b : Bool) (log : List (ℕ × ℕ)) (version : ℕ) → length log ≤ length (log_on b log version)
+unfolding log_on
+longer b log version = omega (arith, length-append log (cond b ((length log, version) ∷ []) []))
+
+all_sent : (steps : List Step) → IsRun steps → SampleValues steps → length (log_at steps) ≤ 65536 → All (SentEntry steps) (journal steps)
+all_sent [] run v few = All-nil (SentEntry [])
+all_sent (Pump entries ∷ before) run v few =
+    All-append (SentEntry (Pump entries ∷ before)) (journal before) entries
+    (All-weaker (SentEntry before) (SentEntry (Pump entries ∷ before)) (entry_pump entries before) (journal before) (all_sent before run.1 v few)) (pump_sent (Pump entries ∷ before) 65536 entries run.0)
+all_sent (Tick ms closing sample done ∷ before) run v few =
+    let b = has_turn before (moment_of before + ms) closing in
+    let grown : length (log_at (Tick ms closing sample done ∷ before)) ≡ length (log_on b (log_at before) (sampled_in sample).version) = ap length (log_case b before ms closing sample done refl) in
+    let short : length (log_at before) ≤ 65536 = omega (arith, grown, few, longer b (log_at before) (sampled_in sample).version) in
+    All-append (SentEntry (Tick ms closing sample done ∷ before)) (journal before) (send_entries (sends_of (Tick ms closing sample done ∷ before)) done)
+    (All-weaker (SentEntry before) (SentEntry (Tick ms closing sample done ∷ before)) (entry_tick ms closing sample done before) (journal before) (all_sent before run.1 v.1 short))
+    (tick_sent b before ms closing sample done refl v.0 few)
+
+-- ---- what came
+
+-- what an entry says: a received datagram is of these steps
+abbrev GotEntry : List Step → Entry → Type 0
+GotEntry steps (Sent bytes) = Unit {0}
+GotEntry steps SendFailed = Unit {0}
+GotEntry steps (Got bytes) = SentOf steps bytes
+GotEntry steps Empty = Unit {0}
+GotEntry steps (Long size) = Unit {0}
+GotEntry steps ReceiveFailed = Unit {0}
+
+honest_entry : (steps : List Step) (earlier rest : List Entry) (x : Entry) → All (SentEntry steps) (journal steps) → IsHonest (journal steps) → journal steps ≡ earlier ++ x ∷ rest → GotEntry steps x
+honest_entry steps earlier rest (Sent bytes) all honest e = tt
+honest_entry steps earlier rest SendFailed all honest e = tt
+honest_entry steps earlier rest (Got bytes) all honest e =
+    let there : Contains (earlier ++ Got bytes ∷ rest) (Sent bytes) = Contains-append_left earlier (Got bytes ∷ rest) (Sent bytes) (honest earlier rest bytes e) in
+    All-contains (SentEntry steps) (journal steps) (Sent bytes) all (subst (λ (l : List Entry). Contains l (Sent bytes)) (sym e) there)
+honest_entry steps earlier rest Empty all honest e = tt
+honest_entry steps earlier rest (Long size) all honest e = tt
+honest_entry steps earlier rest ReceiveFailed all honest e = tt
+
+honest_all : (steps : List Step) (earlier rest : List Entry) → All (SentEntry steps) (journal steps) → IsHonest (journal steps) → journal steps ≡ earlier ++ rest → All (GotEntry steps) rest
+honest_all steps earlier [] all honest e = All-nil (GotEntry steps)
+honest_all steps earlier (x ∷ rest) all honest e =
+    All-cons (GotEntry steps) x rest (honest_entry steps earlier rest x all honest e) (honest_all steps (earlier ++ x ∷ []) rest all honest (e ∙ sym (append_assoc earlier (x ∷ []) rest)))
+
+all_parts : {X : Type 0} (P : X → Type 0) (xs ys : List X) → All P (xs ++ ys) → All P xs × All P ys
+all_parts P [] ys all = (All-nil P, all)
+all_parts P (x ∷ xs) ys all =
+    let rest = all_parts P xs ys (All-tail P x (xs ++ ys) all) in (All-cons P x xs (All-head P x (xs ++ ys) all) rest.0, rest.1)
+
+-- an item that stands for a sample of these steps
+record ItemOf (steps : List Step) (item : Item) : Type 0 where
+  number : ℕ
+  sample : Sampled
+  small : number < 2 ^ 16
+  is : item.frame ≡ Whole number sample.row
+  sampled : HasSample steps sample
+  logged : version_of (log_at steps) number ≡ Some sample.version
+
+abbrev ArrivalOf : List Step → Arrival → Type 0
+ArrivalOf steps (Came item) = ItemOf steps item
+ArrivalOf steps (Cut why) = ⊥
+
+item_is : (steps : List Step) (m : ℕ) (bytes : List ℕ) (s : SentOf steps bytes) → arrival_in m (Got bytes) ≡ Some (Came (item_of m (record { number = s.number; row = s.sample.row })))
+item_is steps m bytes s =
+    ap (option_map (λ (frame : KeyFrame). Came (item_of m frame))) (ap frame_in s.spelled ∙ frame_in-datagram s.sequence s.number s.sample.row s.small s.values)
+
+item_for : (steps : List Step) (m : ℕ) (bytes : List ℕ) (s : SentOf steps bytes) → ItemOf steps (item_of m (record { number = s.number; row = s.sample.row }))
+item_for steps m bytes s =
+    let small = s.small in
+    let place : place_from 0 s.number ≡ s.number = omega arith in
+    record { number = s.number; sample = s.sample; small = s.small; is = ap (λ (p : ℕ). Whole p s.sample.row) place; sampled = s.sampled; logged = s.logged }
+
+arrived : (steps : List Step) (m : ℕ) (x : Entry) (rest : List Arrival) → GotEntry steps x → All (ArrivalOf steps) rest → All (ArrivalOf steps) (cons_option (arrival_in m x) rest)
+arrived steps m (Sent bytes) rest h all = all
+arrived steps m SendFailed rest h all = all
+arrived steps m (Got bytes) rest h all =
+    subst (λ (o : Option Arrival). All (ArrivalOf steps) (cons_option o rest)) (sym (item_is steps m bytes h))
+    (All-cons (ArrivalOf steps) (Came (item_of m (record { number = h.number; row = h.sample.row }))) rest (item_for steps m bytes h) all)
+arrived steps m Empty rest h all = all
+arrived steps m (Long size) rest h all = all
+arrived steps m ReceiveFailed rest h all = all
+
+all_arrived : (steps : List Step) (m : ℕ) (entries : List Entry) → All (GotEntry steps) entries → All (ArrivalOf steps) (filter_map (arrival_in m) entries)
+all_arrived steps m [] all = All-nil (ArrivalOf steps)
+all_arrived steps m (x ∷ entries) all =
+    arrived steps m x (filter_map (arrival_in m) entries) (All-head (GotEntry steps) x entries all) (all_arrived steps m entries (All-tail (GotEntry steps) x entries all))
+
+all_reversed : {X : Type 0} (P : X → Type 0) (xs : List X) → All P xs → All P (reverse xs)
+all_reversed P [] all = all
+all_reversed P (x ∷ xs) all =
+    subst (All P) (sym (reverse-append (x ∷ []) xs)) (All-append P (reverse xs) (x ∷ []) (all_reversed P xs (All-tail P x xs all)) (All-cons P x [] (All-head P x xs all) (All-nil P)))
+
+arrivals_of : (all steps : List Step) → All (GotEntry all) (journal steps) → All (ArrivalOf all) (arrivals steps)
+arrivals_of all [] h = All-nil (ArrivalOf all)
+arrivals_of all (Tick ms closing sample done ∷ before) h = arrivals_of all before (all_parts (GotEntry all) (journal before) (send_entries (sends_of (Tick ms closing sample done ∷ before)) done) h).0
+arrivals_of all (Pump entries ∷ before) h =
+    let parts = all_parts (GotEntry all) (journal before) entries h in
+    All-append (ArrivalOf all) (arrivals_in (moment_of before) entries) (arrivals before)
+    (all_reversed (ArrivalOf all) (filter_map (arrival_in (moment_of before)) entries) (all_arrived all (moment_of before) entries parts.1)) (arrivals_of all before parts.0)
+
+-- ---- what is held
+
+items_of : (steps : List Step) (arrivals : List Arrival) → All (ArrivalOf steps) arrivals → All (ItemOf steps) (since_cut arrivals)
+items_of steps [] all = All-nil (ItemOf steps)
+items_of steps (Came item ∷ before) all = All-cons (ItemOf steps) item (since_cut before) (All-head (ArrivalOf steps) (Came item) before all) (items_of steps before (All-tail (ArrivalOf steps) (Came item) before all))
+items_of steps (Cut why ∷ before) all = absurd (All-head (ArrivalOf steps) (Cut why) before all)
+
+kept : (steps : List Step) (b : Bool) (item : Item) (rest : List Item) → ItemOf steps item → All (ItemOf steps) rest → All (ItemOf steps) (cons_if b item rest)
+kept steps true item rest h all = All-cons (ItemOf steps) item rest h all
+kept steps false item rest h all = all
+
+records_of : (steps : List Step) (items : List Item) → All (ItemOf steps) items → All (ItemOf steps) (records items)
+records_of steps [] all = All-nil (ItemOf steps)
+records_of steps (item ∷ before) all = kept steps (is_record before item) item (records before) (All-head (ItemOf steps) item before all) (records_of steps before (All-tail (ItemOf steps) item before all))
+
+held_of : (steps : List Step) (frame : KeyFrame) (rs : List Item) → All (ItemOf steps) rs → option_map numbered (held_in rs) ≡ Some frame → IsPublished steps frame
+held_of steps frame [] all e = absurd (cc)
+held_of steps frame (item ∷ rest) all e =
+    let i = All-head (ItemOf steps) item rest all in
+    let whole : held_in (item ∷ rest) ≡ Some (record { place = i.number; row = i.sample.row }) = ap (λ (f : Frame). held_in (at item.moment item.stamp f ∷ rest)) i.is in
+    let same : Some (numbered (record { place = i.number; row = i.sample.row })) ≡ Some frame = sym (ap (option_map numbered) whole) ∙ e in
+    let frame_is : numbered (record { place = i.number; row = i.sample.row }) ≡ frame = cc in
+    let small = i.small in
+    let number_is : i.number ≡ wire i.number = omega arith in
+    record {
+      sample = i.sample;
+      sampled = i.sampled;
+      row_is = sym (ap (λ (f : KeyFrame). f.row) frame_is);
+      logged = ap (λ (n : ℕ). version_of (log_at steps) n) (sym (number_is ∙ ap (λ (f : KeyFrame). f.number) frame_is)) ∙ i.logged;
+    }
+
+pub held_published : (steps : List Step) (frame : KeyFrame) → IsRun steps → SampleValues steps → length (log_at steps) ≤ 65536 → IsHonest (journal steps) → held_frame steps ≡ Some frame → IsPublished steps frame
+held_published steps frame run v few honest e =
+    let got = honest_all steps [] (journal steps) (all_sent steps run v few) honest refl in
+    held_of steps frame (records (since_cut (arrivals steps))) (records_of steps (since_cut (arrivals steps)) (items_of steps (arrivals steps) (arrivals_of steps steps got))) e
+
+-- ---- the log has at most an entry for each tick
+
+abbrev pub ticks_in : List Step → ℕ
+ticks_in [] = 0
+ticks_in (Tick ms closing sample done ∷ before) = ticks_in before + 1
+ticks_in (Pump entries ∷ before) = ticks_in before
+
+one_longer : (b : Bool) (log : List (ℕ × ℕ)) (version : ℕ) → length (log_on b log version) ≤ length log + 1
+unfolding log_on
+one_longer true log version = omega (arith, length-append log ((length log, version) ∷ []))
+one_longer false log version = omega (arith, ap length (append-nil log))
+
+pub log_ticks : (steps : List Step) → length (log_at steps) ≤ ticks_in steps
+log_ticks [] = omega arith
+log_ticks (Pump entries ∷ before) = log_ticks before
+log_ticks (Tick ms closing sample done ∷ before) =
+    let b = has_turn before (moment_of before + ms) closing in
+    omega (arith, log_ticks before, ap length (log_case b before ms closing sample done refl), one_longer b (log_at before) (sampled_in sample).version)

@@ -1,0 +1,9 @@
+use Rattle.std.proofs.Common.{◌≡◌}
+use Rattle.pubsub_engine.proofs.Entries.{SoFar}
+use Rattle.pubsub_engine.proofs.receiving.Receiving.pump.Given as goal
+
+abbrev pub invariant-loop-taken : goal.invariant-loop-taken
+invariant-loop-taken g l = record {
+  run : SoFar l.taken l.fn.self l.self (g.L.Link.told l.fn.link) (g.L.Link.told l.link);
+  stays : g.L.Link.is_open l.link ≡ g.L.Link.is_open l.fn.link;
+}

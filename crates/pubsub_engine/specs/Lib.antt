@@ -1,0 +1,13 @@
+pub mod Datagram
+pub mod Steps
+pub mod Publishing
+pub mod Reading
+pub mod Counts
+pub mod Authored
+pub mod Closing
+pub mod Report
+pub mod Sending
+pub mod Standing
+pub mod Taking
+pub mod Alike
+pub mod Holding

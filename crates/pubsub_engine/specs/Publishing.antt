@@ -1,0 +1,117 @@
+-- Session run, the publisher: the turns of the writer group with their datagrams, and the journal of the whole session. Lists have the latest first, but for datagrams and entries.
+use Rattle.std.specs.Prelude.{◌≡◌, ⊤, ℕ, ◌+◌, ◌-◌, List, [], ◌∷◌, ◌++◌, length, sum_by, filter_map, Bool, false, ◌||◌, nat_le, not, fold, zip, Option, Some, None, slice_index_or, if◌then◌else◌}
+use Rattle.std.specs.Option.{option_map_or}
+use Rattle.seq_number.specs.Numbers.{wire}
+use Rattle.ua_base.specs.Journal.{Entry}
+use Rattle.pubsub_model.specs.Rows.{opening, cons_if}
+use Rattle.pubsub_model.specs.Frames.{Frame, Whole, Change, Alive}
+use Rattle.pubsub_model.specs.Cadence.{Settings, Turn, Deed as WriterDeed, Took, Answered, cadence, log_of}
+use Rattle.pubsub_engine.specs.declared.sampled.Sampled.{Sampled}
+use Rattle.pubsub_engine.specs.Datagram.{datagram}
+use Rattle.pubsub_engine.specs.Steps.{Step, Tick, Pump, moment_of, IsPump, send_entries}
+
+-- the writer and the publishing interval of the built-in configuration
+abbrev pub built_in : Settings
+built_in = record { first_number = 0; key_frame_count = 1; keep_alive = 0 }
+
+abbrev pub interval : ℕ
+interval = 100
+
+-- a turn of the group: its writer's turn, and the datagrams that it made
+pub record GroupTurn : Type 0 where
+  pub took : Turn
+  pub made : List (List ℕ)
+
+-- what the publisher does: it comes to a moment, and has a turn of its group
+pub data Deed : Type 0 where
+  Ticked : (moment : ℕ) → Deed
+  Turned : GroupTurn → Deed
+
+abbrev pub turn_in : Deed → Option GroupTurn
+turn_in (Ticked moment) = None
+turn_in (Turned turn) = Some turn
+
+abbrev pub turns_in : List Deed → List GroupTurn
+turns_in deeds = filter_map turn_in deeds
+
+-- the writer's own part
+abbrev pub writer_past : List Deed → List WriterDeed
+writer_past [] = []
+writer_past (Ticked moment ∷ before) = writer_past before
+writer_past (Turned turn ∷ before) = Took turn.took ∷ writer_past before
+
+-- how many datagrams these turns made
+abbrev pub made_in : List GroupTurn → ℕ
+made_in turns = sum_by (λ turn. length turn.made) turns
+
+-- the moment of the last turn, at first 0; a closing turn doesn't move it
+abbrev pub last_moment : List GroupTurn → ℕ
+last_moment [] = 0
+last_moment (turn ∷ before) = if turn.took.closing then last_moment before else turn.took.moment
+
+-- the publishing interval has passed since the last turn
+abbrev pub is_due : List Deed → ℕ → Bool
+is_due deeds now = nat_le interval (now - last_moment (turns_in deeds))
+
+-- the datagrams of a frame, where the group has made so many before (delta frames and keep-alives don't occur at a key frame count of 1)
+abbrev pub datagrams_with : ℕ → Frame → List (List ℕ)
+datagrams_with made (Whole place row) = datagram (wire made) (wire place) row ∷ []
+datagrams_with made (Change place patch) = []
+datagrams_with made (Alive next) = []
+
+abbrev pub first_answer : List Answered → Option Frame
+first_answer [] = None
+first_answer (a ∷ before) = a.answer
+
+-- the datagrams of a turn: Cadence's answer, spelled
+abbrev pub datagrams_of : List Deed → Turn → List (List ℕ)
+datagrams_of deeds turn = option_map_or (datagrams_with (made_in (turns_in deeds))) (first_answer (cadence built_in (Took turn ∷ writer_past deeds))) []
+
+-- what a tick samples of the data set
+abbrev pub sampled_in : List Sampled → Sampled
+sampled_in sample = slice_index_or sample 0 (record { version = 0; row = opening })
+
+abbrev pub turn_at : ℕ → Bool → List Sampled → Turn
+turn_at now closing sample = record { moment = now; row = (sampled_in sample).row; version = (sampled_in sample).version; closing = closing }
+
+-- the group has its turn where it is due, or closing
+abbrev pub turned_on : ℕ → Bool → List Sampled → List Deed → List Deed
+turned_on now closing sample deeds =
+    let turn = turn_at now closing sample in
+    cons_if (closing || is_due deeds now) (Turned (record { took = turn; made = datagrams_of deeds turn })) deeds
+
+-- what the publisher has done after these steps
+abbrev pub deeds : List Step → List Deed
+deeds [] = []
+deeds (Tick ms closing sample done ∷ before) = let now = moment_of before + ms in turned_on now closing sample (Ticked now ∷ deeds before)
+deeds (Pump entries ∷ before) = deeds before
+
+-- the datagrams of the last tick
+abbrev pub last_sends : List Deed → List (List ℕ)
+last_sends [] = []
+last_sends (Ticked moment ∷ before) = []
+last_sends (Turned turn ∷ before) = last_sends before ++ turn.made
+
+-- the datagrams of the tick that these steps end with
+abbrev pub sends_of : List Step → List (List ℕ)
+sends_of steps = last_sends (deeds steps)
+
+-- the place and version of each data frame
+abbrev pub log_at : List Step → List (ℕ × ℕ)
+log_at steps = log_of built_in (writer_past (deeds steps))
+
+-- the journal: for each tick one send of each of its datagrams, in order, and for each pump its receives
+abbrev pub journal : List Step → List Entry
+journal [] = []
+journal (Pump entries ∷ before) = journal before ++ entries
+journal (Tick ms closing sample done ∷ before) = journal before ++ send_entries (sends_of (Tick ms closing sample done ∷ before)) done
+
+-- each datagram of a tick is sent once, and each pump ends as it may
+abbrev pub IsRun : List Step → Type 0
+IsRun [] = ⊤
+IsRun (Pump entries ∷ before) = IsPump 65536 entries × IsRun before
+IsRun (Tick ms closing sample done ∷ before) = (length done ≡ length (sends_of (Tick ms closing sample done ∷ before))) × IsRun before
+
+-- the last send of the last tick failed
+abbrev pub last_failed : List (List ℕ × Bool) → Bool
+last_failed sends = fold (λ failed send. not send.1) false sends

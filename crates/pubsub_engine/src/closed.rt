@@ -1,0 +1,67 @@
+//! What a closed session shows in its report.
+use arrayvec::ArrayVec;
+use frame_codec::KeyFrame;
+use pubsub_model::{Break, Why};
+
+/// The state of a component (OPC 10000-14, PubSubState).
+#[derive(Clone, Copy, Debug, PartialEq, Eq)]
+pub enum State {
+    Disabled,
+    Paused,
+    Operational,
+    Error,
+    PreOperational,
+}
+
+/// The writer group, and its datagrams whose send was done.
+#[derive(Clone, Copy, Debug, PartialEq, Eq)]
+pub struct GroupEnd {
+    pub state: State,
+    pub sent: u64,
+}
+
+/// The writer, with place and version of each of its data frames.
+#[derive(Drop)]
+pub struct WriterEnd {
+    pub state: State,
+    pub log: Vec<(u64, u64)>,
+}
+
+/// The read group, and the datagrams that it took.
+#[derive(Clone, Copy, Debug, PartialEq, Eq)]
+pub struct ReadGroupEnd {
+    pub state: State,
+    pub taken: u64,
+}
+
+/// The reader: what it holds or else why it waits, and its breaks, of which the last eight are kept.
+#[derive(Drop)]
+pub struct ReaderEnd {
+    pub state: State,
+    pub held: Option<KeyFrame>,
+    pub why: Why,
+    pub breaks: u64,
+    pub recent: ArrayVec<Break, 8>,
+}
+
+/// Sends done and failed, datagrams received, receives failed, datagrams too long, and pumps that ended at their limit.
+#[derive(Clone, Copy, Debug, PartialEq, Eq)]
+pub struct LinkEnd {
+    pub sent: u64,
+    pub failed: u64,
+    pub received: u64,
+    pub broken: u64,
+    pub long: u64,
+    pub limit: u64,
+}
+
+/// A closed session, with the thread of each version.
+#[derive(Drop)]
+pub struct Closed {
+    pub threads: Vec<u8>,
+    pub group: GroupEnd,
+    pub writer: WriterEnd,
+    pub read_group: ReadGroupEnd,
+    pub reader: ReaderEnd,
+    pub link: LinkEnd,
+}

@@ -1,0 +1,26 @@
+//! A session: a writer group and a reader over a link, and the report of what they did.
+#![tactic(auto)]
+
+mod closed;
+mod closing;
+mod datagram;
+mod done;
+mod laws;
+mod plain;
+mod printing;
+mod publisher;
+mod reader;
+mod receiving;
+mod sampled;
+mod session;
+
+pub use closed::{Closed, GroupEnd, LinkEnd, ReadGroupEnd, ReaderEnd, State, WriterEnd};
+pub use done::Done;
+pub use laws::{a_held_row_is_published, a_journal_has_one_run};
+pub use plain::Plain;
+pub use printing::report;
+pub use publisher::Publisher;
+pub use reader::Reader;
+pub use receiving::Receiving;
+pub use sampled::Sampled;
+pub use session::Session;

@@ -1,0 +1,221 @@
+//! The report of a closed session.
+ghost use Rattle.std.specs.Prelude.{◌≡◌, ◌++◌, ◌+◌, ◌∷◌, [], ℕ, List, IfOk, IsOk, OnOk, string_bytes, codes, option_map, find, ◌==◌};
+ghost use Rattle.seq_number.specs.Numbers.{wire};
+ghost use Rattle.pubsub_engine.specs.Report.{state_text, why_text, threads_text, log_text, breaks_text, version_text, fields_text, held_text, history_line, group_line, writer_line, read_group_line, reader_line, gaps_line, link_line, end_line, report_text};
+ghost use Rattle.pubsub_engine.specs.Closing.{shown_of, holding};
+
+use crate::closed::{Closed, GroupEnd, LinkEnd, ReadGroupEnd, ReaderEnd, State, WriterEnd};
+use frame_codec::KeyFrame;
+use pubsub_model::{Break, Row, Why};
+use std::alloc::Global;
+use std::fmt::Write;
+use ua_base::NoMemory;
+
+impl State {
+    /// The word of a state.
+    #[tactic(auto, unfolding(crate::specs::Report::state_text))]
+    fn word(self) -> &'static str
+        ensures { result.now ≡ state_text self }
+    {
+        match self {
+            State::Disabled => "disabled",
+            State::Paused => "paused",
+            State::Operational => "operational",
+            State::Error => "error",
+            State::PreOperational => "preoperational",
+        }
+    }
+}
+
+/// The word of a reason.
+#[tactic(auto, unfolding(crate::specs::Report::why_text))]
+fn why_word(why: Why) -> &'static str
+    ensures { result.now ≡ why_text why }
+{
+    match why {
+        Why::Start => "start",
+        Why::Gap => "gap",
+        Why::Timeout => "timeout",
+        Why::NewToken => "newtoken",
+        Why::Jump => "jump",
+        Why::Restarted => "restarted",
+    }
+}
+
+fn put_threads(out: &mut String, threads: &[u8]) -> Result<(), NoMemory>
+    ensures { OnOk result (string_bytes out.new ≡ string_bytes out.old ++ threads_text threads.now) }
+{
+    for thread in threads {
+        write!(out, " {thread}")?;
+    }
+    Ok(())
+}
+
+fn put_log(out: &mut String, log: &[(u64, u64)]) -> Result<(), NoMemory>
+    ensures { OnOk result (string_bytes out.new ≡ string_bytes out.old ++ log_text log.now) }
+{
+    for (place, version) in log {
+        write!(out, " {place}={version}")?;
+    }
+    Ok(())
+}
+
+fn put_breaks(out: &mut String, breaks: &[Break]) -> Result<(), NoMemory>
+    ensures { OnOk result (string_bytes out.new ≡ string_bytes out.old ++ breaks_text breaks.now) }
+{
+    for found in breaks {
+        write!(out, " {}/{}", found.expected, found.got)?;
+    }
+    Ok(())
+}
+
+/// The version of the data frame with this number.
+fn version_of(log: &[(u64, u64)], number: u16) -> Option<u64>
+    ensures { result ≡ option_map (λ entry. entry.1) (find (λ entry. wire entry.0 == number) log.now) }
+{
+    for (place, version) in log {
+        if place % 65_536 == number as u64 {
+            return Some(*version);
+        }
+    }
+    None
+}
+
+fn put_version(out: &mut String, log: &[(u64, u64)], number: u16) -> Result<(), NoMemory>
+    ensures { OnOk result (string_bytes out.new ≡ string_bytes out.old ++ version_text log.now number) }
+{
+    match version_of(log, number) {
+        Some(version) => write!(out, "{version}")?,
+        None => out.push_str("-")?,
+    }
+    Ok(())
+}
+
+fn put_fields(out: &mut String, row: &Row) -> Result<(), NoMemory>
+    ensures { OnOk result (string_bytes out.new ≡ string_bytes out.old ++ fields_text row.now) }
+{
+    write!(out, "a={} b={} c={} d={}", row.a, row.b, row.c, row.d)?;
+    Ok(())
+}
+
+/// What is held, or why nothing is.
+#[tactic(auto, unfolding(crate::specs::Report::held_text))]
+fn put_held(
+    out: &mut String,
+    log: &[(u64, u64)],
+    held: Option<KeyFrame>,
+    why: Why,
+) -> Result<(), NoMemory>
+    ensures { OnOk result (string_bytes out.new ≡ string_bytes out.old ++ held_text log.now (holding held why)) }
+{
+    let Some(frame) = held else {
+        write!(out, " waits {}", why_word(why))?;
+        return Ok(());
+    };
+    write!(out, " number {} version ", frame.number)?;
+    put_version(out, log, frame.number)?;
+    out.push_str(": ")?;
+    put_fields(out, &frame.row)
+}
+
+#[tactic(auto, unfolding(crate::specs::Report::history_line))]
+fn history(out: &mut String, threads: &[u8]) -> Result<(), NoMemory>
+    ensures { OnOk result (string_bytes out.new ≡ string_bytes out.old ++ history_line threads.now) }
+{
+    write!(out, "history demo {}:", threads.len())?;
+    put_threads(out, threads)?;
+    out.push_str("\n")?;
+    Ok(())
+}
+
+#[tactic(auto, unfolding(crate::specs::Report::group_line))]
+fn group(out: &mut String, end: &GroupEnd) -> Result<(), NoMemory>
+    ensures { OnOk result (string_bytes out.new ≡ string_bytes out.old ++ group_line end.now.state end.now.sent) }
+{
+    writeln!(out, "group g1 {} sent {}", end.state.word(), end.sent)?;
+    Ok(())
+}
+
+#[tactic(auto, unfolding(crate::specs::Report::writer_line))]
+fn writer(out: &mut String, end: &WriterEnd) -> Result<(), NoMemory>
+    ensures { OnOk result (string_bytes out.new ≡ string_bytes out.old ++ writer_line end.now.state end.now.log.items) }
+{
+    write!(out, "writer w1 {} {}:", end.state.word(), end.log.len())?;
+    put_log(out, &end.log)?;
+    out.push_str("\n")?;
+    Ok(())
+}
+
+#[tactic(auto, unfolding(crate::specs::Report::read_group_line))]
+fn read_group(out: &mut String, end: &ReadGroupEnd) -> Result<(), NoMemory>
+    ensures { OnOk result (string_bytes out.new ≡ string_bytes out.old ++ read_group_line end.now.state end.now.taken) }
+{
+    writeln!(
+        out,
+        "readgroup rg1 {} taken {}:",
+        end.state.word(),
+        end.taken
+    )?;
+    Ok(())
+}
+
+#[tactic(auto, unfolding(crate::specs::Report::reader_line))]
+fn reader(out: &mut String, log: &[(u64, u64)], end: &ReaderEnd) -> Result<(), NoMemory>
+    ensures { OnOk result (string_bytes out.new ≡ string_bytes out.old ++ reader_line end.now.state log.now (holding end.now.held end.now.why)) }
+{
+    write!(out, "reader r1 {}", end.state.word())?;
+    put_held(out, log, end.held, end.why)?;
+    out.push_str("\n")?;
+    Ok(())
+}
+
+#[tactic(auto, unfolding(crate::specs::Report::gaps_line))]
+fn gaps(out: &mut String, end: &ReaderEnd) -> Result<(), NoMemory>
+    ensures { OnOk result (string_bytes out.new ≡ string_bytes out.old ++ gaps_line end.now.breaks end.now.recent.items) }
+{
+    write!(out, "gaps r1 {}:", end.breaks)?;
+    put_breaks(out, &end.recent)?;
+    out.push_str("\n")?;
+    Ok(())
+}
+
+#[tactic(auto, unfolding(crate::specs::Report::link_line))]
+fn link(out: &mut String, end: &LinkEnd) -> Result<(), NoMemory>
+    ensures { OnOk result (string_bytes out.new ≡ string_bytes out.old ++ link_line end.now) }
+{
+    write!(
+        out,
+        "link sent {} failed {} received {}",
+        end.sent, end.failed, end.received
+    )?;
+    writeln!(
+        out,
+        " broken {} long {} limit {}",
+        end.broken, end.long, end.limit
+    )?;
+    Ok(())
+}
+
+#[tactic(auto, unfolding(crate::specs::Report::end_line))]
+fn end(out: &mut String) -> Result<(), NoMemory>
+    ensures { OnOk result (string_bytes out.new ≡ string_bytes out.old ++ end_line) }
+{
+    out.push_str("end\n")?;
+    Ok(())
+}
+
+/// The report's text: one line each for the history, the group and its writer, the read group and its reader with its breaks, and the link.
+pub fn report(alloc: Global, closed: &Closed) -> Result<String, NoMemory>
+    ensures { IfOk result (λ text. string_bytes text ≡ report_text (shown_of closed.now)) }
+{
+    let mut out = String::new(alloc);
+    history(&mut out, &closed.threads)?;
+    group(&mut out, &closed.group)?;
+    writer(&mut out, &closed.writer)?;
+    read_group(&mut out, &closed.read_group)?;
+    reader(&mut out, &closed.writer.log, &closed.reader)?;
+    gaps(&mut out, &closed.reader)?;
+    link(&mut out, &closed.link)?;
+    end(&mut out)?;
+    Ok(out)
+}

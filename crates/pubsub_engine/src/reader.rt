@@ -1,0 +1,68 @@
+//! A reader of key frames.
+ghost use Rattle.std.specs.Prelude.{◌≡◌, ◌+◌, ◌-◌, ◌^◌, min, ◌++◌, ◌∷◌, [], ℕ, List, Some, None, reverse, take};
+ghost use Rattle.pubsub_model.specs.declared.reading.Break.{Break as BreakValue};
+ghost use Rattle.pubsub_model.specs.Records.{Arrival, Came};
+ghost use Rattle.pubsub_engine.specs.Reading.{item_of};
+
+use arrayvec::ArrayVec;
+use frame_codec::KeyFrame;
+use pubsub_model::Break;
+
+/// The last key frame, how often the run of numbers broke, and the last eight breaks.
+#[derive(Drop)]
+pub struct Reader {
+    pub last: Option<KeyFrame>,
+    pub breaks: u64,
+    pub recent: ArrayVec<Break, 8>,
+}
+
+impl Reader {
+    ghost use Rattle.pubsub_engine.specs.Standing.{IsReader};
+
+    /// A reader to which nothing came.
+    pub fn new() -> Reader
+        ensures { IsReader [] result.last result.breaks result.recent.items }
+    {
+        Reader {
+            last: None,
+            breaks: 0,
+            recent: ArrayVec::new(),
+        }
+    }
+
+    /// Takes a key frame that came: it is held where its number is greater than all before,
+    /// and breaks the run where it isn't the next one.
+    pub fn take(&mut self, frame: KeyFrame)
+        ensures { (moment : ℕ) (arrivals : List Arrival) → IsReader arrivals self.old.last self.old.breaks self.old.recent.items
+            → IsReader (Came (item_of moment frame) ∷ arrivals) self.new.last self.new.breaks self.new.recent.items }
+    {
+        let Some(last) = self.last else {
+            self.last = Some(frame);
+            return;
+        };
+        if frame.number <= last.number {
+            return;
+        }
+        if frame.number == last.number + 1 {
+            self.last = Some(frame);
+            return;
+        }
+        self.note(Break {
+            expected: last.number + 1,
+            got: frame.number,
+        });
+        self.last = Some(frame);
+    }
+
+    fn note(&mut self, found: Break)
+        ensures last { self.new.last ≡ self.old.last }
+        ensures count { self.new.breaks ≡ min (self.old.breaks + 1) (2 ^ 64 - 1) }
+        ensures recent { (all : List BreakValue) → self.old.recent.items ≡ reverse (take 8 all) → self.new.recent.items ≡ reverse (take 8 (found ∷ all)) }
+    {
+        self.breaks = self.breaks.saturating_add(1);
+        if self.recent.is_full() {
+            self.recent.remove(0);
+        }
+        self.recent.push(found);
+    }
+}

@@ -1,0 +1,103 @@
+//! The receiving side: datagrams from the link to the reader.
+ghost use Rattle.std.specs.Prelude.{◌≡◌, ◌++◌, ◌∷◌, ◌↔◌, [], ℕ, List, IsTrue, length, count_by, Bool, true, false};
+ghost use Rattle.ua_base.specs.Journal.{Tells, Entry};
+ghost use Rattle.pubsub_engine.specs.Steps.{IsPump};
+ghost use Rattle.pubsub_engine.specs.Counts.{is_datagram};
+
+use crate::Reader;
+use crate::datagram::read_datagram;
+use ua_base::{Link, Pumped, Received};
+
+/// A pump takes at most so many datagrams.
+const PUMP_LIMIT: u32 = 65_536;
+
+/// The reader, and the counts of what came.
+#[derive(Drop)]
+pub struct Receiving {
+    pub reader: Reader,
+    /// Datagrams that the read group took.
+    pub taken: u64,
+    /// Datagrams that came.
+    pub received: u64,
+    /// Receives that failed.
+    pub broken: u64,
+    /// Datagrams that were too long for the buffer.
+    pub long: u64,
+}
+
+impl Receiving {
+    ghost use Rattle.pubsub_engine.specs.Taking.{Takes, TakesOne, IsReceive};
+    ghost use Rattle.pubsub_engine.specs.Standing.{IsReader};
+
+    /// Nothing has come.
+    pub fn new() -> Receiving
+        ensures reader { IsReader [] result.reader.last result.reader.breaks result.reader.recent.items }
+        ensures counts { (result.taken ≡ 0) × (result.received ≡ 0) × (result.broken ≡ 0) × (result.long ≡ 0) }
+    {
+        Receiving {
+            reader: Reader::new(),
+            taken: 0,
+            received: 0,
+            broken: 0,
+            long: 0,
+        }
+    }
+
+    fn accept(&mut self, datagram: &[u8])
+        ensures { TakesOne (Entry.Got datagram.now) self.old self.new }
+    {
+        self.received = self.received.saturating_add(1);
+        if let Some(frame) = read_datagram(datagram) {
+            self.taken = self.taken.saturating_add(1);
+            self.reader.take(frame);
+        }
+    }
+
+    /// One receive. The answer says whether a datagram was taken off the link.
+    fn receive<L: Link>(&mut self, link: &mut L, buffer: &mut [u8]) -> bool
+        requires open { IsTrue (L.is_open link.old) }
+        requires room { length buffer.old ≡ 65536 }
+        ensures entry { (entry : Entry) × (is_datagram entry ≡ result) × IsReceive entry × TakesOne entry self.old self.new
+            × Tells (L.told link.old) (L.told link.new) (λ before after. after.journal ≡ before.journal ++ entry ∷ []) }
+        ensures open { L.is_open link.new ≡ L.is_open link.old }
+    {
+        match link.receive(buffer) {
+            Received::Datagram(len) => {
+                self.accept(&buffer[..len as usize]);
+                true
+            }
+            Received::Long(_) => {
+                self.long = self.long.saturating_add(1);
+                true
+            }
+            Received::Nothing => false,
+            Received::Failed => {
+                self.broken = self.broken.saturating_add(1);
+                false
+            }
+        }
+    }
+
+    /// Receives until nothing waits, a receive fails or the limit is reached.
+    pub fn pump<L: Link>(&mut self, link: &mut L, buffer: &mut [u8]) -> Pumped
+        requires open { IsTrue (L.is_open link.old) }
+        requires room { length buffer.old ≡ 65536 }
+        ensures entries { (entries : List Entry) × IsPump 65536 entries × Takes entries self.old self.new
+            × (result.taken ≡ count_by is_datagram entries) × (IsTrue result.limit ↔ (result.taken ≡ 65536))
+            × Tells (L.told link.old) (L.told link.new) (λ before after. after.journal ≡ before.journal ++ entries) }
+        ensures open { L.is_open link.new ≡ L.is_open link.old }
+    {
+        for taken in 0..PUMP_LIMIT {
+            if !self.receive(link, buffer) {
+                return Pumped {
+                    taken,
+                    limit: false,
+                };
+            }
+        }
+        Pumped {
+            taken: PUMP_LIMIT,
+            limit: true,
+        }
+    }
+}

@@ -1,0 +1,96 @@
+//! A session over a link: samples, ticks and pumps.
+ghost use Rattle.std.specs.Prelude.{◌≡◌, ◌≤◌, ◌<◌, ◌+◌, ◌∷◌, ◌↔◌, [], IsTrue, IfOk, ℕ, List, Bool, Option, Some, count_by, length, vec_len};
+ghost use Rattle.ua_base.specs.Journal.{Wire, Entry};
+ghost use Rattle.pubsub_engine.specs.Steps.{Step, Tick, Pump};
+ghost use Rattle.pubsub_engine.specs.Counts.{is_datagram};
+
+use crate::{Plain, Publisher, Receiving, Sampled};
+use pubsub_model::Row;
+use std::alloc::Global;
+use ua_base::{Link, NoMemory, Pumped, Ticked};
+
+/// The longest datagram that a session receives.
+const BUFFER_LEN: usize = 65_536;
+
+/// What the last sample saw, the publishing side, the receiving side, and the pumps that ended at their limit.
+#[derive(Drop)]
+pub struct Session {
+    pub sampled: Sampled,
+    pub publisher: Publisher,
+    pub receiving: Receiving,
+    pub limit: u64,
+    buffer: Vec<u8>,
+    ghost room: { vec_len buffer ≡ 65536 },
+}
+
+impl Session {
+    ghost use Rattle.pubsub_engine.specs.Standing.{Stands};
+    ghost use Rattle.pubsub_engine.specs.Sending.{Keeps};
+
+    /// A session before its first tick. All its memory is taken here: it has room for so many ticks and the closing one.
+    pub fn open(alloc: Global, ticks: u32) -> Result<Session, NoMemory>
+        requires { ticks ≤ 4096 }
+        ensures stands { IfOk result (λ s. (told : Option Wire) → ((wire : Wire) → told ≡ Some wire → wire.journal ≡ []) → Stands [] told s) }
+        ensures room { IfOk result (λ s. s.publisher.left ≡ ticks + 1) }
+    {
+        let buffer = vec![in alloc; 0u8; BUFFER_LEN]?;
+        Ok(Session {
+            sampled: Sampled {
+                version: 0,
+                row: Row::opening(),
+            },
+            publisher: Publisher::new(alloc, ticks)?,
+            receiving: Receiving::new(),
+            limit: 0,
+            buffer,
+        })
+    }
+
+    /// Takes a sample of the data set for the next tick.
+    pub fn sample(&mut self, plain: &Plain)
+        ensures sampled { (self.new.sampled.version ≡ length plain.now.threads.items) × (self.new.sampled.row ≡ plain.now.row) }
+        ensures stands { (steps : List Step) (told : Option Wire) → Stands steps told self.old → Stands steps told self.new }
+        ensures left { self.new.publisher.left ≡ self.old.publisher.left }
+    {
+        self.sampled = plain.sampled();
+    }
+
+    /// A tick with the last sample: the moment rises by `ms` milliseconds, and where the writer group is due,
+    /// or the tick is the closing one, it has its turn and its datagrams are sent.
+    pub fn tick<L: Link>(&mut self, ms: u64, closing: bool, link: &mut L) -> Ticked
+        requires open { IsTrue (L.is_open link.old) }
+        requires left { 0 < self.old.publisher.left }
+        requires short { ms ≤ 3600000 }
+        ensures stands { result ≡ Ticked.Done → (steps : List Step) → Stands steps (L.told link.old) self.old
+            → (done : List Bool) × Stands (Tick ms closing (self.old.sampled ∷ []) done ∷ steps) (L.told link.new) self.new }
+        ensures sampled { self.new.sampled ≡ self.old.sampled }
+        ensures left { result ≡ Ticked.Done → self.new.publisher.left + 1 ≡ self.old.publisher.left }
+        ensures memory { result ≡ Ticked.Memory → IsTrue (L.takes_memory link.old) }
+
+        // After want of memory all that the call did before that send stands.
+        ensures kept { result ≡ Ticked.Memory → (self.new.publisher.moment ≡ self.old.publisher.moment + ms)
+            × Keeps self.old.publisher.last self.old.publisher.log.items self.old.publisher.sequence self.old.publisher.sent self.old.publisher.failed
+            self.new.publisher.last self.new.publisher.log.items self.new.publisher.sequence self.new.publisher.sent self.new.publisher.failed }
+        ensures receiving { (self.new.receiving ≡ self.old.receiving) × (self.new.limit ≡ self.old.limit) }
+        ensures open { L.is_open link.new ≡ L.is_open link.old }
+    {
+        self.publisher.tick(ms, closing, &self.sampled, link)
+    }
+
+    /// Receives what came, until nothing waits, a receive fails or 65,536 datagrams were taken.
+    pub fn pump<L: Link>(&mut self, link: &mut L) -> Pumped
+        requires { IsTrue (L.is_open link.old) }
+        ensures stands { (steps : List Step) → Stands steps (L.told link.old) self.old
+            → (entries : List Entry) × Stands (Pump entries ∷ steps) (L.told link.new) self.new × (result.taken ≡ count_by is_datagram entries) }
+        ensures limit { IsTrue result.limit ↔ (result.taken ≡ 65536) }
+        ensures sampled { self.new.sampled ≡ self.old.sampled }
+        ensures left { self.new.publisher.left ≡ self.old.publisher.left }
+        ensures open { L.is_open link.new ≡ L.is_open link.old }
+    {
+        let pumped = self.receiving.pump(link, &mut self.buffer);
+        if pumped.limit {
+            self.limit = self.limit.saturating_add(1);
+        }
+        pumped
+    }
+}
