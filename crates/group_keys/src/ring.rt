@@ -1,4 +1,5 @@
-ghost use Rattle.std.specs.Prelude.{◌≡◌, ◌<◌, ◌≤◌, ◌↔◌, length, slice_index, IsOk, IfOk, IfErr, IfSome, IfNone};
+ghost use Rattle.std.specs.Prelude.{◌≡◌, ◌≢◌, ◌<◌, ◌≤◌, ◌↔◌, length, slice_index, IsOk, IfOk, IfErr, IfSome, IfNone, All};
+ghost use Rattle.std.specs.List.{IsAmong};
 ghost use Rattle.std.specs.Option.{option_copied};
 ghost use Rattle.std.specs.List.Sorted.{IsStrictlyIncreasing};
 ghost use Rattle.group_keys.specs.KeySets.{tokens, moments, encrypting_length, LengthsFit, Rises, current, with_token};
@@ -6,6 +7,7 @@ ghost use Rattle.group_keys.specs.Faults.{IsFirstIndex, IsMisfit, IsNotAbove};
 
 use crate::KeySet;
 use arrayvec::ArrayVec;
+use std::alloc::AllocError;
 
 /// Why a list of key sets is no ring. The least of these that holds is given.
 #[derive(Clone, Copy, Debug, PartialEq, Eq)]
@@ -26,11 +28,11 @@ pub enum RingFault {
 pub struct Ring {
     long: bool,
     keys: ArrayVec<KeySet, 16>,
-    pub ghost has_key: { 0 < length keys.items },
-    pub ghost tokens_rise: { IsStrictlyIncreasing (tokens keys.items) },
-    pub ghost moments_rise: { IsStrictlyIncreasing (moments keys.items) },
-    pub ghost first_at_zero: { slice_index (moments keys.items) 0 ≡ 0 },
-    pub ghost lengths_fit: { LengthsFit long keys.items },
+    ghost has_key: { 0 < length keys.items },
+    ghost tokens_rise: { IsStrictlyIncreasing (tokens keys.items) },
+    ghost moments_rise: { IsStrictlyIncreasing (moments keys.items) },
+    ghost first_at_zero: { slice_index (moments keys.items) 0 ≡ 0 },
+    ghost lengths_fit: { LengthsFit long keys.items },
 }
 
 impl Ring {
@@ -70,7 +72,8 @@ impl Ring {
 
     /// The sets, in the order of their tokens and moments.
     pub fn key_sets(&self) -> &[KeySet]
-        ensures { result.now ≡ key_sets self.now }
+        ensures sets { result.now ≡ key_sets self.now }
+        ensures ring { IsAccepted (is_long self.now) (key_sets self.now) }
     {
         self.keys.as_slice()
     }
@@ -78,6 +81,9 @@ impl Ring {
     /// The last set whose moment has come at `now`, in milliseconds.
     pub fn at(&self, now: u64) -> &KeySet
         ensures last { current (key_sets self.now) now ≡ Some result.now }
+        ensures listed { IsAmong (key_sets self.now) result.now }
+        ensures come { result.now.from ≤ now }
+        ensures latest { All (λ set. set.from ≤ now → set.from ≤ result.now.from) (key_sets self.now) }
         ensures fits { length result.now.encrypting.items ≡ encrypting_length (is_long self.now) }
     {
         match current(self.keys.as_slice(), now) {
@@ -89,10 +95,27 @@ impl Ring {
     /// The set that has the token, if one has.
     pub fn find(&self, token: u32) -> Option<&KeySet>
         ensures by_token { option_copied result ≡ with_token (key_sets self.now) token }
+        ensures listed { IfSome result (λ set. IsAmong (key_sets self.now) set.now) }
+        ensures token { IfSome result (λ set. set.now.token ≡ token) }
+        ensures none { IfNone result (All (λ set. set.token ≢ token) (key_sets self.now)) }
         ensures fits { IfSome result (λ set.
             length set.now.encrypting.items ≡ encrypting_length (is_long self.now)) }
     {
         with_token(self.keys.as_slice(), token)
+    }
+}
+
+impl Clone for Ring {
+    ghost use Rattle.group_keys.specs.Ring.{is_long, key_sets};
+
+    ghost is_clone = { λ ring copy. (is_long copy ≡ is_long ring) × (key_sets copy ≡ key_sets ring) };
+
+    fn clone(&self) -> Result<Ring, AllocError> {
+        let keys = self.keys.clone()?;
+        Ok(Ring {
+            long: self.is_long(),
+            keys,
+        })
     }
 }
 

@@ -144,4 +144,10 @@ fn finds_by_moment_and_token(rt: HostRuntime) {
     for token in [0, 4, 7, 4294967294] {
         assert!(rt; ring.find(token).is_none(), "token {token}");
     }
+    let Ok(copy) = ring.clone() else {
+        assert!(rt; false);
+        return;
+    };
+    assert_eq!(rt; copy.key_sets().len(), 3);
+    assert_eq!(rt; copy.at(1000).token, 6);
 }

@@ -69,7 +69,7 @@ fn differing_bits(left: &[u8; 32], right: &[u8; 32]) -> u8
 }
 
 /// Whether `signature` is the HMAC-SHA-256 of `bytes` under `key` (RFC 2104). All 32 bytes are
-/// compared, so the time taken doesn't tell where a wrong signature differs.
+/// compared, whatever they are. Nothing is claimed about the time taken.
 pub fn matches(key: &[u8], bytes: &[u8], signature: &[u8; 32]) -> bool
     ensures { IsTrue result ↔ (signature.now ≡ hmac_sha256 key.now bytes.now) }
 {
