@@ -1,0 +1,12 @@
+pub mod AllBytes
+pub mod Bits
+pub mod Circuits
+pub mod Gates
+pub mod Lists
+pub mod Mixing
+pub mod Moving
+pub mod Packing
+pub mod Schedules
+pub mod Streaming
+pub mod SubPlanes
+pub mod Swapping

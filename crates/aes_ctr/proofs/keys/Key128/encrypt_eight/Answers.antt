@@ -1,0 +1,13 @@
+use Rattle.std.proofs.Common.{◌≡◌, length, arith}
+use Rattle.aes_ctr.specs.Cipher.{aes128, expanded}
+use Rattle.aes_ctr.proofs.keys.Key128.encrypt_eight.Goals as goal
+
+pub encrypt_eight-requires-clause-keys : goal.encrypt_eight-requires-clause-keys
+encrypt_eight-requires-clause-keys c r h = (c.self.invariant r (omega arith)).0
+
+pub returns-clause-blocks : goal.returns-clause-blocks
+unfolding aes128
+returns-clause-blocks c j h =
+    let long : length c.self.inside.round_keys ≡ 11 = omega arith in
+    let same = rw long at (c.encrypt_eight.ensures.blocks (expanded 4 c.self.inside.key 40)) in
+    rw c.self.view_is at (same c.self.invariant j h)

@@ -1,0 +1,6 @@
+pub mod Field
+pub mod Cipher
+pub mod Blocks
+pub mod Keyed
+pub mod InPlanes
+pub mod RoundKeys
