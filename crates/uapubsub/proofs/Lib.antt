@@ -1,0 +1,12 @@
+pub mod Spelled
+pub mod TextLines
+pub mod OneScript
+pub mod PlayingLaws
+pub mod Pieces
+pub mod OneWrite
+pub mod OneTick
+pub mod EightDones
+pub mod Ending
+pub mod Parts
+pub mod OneReport
+pub mod OneHistory

@@ -1,0 +1,119 @@
+-- What is sampled, and so what a reader holds, are versions of the one history that the lines make.
+use Rattle.std.proofs.Common.{◌≡◌, ℕ, zero, suc, ◌+◌, ◌<◌, ◌≤◌, ◌^◌, List, [], ◌∷◌, ◌++◌, length, get_or, Option, Some, None, refl, sym, ap, ◌∙◌, subst, arith, inl, inr}
+use Rattle.std.specs.Prelude.{reverse, count_by, IfSome}
+use mathlib.Core.List.{reverse_aux}
+use Rattle.std.specs.List.{AllByRecursion, AllZip}
+use Rattle.std.proofs.lemmas.List.{get_or_push, get_or_append_left, length-reverse}
+use Rattle.ua_base.specs.Journal.{Wire, IsHonest}
+use Rattle.pubsub_model.specs.declared.row.Row.{Row}
+use Rattle.pubsub_model.specs.declared.row.Patch.{Patch}
+use Rattle.pubsub_model.specs.Rows.{opening, patched}
+use Rattle.pubsub_model.specs.History.{last_row}
+use Rattle.pubsub_engine.specs.declared.sampled.Sampled.{Sampled}
+use Rattle.pubsub_engine.specs.Steps.{Step}
+use Rattle.pubsub_engine.specs.Publishing.{log_at}
+use Rattle.pubsub_engine.specs.Reading.{held_frame}
+use Rattle.pubsub_engine.specs.Report.{version_of}
+use Rattle.pubsub_engine.specs.Holding.{HasSample, AreValues, SampleValues}
+use Rattle.pubsub_engine.proofs.Published.{held_published, ticks_in, log_ticks}
+use Rattle.uapubsub.specs.declared.script.Line.{Line}
+use Rattle.uapubsub.specs.declared.script.Line.TheVariants.{Write, Tick}
+use Rattle.uapubsub.specs.Script.{Spells, IsScript, only_a, text_lines, is_tick}
+use Rattle.uapubsub.specs.Playing.{written}
+use Rattle.uapubsub.specs.Play.{IsPlayed, IsSession, IsReport, sample_of}
+use Rattle.uapubsub.specs.Versions.{row_at, IsVersion}
+use Rattle.uapubsub.proofs.OneWrite.{count-cons, reverse-cons}
+
+-- ---- the values are UInt32
+
+abbrev HasValue : Line → Type 0
+HasValue (Write thread patch) = (value : ℕ) × (value < 2 ^ 32) × (patch ≡ only_a value)
+HasValue (Tick ms) = Unit {0}
+
+spelled_values : (lines before : List Line) (texts : List (List ℕ)) → AllZip Spells lines texts → AllByRecursion HasValue before → AllByRecursion HasValue (reverse_aux lines before)
+spelled_values [] before texts all values = values
+spelled_values (line ∷ lines) before [] all values = absurd all
+spelled_values (Write thread patch ∷ lines) before (text ∷ texts) all values =
+    spelled_values lines (Write thread patch ∷ before) texts all.1 ((all.0.0, all.0.1.fits, all.0.3), values)
+spelled_values (Tick ms ∷ lines) before (text ∷ texts) all values = spelled_values lines (Tick ms ∷ before) texts all.1 (tt, values)
+
+last_values : (lines : List Line) → AllByRecursion HasValue lines → AreValues (last_row (written lines))
+last_values [] values = record { a = omega arith; b = omega arith; c = omega arith; d = omega arith }
+last_values (Tick ms ∷ before) values = last_values before values.1
+last_values (Write thread patch ∷ before) values =
+    let earlier = last_values before values.1 in
+    let now : AreValues (patched (last_row (written before)) (only_a values.0.0)) = record { a = values.0.1; b = earlier.b; c = earlier.c; d = earlier.d } in
+    subst (λ (p : Patch). AreValues (patched (last_row (written before)) p)) (sym values.0.2) now
+
+played_values : (lines : List Line) (steps : List Step) → IsPlayed lines steps → AllByRecursion HasValue lines → SampleValues steps
+played_values [] steps played values = subst SampleValues (sym played) tt
+played_values (Write thread patch ∷ before) steps played values = played_values before steps played values.1
+played_values (Tick ms ∷ before) steps played values = subst SampleValues (sym played.3) (last_values before values.1, played_values before played.0 played.4 values.1)
+
+-- ---- there are as many ticks in the steps as in the lines
+
+played_ticks : (lines : List Line) (steps : List Step) → IsPlayed lines steps → ticks_in steps ≡ count_by is_tick lines
+played_ticks [] steps played = ap ticks_in played
+played_ticks (Write thread patch ∷ before) steps played = omega (arith, played_ticks before steps played, count-cons is_tick (Write thread patch) before)
+played_ticks (Tick ms ∷ before) steps played =
+    omega (arith, ap ticks_in played.3, played_ticks before played.0 played.4, count-cons is_tick (Tick ms) before)
+
+count-onto : (lines before : List Line) → count_by is_tick (reverse_aux lines before) ≡ count_by is_tick lines + count_by is_tick before
+count-onto [] before = omega arith
+count-onto (line ∷ lines) before = omega (arith, count-onto lines (line ∷ before), count-cons is_tick line lines, count-cons is_tick line before)
+
+-- ---- the samples are versions
+
+last_version : (rows : List Row) → last_row rows ≡ row_at rows (length rows)
+last_version [] = refl
+last_version (row ∷ rows) = sym (ap (λ (l : List Row). get_or l (length rows) opening) (reverse-cons row rows) ∙ get_or_push (reverse rows) row opening (length rows) (length-reverse rows))
+
+more_rows : (row : Row) (rows : List Row) (version : ℕ) → version ≤ length rows → row_at rows version ≡ row_at (row ∷ rows) version
+more_rows row rows zero there = refl
+more_rows row rows (suc version) there =
+    sym (ap (λ (l : List Row). get_or l version opening) (reverse-cons row rows)
+    ∙ get_or_append_left (reverse rows) (row ∷ []) opening version (omega (arith, length-reverse rows)))
+
+later_write : (row : Row) (rows : List Row) (sample : Sampled) → IsVersion rows sample.version sample.row → IsVersion (row ∷ rows) sample.version sample.row
+later_write row rows sample v = record { there = omega (arith, v.there); row_is = v.row_is ∙ more_rows row rows sample.version v.there }
+
+-- the sample after these lines
+version_now : (lines : List Line) (sample : Sampled) → record { version = length (written lines); row = last_row (written lines) } ≡ sample → IsVersion (written lines) sample.version sample.row
+version_now lines sample is =
+    let now : IsVersion (written lines) (length (written lines)) (last_row (written lines)) = record { there = omega arith; row_is = last_version (written lines) } in
+    subst (λ (s : Sampled). IsVersion (written lines) s.version s.row) is now
+
+played_versions : (lines : List Line) (steps : List Step) (sample : Sampled) → IsPlayed lines steps → HasSample steps sample → IsVersion (written lines) sample.version sample.row
+played_versions [] steps sample played has = absurd (subst (λ (s : List Step). HasSample s sample) played has)
+played_versions (Write thread patch ∷ before) steps sample played has =
+    later_write (patched (last_row (written before)) patch) (written before) sample (played_versions before steps sample played has)
+played_versions (Tick ms ∷ before) steps sample played has =
+    elim (subst (λ (s : List Step). HasSample s sample) played.3 has) [
+      | inl now ↦ version_now before sample now
+      | inr earlier ↦ played_versions before played.0 sample played.4 earlier
+    ]
+
+session_versions : (lines : List Line) (steps : List Step) (sample : Sampled) → IsSession lines steps → HasSample steps sample → IsVersion (written (reverse lines)) sample.version sample.row
+session_versions lines steps sample session has =
+    elim (subst (λ (s : List Step). HasSample s sample) session.ends has) [
+      | inl now ↦ version_now (reverse lines) sample now
+      | inr earlier ↦ played_versions (reverse lines) session.earlier sample session.played earlier
+    ]
+
+if_some : {X : Type 0} (o : Option X) (P : X → Type 0) → ((x : X) → o ≡ Some x → P x) → IfSome o P
+if_some None P each = tt
+if_some (Some x) P each = each x refl
+
+pub held_version : (bytes : List ℕ) (lines : List Line) (wire : Wire) (text : List ℕ) (report : IsReport lines (Some wire) text) → IsScript bytes lines → IsHonest wire.journal
+    → IfSome (held_frame report.steps) (λ frame. (version : ℕ) × (version_of (log_at report.steps) frame.number ≡ Some version) × IsVersion (written (reverse lines)) version frame.row)
+held_version bytes lines wire text report script honest =
+    let session = report.session in
+    let values = spelled_values lines [] (text_lines bytes) script.text tt in
+    let sampled : SampleValues report.steps = subst SampleValues (sym session.ends) (last_values (reverse lines) values, played_values (reverse lines) session.earlier session.played values) in
+    let few : length (log_at report.steps) ≤ 65536 =
+    omega (arith, log_ticks report.steps, ap ticks_in session.ends, played_ticks (reverse lines) session.earlier session.played, count-onto lines [], script.ticks) in
+    if_some (held_frame report.steps) (λ frame. (version : ℕ) × (version_of (log_at report.steps) frame.number ≡ Some version) × IsVersion (written (reverse lines)) version frame.row)
+    (λ frame held.
+    let published = held_published report.steps frame report.run sampled few (subst IsHonest (report.entries wire refl) honest) held in
+    let version = session_versions lines report.steps published.sample session published.sampled in
+    (published.sample.version, published.logged, record { there = version.there; row_is = published.row_is ∙ version.row_is }))

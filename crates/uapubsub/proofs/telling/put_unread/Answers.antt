@@ -1,0 +1,16 @@
+use Rattle.std.proofs.Common.{List, ℕ, ◌++◌}
+use Rattle.std.specs.Prelude.{codes}
+use Rattle.uapubsub.specs.Status.{line_feed, text_of}
+use Rattle.uapubsub.proofs.Pieces.{then_put, cut_short}
+use Rattle.uapubsub.proofs.telling.put_unread.Goals as goal
+
+abbrev front : List ℕ
+front = codes "cannot read "
+
+pub returns-then-put : goal.returns-then-put
+unfolding text_of
+returns-then-put g c = then_put _ _ _ _ _ _ _ front (c.args.file.now ++ line_feed) c.if-put.ensures c.put_line.ensures
+
+pub returns-else-put : goal.returns-else-put
+unfolding text_of
+returns-else-put g c = rw c.if-put.false (cut_short _ _ _ _ front (c.args.file.now ++ line_feed) c.if-put.ensures)

@@ -1,0 +1,11 @@
+pub mod Script
+pub mod Playing
+pub mod Words
+pub mod Status
+pub mod Telling
+pub mod Play
+pub mod PlayEnds
+pub mod Rooms
+pub mod Player
+pub mod Ends
+pub mod Versions

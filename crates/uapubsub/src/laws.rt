@@ -1,0 +1,37 @@
+//! Laws of scripts and of the history that they make, each the contract of a function that does nothing.
+ghost use Rattle.std.specs.Prelude.{◌≡◌, ℕ, List, Some, IfSome, reverse};
+ghost use Rattle.ua_base.specs.Journal.{Wire, IsHonest};
+ghost use Rattle.pubsub_engine.specs.Publishing.{log_at};
+ghost use Rattle.pubsub_engine.specs.Reading.{held_frame};
+ghost use Rattle.pubsub_engine.specs.Report.{version_of};
+ghost use Rattle.uapubsub.specs.declared.script.Line.{Line as LineValue};
+ghost use Rattle.pubsub_model.specs.History.{IsLegal, legal_rows};
+ghost use Rattle.uapubsub.specs.Script.{IsScript};
+ghost use Rattle.uapubsub.specs.Playing.{written, threads_of, patches_of, AreThreads};
+ghost use Rattle.uapubsub.specs.Play.{IsReport};
+ghost use Rattle.uapubsub.specs.Versions.{IsVersion};
+
+/// A text is the script of one list of lines at most.
+pub fn a_script_has_one_reading()
+    ensures { (bytes : List ℕ) (lines others : List LineValue) → IsScript bytes lines → IsScript bytes others → lines ≡ others }
+{}
+
+/// The writes of any lines, the latest first, are a legal history of their threads' patches and leave that
+/// history's rows. Those of a script are made by threads below 8.
+pub fn writes_make_a_legal_history()
+    ensures legal { (lines : List LineValue) → AreThreads (threads_of lines) → IsLegal (threads_of lines) (patches_of lines) }
+    ensures rows { (lines : List LineValue) → AreThreads (threads_of lines) → written lines ≡ legal_rows (patches_of lines) (threads_of lines) }
+    ensures accepted { (bytes : List ℕ) (lines : List LineValue) → IsScript bytes lines → AreThreads (threads_of (reverse lines)) }
+{}
+
+/// The lines and the journal of the link fix the report.
+pub fn a_session_has_one_report()
+    ensures { (lines : List LineValue) (wire : Wire) (text other : List ℕ) → IsReport lines (Some wire) text → IsReport lines (Some wire) other → text ≡ other }
+{}
+
+/// Where each received datagram was sent before, the row that the reader holds is that of a version of the script's
+/// history, and the report prints this version with it.
+pub fn a_held_row_is_a_version()
+    ensures { (bytes : List ℕ) (lines : List LineValue) (wire : Wire) (text : List ℕ) (report : IsReport lines (Some wire) text) → IsScript bytes lines → IsHonest wire.journal
+        → IfSome (held_frame report.steps) (λ frame. (version : ℕ) × (version_of (log_at report.steps) frame.number ≡ Some version) × IsVersion (written (reverse lines)) version frame.row) }
+{}

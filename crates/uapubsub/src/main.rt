@@ -1,0 +1,82 @@
+//! The program `uapubsub`.
+#![tactic(auto)]
+
+mod application;
+mod laws;
+mod play;
+mod player;
+mod script;
+mod status;
+mod telling;
+#[cfg(test)]
+mod tests;
+mod top;
+mod words;
+
+use status::Status;
+use std::alloc::Global;
+use std::env;
+use std::io::{self, ErrorKind};
+use std::process::ExitCode;
+use std::rt::Env;
+use telling::tell;
+use top::top;
+use ua_base::{DirFolder, MemoryLink, OpenGate, Sink, StdSink};
+use words::Word;
+
+/// The words after the program's name.
+fn words_of(rt: &(impl Env + AllocGlobal), alloc: Global) -> io::Result<Vec<Word>> {
+    let mut words = Vec::new(alloc);
+    for text in env::args(rt)?.skip(1) {
+        words.push(Word::new(text))?;
+    }
+    Ok(words)
+}
+
+/// Ends where the words can't be read: memory ran out, or one of them isn't UTF-8.
+fn refuse<E: Sink>(kind: ErrorKind, err: &mut E) -> ExitCode {
+    let status = if kind == ErrorKind::OutOfMemory {
+        Status::OutOfMemory
+    } else {
+        Status::BadWords
+    };
+    tell(err, status, "");
+    ExitCode::from(status.number())
+}
+
+fn main(rt: HostRuntime) -> ExitCode {
+    let alloc = rt.alloc();
+    let stderr = rt.stderr();
+    let mut err = StdSink::new(&stderr);
+    let words = match words_of(&rt, alloc) {
+        Ok(words) => words,
+        Err(error) => return refuse(error.kind(), &mut err),
+    };
+    let mut folder = DirFolder::new(&rt);
+    let mut lab = MemoryLink::new(
+        alloc,
+        Vec::new(alloc),
+        Vec::new(alloc),
+        Vec::new(alloc),
+        false,
+    );
+    let mut wire = MemoryLink::new(
+        alloc,
+        Vec::new(alloc),
+        Vec::new(alloc),
+        Vec::new(alloc),
+        false,
+    );
+    let mut out = StdSink::new(&rt);
+    ExitCode::from(top(
+        &rt,
+        alloc,
+        &words,
+        &mut folder,
+        &mut lab,
+        &mut wire,
+        &OpenGate,
+        &mut out,
+        &mut err,
+    ))
+}
