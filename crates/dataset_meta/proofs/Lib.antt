@@ -1,0 +1,4 @@
+mod Prefixes
+mod Doubles
+pub mod SameLaws
+pub mod RowLaws
