@@ -1,5 +1,5 @@
 -- What is sampled, and so what a reader holds, are versions of the one history that the lines make.
-use Rattle.std.proofs.Common.{◌≡◌, ℕ, zero, suc, ◌+◌, ◌<◌, ◌≤◌, ◌^◌, List, [], ◌∷◌, ◌++◌, length, get_or, Option, Some, None, refl, sym, ap, ◌∙◌, subst, arith, inl, inr}
+use Rattle.std.proofs.Common.{◌≡◌, ℕ, zero, suc, ◌+◌, ◌<◌, ◌≤◌, ◌^◌, List, [], ◌∷◌, length, get_or, Option, Some, None, refl, sym, ap, ◌∙◌, subst, arith, inl, inr}
 use Rattle.std.specs.Prelude.{reverse, count_by, IfSome}
 use mathlib.Core.List.{reverse_aux}
 use Rattle.std.specs.List.{AllByRecursion, AllZip}
@@ -20,7 +20,7 @@ use Rattle.uapubsub.specs.declared.script.Line.{Line}
 use Rattle.uapubsub.specs.declared.script.Line.TheVariants.{Write, Tick}
 use Rattle.uapubsub.specs.Script.{Spells, IsScript, only_a, text_lines, is_tick}
 use Rattle.uapubsub.specs.Playing.{written}
-use Rattle.uapubsub.specs.Play.{IsPlayed, IsSession, IsReport, sample_of}
+use Rattle.uapubsub.specs.Play.{IsPlayed, IsSession, IsReport}
 use Rattle.uapubsub.specs.Versions.{row_at, IsVersion}
 use Rattle.uapubsub.proofs.OneWrite.{count-cons, reverse-cons}
 

@@ -1,6 +1,5 @@
 -- What a tick samples.
-use Rattle.std.proofs.Common.{◌≡◌, ℕ, ◌+◌, List, [], ◌∷◌, length, refl, sym, ap, ◌∙◌, arith, zero-add}
-use Rattle.std.specs.Prelude.{reverse}
+use Rattle.std.proofs.Common.{◌≡◌, ℕ, List, [], ◌∷◌, length, refl, sym, ap, ◌∙◌, arith}
 use Rattle.std.proofs.lemmas.List.{length-reverse}
 use Rattle.pubsub_model.specs.declared.row.Row.{Row}
 use Rattle.pubsub_engine.specs.declared.sampled.Sampled.{Sampled}

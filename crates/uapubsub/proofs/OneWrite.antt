@@ -3,7 +3,7 @@ use Rattle.std.proofs.Common.{◌≡◌, ℕ, ◌+◌, ◌-◌, ◌<◌, ◌≤�
 use Rattle.std.specs.Prelude.{reverse, count_by}
 use Rattle.std.proofs.lemmas.Bool.{cases_eq}
 use Rattle.std.proofs.lemmas.Bool.Decides.{nat_tests}
-use Rattle.std.proofs.lemmas.List.{reverse-append, length-reverse, length-set, get_or-set_same, get_or-set_other}
+use Rattle.std.proofs.lemmas.List.{reverse-append, length-set, get_or-set_same, get_or-set_other}
 use Rattle.std.proofs.lemmas.List.Elements.{All-cons}
 use Rattle.std.proofs.lemmas.List.Sums.{sum_by-cons}
 use Rattle.pubsub_model.specs.declared.row.Row.{Row}
@@ -11,9 +11,9 @@ use Rattle.pubsub_model.specs.declared.row.Patch.{Patch}
 use Rattle.pubsub_model.specs.Rows.{patched}
 use Rattle.pubsub_model.specs.History.{places}
 use Rattle.uapubsub.specs.declared.script.Line.{Line}
-use Rattle.uapubsub.specs.declared.script.Line.TheVariants.{Write, Tick}
-use Rattle.uapubsub.specs.Script.{is_tick, is_write, is_by}
-use Rattle.uapubsub.specs.Playing.{written, threads_of, AreThreads}
+use Rattle.uapubsub.specs.declared.script.Line.TheVariants.{Write}
+use Rattle.uapubsub.specs.Script.{is_write, is_by}
+use Rattle.uapubsub.specs.Playing.{threads_of}
 use Rattle.uapubsub.specs.Rooms.{Fits}
 use Rattle.uapubsub.specs.Player.{HasWritten}
 

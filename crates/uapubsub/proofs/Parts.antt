@@ -1,5 +1,5 @@
 -- The parts of the command `play`: what a script promises of its lines, and what an opened link tells.
-use Rattle.std.proofs.Common.{◌≡◌, ℕ, suc, ◌+◌, ◌<◌, ◌≤◌, Bool, List, [], ◌∷◌, ◌++◌, length, get_or, take, drop, Option, Some, refl, sym, ap, ◌∙◌, subst, arith}
+use Rattle.std.proofs.Common.{◌≡◌, ℕ, suc, ◌+◌, ◌<◌, ◌≤◌, Bool, List, [], ◌∷◌, length, get_or, take, drop, Option, Some, ap, ◌∙◌, subst, arith}
 use Rattle.std.specs.Prelude.{count_by, reverse}
 use Rattle.std.specs.List.{All, AllZip}
 use Rattle.std.proofs.Math.Seq.{take-suc, drop-cons}
@@ -14,7 +14,6 @@ use Rattle.uapubsub.specs.declared.script.Line.TheVariants.{Write, Tick}
 use Rattle.uapubsub.specs.declared.player.Player.{Player}
 use Rattle.uapubsub.specs.Script.{Spells, text_lines, is_tick, is_write, is_by}
 use Rattle.uapubsub.specs.Play.{IsAccepted}
-use Rattle.uapubsub.specs.Rooms.{Fits}
 use Rattle.uapubsub.specs.Player.{IsPlayable, IsPlayableLine, CanPlay}
 use Rattle.uapubsub.proofs.OneWrite.{count-cons}
 

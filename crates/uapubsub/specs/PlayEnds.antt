@@ -1,5 +1,5 @@
 -- What the parts of the command `play` give.
-use Rattle.std.specs.Prelude.{ℕ, List, Option, Result, Ok, Err, Vec, String, string_bytes}
+use Rattle.std.specs.Prelude.{List, Option, Result, Ok, Err, Vec, String, string_bytes}
 use Rattle.std.specs.declared.alloc.Global.{Global}
 use Rattle.ua_base.specs.Files.{Told, TellsFile}
 use Rattle.ua_base.specs.Journal.{Wire}

@@ -1,4 +1,4 @@
-use Rattle.std.proofs.Common.{arith, ◌<◌, length}
+use Rattle.std.proofs.Common.{arith}
 use Rattle.uapubsub.proofs.EightDones.{answers-set, rooms-set}
 use Rattle.uapubsub.proofs.application.note.Goals as goal
 

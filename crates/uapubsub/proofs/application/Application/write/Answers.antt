@@ -1,5 +1,5 @@
-use Rattle.std.proofs.Common.{◌∷◌, [], List, arith, length, ◌≡◌, ◌+◌}
-use Rattle.uapubsub.proofs.OneWrite.{wrote_more, fits_here, fits_less}
+use Rattle.std.proofs.Common.{arith, length, ◌≡◌, ◌+◌}
+use Rattle.uapubsub.proofs.OneWrite.{wrote_more, fits_less}
 use Rattle.uapubsub.proofs.application.Application.write.Goals as goal
 
 pub returns-clause-wrote : goal.returns-clause-wrote

@@ -1,4 +1,4 @@
-use Rattle.std.proofs.Common.{◌≡◌, ◌≤◌, arith, List, ℕ, [], ◌∷◌, true, length, refl, sym, ap, ◌∙◌}
+use Rattle.std.proofs.Common.{◌≡◌, ◌≤◌, arith, List, ◌∷◌, true, length, refl, sym, ap, ◌∙◌}
 use Rattle.std.specs.Prelude.{reverse, String, string_bytes}
 use Rattle.std.proofs.lemmas.List.{length-map}
 use Rattle.std.proofs.lemmas.Result.{IfOk-weaker}
@@ -6,7 +6,7 @@ use Rattle.pubsub_engine.specs.declared.done.Done.{Done}
 use Rattle.std.specs.declared.alloc.Global.{Global}
 use Rattle.pubsub_engine.specs.Authored.{answers_of}
 use Rattle.pubsub_engine.specs.Closing.{shown_of}
-use Rattle.pubsub_engine.specs.Steps.{Step, Tick, Pump}
+use Rattle.pubsub_engine.specs.Steps.{Tick, Pump}
 use Rattle.pubsub_engine.specs.Report.{report_text}
 use Rattle.uapubsub.specs.declared.application.Application.{Application}
 use Rattle.uapubsub.specs.declared.script.Line.{Line}

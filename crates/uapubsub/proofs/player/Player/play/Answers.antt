@@ -1,4 +1,4 @@
-use Rattle.std.proofs.Common.{List, ℕ, ◌+◌, take, drop, get_or, sym, subst, ◌∙◌}
+use Rattle.std.proofs.Common.{List, ◌+◌, take, drop, sym, subst, ◌∙◌}
 use Rattle.std.specs.Prelude.{reverse}
 use Rattle.uapubsub.specs.declared.script.Line.{Line}
 use Rattle.uapubsub.specs.Player.{HasPlayed, CanPlay}

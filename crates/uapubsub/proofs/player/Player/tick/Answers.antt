@@ -1,9 +1,8 @@
 use Rattle.std.proofs.Common.{subst, List}
 use Rattle.pubsub_engine.specs.declared.sampled.Sampled.{Sampled}
-use Rattle.pubsub_engine.specs.Steps.{Step, Tick, Pump}
+use Rattle.pubsub_engine.specs.Steps.{Tick, Pump}
 use Rattle.pubsub_engine.specs.Standing.{Stands}
-use Rattle.std.proofs.Common.{◌∷◌, []}
-use Rattle.uapubsub.specs.Play.{sample_of}
+use Rattle.std.proofs.Common.{◌∷◌}
 use Rattle.uapubsub.proofs.OneTick.{sample_is}
 use Rattle.uapubsub.proofs.player.Player.tick.Goals as goal
 
