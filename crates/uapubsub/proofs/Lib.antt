@@ -10,3 +10,4 @@ pub mod Ending
 pub mod Parts
 pub mod OneReport
 pub mod OneHistory
+pub mod NeverFalling

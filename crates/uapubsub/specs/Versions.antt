@@ -1,5 +1,5 @@
 -- The versions of the data set that a script's lines make.
-use Rattle.std.specs.Prelude.{◌≡◌, ◌≤◌, ℕ, List, ◌∷◌, length, reverse, slice_index_or}
+use Rattle.std.specs.Prelude.{◌≡◌, ◌≤◌, ⊤, ℕ, List, [], ◌∷◌, length, reverse, slice_index_or}
 use Rattle.pubsub_model.specs.declared.row.Row.{Row}
 use Rattle.pubsub_model.specs.Rows.{opening}
 
@@ -11,3 +11,8 @@ row_at rows version = slice_index_or (opening ∷ reverse rows) version opening
 pub record IsVersion (rows : List Row) (version : ℕ) (row : Row) : Type 0 where
   pub there : version ≤ length rows
   pub row_is : row ≡ row_at rows version
+
+-- No version of this log, the latest entry first, is above the one that was logged after it, and none is above the bound.
+abbrev pub NeverFalls : ℕ → List (ℕ × ℕ) → Type 0
+NeverFalls bound [] = ⊤
+NeverFalls bound (entry ∷ before) = (entry.1 ≤ bound) × NeverFalls entry.1 before

@@ -1,5 +1,5 @@
 //! Laws of scripts and of the history that they make, each the contract of a function that does nothing.
-ghost use Rattle.std.specs.Prelude.{◌≡◌, ℕ, List, Some, IfSome, reverse};
+ghost use Rattle.std.specs.Prelude.{◌≡◌, ℕ, List, Some, IfSome, length, reverse};
 ghost use Rattle.ua_base.specs.Journal.{Wire, IsHonest};
 ghost use Rattle.pubsub_engine.specs.Publishing.{log_at};
 ghost use Rattle.pubsub_engine.specs.Reading.{held_frame};
@@ -8,8 +8,9 @@ ghost use Rattle.uapubsub.specs.declared.script.Line.{Line as LineValue};
 ghost use Rattle.pubsub_model.specs.History.{IsLegal, legal_rows};
 ghost use Rattle.uapubsub.specs.Script.{IsScript};
 ghost use Rattle.uapubsub.specs.Playing.{written, threads_of, patches_of, AreThreads};
-ghost use Rattle.uapubsub.specs.Play.{IsReport};
-ghost use Rattle.uapubsub.specs.Versions.{IsVersion};
+ghost use Rattle.pubsub_engine.specs.Steps.{Step};
+ghost use Rattle.uapubsub.specs.Play.{IsSession, IsReport};
+ghost use Rattle.uapubsub.specs.Versions.{IsVersion, NeverFalls};
 
 /// A text is the script of one list of lines at most.
 pub fn a_script_has_one_reading()
@@ -34,4 +35,10 @@ pub fn a_session_has_one_report()
 pub fn a_held_row_is_a_version()
     ensures { (bytes : List ℕ) (lines : List LineValue) (wire : Wire) (text : List ℕ) (report : IsReport lines (Some wire) text) → IsScript bytes lines → IsHonest wire.journal
         → IfSome (held_frame report.steps) (λ frame. (version : ℕ) × (version_of (log_at report.steps) frame.number ≡ Some version) × IsVersion (written (reverse lines)) version frame.row) }
+{}
+
+/// A data message never stands for an older version than the one before it, and each stands for a version of the
+/// script's history.
+pub fn a_logged_version_never_falls()
+    ensures { (lines : List LineValue) (steps : List Step) → IsSession lines steps → NeverFalls (length (written (reverse lines))) (reverse (log_at steps)) }
 {}
