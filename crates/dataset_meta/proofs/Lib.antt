@@ -1,4 +1,5 @@
 mod Prefixes
 mod Doubles
+mod FaultLaws
 pub mod SameLaws
 pub mod RowLaws

@@ -11,7 +11,10 @@ mod name32;
 mod tests;
 
 pub use field::Field;
-pub use laws::{differences_give_the_new_row, opening_row_fits, patched_row_fits};
+pub use laws::{
+    differences_give_the_new_row, fields_have_one_fault, opening_row_fits, patched_row_fits,
+    patches_give_their_values,
+};
 pub use meta::Meta;
 pub use meta_fault::MetaFault;
 pub use name32::Name32;

@@ -1,0 +1,93 @@
+//! Bytes that are read from left to right.
+ghost use Rattle.std.specs.Prelude.{◌≡◌, ◌≤◌, length, OnErr};
+ghost use Rattle.std.specs.Int.{w16, w32, w64};
+
+/// Fewer bytes are left than are asked for.
+#[derive(Clone, Copy, Debug, PartialEq, Eq)]
+pub struct Short;
+
+/// Bytes, of which those from `at` on are still to be read. Numbers are little-endian (OPC 10000-6 section 5.2.2).
+#[derive(Clone, Copy, Debug, PartialEq, Eq)]
+pub struct Cursor<'a> {
+    pub bytes: &'a [u8],
+    pub at: usize,
+}
+
+impl<'a> Cursor<'a> {
+    ghost use Rattle.ua_binary.specs.Reading.{Gives, GivesBytes, KeepsBytes, rest_of, byte_at, number_at, bytes_at};
+
+    #[inline(always)]
+    pub fn read_u8(&mut self) -> Result<u8, Short>
+        requires { self.old.at ≤ length self.old.bytes.now }
+        ensures answer { Gives result (rest_of self.new) (byte_at (record {}) (rest_of self.old)) }
+        ensures kept { KeepsBytes self.old self.new }
+        ensures refused { OnErr result (self.new ≡ self.old) }
+    {
+        if self.bytes.len() == self.at {
+            return Err(Short);
+        }
+        let byte = self.bytes[self.at];
+        self.at += 1;
+        Ok(byte)
+    }
+
+    #[inline(always)]
+    pub fn read_array<const N: usize>(&mut self) -> Result<[u8; N], Short>
+        requires { self.old.at ≤ length self.old.bytes.now }
+        ensures answer { Gives result (rest_of self.new) (bytes_at (record {}) N (rest_of self.old)) }
+        ensures kept { KeepsBytes self.old self.new }
+        ensures refused { OnErr result (self.new ≡ self.old) }
+    {
+        let Some((array, _)) = self.bytes[self.at..].split_first_chunk() else {
+            return Err(Short);
+        };
+        self.at += N;
+        Ok(*array)
+    }
+
+    #[inline(always)]
+    pub fn read_u16(&mut self) -> Result<u16, Short>
+        requires { self.old.at ≤ length self.old.bytes.now }
+        ensures answer { Gives result (rest_of self.new) (number_at (record {}) w16 (rest_of self.old)) }
+        ensures kept { KeepsBytes self.old self.new }
+        ensures refused { OnErr result (self.new ≡ self.old) }
+    {
+        Ok(u16::from_le_bytes(self.read_array()?))
+    }
+
+    #[inline(always)]
+    pub fn read_u32(&mut self) -> Result<u32, Short>
+        requires { self.old.at ≤ length self.old.bytes.now }
+        ensures answer { Gives result (rest_of self.new) (number_at (record {}) w32 (rest_of self.old)) }
+        ensures kept { KeepsBytes self.old self.new }
+        ensures refused { OnErr result (self.new ≡ self.old) }
+    {
+        Ok(u32::from_le_bytes(self.read_array()?))
+    }
+
+    #[inline(always)]
+    pub fn read_u64(&mut self) -> Result<u64, Short>
+        requires { self.old.at ≤ length self.old.bytes.now }
+        ensures answer { Gives result (rest_of self.new) (number_at (record {}) w64 (rest_of self.old)) }
+        ensures kept { KeepsBytes self.old self.new }
+        ensures refused { OnErr result (self.new ≡ self.old) }
+    {
+        Ok(u64::from_le_bytes(self.read_array()?))
+    }
+
+    /// The next `len` bytes.
+    #[inline(always)]
+    pub fn read_bytes(&mut self, len: usize) -> Result<&'a [u8], Short>
+        requires { self.old.at ≤ length self.old.bytes.now }
+        ensures answer { GivesBytes result (rest_of self.new) (bytes_at (record {}) len (rest_of self.old)) }
+        ensures kept { KeepsBytes self.old self.new }
+        ensures refused { OnErr result (self.new ≡ self.old) }
+    {
+        let rest = &self.bytes[self.at..];
+        if rest.len() < len {
+            return Err(Short);
+        }
+        self.at += len;
+        Ok(&rest[..len])
+    }
+}

@@ -1,0 +1,115 @@
+//! Bytes that are written from left to right.
+ghost use Rattle.std.specs.Prelude.{◌≡◌, ◌+◌, ◌≤◌, [], ◌∷◌, length};
+ghost use Rattle.std.specs.Int.{w16, w32, w64, to_le_bytes};
+
+/// Fewer bytes are left than are to be written.
+#[derive(Clone, Copy, Debug, PartialEq, Eq)]
+pub struct Room;
+
+/// Bytes, of which those from `at` on are still to be written. Numbers are little-endian (OPC 10000-6 section 5.2.2).
+#[derive(Debug, Drop)]
+pub struct Pen<'a> {
+    pub bytes: &'a mut [u8],
+    pub at: usize,
+}
+
+/// The calls `put_` are for bytes that there is room for, and test nothing.
+impl Pen<'_> {
+    ghost use Rattle.ua_binary.specs.Writing.{laid, Puts, Writes};
+
+    /// How many bytes may still be written.
+    #[inline(always)]
+    pub fn room(&self) -> usize
+        requires { self.now.at ≤ length self.now.bytes.now }
+        ensures { self.now.at + result ≡ length self.now.bytes.now }
+    {
+        self.bytes.len() - self.at
+    }
+
+    #[inline(always)]
+    pub fn put_bytes(&mut self, text: &[u8])
+        requires { self.old.at + length text.now ≤ length self.old.bytes.now }
+        ensures { Puts self.old self.new text.now }
+    {
+        let end = self.at + text.len();
+        self.bytes[self.at..end].copy_from_slice(text);
+        self.at = end;
+    }
+
+    #[inline(always)]
+    pub fn put_u8(&mut self, byte: u8)
+        requires { self.old.at + 1 ≤ length self.old.bytes.now }
+        ensures { Puts self.old self.new (byte ∷ []) }
+    {
+        self.put_bytes(&[byte]);
+    }
+
+    #[inline(always)]
+    pub fn put_u16(&mut self, number: u16)
+        requires { self.old.at + 2 ≤ length self.old.bytes.now }
+        ensures { Puts self.old self.new (to_le_bytes w16 number) }
+    {
+        self.put_bytes(&number.to_le_bytes());
+    }
+
+    #[inline(always)]
+    pub fn put_u32(&mut self, number: u32)
+        requires { self.old.at + 4 ≤ length self.old.bytes.now }
+        ensures { Puts self.old self.new (to_le_bytes w32 number) }
+    {
+        self.put_bytes(&number.to_le_bytes());
+    }
+
+    #[inline(always)]
+    pub fn put_u64(&mut self, number: u64)
+        requires { self.old.at + 8 ≤ length self.old.bytes.now }
+        ensures { Puts self.old self.new (to_le_bytes w64 number) }
+    {
+        self.put_bytes(&number.to_le_bytes());
+    }
+
+    /// Writes all of these bytes.
+    #[inline(always)]
+    pub fn write_bytes(&mut self, text: &[u8]) -> Result<(), Room>
+        requires { self.old.at ≤ length self.old.bytes.now }
+        ensures { Writes result self.old self.new text.now }
+    {
+        if self.room() < text.len() {
+            return Err(Room);
+        }
+        self.put_bytes(text);
+        Ok(())
+    }
+
+    #[inline(always)]
+    pub fn write_u8(&mut self, byte: u8) -> Result<(), Room>
+        requires { self.old.at ≤ length self.old.bytes.now }
+        ensures { Writes result self.old self.new (byte ∷ []) }
+    {
+        self.write_bytes(&[byte])
+    }
+
+    #[inline(always)]
+    pub fn write_u16(&mut self, number: u16) -> Result<(), Room>
+        requires { self.old.at ≤ length self.old.bytes.now }
+        ensures { Writes result self.old self.new (to_le_bytes w16 number) }
+    {
+        self.write_bytes(&number.to_le_bytes())
+    }
+
+    #[inline(always)]
+    pub fn write_u32(&mut self, number: u32) -> Result<(), Room>
+        requires { self.old.at ≤ length self.old.bytes.now }
+        ensures { Writes result self.old self.new (to_le_bytes w32 number) }
+    {
+        self.write_bytes(&number.to_le_bytes())
+    }
+
+    #[inline(always)]
+    pub fn write_u64(&mut self, number: u64) -> Result<(), Room>
+        requires { self.old.at ≤ length self.old.bytes.now }
+        ensures { Writes result self.old self.new (to_le_bytes w64 number) }
+    {
+        self.write_bytes(&number.to_le_bytes())
+    }
+}
