@@ -1,0 +1,9 @@
+mod DigitLaws
+mod ValueLaws
+mod RowLaws
+mod Loops
+mod FieldLaws
+mod OpeningLaws
+mod PatchLaws
+mod ShapeLaws
+mod LayLaws

@@ -1,0 +1,5 @@
+pub mod Digits
+pub mod Words
+pub mod Belonging
+pub mod Patches
+pub mod Shapes

@@ -1,0 +1,19 @@
+//! Rows and patches of a data set in 125 words of 64 bits, and the shape that says which words are rows of a meta.
+#![tactic(auto)]
+
+mod digits;
+mod laws;
+mod meta_shape;
+mod patch;
+mod reading;
+mod row;
+#[cfg(test)]
+mod tests;
+mod writing;
+
+pub use laws::{
+    equal_words_are_equal_rows, patched_words_belong, rows_have_words, words_belong_by_shape,
+};
+pub use meta_shape::shape;
+pub use patch::Patch;
+pub use row::Row;
