@@ -1,1 +1,8 @@
-pub mod FrameLaws
+pub mod Rows
+pub mod Changes
+pub mod Laid
+pub mod Lengths
+pub mod FrontLaws
+pub mod ContentLaws
+pub mod MessageLaws
+pub mod ReadLaws

@@ -1,1 +1,5 @@
-pub mod FrameBytes
+pub mod Messages
+pub mod Spelling
+pub mod Fronts
+pub mod Contents
+pub mod Reading

@@ -4,7 +4,7 @@ use Rattle.std.proofs.lemmas.List.{append-nil, same_from_push}
 use Rattle.std.proofs.lemmas.List.Concat.{flat_map-append}
 use Rattle.std.specs.Prelude.{flat_map}
 use Rattle.ua_base.specs.Journal.{Entry, Sent, SendFailed, Got, Empty, Long, ReceiveFailed}
-use Rattle.pubsub_engine.specs.declared.sampled.Sampled.{Sampled}
+use Rattle.pubsub_engine.specs.Samples.{Sample}
 use Rattle.pubsub_engine.specs.Steps.{Step, Tick, Pump, moment_of, IsPump, send_entry, send_entries}
 use Rattle.pubsub_engine.specs.Publishing.{Deed, Ticked, turned_on, deeds, last_sends, sends_of, journal, IsRun}
 use Rattle.pubsub_engine.specs.Alike.{AreAlike}
@@ -84,7 +84,7 @@ one_division (sort ∷ sorts) (x ∷ ps) (y ∷ qs) p q e =
 
 -- ---- the steps of given ticks
 
-deed_of : (now now' : ℕ) (closing closing' : Bool) (sample sample' : List Sampled) (ds ds' : List Deed) → now ≡ now' → closing ≡ closing' → sample ≡ sample' → ds ≡ ds' → turned_on now closing sample (Ticked now ∷ ds) ≡ turned_on now' closing' sample' (Ticked now' ∷ ds')
+deed_of : (now now' : ℕ) (closing closing' : Bool) (sample sample' : List Sample) (ds ds' : List Deed) → now ≡ now' → closing ≡ closing' → sample ≡ sample' → ds ≡ ds' → turned_on now closing sample (Ticked now ∷ ds) ≡ turned_on now' closing' sample' (Ticked now' ∷ ds')
 deed_of now now' closing closing' sample sample' ds ds' p q r s = cc
 
 -- alike steps have the same moments and deeds
@@ -138,7 +138,7 @@ pieces_of (Tick ms closing sample done ∷ before) run =
     AreOf-push (sorts before) (pieces before) _ _ (pieces_of before run.1) (length-send_entries (sends_of (Tick ms closing sample done ∷ before)) done run.0)
 pieces_of (Pump entries ∷ before) run = AreOf-push (sorts before) (pieces before) Receives entries (pieces_of before run.1) run.0
 
-sends_alike : (ms ms' : ℕ) (closing closing' : Bool) (sample sample' : List Sampled) (done done' : List Bool) (xs ys : List Step) → AreAlike (Tick ms closing sample done ∷ xs) (Tick ms' closing' sample' done' ∷ ys)
+sends_alike : (ms ms' : ℕ) (closing closing' : Bool) (sample sample' : List Sample) (done done' : List Bool) (xs ys : List Step) → AreAlike (Tick ms closing sample done ∷ xs) (Tick ms' closing' sample' done' ∷ ys)
     → sends_of (Tick ms closing sample done ∷ xs) ≡ sends_of (Tick ms' closing' sample' done' ∷ ys)
 sends_alike ms ms' closing closing' sample sample' done done' xs ys a = ap last_sends (alike (Tick ms closing sample done ∷ xs) (Tick ms' closing' sample' done' ∷ ys) a).1
 
@@ -171,7 +171,7 @@ done_is (d ∷ ds) (x ∷ a) (y ∷ b) p q e =
     let tails : send_entries ds a ≡ send_entries ds b = cc in
     ap (λ (z : Bool). z ∷ a) (entry_done d x y heads) ∙ ap (λ (l : List Bool). y ∷ l) (done_is ds a b (omega arith) (omega arith) tails)
 
-tick_is : (ms ms' : ℕ) (closing closing' : Bool) (sample sample' : List Sampled) (done done' : List Bool) (xs ys : List Step) → ms ≡ ms' → closing ≡ closing' → sample ≡ sample' → done ≡ done' → xs ≡ ys
+tick_is : (ms ms' : ℕ) (closing closing' : Bool) (sample sample' : List Sample) (done done' : List Bool) (xs ys : List Step) → ms ≡ ms' → closing ≡ closing' → sample ≡ sample' → done ≡ done' → xs ≡ ys
     → Tick ms closing sample done ∷ xs ≡ Tick ms' closing' sample' done' ∷ ys
 tick_is ms ms' closing closing' sample sample' done done' xs ys p q r s t = cc
 

@@ -1,6 +1,7 @@
 -- The entries of one pump.
-use Rattle.std.proofs.Common.{◌≡◌, refl, sym, ap, ◌∙◌, subst, arith, ℕ, zero, suc, ◌+◌, ◌-◌, ◌^◌, ◌<◌, ◌≤◌, min, Bool, true, false, ◌||◌, cond, List, [], ◌∷◌, ◌++◌, length, map, reverse, filter_map, append_assoc, length-append, Option}
-use Rattle.std.specs.Prelude.{count_by, zip, ◌==◌, IsTrue}
+use Rattle.std.proofs.Common.{◌≡◌, refl, sym, ap, ◌∙◌, subst, arith, ℕ, zero, suc, ◌+◌, ◌-◌, ◌^◌, ◌<◌, min, Bool, true, false, cond, List, [], ◌∷◌, ◌++◌, length, reverse, filter_map, append_assoc, length-append, Option}
+use Rattle.std.specs.Prelude.{count_by, IsTrue, option_map}
+use Rattle.pubsub_engine.specs.Samples.{keyed_of}
 use Rattle.std.proofs.lemmas.List.{append-nil, reverse-append}
 use Rattle.std.proofs.lemmas.List.Elements.{filter_map-append}
 use Rattle.std.proofs.lemmas.List.Sums.{sum_by-append, sum_by-cons}
@@ -10,7 +11,7 @@ use Rattle.pubsub_model.specs.Records.{Arrival}
 use Rattle.pubsub_engine.specs.declared.receiving.Receiving.{Receiving}
 use Rattle.pubsub_engine.specs.Steps.{IsPump, send_entry, send_entries}
 use Rattle.pubsub_engine.specs.Reading.{arrival_in, arrivals_in}
-use Rattle.pubsub_engine.specs.Counts.{counted, is_sent, is_send_failed, is_got, is_long, is_broken, is_taken, is_datagram}
+use Rattle.pubsub_engine.specs.Counts.{is_sent, is_send_failed, is_got, is_long, is_broken, is_taken, is_datagram}
 use Rattle.pubsub_engine.specs.Standing.{IsReader}
 use Rattle.pubsub_engine.specs.Taking.{Takes, IsReceive}
 
@@ -34,7 +35,7 @@ arrivals-append moment xs ys arrivals =
 
 pub Takes-then : (xs ys : List Entry) (a b c : Receiving) → Takes xs a b → Takes ys b c → Takes (xs ++ ys) a c
 Takes-then xs ys a b c p q = record {
-  reader = λ moment arrivals h. subst (λ (l : List Arrival). IsReader l c.reader.last c.reader.breaks c.reader.recent.items) (arrivals-append moment xs ys arrivals) (q.reader moment (arrivals_in moment xs ++ arrivals) (p.reader moment arrivals h));
+  reader = λ moment arrivals h. subst (λ (l : List Arrival). IsReader l (option_map keyed_of c.reader.last) c.reader.breaks c.reader.recent.items) (arrivals-append moment xs ys arrivals) (q.reader moment (arrivals_in moment xs ++ arrivals) (p.reader moment arrivals h));
   taken = omega (arith, p.taken, q.taken, count-append is_taken xs ys);
   received = omega (arith, p.received, q.received, count-append is_got xs ys);
   broken = omega (arith, p.broken, q.broken, count-append is_broken xs ys);

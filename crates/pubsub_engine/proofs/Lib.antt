@@ -1,3 +1,5 @@
+pub mod BuiltIns
+pub mod Datagrams
 pub mod Readings
 pub mod Entries
 pub mod Turning

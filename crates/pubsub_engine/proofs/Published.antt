@@ -1,31 +1,31 @@
 -- Where each received datagram was sent before, what the reader holds is the row of the version that the log has at its number.
-use Rattle.std.proofs.Common.{◌≡◌, refl, sym, ap, ◌∙◌, subst, arith, ℕ, zero, suc, ◌+◌, ◌-◌, ◌%◌, ◌^◌, ◌<◌, ◌≤◌, Bool, true, false, ◌||◌, cond, List, [], ◌∷◌, ◌++◌, length, take, drop, reverse, Option, Some, None, ◌⊎◌, inl, inr, All, append_assoc, length-append}
+use Rattle.std.proofs.Common.{◌≡◌, refl, sym, ap, ◌∙◌, subst, arith, ℕ, zero, suc, ◌+◌, ◌%◌, ◌^◌, ◌<◌, ◌≤◌, Bool, true, false, cond, List, [], ◌∷◌, ◌++◌, length, reverse, Option, Some, None, inl, inr, All, lit≤, append_assoc, length-append}
 use Rattle.std.specs.Prelude.{nat_le, ◌==◌, ◌/◌, find, option_map, filter_map, Contains}
 use Rattle.std.specs.Option.{option_or}
 use Rattle.std.specs.List.{cons_option}
-use Rattle.std.specs.Int.{w16, to_le_bytes}
 use Rattle.std.proofs.lemmas.Bool.Decides.{nat_tests}
 use Rattle.std.proofs.lemmas.List.{append-nil, reverse-append}
 use Rattle.std.proofs.lemmas.List.Elements.{All-nil, All-cons, All-head, All-tail, All-append, All-push, All-weaker, All-contains, Contains-append_left}
 use Rattle.std.proofs.lemmas.List.Folds.{find-append}
 use Rattle.seq_number.specs.Numbers.{wire, place_from}
 use Rattle.ua_base.specs.Journal.{Entry, Sent, SendFailed, Got, Empty, Long, ReceiveFailed, IsHonest}
-use Rattle.pubsub_model.specs.declared.row.Row.{Row}
-use Rattle.pubsub_model.specs.Rows.{cons_if}
+use Rattle.ua_values.specs.declared.value.Value.{Value}
+use Rattle.dataset_meta.specs.Rows.{cons_if, IsRow}
 use Rattle.pubsub_model.specs.Frames.{Frame, Whole}
-use Rattle.pubsub_model.specs.Cadence.{log_of}
-use Rattle.pubsub_model.specs.Records.{Item, Arrival, Came, Cut, Held, at, since_cut, records, is_record, held, held_in}
+use Rattle.pubsub_model.specs.Records.{Item, Arrival, Came, Cut, at, since_cut, records, is_record, held_in}
 use Rattle.pubsub_model.proofs.CadenceLaws.{log_of-key}
-use Rattle.frame_codec.specs.declared.frame.KeyFrame.{KeyFrame}
-use Rattle.frame_codec.specs.FrameBytes.{frame_bytes, frame_of}
-use Rattle.frame_codec.proofs.FrameLaws.{length-frame_bytes, frame_of-bytes}
-use Rattle.pubsub_engine.specs.declared.sampled.Sampled.{Sampled}
-use Rattle.pubsub_engine.specs.Datagram.{datagram, has_header, frame_in}
+use Rattle.frame_codec.specs.Messages.{Message, IsMessage}
+use Rattle.frame_codec.specs.Spelling.{frame_bytes}
+use Rattle.frame_codec.specs.Reading.{message_at}
+use Rattle.frame_codec.proofs.MessageLaws.{message_again}
+use Rattle.pubsub_engine.specs.BuiltIn.{demo_fields}
+use Rattle.pubsub_engine.specs.Samples.{Sample, Keyed}
+use Rattle.pubsub_engine.specs.Datagram.{datagram, key_message, key_read, has_header, frame_in}
 use Rattle.pubsub_engine.specs.Steps.{Step, Tick, Pump, moment_of, IsPump, send_entry, send_entries}
-use Rattle.pubsub_engine.specs.Publishing.{built_in, Deed, Ticked, turns_in, writer_past, made_in, datagrams_of, turn_at, deeds, sampled_in, sends_of, log_at, journal, IsRun}
+use Rattle.pubsub_engine.specs.Publishing.{built_in, Ticked, turns_in, writer_past, made_in, turn_at, deeds, sampled_in, sends_of, log_at, journal, IsRun}
 use Rattle.pubsub_engine.specs.Reading.{item_of, arrival_in, arrivals_in, arrivals, numbered, held_frame}
 use Rattle.pubsub_engine.specs.Report.{version_of}
-use Rattle.pubsub_engine.specs.Holding.{HasSample, AreValues, SampleValues, IsPublished}
+use Rattle.pubsub_engine.specs.Holding.{HasSample, SampleRows, IsPublished}
 use Rattle.pubsub_engine.proofs.Turning.{has_turn, made_is}
 
 -- ---- what is written is read
@@ -33,14 +33,20 @@ use Rattle.pubsub_engine.proofs.Turning.{has_turn, made_is}
 ten : (s t : ℕ) (rest : List ℕ) → nat_le 10 (length (113 ∷ 5 ∷ 9 ∷ 1 ∷ 0 ∷ s ∷ t ∷ 1 ∷ 1 ∷ 0 ∷ rest)) ≡ true
 ten s t rest = grind (arith, nat_tests)
 
-starts : (sequence number : ℕ) (row : Row) → has_header (datagram sequence number row) ≡ true
+starts : (sequence : ℕ) (message : Message) → has_header (datagram sequence message) ≡ true
 unfolding has_header datagram
-starts sequence number row = rw (ten (sequence % 256) (sequence / 256 % 256) (frame_bytes number row)) refl
+starts sequence message = rw (ten (sequence % 256) (sequence / 256 % 256) (frame_bytes message)) refl
 
-pub frame_in-datagram : (sequence number : ℕ) (row : Row) → number < 2 ^ 16 → AreValues row → frame_in (datagram sequence number row) ≡ Some (record { number = number; row = row })
+key_fits : (number : ℕ) (row : List Value) → number < 2 ^ 16 → IsRow demo_fields row → IsMessage demo_fields (key_message number row)
+key_fits number row small is = record { number = small; major = tt; minor = tt; content = is }
+
+pub frame_in-datagram : (sequence number : ℕ) (row : List Value) → number < 2 ^ 16 → IsRow demo_fields row → frame_in (datagram sequence (key_message number row)) ≡ Some (record { number = number; row = row })
 unfolding frame_in datagram
-frame_in-datagram sequence number row small v =
-    rw (starts sequence number row) (sym (ap frame_of (append-nil (frame_bytes number row))) ∙ frame_of-bytes number 0 row small v.a v.b v.c v.d)
+frame_in-datagram sequence number row small is =
+    let message = key_message number row in
+    rw (starts sequence message)
+    (ap (λ (bytes : List ℕ). key_read (message_at demo_fields bytes)) (sym (append-nil (frame_bytes message)))
+    ∙ ap key_read (message_again demo_fields message 0 (lit≤ tt) (key_fits number row small is)))
 
 -- ---- the log after one more step
 
@@ -48,7 +54,7 @@ frame_in-datagram sequence number row small v =
 log_on : Bool → List (ℕ × ℕ) → ℕ → List (ℕ × ℕ)
 log_on b log version = log ++ cond b ((length log, version) ∷ []) []
 
-log_case : (b : Bool) (steps : List Step) (ms : ℕ) (closing : Bool) (sample : List Sampled) (done : List Bool) → has_turn steps (moment_of steps + ms) closing ≡ b
+log_case : (b : Bool) (steps : List Step) (ms : ℕ) (closing : Bool) (sample : List Sample) (done : List Bool) → has_turn steps (moment_of steps + ms) closing ≡ b
     → log_at (Tick ms closing sample done ∷ steps) ≡ log_on b (log_at steps) (sampled_in sample).version
 unfolding log_on
 log_case true steps ms closing sample done e =
@@ -111,10 +117,10 @@ still_logged b log v n version h = still_found log (cond b ((length log, v) ∷ 
 record SentOf (steps : List Step) (bytes : List ℕ) : Type 0 where
   sequence : ℕ
   number : ℕ
-  sample : Sampled
+  sample : Sample
   small : number < 2 ^ 16
-  values : AreValues sample.row
-  spelled : bytes ≡ datagram sequence number sample.row
+  values : IsRow demo_fields sample.row
+  spelled : bytes ≡ datagram sequence (key_message number sample.row)
   sampled : HasSample steps sample
   logged : version_of (log_at steps) number ≡ Some sample.version
 
@@ -122,7 +128,7 @@ sent_pump : (entries : List Entry) (steps : List Step) (bytes : List ℕ) → Se
 sent_pump entries steps bytes s =
     record { sequence = s.sequence; number = s.number; sample = s.sample; small = s.small; values = s.values; spelled = s.spelled; sampled = s.sampled; logged = s.logged }
 
-sent_tick : (ms : ℕ) (closing : Bool) (sample : List Sampled) (done : List Bool) (steps : List Step) (bytes : List ℕ) → SentOf steps bytes → SentOf (Tick ms closing sample done ∷ steps) bytes
+sent_tick : (ms : ℕ) (closing : Bool) (sample : List Sample) (done : List Bool) (steps : List Step) (bytes : List ℕ) → SentOf steps bytes → SentOf (Tick ms closing sample done ∷ steps) bytes
 sent_tick ms closing sample done steps bytes s = record {
   sequence = s.sequence;
   number = s.number;
@@ -153,7 +159,7 @@ entry_pump entries steps Empty h = tt
 entry_pump entries steps (Long size) h = tt
 entry_pump entries steps ReceiveFailed h = tt
 
-entry_tick : (ms : ℕ) (closing : Bool) (sample : List Sampled) (done : List Bool) (steps : List Step) (entry : Entry) → SentEntry steps entry → SentEntry (Tick ms closing sample done ∷ steps) entry
+entry_tick : (ms : ℕ) (closing : Bool) (sample : List Sample) (done : List Bool) (steps : List Step) (entry : Entry) → SentEntry steps entry → SentEntry (Tick ms closing sample done ∷ steps) entry
 entry_tick ms closing sample done steps (Sent bytes) h = sent_tick ms closing sample done steps bytes h
 entry_tick ms closing sample done steps SendFailed h = tt
 entry_tick ms closing sample done steps (Got bytes) h = tt
@@ -189,8 +195,8 @@ unfolding log_on
 logged_turn log version small all = logged_now log version small all
 
 -- the datagram of a turn
-turn_sent : (steps : List Step) (ms : ℕ) (closing : Bool) (sample : List Sampled) (done : List Bool) → AreValues (sampled_in sample).row → length (log_at steps) < 65536 → has_turn steps (moment_of steps + ms) closing ≡ true
-    → SentOf (Tick ms closing sample done ∷ steps) (datagram (wire (made_in (turns_in (Ticked (moment_of steps + ms) ∷ deeds steps)))) (length (log_at steps)) (sampled_in sample).row)
+turn_sent : (steps : List Step) (ms : ℕ) (closing : Bool) (sample : List Sample) (done : List Bool) → IsRow demo_fields (sampled_in sample).row → length (log_at steps) < 65536 → has_turn steps (moment_of steps + ms) closing ≡ true
+    → SentOf (Tick ms closing sample done ∷ steps) (datagram (wire (made_in (turns_in (Ticked (moment_of steps + ms) ∷ deeds steps)))) (key_message (length (log_at steps)) (sampled_in sample).row))
 turn_sent steps ms closing sample done v few turns = record {
   sequence = wire (made_in (turns_in (Ticked (moment_of steps + ms) ∷ deeds steps)));
   number = length (log_at steps);
@@ -202,7 +208,7 @@ turn_sent steps ms closing sample done v few turns = record {
   logged = ap (λ (l : List (ℕ × ℕ)). version_of l (length (log_at steps))) (log_case true steps ms closing sample done turns) ∙ logged_turn (log_at steps) (sampled_in sample).version few (places_below steps);
 }
 
-tick_sent : (b : Bool) (steps : List Step) (ms : ℕ) (closing : Bool) (sample : List Sampled) (done : List Bool) → has_turn steps (moment_of steps + ms) closing ≡ b → AreValues (sampled_in sample).row → length (log_at (Tick ms closing sample done ∷ steps)) ≤ 65536
+tick_sent : (b : Bool) (steps : List Step) (ms : ℕ) (closing : Bool) (sample : List Sample) (done : List Bool) → has_turn steps (moment_of steps + ms) closing ≡ b → IsRow demo_fields (sampled_in sample).row → length (log_at (Tick ms closing sample done ∷ steps)) ≤ 65536
     → All (SentEntry (Tick ms closing sample done ∷ steps)) (send_entries (sends_of (Tick ms closing sample done ∷ steps)) done)
 unfolding log_on
 tick_sent true steps ms closing sample done e v few =
@@ -210,9 +216,9 @@ tick_sent true steps ms closing sample done e v few =
     let grown : length (log_at (Tick ms closing sample done ∷ steps)) ≡ length (log_at steps) + 1 = ap length (log_case true steps ms closing sample done e) ∙ length-append (log_at steps) ((length (log_at steps), (sampled_in sample).version) ∷ []) in
     let short : length (log_at steps) < 65536 = omega arith in
     let made = made_is (Ticked now ∷ deeds steps) (turn_at now closing sample) short in
-    let sends : sends_of (Tick ms closing sample done ∷ steps) ≡ datagram (wire (made_in (turns_in (Ticked now ∷ deeds steps)))) (length (log_at steps)) (sampled_in sample).row ∷ [] = rw e made in
+    let sends : sends_of (Tick ms closing sample done ∷ steps) ≡ datagram (wire (made_in (turns_in (Ticked now ∷ deeds steps)))) (key_message (length (log_at steps)) (sampled_in sample).row) ∷ [] = rw e made in
     subst (λ (ds : List (List ℕ)). All (SentEntry (Tick ms closing sample done ∷ steps)) (send_entries ds done)) (sym sends)
-    (one_sent (Tick ms closing sample done ∷ steps) (datagram (wire (made_in (turns_in (Ticked now ∷ deeds steps)))) (length (log_at steps)) (sampled_in sample).row) done (turn_sent steps ms closing sample done v short e))
+    (one_sent (Tick ms closing sample done ∷ steps) (datagram (wire (made_in (turns_in (Ticked now ∷ deeds steps)))) (key_message (length (log_at steps)) (sampled_in sample).row)) done (turn_sent steps ms closing sample done v short e))
 tick_sent false steps ms closing sample done e v few =
     let sends : sends_of (Tick ms closing sample done ∷ steps) ≡ [] = rw e refl in
     subst (λ (ds : List (List ℕ)). All (SentEntry (Tick ms closing sample done ∷ steps)) (send_entries ds done)) (sym sends) (All-nil (SentEntry (Tick ms closing sample done ∷ steps)))
@@ -221,7 +227,7 @@ longer : (b : Bool) (log : List (ℕ × ℕ)) (version : ℕ) → length log ≤
 unfolding log_on
 longer b log version = omega (arith, length-append log (cond b ((length log, version) ∷ []) []))
 
-all_sent : (steps : List Step) → IsRun steps → SampleValues steps → length (log_at steps) ≤ 65536 → All (SentEntry steps) (journal steps)
+all_sent : (steps : List Step) → IsRun steps → SampleRows steps → length (log_at steps) ≤ 65536 → All (SentEntry steps) (journal steps)
 all_sent [] run v few = All-nil (SentEntry [])
 all_sent (Pump entries ∷ before) run v few =
     All-append (SentEntry (Pump entries ∷ before)) (journal before) entries
@@ -268,7 +274,7 @@ all_parts P (x ∷ xs) ys all =
 -- an item that stands for a sample of these steps
 record ItemOf (steps : List Step) (item : Item) : Type 0 where
   number : ℕ
-  sample : Sampled
+  sample : Sample
   small : number < 2 ^ 16
   is : item.frame ≡ Whole number sample.row
   sampled : HasSample steps sample
@@ -280,7 +286,7 @@ ArrivalOf steps (Cut why) = ⊥
 
 item_is : (steps : List Step) (m : ℕ) (bytes : List ℕ) (s : SentOf steps bytes) → arrival_in m (Got bytes) ≡ Some (Came (item_of m (record { number = s.number; row = s.sample.row })))
 item_is steps m bytes s =
-    ap (option_map (λ (frame : KeyFrame). Came (item_of m frame))) (ap frame_in s.spelled ∙ frame_in-datagram s.sequence s.number s.sample.row s.small s.values)
+    ap (option_map (λ (frame : Keyed). Came (item_of m frame))) (ap frame_in s.spelled ∙ frame_in-datagram s.sequence s.number s.sample.row s.small s.values)
 
 item_for : (steps : List Step) (m : ℕ) (bytes : List ℕ) (s : SentOf steps bytes) → ItemOf steps (item_of m (record { number = s.number; row = s.sample.row }))
 item_for steps m bytes s =
@@ -331,7 +337,7 @@ records_of : (steps : List Step) (items : List Item) → All (ItemOf steps) item
 records_of steps [] all = All-nil (ItemOf steps)
 records_of steps (item ∷ before) all = kept steps (is_record before item) item (records before) (All-head (ItemOf steps) item before all) (records_of steps before (All-tail (ItemOf steps) item before all))
 
-held_of : (steps : List Step) (frame : KeyFrame) (rs : List Item) → All (ItemOf steps) rs → option_map numbered (held_in rs) ≡ Some frame → IsPublished steps frame
+held_of : (steps : List Step) (frame : Keyed) (rs : List Item) → All (ItemOf steps) rs → option_map numbered (held_in rs) ≡ Some frame → IsPublished steps frame
 held_of steps frame [] all e = absurd (cc)
 held_of steps frame (item ∷ rest) all e =
     let i = All-head (ItemOf steps) item rest all in
@@ -343,11 +349,11 @@ held_of steps frame (item ∷ rest) all e =
     record {
       sample = i.sample;
       sampled = i.sampled;
-      row_is = sym (ap (λ (f : KeyFrame). f.row) frame_is);
-      logged = ap (λ (n : ℕ). version_of (log_at steps) n) (sym (number_is ∙ ap (λ (f : KeyFrame). f.number) frame_is)) ∙ i.logged;
+      row_is = sym (ap (λ (f : Keyed). f.row) frame_is);
+      logged = ap (λ (n : ℕ). version_of (log_at steps) n) (sym (number_is ∙ ap (λ (f : Keyed). f.number) frame_is)) ∙ i.logged;
     }
 
-pub held_published : (steps : List Step) (frame : KeyFrame) → IsRun steps → SampleValues steps → length (log_at steps) ≤ 65536 → IsHonest (journal steps) → held_frame steps ≡ Some frame → IsPublished steps frame
+pub held_published : (steps : List Step) (frame : Keyed) → IsRun steps → SampleRows steps → length (log_at steps) ≤ 65536 → IsHonest (journal steps) → held_frame steps ≡ Some frame → IsPublished steps frame
 held_published steps frame run v few honest e =
     let got = honest_all steps [] (journal steps) (all_sent steps run v few) honest refl in
     held_of steps frame (records (since_cut (arrivals steps))) (records_of steps (since_cut (arrivals steps)) (items_of steps (arrivals steps) (arrivals_of steps steps got))) e

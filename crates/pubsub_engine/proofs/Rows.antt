@@ -1,28 +1,33 @@
 -- Worked rows, computed from the definitions.
-use Rattle.std.proofs.Common.{◌≡◌, refl, ℕ, Bool, true, false, List, [], ◌∷◌, ◌++◌, length, Option, Some, None, lit≤}
+use Rattle.std.proofs.Common.{◌≡◌, refl, ℕ, Bool, true, false, List, [], ◌∷◌, ◌++◌, lit≤}
 use Rattle.std.specs.Prelude.{codes}
 use Rattle.std.specs.Fmt.{digits}
-use Rattle.ua_base.specs.Journal.{Entry, Sent, SendFailed, Got, Empty, Long, ReceiveFailed}
-use Rattle.pubsub_model.specs.declared.row.Row.{Row}
-use Rattle.frame_codec.specs.FrameBytes.{frame_bytes, frame_of}
-use Rattle.pubsub_engine.specs.declared.sampled.Sampled.{Sampled}
-use Rattle.pubsub_engine.specs.Datagram.{datagram, has_header, frame_in}
+use Rattle.ua_base.specs.Journal.{Sent, Got, Empty, Long, ReceiveFailed}
+use Rattle.ua_values.specs.declared.value.Value.{Value}
+use Rattle.ua_values.specs.declared.value.Value.TheVariants.{UInt32}
+use Rattle.ua_binary.specs.ReadingValues.{kind_at, variant_at}
+use Rattle.frame_codec.specs.Spelling.{front_bytes, frame_bytes}
+use Rattle.frame_codec.specs.Fronts.{flags1_at, flags2_at, times_past, parts_at, front_at}
+use Rattle.frame_codec.specs.Contents.{field_at, whole_at, content_at}
+use Rattle.frame_codec.specs.Reading.{message_at}
+use Rattle.pubsub_engine.specs.Samples.{Sample}
+use Rattle.pubsub_engine.specs.Datagram.{datagram, key_message, has_header, frame_in}
 use Rattle.pubsub_engine.specs.Steps.{Step, Tick, Pump}
 use Rattle.pubsub_engine.specs.Publishing.{journal, IsRun}
 use Rattle.pubsub_engine.specs.Closing.{closed}
 use Rattle.pubsub_engine.specs.Report.{state_text, why_text, held_text, history_line, group_line, writer_line, read_group_line, reader_line, gaps_line, link_line, end_line, report_text, feed}
 
-row_with : ℕ → Row
-row_with a = record { a = a; b = 0; c = 0; d = 0 }
+row_with : ℕ → List Value
+row_with a = UInt32 a ∷ UInt32 0 ∷ UInt32 0 ∷ UInt32 0 ∷ []
 
-sample_of : ℕ → ℕ → List Sampled
+sample_of : ℕ → ℕ → List Sample
 unfolding row_with
 sample_of version a = record { version = version; row = row_with a } ∷ []
 
 -- the group's k-th datagram, in which the sequence number is the place
 sent_with : ℕ → ℕ → List ℕ
 unfolding row_with
-sent_with place a = datagram place place (row_with a)
+sent_with place a = datagram place (key_message place (row_with a))
 
 done : List Bool
 done = true ∷ []
@@ -38,7 +43,7 @@ first_run =
 first_datagram : sent_with 0 7
     ≡ 0x71 ∷ 0x05 ∷ 0x09 ∷ 0x01 ∷ 0x00 ∷ 0x00 ∷ 0x00 ∷ 0x01 ∷ 0x01 ∷ 0x00 ∷ 0x09 ∷ 0x00 ∷ 0x00 ∷ 0x04 ∷ 0x00 ∷ 0x07 ∷ 0x07 ∷ 0x00 ∷ 0x00 ∷ 0x00
     ∷ 0x07 ∷ 0x00 ∷ 0x00 ∷ 0x00 ∷ 0x00 ∷ 0x07 ∷ 0x00 ∷ 0x00 ∷ 0x00 ∷ 0x00 ∷ 0x07 ∷ 0x00 ∷ 0x00 ∷ 0x00 ∷ 0x00 ∷ []
-unfolding sent_with row_with datagram frame_bytes
+unfolding sent_with row_with datagram frame_bytes front_bytes
 first_datagram = refl
 
 first_run_journal : journal first_run ≡ Sent (sent_with 0 7) ∷ Got (sent_with 0 7) ∷ Empty ∷ Sent (sent_with 1 7) ∷ Got (sent_with 1 7) ∷ Empty ∷ []
@@ -49,11 +54,11 @@ first_run_report : report_text (closed (0 ∷ []) first_run)
     ≡ codes "history demo 1: 0" ++ feed ++ codes "group g1 operational sent 2" ++ feed ++ codes "writer w1 operational 2: 0=1 1=1" ++ feed
     ++ codes "readgroup rg1 operational taken 2:" ++ feed ++ codes "reader r1 operational number 1 version 1: a=7 b=0 c=0 d=0" ++ feed
     ++ codes "gaps r1 0:" ++ feed ++ codes "link sent 2 failed 0 received 2 broken 0 long 0 limit 0" ++ feed ++ codes "end" ++ feed
-unfolding first_run sent_with sample_of row_with done datagram has_header frame_in frame_bytes frame_of state_text why_text held_text history_line group_line writer_line read_group_line reader_line gaps_line link_line end_line digits
+unfolding first_run sent_with sample_of row_with done datagram has_header frame_in frame_bytes front_bytes message_at front_at flags1_at flags2_at times_past parts_at content_at whole_at field_at variant_at kind_at state_text why_text held_text history_line group_line writer_line read_group_line reader_line gaps_line link_line end_line digits
 first_run_report = refl
 
 first_run_is_run : IsRun first_run
-unfolding first_run sent_with sample_of row_with done datagram frame_bytes
+unfolding first_run sent_with sample_of row_with done datagram frame_bytes front_bytes
 first_run_is_run = ((lit≤ tt, refl), (refl, ((lit≤ tt, refl), (refl, tt))))
 
 -- ---- empty-script
@@ -66,7 +71,7 @@ empty_script_report : report_text (closed [] empty_script)
     ≡ codes "history demo 0:" ++ feed ++ codes "group g1 operational sent 1" ++ feed ++ codes "writer w1 operational 1: 0=0" ++ feed
     ++ codes "readgroup rg1 operational taken 1:" ++ feed ++ codes "reader r1 operational number 0 version 0: a=0 b=0 c=0 d=0" ++ feed
     ++ codes "gaps r1 0:" ++ feed ++ codes "link sent 1 failed 0 received 1 broken 0 long 0 limit 0" ++ feed ++ codes "end" ++ feed
-unfolding empty_script sent_with sample_of row_with done datagram has_header frame_in frame_bytes frame_of state_text why_text held_text history_line group_line writer_line read_group_line reader_line gaps_line link_line end_line digits
+unfolding empty_script sent_with sample_of row_with done datagram has_header frame_in frame_bytes front_bytes message_at front_at flags1_at flags2_at times_past parts_at content_at whole_at field_at variant_at kind_at state_text why_text held_text history_line group_line writer_line read_group_line reader_line gaps_line link_line end_line digits
 empty_script_report = refl
 
 -- ---- failed-send: first-run over a link whose send 0 fails
@@ -81,7 +86,7 @@ failed_send_report : report_text (closed (0 ∷ []) failed_send)
     ≡ codes "history demo 1: 0" ++ feed ++ codes "group g1 operational sent 1" ++ feed ++ codes "writer w1 operational 2: 0=1 1=1" ++ feed
     ++ codes "readgroup rg1 operational taken 1:" ++ feed ++ codes "reader r1 operational number 1 version 1: a=7 b=0 c=0 d=0" ++ feed
     ++ codes "gaps r1 0:" ++ feed ++ codes "link sent 1 failed 1 received 1 broken 0 long 0 limit 0" ++ feed ++ codes "end" ++ feed
-unfolding failed_send sent_with sample_of row_with datagram has_header frame_in frame_bytes frame_of state_text why_text held_text history_line group_line writer_line read_group_line reader_line gaps_line link_line end_line digits
+unfolding failed_send sent_with sample_of row_with datagram has_header frame_in frame_bytes front_bytes message_at front_at flags1_at flags2_at times_past parts_at content_at whole_at field_at variant_at kind_at state_text why_text held_text history_line group_line writer_line read_group_line reader_line gaps_line link_line end_line digits
 failed_send_report = refl
 
 -- ---- a datagram that is lost, one that comes late and one that comes twice: 0, 2, 1, 2, 3 arrive
@@ -98,7 +103,7 @@ late_and_twice_report : report_text (closed [] late_and_twice)
     ≡ codes "history demo 0:" ++ feed ++ codes "group g1 operational sent 4" ++ feed ++ codes "writer w1 operational 4: 0=0 1=0 2=0 3=0" ++ feed
     ++ codes "readgroup rg1 operational taken 5:" ++ feed ++ codes "reader r1 operational number 3 version 0: a=0 b=0 c=0 d=0" ++ feed
     ++ codes "gaps r1 1: 1/2" ++ feed ++ codes "link sent 4 failed 0 received 5 broken 1 long 1 limit 0" ++ feed ++ codes "end" ++ feed
-unfolding late_and_twice sent_with sample_of row_with done datagram has_header frame_in frame_bytes frame_of state_text why_text held_text history_line group_line writer_line read_group_line reader_line gaps_line link_line end_line digits
+unfolding late_and_twice sent_with sample_of row_with done datagram has_header frame_in frame_bytes front_bytes message_at front_at flags1_at flags2_at times_past parts_at content_at whole_at field_at variant_at kind_at state_text why_text held_text history_line group_line writer_line read_group_line reader_line gaps_line link_line end_line digits
 late_and_twice_report = refl
 
 -- ---- a tick of 50 ms is no turn, and a session to which nothing came waits; its closing send failed
@@ -112,5 +117,5 @@ nothing_came_report : report_text (closed [] nothing_came)
     ≡ codes "history demo 0:" ++ feed ++ codes "group g1 error sent 0" ++ feed ++ codes "writer w1 paused 1: 0=0" ++ feed
     ++ codes "readgroup rg1 operational taken 0:" ++ feed ++ codes "reader r1 preoperational waits start" ++ feed
     ++ codes "gaps r1 0:" ++ feed ++ codes "link sent 0 failed 1 received 0 broken 0 long 0 limit 0" ++ feed ++ codes "end" ++ feed
-unfolding nothing_came sample_of row_with datagram has_header frame_in frame_bytes frame_of state_text why_text held_text history_line group_line writer_line read_group_line reader_line gaps_line link_line end_line digits
+unfolding nothing_came sample_of row_with datagram has_header frame_in frame_bytes front_bytes message_at front_at flags1_at flags2_at times_past parts_at content_at whole_at field_at variant_at kind_at state_text why_text held_text history_line group_line writer_line read_group_line reader_line gaps_line link_line end_line digits
 nothing_came_report = refl

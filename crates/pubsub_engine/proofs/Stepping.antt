@@ -1,17 +1,17 @@
 -- One step more: what a tick does to the receiving side, and a pump to both sides.
-use Rattle.std.proofs.Common.{◌≡◌, refl, sym, ap, ◌∙◌, subst, arith, ℕ, ◌+◌, ◌-◌, ◌^◌, ◌<◌, ◌≤◌, min, Bool, true, false, cond, List, [], ◌∷◌, ◌++◌, length, Option, Some}
+use Rattle.std.proofs.Common.{◌≡◌, refl, sym, ap, ◌∙◌, subst, arith, ℕ, ◌+◌, ◌-◌, ◌^◌, min, Bool, true, false, cond, List, ◌∷◌, ◌++◌, Option, Some}
 use Rattle.std.specs.Prelude.{count_by, ◌==◌, IsTrue}
 use Rattle.std.proofs.lemmas.Bool.Decides.{nat_tests}
 use Rattle.ua_base.specs.Journal.{Entry, Wire, Tells}
-use Rattle.pubsub_engine.specs.declared.sampled.Sampled.{Sampled}
+use Rattle.pubsub_engine.specs.Samples.{Sample}
 use Rattle.pubsub_engine.specs.declared.receiving.Receiving.{Receiving}
 use Rattle.pubsub_engine.specs.Steps.{Step, Tick, Pump, moment_of, IsPump, send_entries}
 use Rattle.pubsub_engine.specs.Publishing.{sends_of, journal}
 use Rattle.pubsub_engine.specs.Reading.{arrivals}
 use Rattle.pubsub_engine.specs.Counts.{counted, is_sent, is_send_failed, is_got, is_long, is_broken, is_taken, is_datagram, limits}
-use Rattle.pubsub_engine.specs.Standing.{IsPublisher, HasSent, HasReceived, TellsRun, Ticks}
+use Rattle.pubsub_engine.specs.Standing.{IsPublisher, HasSent, HasReceived, TellsRun}
 use Rattle.pubsub_engine.specs.Taking.{Takes}
-use Rattle.pubsub_engine.proofs.Entries.{count-append, send_is, send_counts, pump_sends, PumpsTo}
+use Rattle.pubsub_engine.proofs.Entries.{count-append, send_is, send_counts, pump_sends}
 
 -- what is told grows by the entries of a call
 tells_more : (steps : List Step) (step : Step) (before after : Option Wire) (entries : List Entry) → journal (step ∷ steps) ≡ journal steps ++ entries → TellsRun steps before
@@ -20,7 +20,7 @@ tells_more steps step before after entries grows run told wire is =
     let t : Tells before (Some wire) (λ x y. y.journal ≡ x.journal ++ entries) = subst (λ (o : Option Wire). Tells before o (λ x y. y.journal ≡ x.journal ++ entries)) is told in
     t.2 ∙ ap (λ (l : List Entry). l ++ entries) (run t.0 t.1) ∙ sym grows
 
-pub tells_tick : (steps : List Step) (ms : ℕ) (closing : Bool) (sample : List Sampled) (done : List Bool) (before after : Option Wire) → TellsRun steps before
+pub tells_tick : (steps : List Step) (ms : ℕ) (closing : Bool) (sample : List Sample) (done : List Bool) (before after : Option Wire) → TellsRun steps before
     → Tells before after (λ x y. y.journal ≡ x.journal ++ send_entries (sends_of (Tick ms closing sample done ∷ steps)) done) → TellsRun (Tick ms closing sample done ∷ steps) after
 tells_tick steps ms closing sample done before after run told = tells_more steps (Tick ms closing sample done) before after (send_entries (sends_of (Tick ms closing sample done ∷ steps)) done) refl run told
 
@@ -28,7 +28,7 @@ pub tells_pump : (steps : List Step) (entries : List Entry) (before after : Opti
 tells_pump steps entries before after run told = tells_more steps (Pump entries) before after entries refl run told
 
 -- a tick leaves what was received
-pub received_tick : (steps : List Step) (ms : ℕ) (closing : Bool) (sample : List Sampled) (done : List Bool) (r : Receiving) (limit : ℕ) → HasReceived steps r limit → HasReceived (Tick ms closing sample done ∷ steps) r limit
+pub received_tick : (steps : List Step) (ms : ℕ) (closing : Bool) (sample : List Sample) (done : List Bool) (r : Receiving) (limit : ℕ) → HasReceived steps r limit → HasReceived (Tick ms closing sample done ∷ steps) r limit
 received_tick steps ms closing sample done r limit h =
     let sends = sends_of (Tick ms closing sample done ∷ steps) in
     let more : (p : Entry → Bool) → count_by p (journal steps ++ send_entries sends done) ≡ count_by p (journal steps) + count_by p (send_entries sends done) = λ p. count-append p (journal steps) (send_entries sends done) in

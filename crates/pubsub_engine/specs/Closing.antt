@@ -1,25 +1,24 @@
 -- Session run, as a report shows it: what a session is when it is closed.
-use Rattle.std.specs.Prelude.{ℕ, List, [], ◌∷◌, length, map, take, reverse, zip, find, count_by, ◌==◌, Bool, true, false, Option, Some, None, option_map, is_some, if◌then◌else◌}
-use Rattle.seq_number.specs.Numbers.{wire}
+use Rattle.std.specs.Prelude.{ℕ, List, [], ◌∷◌, length, take, reverse, zip, count_by, Bool, false, Option, Some, None, option_map, is_some, if◌then◌else◌}
 use Rattle.pubsub_model.specs.declared.reading.Break.{Break}
 use Rattle.pubsub_model.specs.declared.reading.Why.{Why}
-use Rattle.pubsub_model.specs.Records.{held, why, breaks}
-use Rattle.frame_codec.specs.declared.frame.KeyFrame.{KeyFrame}
+use Rattle.pubsub_model.specs.Records.{why, breaks}
+use Rattle.pubsub_engine.specs.Samples.{Keyed, keyed_of}
 use Rattle.pubsub_engine.specs.declared.closed.Closed.{Closed}
 use Rattle.pubsub_engine.specs.declared.closed.State.{State}
 use Rattle.pubsub_engine.specs.declared.closed.State.TheVariants.{Paused, Operational, Error, PreOperational}
 use Rattle.pubsub_engine.specs.declared.closed.LinkEnd.{LinkEnd}
 use Rattle.pubsub_engine.specs.Steps.{Step, Tick, Pump}
-use Rattle.pubsub_engine.specs.Publishing.{deeds, last_sends, sends_of, last_failed, log_at, journal}
+use Rattle.pubsub_engine.specs.Publishing.{sends_of, last_failed, log_at, journal}
 use Rattle.pubsub_engine.specs.Reading.{arrivals, held_frame}
 use Rattle.pubsub_engine.specs.Counts.{counted, is_sent, is_send_failed, is_got, is_long, is_broken, is_taken, limits}
 
 -- what a reader holds, or why it waits
 pub data Holding : Type 0 where
-  Holds : KeyFrame → Holding
+  Holds : Keyed → Holding
   Waits : Why → Holding
 
-abbrev pub holding : Option KeyFrame → Why → Holding
+abbrev pub holding : Option Keyed → Why → Holding
 holding None why = Waits why
 holding (Some frame) why = Holds frame
 
@@ -48,7 +47,7 @@ shown_of c = record {
   read_group_state = c.read_group.state;
   taken = c.read_group.taken;
   reader_state = c.reader.state;
-  holding = holding c.reader.held c.reader.why;
+  holding = holding (option_map keyed_of c.reader.held) c.reader.why;
   breaks = c.reader.breaks;
   recent = c.reader.recent.items;
   link = c.link;

@@ -1,5 +1,5 @@
 -- The counts of a session: they are those of its journal, and stand at the last value of a u64.
-use Rattle.std.specs.Prelude.{ℕ, ◌+◌, ◌-◌, ◌^◌, min, List, [], ◌∷◌, length, count_by, Bool, true, false, ◌||◌, ◌==◌, Option, Some, None, is_some, if◌then◌else◌}
+use Rattle.std.specs.Prelude.{ℕ, ◌+◌, ◌-◌, ◌^◌, min, List, [], ◌∷◌, count_by, Bool, true, false, ◌||◌, ◌==◌, is_some, if◌then◌else◌}
 use Rattle.ua_base.specs.Journal.{Entry, Sent, SendFailed, Got, Empty, Long, ReceiveFailed}
 use Rattle.pubsub_engine.specs.Datagram.{frame_in}
 use Rattle.pubsub_engine.specs.Steps.{Step, Tick, Pump}

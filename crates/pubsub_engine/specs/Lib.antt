@@ -1,3 +1,5 @@
+pub mod BuiltIn
+pub mod Samples
 pub mod Datagram
 pub mod Steps
 pub mod Publishing

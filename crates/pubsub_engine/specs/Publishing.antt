@@ -1,13 +1,14 @@
 -- Session run, the publisher: the turns of the writer group with their datagrams, and the journal of the whole session. Lists have the latest first, but for datagrams and entries.
-use Rattle.std.specs.Prelude.{◌≡◌, ⊤, ℕ, ◌+◌, ◌-◌, List, [], ◌∷◌, ◌++◌, length, sum_by, filter_map, Bool, false, ◌||◌, nat_le, not, fold, zip, Option, Some, None, slice_index_or, if◌then◌else◌}
+use Rattle.std.specs.Prelude.{◌≡◌, ⊤, ℕ, ◌+◌, ◌-◌, List, [], ◌∷◌, ◌++◌, length, sum_by, filter_map, Bool, false, ◌||◌, nat_le, not, fold, Option, Some, None, slice_index_or, if◌then◌else◌}
 use Rattle.std.specs.Option.{option_map_or}
 use Rattle.seq_number.specs.Numbers.{wire}
 use Rattle.ua_base.specs.Journal.{Entry}
-use Rattle.pubsub_model.specs.Rows.{opening, cons_if}
-use Rattle.pubsub_model.specs.Frames.{Frame, Whole, Change, Alive}
+use Rattle.dataset_meta.specs.Rows.{opening_row, cons_if}
+use Rattle.pubsub_model.specs.Frames.{Frame}
 use Rattle.pubsub_model.specs.Cadence.{Settings, Turn, Deed as WriterDeed, Took, Answered, cadence, log_of}
-use Rattle.pubsub_engine.specs.declared.sampled.Sampled.{Sampled}
-use Rattle.pubsub_engine.specs.Datagram.{datagram}
+use Rattle.pubsub_engine.specs.BuiltIn.{demo_fields}
+use Rattle.pubsub_engine.specs.Samples.{Sample}
+use Rattle.pubsub_engine.specs.Datagram.{datagram, message_of}
 use Rattle.pubsub_engine.specs.Steps.{Step, Tick, Pump, moment_of, IsPump, send_entries}
 
 -- the writer and the publishing interval of the built-in configuration
@@ -53,11 +54,9 @@ last_moment (turn ∷ before) = if turn.took.closing then last_moment before els
 abbrev pub is_due : List Deed → ℕ → Bool
 is_due deeds now = nat_le interval (now - last_moment (turns_in deeds))
 
--- the datagrams of a frame, where the group has made so many before (delta frames and keep-alives don't occur at a key frame count of 1)
+-- the datagrams of a frame, where the group has made so many before
 abbrev pub datagrams_with : ℕ → Frame → List (List ℕ)
-datagrams_with made (Whole place row) = datagram (wire made) (wire place) row ∷ []
-datagrams_with made (Change place patch) = []
-datagrams_with made (Alive next) = []
+datagrams_with made frame = datagram (wire made) (message_of frame) ∷ []
 
 abbrev pub first_answer : List Answered → Option Frame
 first_answer [] = None
@@ -68,14 +67,14 @@ abbrev pub datagrams_of : List Deed → Turn → List (List ℕ)
 datagrams_of deeds turn = option_map_or (datagrams_with (made_in (turns_in deeds))) (first_answer (cadence built_in (Took turn ∷ writer_past deeds))) []
 
 -- what a tick samples of the data set
-abbrev pub sampled_in : List Sampled → Sampled
-sampled_in sample = slice_index_or sample 0 (record { version = 0; row = opening })
+abbrev pub sampled_in : List Sample → Sample
+sampled_in sample = slice_index_or sample 0 (record { version = 0; row = opening_row demo_fields })
 
-abbrev pub turn_at : ℕ → Bool → List Sampled → Turn
+abbrev pub turn_at : ℕ → Bool → List Sample → Turn
 turn_at now closing sample = record { moment = now; row = (sampled_in sample).row; version = (sampled_in sample).version; closing = closing }
 
 -- the group has its turn where it is due, or closing
-abbrev pub turned_on : ℕ → Bool → List Sampled → List Deed → List Deed
+abbrev pub turned_on : ℕ → Bool → List Sample → List Deed → List Deed
 turned_on now closing sample deeds =
     let turn = turn_at now closing sample in
     cons_if (closing || is_due deeds now) (Turned (record { took = turn; made = datagrams_of deeds turn })) deeds

@@ -1,8 +1,9 @@
 -- Report text: the bytes of a report.
-use Rattle.std.specs.Prelude.{ℕ, List, [], ◌∷◌, ◌++◌, length, Option, Some, None, codes, find, flat_map, option_map, ◌==◌}
+use Rattle.std.specs.Prelude.{ℕ, List, [], ◌∷◌, ◌++◌, length, Option, Some, None, codes, find, flat_map, option_map, slice_index_or, ◌==◌}
 use Rattle.std.specs.Fmt.{decimal}
 use Rattle.seq_number.specs.Numbers.{wire}
-use Rattle.pubsub_model.specs.declared.row.Row.{Row}
+use Rattle.ua_values.specs.declared.value.Value.{Value}
+use Rattle.ua_values.specs.declared.value.Value.TheVariants.{UInt32}
 use Rattle.pubsub_model.specs.declared.reading.Break.{Break}
 use Rattle.pubsub_model.specs.declared.reading.Why.{Why}
 use Rattle.pubsub_model.specs.declared.reading.Why.TheVariants.{Start, Gap, Timeout, NewToken, Jump, Restarted}
@@ -50,8 +51,16 @@ number_or_dash (Some n) = decimal n
 abbrev pub version_text : List (ℕ × ℕ) → ℕ → List ℕ
 version_text log number = number_or_dash (version_of log number)
 
-abbrev pub fields_text : Row → List ℕ
-fields_text row = codes "a=" ++ decimal row.a ++ codes " b=" ++ decimal row.b ++ codes " c=" ++ decimal row.c ++ codes " d=" ++ decimal row.d
+-- the number of a UInt32, which the four fields are
+abbrev pub number_of : Value → ℕ
+number_of (UInt32 n) = n
+number_of _ = 0
+
+abbrev pub number_text : List Value → ℕ → List ℕ
+number_text row index = decimal (number_of (slice_index_or row index (UInt32 0)))
+
+abbrev pub fields_text : List Value → List ℕ
+fields_text row = codes "a=" ++ number_text row 0 ++ codes " b=" ++ number_text row 1 ++ codes " c=" ++ number_text row 2 ++ codes " d=" ++ number_text row 3
 
 -- what a reader holds, or why it waits
 unfoldable pub held_text : List (ℕ × ℕ) → Holding → List ℕ

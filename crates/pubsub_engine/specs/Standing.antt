@@ -1,19 +1,18 @@
 -- Where a session stands after these steps, over a link that may tell its journal.
-use Rattle.std.specs.Prelude.{◌≡◌, ◌<◌, ◌^◌, ℕ, List, [], ◌∷◌, ◌++◌, length, take, reverse, count_by, Option, Some, Bool, true, option_map}
+use Rattle.std.specs.Prelude.{◌≡◌, ◌<◌, ◌^◌, ℕ, List, ◌∷◌, ◌++◌, length, take, reverse, count_by, Option, Some, Bool, true, option_map}
 use Rattle.std.specs.List.{AllByRecursion}
 use Rattle.seq_number.specs.Numbers.{wire}
-use Rattle.ua_base.specs.Journal.{Entry, Wire, Tells}
+use Rattle.ua_base.specs.Journal.{Wire, Tells}
 use Rattle.pubsub_model.specs.declared.reading.Break.{Break}
 use Rattle.pubsub_model.specs.declared.reading.Why.TheVariants.{Start}
 use Rattle.pubsub_model.specs.Frames.{is_whole}
 use Rattle.pubsub_model.specs.Records.{Item, Arrival, since_cut, cut_reason, records, held, breaks, place_in}
-use Rattle.frame_codec.specs.declared.frame.KeyFrame.{KeyFrame}
-use Rattle.pubsub_engine.specs.declared.sampled.Sampled.{Sampled}
+use Rattle.pubsub_engine.specs.Samples.{Sample, Keyed, keyed_of}
 use Rattle.pubsub_engine.specs.declared.receiving.Receiving.{Receiving}
 use Rattle.pubsub_engine.specs.declared.session.Session.{Session}
-use Rattle.pubsub_engine.specs.Steps.{Step, Tick, Pump, moment_of, send_entries}
+use Rattle.pubsub_engine.specs.Steps.{Step, Tick, moment_of, send_entries}
 use Rattle.pubsub_engine.specs.Publishing.{deeds, turns_in, made_in, last_moment, log_at, sends_of, journal, IsRun}
-use Rattle.pubsub_engine.specs.Reading.{arrivals, arrivals_in, held_frame, numbered}
+use Rattle.pubsub_engine.specs.Reading.{arrivals, numbered}
 use Rattle.pubsub_engine.specs.Counts.{counted, is_sent, is_send_failed, is_got, is_long, is_broken, is_taken, limits}
 use Rattle.pubsub_engine.specs.Closing.{send_failed}
 
@@ -31,7 +30,7 @@ pub record HasSent (steps : List Step) (sent failed : ℕ) (is_failing : Bool) :
   pub failing_is : is_failing ≡ send_failed steps
 
 -- a tick after these steps: how its sends ended, the publisher's fields after it, and what its sends left in the journal
-pub record Ticks (steps : List Step) (ms : ℕ) (closing : Bool) (sample : List Sampled) (moment last : ℕ) (log : List (ℕ × ℕ)) (sequence sent failed : ℕ) (is_failing : Bool) (before after : Option Wire) : Type 0 where
+pub record Ticks (steps : List Step) (ms : ℕ) (closing : Bool) (sample : List Sample) (moment last : ℕ) (log : List (ℕ × ℕ)) (sequence sent failed : ℕ) (is_failing : Bool) (before after : Option Wire) : Type 0 where
   pub done : List Bool
   pub each : length done ≡ length (sends_of (Tick ms closing sample done ∷ steps))
   pub publisher : IsPublisher (Tick ms closing sample done ∷ steps) moment last log sequence
@@ -44,7 +43,7 @@ pub record IsKey (item : Item) : Type 0 where
   pub small : place_in item < 2 ^ 16
 
 -- a reader of key frames, after these arrivals
-pub record IsReader (arrivals : List Arrival) (last : Option KeyFrame) (count : ℕ) (recent : List Break) : Type 0 where
+pub record IsReader (arrivals : List Arrival) (last : Option Keyed) (count : ℕ) (recent : List Break) : Type 0 where
   pub keys : AllByRecursion IsKey (records (since_cut arrivals))
   pub uncut : cut_reason arrivals ≡ Start
   pub holds : last ≡ option_map numbered (held arrivals)
@@ -53,7 +52,7 @@ pub record IsReader (arrivals : List Arrival) (last : Option KeyFrame) (count : 
 
 -- the receiving side after these steps
 pub record HasReceived (steps : List Step) (receiving : Receiving) (limit : ℕ) : Type 0 where
-  pub reader : IsReader (arrivals steps) receiving.reader.last receiving.reader.breaks receiving.reader.recent.items
+  pub reader : IsReader (arrivals steps) (option_map keyed_of receiving.reader.last) receiving.reader.breaks receiving.reader.recent.items
   pub taken : counted receiving.taken ≡ counted (count_by is_taken (journal steps))
   pub received : counted receiving.received ≡ counted (count_by is_got (journal steps))
   pub broken : counted receiving.broken ≡ counted (count_by is_broken (journal steps))

@@ -1,11 +1,11 @@
 -- Session run: what a session lives through, the latest first, and when it is well formed. The entries of a journal and the datagrams of a tick stand in order.
-use Rattle.std.specs.Prelude.{◌≡◌, ◌≤◌, ◌<◌, ⊤, ℕ, zero, suc, ◌+◌, List, [], ◌∷◌, ◌++◌, length, map, zip, Bool, if◌then◌else◌}
+use Rattle.std.specs.Prelude.{◌≡◌, ◌≤◌, ◌<◌, ⊤, ℕ, zero, suc, ◌+◌, List, [], ◌∷◌, length, map, zip, Bool, if◌then◌else◌}
 use Rattle.ua_base.specs.Journal.{Entry, Sent, SendFailed, Got, Empty, Long, ReceiveFailed}
-use Rattle.pubsub_engine.specs.declared.sampled.Sampled.{Sampled}
+use Rattle.pubsub_engine.specs.Samples.{Sample}
 
 -- A tick has a sample of each data set and tells which of its sends were done; a pump has its receives.
 pub data Step : Type 0 where
-  Tick : (ms : ℕ) (closing : Bool) (sample : List Sampled) (done : List Bool) → Step
+  Tick : (ms : ℕ) (closing : Bool) (sample : List Sample) (done : List Bool) → Step
   Pump : (entries : List Entry) → Step
 
 -- the sum of the ticks' milliseconds

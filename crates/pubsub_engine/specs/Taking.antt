@@ -1,10 +1,11 @@
 -- What receives do to the receiving side.
-use Rattle.std.specs.Prelude.{◌≡◌, ◌≤◌, ◌<◌, ◌+◌, ℕ, List, [], ◌∷◌, ◌++◌, length, count_by}
+use Rattle.std.specs.Prelude.{◌≡◌, ◌≤◌, ◌<◌, ◌+◌, ℕ, List, [], ◌∷◌, ◌++◌, length, count_by, option_map}
 use Rattle.ua_base.specs.Journal.{Entry, Sent, SendFailed, Got, Empty, Long, ReceiveFailed}
 use Rattle.pubsub_model.specs.Records.{Arrival}
 use Rattle.pubsub_engine.specs.declared.receiving.Receiving.{Receiving}
 use Rattle.pubsub_engine.specs.Reading.{arrivals_in}
 use Rattle.pubsub_engine.specs.Counts.{counted, is_got, is_long, is_broken, is_taken}
+use Rattle.pubsub_engine.specs.Samples.{keyed_of}
 use Rattle.pubsub_engine.specs.Standing.{IsReader}
 
 -- the entry of a receive into a buffer of 65,536 bytes
@@ -18,8 +19,8 @@ IsReceive ReceiveFailed = Unit {0}
 
 -- these receives, in order, lead from old to new
 pub record Takes (entries : List Entry) (old new : Receiving) : Type 0 where
-  pub reader : (moment : ℕ) (arrivals : List Arrival) → IsReader arrivals old.reader.last old.reader.breaks old.reader.recent.items
-      → IsReader (arrivals_in moment entries ++ arrivals) new.reader.last new.reader.breaks new.reader.recent.items
+  pub reader : (moment : ℕ) (arrivals : List Arrival) → IsReader arrivals (option_map keyed_of old.reader.last) old.reader.breaks old.reader.recent.items
+      → IsReader (arrivals_in moment entries ++ arrivals) (option_map keyed_of new.reader.last) new.reader.breaks new.reader.recent.items
   pub taken : counted new.taken ≡ counted (old.taken + count_by is_taken entries)
   pub received : counted new.received ≡ counted (old.received + count_by is_got entries)
   pub broken : counted new.broken ≡ counted (old.broken + count_by is_broken entries)

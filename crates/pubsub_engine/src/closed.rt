@@ -1,6 +1,10 @@
 //! What a closed session shows in its report.
+ghost use Rattle.std.specs.Prelude.{◌≡◌};
+ghost use Rattle.pubsub_engine.specs.BuiltIn.{demo_meta};
+
+use crate::KeyFrame;
 use arrayvec::ArrayVec;
-use frame_codec::KeyFrame;
+use dataset_meta::Meta;
 use pubsub_model::{Break, Why};
 
 /// The state of a component (OPC 10000-14, PubSubState).
@@ -55,13 +59,15 @@ pub struct LinkEnd {
     pub limit: u64,
 }
 
-/// A closed session, with the thread of each version.
+/// A closed session, with the data set and the thread of each version.
 #[derive(Drop)]
 pub struct Closed {
+    pub meta: Meta,
     pub threads: Vec<u8>,
     pub group: GroupEnd,
     pub writer: WriterEnd,
     pub read_group: ReadGroupEnd,
     pub reader: ReaderEnd,
     pub link: LinkEnd,
+    ghost built_in: { meta ≡ demo_meta },
 }

@@ -83,6 +83,7 @@ impl Session {
         let receiving = self.receiving;
         let (group, writer) = states(publisher.failing);
         Ok(Closed {
+            meta: self.meta,
             threads,
             group: GroupEnd {
                 state: group,

@@ -1,9 +1,15 @@
 //! The datagrams of the built-in configuration.
-ghost use Rattle.std.specs.Prelude.{◌≡◌, ◌≤◌, IsTrue, length};
-ghost use Rattle.pubsub_engine.specs.Datagram.{datagram, has_header, frame_in};
+ghost use Rattle.std.specs.Prelude.{◌≡◌, ◌+◌, ◌≤◌, IsTrue, length, take, option_map};
+ghost use Rattle.ua_binary.specs.Writing.{Puts};
+ghost use Rattle.frame_codec.specs.Messages.{IsFrameOf, message_in};
+ghost use Rattle.pubsub_engine.specs.BuiltIn.{demo_fields, demo_meta};
+ghost use Rattle.pubsub_engine.specs.Datagram.{header, datagram, has_header, key_in, frame_in};
+ghost use Rattle.pubsub_engine.specs.Samples.{keyed_of};
 
-use frame_codec::{KeyFrame, read_frame, write_frame};
-use pubsub_model::Row;
+use crate::KeyFrame;
+use dataset_meta::Meta;
+use frame_codec::{Frame, FrameKind, MAX_LEN, read_frame, write_frame};
+use ua_binary::Pen;
 
 /// UADPFlags: version 1, with PublisherId, GroupHeader and PayloadHeader.
 const UADP_FLAGS: u8 = 0b0111_0001;
@@ -20,31 +26,49 @@ const ID: [u8; 2] = [1, 0];
 /// The length of the header of a datagram with one writer.
 const HEADER_LEN: usize = 10;
 
-/// A datagram of a key frame.
-pub const DATAGRAM_LEN: usize = 35;
+/// The longest datagram: the header, and the longest frame.
+pub const DATAGRAM_LEN: usize = HEADER_LEN + MAX_LEN;
 
-/// Spells the datagram of a key frame: header, then frame.
-#[tactic(auto, unfolding(crate::specs::Datagram::datagram))]
-pub fn write_datagram(sequence: u16, number: u16, row: &Row) -> [u8; DATAGRAM_LEN]
-    ensures { result ≡ datagram sequence number row.now }
+/// Writes the header with the group's sequence number.
+fn put_header(pen: &mut Pen<'_>, sequence: u16)
+    requires { pen.old.at + 10 ≤ length pen.old.bytes.now }
+    ensures { Puts pen.old pen.new (header sequence) }
 {
-    let frame = write_frame(&KeyFrame { number, row: *row });
-    let [low, high] = sequence.to_le_bytes();
-    let mut bytes = [0u8; DATAGRAM_LEN];
-    bytes[..HEADER_LEN].copy_from_slice(&[
-        UADP_FLAGS,
-        PUBLISHER_ID,
-        GROUP_FLAGS,
-        ID[0],
-        ID[1],
-        low,
-        high,
-        1,
-        ID[0],
-        ID[1],
-    ]);
-    bytes[HEADER_LEN..].copy_from_slice(&frame);
-    bytes
+    pen.put_bytes(&[UADP_FLAGS, PUBLISHER_ID, GROUP_FLAGS, ID[0], ID[1]]);
+    pen.put_u16(sequence);
+    pen.put_bytes(&[1, ID[0], ID[1]]);
+}
+
+/// Writes the datagram of a frame.
+fn put_datagram(pen: &mut Pen<'_>, meta: &Meta, sequence: u16, frame: &Frame)
+    requires room { pen.old.at + 2058 ≤ length pen.old.bytes.now }
+    requires meta { meta.now ≡ demo_meta }
+    requires frame { IsFrameOf demo_fields frame.now }
+    ensures written { Puts pen.old pen.new (datagram sequence (message_in demo_fields frame.now)) }
+    ensures short { pen.new.at ≤ pen.old.at + 2058 }
+{
+    put_header(pen, sequence);
+    match write_frame(pen, meta, frame) {
+        Ok(()) => {}
+        Err(_) => unreachable!(),
+    }
+}
+
+/// Spells the datagram of a frame at the front of the buffer, and answers its length.
+pub fn write_datagram(buffer: &mut [u8], meta: &Meta, sequence: u16, frame: &Frame) -> usize
+    requires long { length buffer.old ≡ 2058 }
+    requires meta { meta.now ≡ demo_meta }
+    requires frame { IsFrameOf demo_fields frame.now }
+    ensures written { take result buffer.new ≡ datagram sequence (message_in demo_fields frame.now) }
+    ensures within { result ≤ 2058 }
+    ensures long { length buffer.new ≡ 2058 }
+{
+    let mut pen = Pen {
+        bytes: buffer,
+        at: 0,
+    };
+    put_datagram(&mut pen, meta, sequence, frame);
+    pen.at
 }
 
 /// Whether a datagram has the header of the built-in configuration.
@@ -58,13 +82,32 @@ fn is_ours(bytes: &[u8]) -> bool
         && bytes[7..10] == [1, ID[0], ID[1]]
 }
 
+/// The key frame that a frame is, where it has a number and isn't of another major version.
+fn key_frame(meta: &Meta, frame: &Frame) -> Option<KeyFrame>
+    requires meta { meta.now ≡ demo_meta }
+    requires frame { IsFrameOf demo_fields frame.now }
+    ensures { option_map keyed_of result ≡ key_in (message_in demo_fields frame.now) }
+{
+    if frame.major.is_some_and(|major| major != meta.major()) {
+        return None;
+    }
+    match (frame.number, &frame.kind) {
+        (Some(number), FrameKind::Whole(row)) => Some(KeyFrame { number, row: *row }),
+        _ => None,
+    }
+}
+
 /// The key frame that a datagram carries.
 #[tactic(auto, unfolding(crate::specs::Datagram::frame_in))]
-pub fn read_datagram(bytes: &[u8]) -> Option<KeyFrame>
-    ensures { result ≡ frame_in bytes.now }
+pub fn read_datagram(meta: &Meta, bytes: &[u8]) -> Option<KeyFrame>
+    requires { meta.now ≡ demo_meta }
+    ensures { option_map keyed_of result ≡ frame_in bytes.now }
 {
     if !is_ours(bytes) {
         return None;
     }
-    read_frame(&bytes[HEADER_LEN..])
+    let Ok(frame) = read_frame(meta, &bytes[HEADER_LEN..]) else {
+        return None;
+    };
+    key_frame(meta, &frame)
 }

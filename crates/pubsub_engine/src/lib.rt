@@ -1,10 +1,12 @@
 //! A session: a writer group and a reader over a link, and the report of what they did.
 #![tactic(auto)]
 
+mod built_in;
 mod closed;
 mod closing;
 mod datagram;
 mod done;
+mod key_frame;
 mod laws;
 mod plain;
 mod printing;
@@ -14,8 +16,10 @@ mod receiving;
 mod sampled;
 mod session;
 
+pub use built_in::built_in_meta;
 pub use closed::{Closed, GroupEnd, LinkEnd, ReadGroupEnd, ReaderEnd, State, WriterEnd};
 pub use done::Done;
+pub use key_frame::KeyFrame;
 pub use laws::{a_held_row_is_published, a_journal_has_one_run};
 pub use plain::Plain;
 pub use printing::report;

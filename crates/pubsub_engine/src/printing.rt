@@ -1,15 +1,22 @@
 //! The report of a closed session.
-ghost use Rattle.std.specs.Prelude.{◌≡◌, ◌++◌, ◌+◌, ◌∷◌, [], ℕ, List, IfOk, IsOk, OnOk, string_bytes, codes, option_map, find, ◌==◌};
+ghost use Rattle.std.specs.Prelude.{◌≡◌, ◌++◌, ◌+◌, ◌∷◌, [], ℕ, List, IfOk, IsOk, OnOk, string_bytes, codes, option_map, find, ◌==◌, ◌<◌, slice_index_or};
+ghost use Rattle.ua_values.specs.declared.value.Value.TheVariants.{UInt32};
 ghost use Rattle.seq_number.specs.Numbers.{wire};
-ghost use Rattle.pubsub_engine.specs.Report.{state_text, why_text, threads_text, log_text, breaks_text, version_text, fields_text, held_text, history_line, group_line, writer_line, read_group_line, reader_line, gaps_line, link_line, end_line, report_text};
+ghost use Rattle.row_words.specs.Belonging.{Belongs, row_in};
+ghost use Rattle.pubsub_engine.specs.BuiltIn.{demo_fields, demo_meta};
+ghost use Rattle.pubsub_engine.specs.Samples.{keyed_of};
+ghost use Rattle.pubsub_engine.specs.Report.{state_text, why_text, threads_text, log_text, breaks_text, version_text, number_of, fields_text, held_text, history_line, group_line, writer_line, read_group_line, reader_line, gaps_line, link_line, end_line, report_text};
 ghost use Rattle.pubsub_engine.specs.Closing.{shown_of, holding};
 
+use crate::KeyFrame;
 use crate::closed::{Closed, GroupEnd, LinkEnd, ReadGroupEnd, ReaderEnd, State, WriterEnd};
-use frame_codec::KeyFrame;
-use pubsub_model::{Break, Row, Why};
+use dataset_meta::Meta;
+use pubsub_model::{Break, Why};
+use row_words::Row;
 use std::alloc::Global;
 use std::fmt::Write;
 use ua_base::NoMemory;
+use ua_values::Value;
 
 impl State {
     /// The word of a state.
@@ -91,10 +98,29 @@ fn put_version(out: &mut String, log: &[(u64, u64)], number: u16) -> Result<(), 
     Ok(())
 }
 
-fn put_fields(out: &mut String, row: &Row) -> Result<(), NoMemory>
-    ensures { OnOk result (string_bytes out.new ≡ string_bytes out.old ++ fields_text row.now) }
+/// The number in a field.
+fn number_at(meta: &Meta, row: &Row, index: u8) -> u32
+    requires meta { meta.now ≡ demo_meta }
+    requires row { Belongs demo_fields row.now.words }
+    requires index { index < 4 }
+    ensures { result ≡ number_of (slice_index_or (row_in demo_fields row.now.words) index (UInt32 0)) }
 {
-    write!(out, "a={} b={} c={} d={}", row.a, row.b, row.c, row.d)?;
+    match row.field(meta, index) {
+        Value::UInt32(number) => number,
+        _ => 0,
+    }
+}
+
+fn put_fields(out: &mut String, meta: &Meta, row: &Row) -> Result<(), NoMemory>
+    requires meta { meta.now ≡ demo_meta }
+    requires row { Belongs demo_fields row.now.words }
+    ensures { OnOk result (string_bytes out.new ≡ string_bytes out.old ++ fields_text (row_in demo_fields row.now.words)) }
+{
+    let a = number_at(meta, row, 0);
+    let b = number_at(meta, row, 1);
+    let c = number_at(meta, row, 2);
+    let d = number_at(meta, row, 3);
+    write!(out, "a={a} b={b} c={c} d={d}")?;
     Ok(())
 }
 
@@ -102,11 +128,13 @@ fn put_fields(out: &mut String, row: &Row) -> Result<(), NoMemory>
 #[tactic(auto, unfolding(crate::specs::Report::held_text))]
 fn put_held(
     out: &mut String,
+    meta: &Meta,
     log: &[(u64, u64)],
-    held: Option<KeyFrame>,
+    held: &Option<KeyFrame>,
     why: Why,
 ) -> Result<(), NoMemory>
-    ensures { OnOk result (string_bytes out.new ≡ string_bytes out.old ++ held_text log.now (holding held why)) }
+    requires { meta.now ≡ demo_meta }
+    ensures { OnOk result (string_bytes out.new ≡ string_bytes out.old ++ held_text log.now (holding (option_map keyed_of held.now) why)) }
 {
     let Some(frame) = held else {
         write!(out, " waits {}", why_word(why))?;
@@ -115,7 +143,7 @@ fn put_held(
     write!(out, " number {} version ", frame.number)?;
     put_version(out, log, frame.number)?;
     out.push_str(": ")?;
-    put_fields(out, &frame.row)
+    put_fields(out, meta, &frame.row)
 }
 
 #[tactic(auto, unfolding(crate::specs::Report::history_line))]
@@ -160,11 +188,17 @@ fn read_group(out: &mut String, end: &ReadGroupEnd) -> Result<(), NoMemory>
 }
 
 #[tactic(auto, unfolding(crate::specs::Report::reader_line))]
-fn reader(out: &mut String, log: &[(u64, u64)], end: &ReaderEnd) -> Result<(), NoMemory>
-    ensures { OnOk result (string_bytes out.new ≡ string_bytes out.old ++ reader_line end.now.state log.now (holding end.now.held end.now.why)) }
+fn reader(
+    out: &mut String,
+    meta: &Meta,
+    log: &[(u64, u64)],
+    end: &ReaderEnd,
+) -> Result<(), NoMemory>
+    requires { meta.now ≡ demo_meta }
+    ensures { OnOk result (string_bytes out.new ≡ string_bytes out.old ++ reader_line end.now.state log.now (holding (option_map keyed_of end.now.held) end.now.why)) }
 {
     write!(out, "reader r1 {}", end.state.word())?;
-    put_held(out, log, end.held, end.why)?;
+    put_held(out, meta, log, &end.held, end.why)?;
     out.push_str("\n")?;
     Ok(())
 }
@@ -213,7 +247,7 @@ pub fn report(alloc: Global, closed: &Closed) -> Result<String, NoMemory>
     group(&mut out, &closed.group)?;
     writer(&mut out, &closed.writer)?;
     read_group(&mut out, &closed.read_group)?;
-    reader(&mut out, &closed.writer.log, &closed.reader)?;
+    reader(&mut out, &closed.meta, &closed.writer.log, &closed.reader)?;
     gaps(&mut out, &closed.reader)?;
     link(&mut out, &closed.link)?;
     end(&mut out)?;

@@ -1,11 +1,16 @@
 //! The publishing side: the turns of the writer group, and its writer's log.
-ghost use Rattle.std.specs.Prelude.{◌≡◌, ◌≤◌, ◌<◌, ◌+◌, ◌*◌, ◌-◌, ◌++◌, ◌∷◌, ◌^◌, ◌||◌, [], IsTrue, IfOk, ℕ, List, Bool, vec_len, vec_capacity, length, nat_le, if◌then◌else◌};
+ghost use Rattle.std.specs.Prelude.{◌≡◌, ◌≤◌, ◌<◌, ◌+◌, ◌*◌, ◌-◌, ◌++◌, ◌∷◌, ◌^◌, ◌||◌, take, [], IsTrue, IfOk, ℕ, List, Bool, vec_len, vec_capacity, length, nat_le, if◌then◌else◌};
 ghost use Rattle.seq_number.specs.Numbers.{wire};
 ghost use Rattle.pubsub_engine.specs.Steps.{Step};
-ghost use Rattle.pubsub_engine.specs.Datagram.{datagram};
+ghost use Rattle.row_words.specs.Belonging.{row_in};
+ghost use Rattle.pubsub_engine.specs.BuiltIn.{demo_fields, demo_meta};
+ghost use Rattle.pubsub_engine.specs.Datagram.{datagram, key_message};
+ghost use Rattle.pubsub_engine.specs.Samples.{sample_of};
 
 use crate::Sampled;
-use crate::datagram::write_datagram;
+use crate::datagram::{DATAGRAM_LEN, write_datagram};
+use dataset_meta::Meta;
+use frame_codec::{Frame, FrameKind};
 use std::alloc::Global;
 use ua_base::{Link, NoMemory, Sent, Ticked};
 
@@ -31,6 +36,9 @@ pub struct Publisher {
     pub failing: bool,
     /// Ticks that may still come, the closing one counted.
     pub left: u32,
+    // The datagram that is sent.
+    buffer: Vec<u8>,
+    ghost long: { vec_len buffer ≡ 2058 },
     ghost ordered: { last ≤ moment },
     ghost room: { vec_len log + left ≤ vec_capacity log },
     ghost few: { vec_len log + left < 2 ^ 16 },
@@ -58,6 +66,7 @@ impl Publisher {
             failed: 0,
             failing: false,
             left,
+            buffer: vec![in alloc; 0u8; DATAGRAM_LEN]?,
         })
     }
 
@@ -66,19 +75,22 @@ impl Publisher {
         &mut self,
         ms: u64,
         closing: bool,
+        meta: &Meta,
         sampled: &Sampled,
         link: &mut L,
     ) -> Ticked
         requires open { IsTrue (L.is_open link.old) }
         requires left { 0 < self.old.left }
         requires short { ms ≤ 3600000 }
+        requires meta { meta.now ≡ demo_meta }
         ensures done { result ≡ Ticked.Done → (steps : List Step)
             → IsPublisher steps self.old.moment self.old.last self.old.log.items self.old.sequence → HasSent steps self.old.sent self.old.failed self.old.failing
-            → Ticks steps ms closing (sampled.now ∷ []) self.new.moment self.new.last self.new.log.items self.new.sequence self.new.sent self.new.failed self.new.failing (L.told link.old) (L.told link.new) }
+            → Ticks steps ms closing (sample_of sampled.now ∷ []) self.new.moment self.new.last self.new.log.items self.new.sequence self.new.sent self.new.failed self.new.failing (L.told link.old) (L.told link.new) }
         ensures left { result ≡ Ticked.Done → self.new.left + 1 ≡ self.old.left }
         ensures memory { result ≡ Ticked.Memory → IsTrue (L.takes_memory link.old) }
         ensures kept { result ≡ Ticked.Memory → (self.new.moment ≡ self.old.moment + ms) × Keeps self.old.last self.old.log.items self.old.sequence self.old.sent self.old.failed self.new.last self.new.log.items self.new.sequence self.new.sent self.new.failed }
         ensures open { L.is_open link.new ≡ L.is_open link.old }
+        ensures memory_stays { L.takes_memory link.new ≡ L.takes_memory link.old }
     {
         self.left -= 1;
         self.moment += ms;
@@ -86,7 +98,7 @@ impl Publisher {
         if !self.has_turn(closing) {
             return Ticked::Done;
         }
-        self.publish(closing, sampled, link)
+        self.publish(closing, meta, sampled, link)
     }
 
     /// Whether the group has its turn now: at the closing tick, and where the interval has passed since the last turn.
@@ -97,21 +109,35 @@ impl Publisher {
     }
 
     /// The group's turn: the key frame of the sample is sent and logged.
-    fn publish<L: Link>(&mut self, closing: bool, sampled: &Sampled, link: &mut L) -> Ticked
+    fn publish<L: Link>(
+        &mut self,
+        closing: bool,
+        meta: &Meta,
+        sampled: &Sampled,
+        link: &mut L,
+    ) -> Ticked
         requires open { IsTrue (L.is_open link.old) }
+        requires meta { meta.now ≡ demo_meta }
         requires room { vec_len self.old.log + self.old.left < vec_capacity self.old.log }
         requires few { vec_len self.old.log + self.old.left + 1 < 2 ^ 16 }
-        ensures done { result ≡ Ticked.Done → Sends (datagram self.old.sequence (vec_len self.old.log) sampled.now.row) self.old.sent self.new.sent self.old.failed self.new.failed self.new.failing (L.told link.old) (L.told link.new) }
+        ensures done { result ≡ Ticked.Done → Sends (datagram self.old.sequence (key_message (vec_len self.old.log) (row_in demo_fields sampled.now.row.words))) self.old.sent self.new.sent self.old.failed self.new.failed self.new.failing (L.told link.old) (L.told link.new) }
         ensures log { result ≡ Ticked.Done → self.new.log.items ≡ self.old.log.items ++ (vec_len self.old.log, sampled.now.version) ∷ [] }
         ensures sequence { result ≡ Ticked.Done → self.new.sequence ≡ wire (self.old.sequence + 1) }
         ensures moments { result ≡ Ticked.Done → (self.new.moment ≡ self.old.moment) × (self.new.last ≡ (if closing then self.old.last else self.old.moment)) × (self.new.left ≡ self.old.left) }
         ensures memory { result ≡ Ticked.Memory → IsTrue (L.takes_memory link.old) }
         ensures kept { result ≡ Ticked.Memory → (self.new.moment ≡ self.old.moment) × Keeps self.old.last self.old.log.items self.old.sequence self.old.sent self.old.failed self.new.last self.new.log.items self.new.sequence self.new.sent self.new.failed }
         ensures open { L.is_open link.new ≡ L.is_open link.old }
+        ensures memory_stays { L.takes_memory link.new ≡ L.takes_memory link.old }
     {
         let place = self.log.len();
-        let bytes = write_datagram(self.sequence, place as u16, &sampled.row);
-        let Ticked::Done = self.send(&bytes, link) else {
+        let frame = Frame {
+            number: Some(place as u16),
+            kind: FrameKind::Whole(sampled.row),
+            major: None,
+            minor: None,
+        };
+        let len = write_datagram(&mut self.buffer, meta, self.sequence, &frame);
+        let Ticked::Done = self.send(len, link) else {
             return Ticked::Memory;
         };
         match self.log.push((place as u64, sampled.version)) {
@@ -123,17 +149,18 @@ impl Publisher {
         Ticked::Done
     }
 
-    /// Sends a datagram, and counts how that ended.
-    fn send<L: Link>(&mut self, datagram: &[u8], link: &mut L) -> Ticked
+    /// Sends the datagram of this length that is in the buffer, and counts how that ended.
+    fn send<L: Link>(&mut self, len: usize, link: &mut L) -> Ticked
         requires open { IsTrue (L.is_open link.old) }
-        requires short { length datagram.now < 2 ^ 32 }
-        ensures done { result ≡ Ticked.Done → Sends datagram.now self.old.sent self.new.sent self.old.failed self.new.failed self.new.failing (L.told link.old) (L.told link.new) }
+        requires within { len ≤ 2058 }
+        ensures done { result ≡ Ticked.Done → Sends (take len self.old.buffer.items) self.old.sent self.new.sent self.old.failed self.new.failed self.new.failing (L.told link.old) (L.told link.new) }
         ensures others { (self.new.moment ≡ self.old.moment) × (self.new.last ≡ self.old.last) × (self.new.log ≡ self.old.log) × (self.new.sequence ≡ self.old.sequence) × (self.new.left ≡ self.old.left) }
         ensures memory { result ≡ Ticked.Memory → IsTrue (L.takes_memory link.old) }
         ensures kept { result ≡ Ticked.Memory → (self.new.sent ≡ self.old.sent) × (self.new.failed ≡ self.old.failed) }
         ensures open { L.is_open link.new ≡ L.is_open link.old }
+        ensures memory_stays { L.takes_memory link.new ≡ L.takes_memory link.old }
     {
-        match link.send(datagram) {
+        match link.send(&self.buffer[..len]) {
             Sent::Done => {
                 self.sent = self.sent.saturating_add(1);
                 self.failing = false;

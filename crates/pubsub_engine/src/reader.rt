@@ -1,11 +1,12 @@
 //! A reader of key frames.
-ghost use Rattle.std.specs.Prelude.{◌≡◌, ◌+◌, ◌-◌, ◌^◌, min, ◌++◌, ◌∷◌, [], ℕ, List, Some, None, reverse, take};
+ghost use Rattle.std.specs.Prelude.{◌≡◌, ◌+◌, ◌-◌, ◌^◌, min, ◌++◌, ◌∷◌, [], ℕ, List, Some, None, reverse, take, option_map};
 ghost use Rattle.pubsub_model.specs.declared.reading.Break.{Break as BreakValue};
 ghost use Rattle.pubsub_model.specs.Records.{Arrival, Came};
 ghost use Rattle.pubsub_engine.specs.Reading.{item_of};
+ghost use Rattle.pubsub_engine.specs.Samples.{keyed_of};
 
+use crate::KeyFrame;
 use arrayvec::ArrayVec;
-use frame_codec::KeyFrame;
 use pubsub_model::Break;
 
 /// The last key frame, how often the run of numbers broke, and the last eight breaks.
@@ -21,7 +22,7 @@ impl Reader {
 
     /// A reader to which nothing came.
     pub fn new() -> Reader
-        ensures { IsReader [] result.last result.breaks result.recent.items }
+        ensures { IsReader [] (option_map keyed_of result.last) result.breaks result.recent.items }
     {
         Reader {
             last: None,
@@ -32,26 +33,27 @@ impl Reader {
 
     /// Takes a key frame that came: it is held where its number is greater than all before,
     /// and breaks the run where it isn't the next one.
-    pub fn take(&mut self, frame: KeyFrame)
-        ensures { (moment : ℕ) (arrivals : List Arrival) → IsReader arrivals self.old.last self.old.breaks self.old.recent.items
-            → IsReader (Came (item_of moment frame) ∷ arrivals) self.new.last self.new.breaks self.new.recent.items }
+    pub fn take(&mut self, frame: &KeyFrame)
+        ensures { (moment : ℕ) (arrivals : List Arrival) → IsReader arrivals (option_map keyed_of self.old.last) self.old.breaks self.old.recent.items
+            → IsReader (Came (item_of moment (keyed_of frame.now)) ∷ arrivals) (option_map keyed_of self.new.last) self.new.breaks self.new.recent.items }
     {
+        let number = frame.number;
         let Some(last) = self.last else {
-            self.last = Some(frame);
+            self.last = Some(*frame);
             return;
         };
-        if frame.number <= last.number {
+        if number <= last.number {
             return;
         }
-        if frame.number == last.number + 1 {
-            self.last = Some(frame);
+        if number == last.number + 1 {
+            self.last = Some(*frame);
             return;
         }
         self.note(Break {
             expected: last.number + 1,
-            got: frame.number,
+            got: number,
         });
-        self.last = Some(frame);
+        self.last = Some(*frame);
     }
 
     fn note(&mut self, found: Break)

@@ -1,11 +1,14 @@
 //! The receiving side: datagrams from the link to the reader.
-ghost use Rattle.std.specs.Prelude.{◌≡◌, ◌++◌, ◌∷◌, ◌↔◌, [], ℕ, List, IsTrue, length, count_by, Bool, true, false};
+ghost use Rattle.std.specs.Prelude.{◌≡◌, ◌++◌, ◌∷◌, ◌↔◌, [], ℕ, List, IsTrue, length, count_by, Bool, true, false, option_map};
 ghost use Rattle.ua_base.specs.Journal.{Tells, Entry};
 ghost use Rattle.pubsub_engine.specs.Steps.{IsPump};
+ghost use Rattle.pubsub_engine.specs.BuiltIn.{demo_meta};
 ghost use Rattle.pubsub_engine.specs.Counts.{is_datagram};
+ghost use Rattle.pubsub_engine.specs.Samples.{keyed_of};
 
 use crate::Reader;
 use crate::datagram::read_datagram;
+use dataset_meta::Meta;
 use ua_base::{Link, Pumped, Received};
 
 /// A pump takes at most so many datagrams.
@@ -31,7 +34,7 @@ impl Receiving {
 
     /// Nothing has come.
     pub fn new() -> Receiving
-        ensures reader { IsReader [] result.reader.last result.reader.breaks result.reader.recent.items }
+        ensures reader { IsReader [] (option_map keyed_of result.reader.last) result.reader.breaks result.reader.recent.items }
         ensures counts { (result.taken ≡ 0) × (result.received ≡ 0) × (result.broken ≡ 0) × (result.long ≡ 0) }
     {
         Receiving {
@@ -43,27 +46,30 @@ impl Receiving {
         }
     }
 
-    fn accept(&mut self, datagram: &[u8])
+    fn accept(&mut self, meta: &Meta, datagram: &[u8])
+        requires { meta.now ≡ demo_meta }
         ensures { TakesOne (Entry.Got datagram.now) self.old self.new }
     {
         self.received = self.received.saturating_add(1);
-        if let Some(frame) = read_datagram(datagram) {
+        if let Some(frame) = read_datagram(meta, datagram) {
             self.taken = self.taken.saturating_add(1);
-            self.reader.take(frame);
+            self.reader.take(&frame);
         }
     }
 
     /// One receive. The answer says whether a datagram was taken off the link.
-    fn receive<L: Link>(&mut self, link: &mut L, buffer: &mut [u8]) -> bool
+    fn receive<L: Link>(&mut self, link: &mut L, meta: &Meta, buffer: &mut [u8]) -> bool
+        requires meta { meta.now ≡ demo_meta }
         requires open { IsTrue (L.is_open link.old) }
         requires room { length buffer.old ≡ 65536 }
         ensures entry { (entry : Entry) × (is_datagram entry ≡ result) × IsReceive entry × TakesOne entry self.old self.new
             × Tells (L.told link.old) (L.told link.new) (λ before after. after.journal ≡ before.journal ++ entry ∷ []) }
         ensures open { L.is_open link.new ≡ L.is_open link.old }
+        ensures memory_stays { L.takes_memory link.new ≡ L.takes_memory link.old }
     {
         match link.receive(buffer) {
             Received::Datagram(len) => {
-                self.accept(&buffer[..len as usize]);
+                self.accept(meta, &buffer[..len as usize]);
                 true
             }
             Received::Long(_) => {
@@ -79,16 +85,18 @@ impl Receiving {
     }
 
     /// Receives until nothing waits, a receive fails or the limit is reached.
-    pub fn pump<L: Link>(&mut self, link: &mut L, buffer: &mut [u8]) -> Pumped
+    pub fn pump<L: Link>(&mut self, link: &mut L, meta: &Meta, buffer: &mut [u8]) -> Pumped
+        requires meta { meta.now ≡ demo_meta }
         requires open { IsTrue (L.is_open link.old) }
         requires room { length buffer.old ≡ 65536 }
         ensures entries { (entries : List Entry) × IsPump 65536 entries × Takes entries self.old self.new
             × (result.taken ≡ count_by is_datagram entries) × (IsTrue result.limit ↔ (result.taken ≡ 65536))
             × Tells (L.told link.old) (L.told link.new) (λ before after. after.journal ≡ before.journal ++ entries) }
         ensures open { L.is_open link.new ≡ L.is_open link.old }
+        ensures memory_stays { L.takes_memory link.new ≡ L.takes_memory link.old }
     {
         for taken in 0..PUMP_LIMIT {
-            if !self.receive(link, buffer) {
+            if !self.receive(link, meta, buffer) {
                 return Pumped {
                     taken,
                     limit: false,

@@ -1,9 +1,13 @@
 //! What a tick sees of a data set.
-use pubsub_model::Row;
+ghost use Rattle.row_words.specs.Belonging.{Belongs};
+ghost use Rattle.pubsub_engine.specs.BuiltIn.{demo_fields};
 
-/// A version of a data set with its row.
+use row_words::Row;
+
+/// A version of the data set with its row.
 #[derive(Clone, Copy, Debug, PartialEq, Eq)]
 pub struct Sampled {
     pub version: u64,
     pub row: Row,
+    ghost belongs: { Belongs demo_fields row.words },
 }

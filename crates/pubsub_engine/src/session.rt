@@ -1,25 +1,31 @@
 //! A session over a link: samples, ticks and pumps.
 ghost use Rattle.std.specs.Prelude.{◌≡◌, ◌≤◌, ◌<◌, ◌+◌, ◌∷◌, ◌↔◌, [], IsTrue, IfOk, ℕ, List, Bool, Option, Some, count_by, length, vec_len};
 ghost use Rattle.ua_base.specs.Journal.{Wire, Entry};
+ghost use Rattle.row_words.specs.Belonging.{row_in};
+ghost use Rattle.pubsub_engine.specs.BuiltIn.{demo_fields, demo_meta};
+ghost use Rattle.pubsub_engine.specs.Samples.{sample_of};
 ghost use Rattle.pubsub_engine.specs.Steps.{Step, Tick, Pump};
 ghost use Rattle.pubsub_engine.specs.Counts.{is_datagram};
 
-use crate::{Plain, Publisher, Receiving, Sampled};
-use pubsub_model::Row;
+use crate::built_in::opening;
+use crate::{Plain, Publisher, Receiving, Sampled, built_in_meta};
+use dataset_meta::Meta;
 use std::alloc::Global;
 use ua_base::{Link, NoMemory, Pumped, Ticked};
 
 /// The longest datagram that a session receives.
 const BUFFER_LEN: usize = 65_536;
 
-/// What the last sample saw, the publishing side, the receiving side, and the pumps that ended at their limit.
+/// The data set, what the last sample saw, the publishing side, the receiving side, and the pumps that ended at their limit.
 #[derive(Drop)]
 pub struct Session {
+    pub meta: Meta,
     pub sampled: Sampled,
     pub publisher: Publisher,
     pub receiving: Receiving,
     pub limit: u64,
     buffer: Vec<u8>,
+    ghost built_in: { meta ≡ demo_meta },
     ghost room: { vec_len buffer ≡ 65536 },
 }
 
@@ -35,9 +41,10 @@ impl Session {
     {
         let buffer = vec![in alloc; 0u8; BUFFER_LEN]?;
         Ok(Session {
+            meta: built_in_meta(alloc)?,
             sampled: Sampled {
                 version: 0,
-                row: Row::opening(),
+                row: opening(),
             },
             publisher: Publisher::new(alloc, ticks)?,
             receiving: Receiving::new(),
@@ -48,7 +55,7 @@ impl Session {
 
     /// Takes a sample of the data set for the next tick.
     pub fn sample(&mut self, plain: &Plain)
-        ensures sampled { (self.new.sampled.version ≡ length plain.now.threads.items) × (self.new.sampled.row ≡ plain.now.row) }
+        ensures sampled { (self.new.sampled.version ≡ length plain.now.threads.items) × (row_in demo_fields self.new.sampled.row.words ≡ row_in demo_fields plain.now.row.words) }
         ensures stands { (steps : List Step) (told : Option Wire) → Stands steps told self.old → Stands steps told self.new }
         ensures left { self.new.publisher.left ≡ self.old.publisher.left }
     {
@@ -62,7 +69,7 @@ impl Session {
         requires left { 0 < self.old.publisher.left }
         requires short { ms ≤ 3600000 }
         ensures stands { result ≡ Ticked.Done → (steps : List Step) → Stands steps (L.told link.old) self.old
-            → (done : List Bool) × Stands (Tick ms closing (self.old.sampled ∷ []) done ∷ steps) (L.told link.new) self.new }
+            → (done : List Bool) × Stands (Tick ms closing (sample_of self.old.sampled ∷ []) done ∷ steps) (L.told link.new) self.new }
         ensures sampled { self.new.sampled ≡ self.old.sampled }
         ensures left { result ≡ Ticked.Done → self.new.publisher.left + 1 ≡ self.old.publisher.left }
         ensures memory { result ≡ Ticked.Memory → IsTrue (L.takes_memory link.old) }
@@ -73,8 +80,10 @@ impl Session {
             self.new.publisher.last self.new.publisher.log.items self.new.publisher.sequence self.new.publisher.sent self.new.publisher.failed }
         ensures receiving { (self.new.receiving ≡ self.old.receiving) × (self.new.limit ≡ self.old.limit) }
         ensures open { L.is_open link.new ≡ L.is_open link.old }
+        ensures memory_stays { L.takes_memory link.new ≡ L.takes_memory link.old }
     {
-        self.publisher.tick(ms, closing, &self.sampled, link)
+        self.publisher
+            .tick(ms, closing, &self.meta, &self.sampled, link)
     }
 
     /// Receives what came, until nothing waits, a receive fails or 65,536 datagrams were taken.
@@ -86,8 +95,9 @@ impl Session {
         ensures sampled { self.new.sampled ≡ self.old.sampled }
         ensures left { self.new.publisher.left ≡ self.old.publisher.left }
         ensures open { L.is_open link.new ≡ L.is_open link.old }
+        ensures memory_stays { L.takes_memory link.new ≡ L.takes_memory link.old }
     {
-        let pumped = self.receiving.pump(link, &mut self.buffer);
+        let pumped = self.receiving.pump(link, &self.meta, &mut self.buffer);
         if pumped.limit {
             self.limit = self.limit.saturating_add(1);
         }

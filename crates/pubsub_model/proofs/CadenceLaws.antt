@@ -1,15 +1,17 @@
--- What a writer sends where every turn is answered by a key frame, and what the frames of a writer publish.
-use Rattle.std.proofs.Common.{◌≡◌, refl, sym, ap, ◌∙◌, arith, ℕ, ◌+◌, ◌-◌, Bool, true, false, not, ◌&&◌, ◌||◌, cond, List, [], ◌∷◌, ◌++◌, length, Option, Some, None}
-use Rattle.std.specs.Prelude.{filter_map, reverse, count_by, nat_le, ◌==◌}
+-- What a writer sends where every turn is answered by a key frame, what it sends of a change, and what its frames publish.
+use Rattle.std.proofs.Common.{◌≡◌, ◌≢◌, ◌⊎◌, inl, inr, refl, sym, ap, ◌∙◌, arith, ℕ, ◌+◌, ◌-◌, Bool, true, false, not, ◌&&◌, ◌||◌, cond, List, [], ◌∷◌, ◌++◌, length, Option, Some, None}
+use Rattle.std.specs.Prelude.{filter_map, count_by, nat_le, ◌==◌}
 use Rattle.std.proofs.lemmas.Bool.Decides.{nat_tests}
 use Rattle.std.proofs.lemmas.List.{reverse-append, length-reverse}
 use Rattle.std.proofs.lemmas.List.Sums.{sum_by-cons}
-use Rattle.pubsub_model.specs.declared.row.Row.{Row}
-use Rattle.pubsub_model.specs.declared.row.Patch.{Patch}
-use Rattle.pubsub_model.specs.Rows.{opening, patched, differs, row_eq}
+use Rattle.ua_values.specs.declared.value.Value.{Value}
+use Rattle.dataset_meta.specs.declared.field.Field.{Field}
+use Rattle.dataset_meta.specs.Rows.{IsRow, patched, differs, differs_from, cons_if}
+use Rattle.dataset_meta.specs.SameValues.{same_value}
+use Rattle.dataset_meta.proofs.SameLaws.{same_value-refl}
+use Rattle.dataset_meta.proofs.RowLaws.{patched-differs}
 use Rattle.pubsub_model.specs.Frames.{Frame, Whole, Change, Alive, published}
-use Rattle.pubsub_model.specs.Cadence.{Settings, Turn, Answered, Deed, Refreshed, Took, cadence, answer, quiet_answer, change_answer, next_place, turns_since, is_key, is_data, is_any, is_fresh, last_turn, log_entry, log_of, frames_of}
-use Rattle.pubsub_model.proofs.RowLaws.{patched-differs, row_eq-true}
+use Rattle.pubsub_model.specs.Cadence.{Settings, Turn, Answered, Deed, Refreshed, Took, cadence, answer, quiet_answer, change_answer, is_key_due, HasRowsOf, next_place, is_data, is_any, is_fresh, last_turn, log_entry, log_of, frames_of}
 
 -- ---- every turn a key frame
 
@@ -53,7 +55,64 @@ log_of-key s turn before e =
     rw key (reverse-append ((next_place s earlier, turn.version) ∷ []) (filter_map log_entry earlier)
     ∙ ap (λ (n : ℕ). log_of s before ++ (s.first_number + n, turn.version) ∷ []) (sym (length-log_of s before)))
 
+-- ---- what a turn sends of a change
+
+differs_if : (same : Bool) (index : ℕ) (value : Value) (rest : List (ℕ × Value)) → same ≡ true → cons_if (not same) (index, value) rest ≡ rest
+differs_if true index value rest e = refl
+differs_if false index value rest e = absurd (grind arith)
+
+-- nothing differs between a row and itself
+pub differs_from-same : (index : ℕ) (row : List Value) → differs_from index row row ≡ []
+differs_from-same index [] = refl
+differs_from-same index (value ∷ row) =
+    differs_if (same_value value value) index value (differs_from (index + 1) row row) (same_value-refl value) ∙ differs_from-same (index + 1) row
+
+-- rows of the same fields between which nothing differs are equal
+same_row : (fields : List Field) (old new : List Value) → IsRow fields old → IsRow fields new → differs old new ≡ [] → old ≡ new
+same_row fields old new is_old is_new e = sym (ap (λ (patch : List (ℕ × Value)). patched old patch) e) ∙ patched-differs fields old new is_old is_new
+
+-- the answer where no key frame is due
+answer-not_due : (s : Settings) (fresh : Bool) (before : List Answered) (turn : Turn) → is_key_due s fresh before turn ≡ false
+    → answer s fresh before turn ≡ change_answer s before turn (differs (last_turn is_data before).row turn.row)
+answer-not_due s fresh before turn e =
+    ap (λ (due : Bool). cond due (Some (Whole (next_place s before) turn.row)) (change_answer s before turn (differs (last_turn is_data before).row turn.row))) e
+
+-- a turn with the row of the last data frame has the quiet answer
+pub answer-same : (s : Settings) (fresh : Bool) (before : List Answered) (turn : Turn) → is_key_due s fresh before turn ≡ false
+    → (last_turn is_data before).row ≡ turn.row → answer s fresh before turn ≡ quiet_answer s before turn
+answer-same s fresh before turn e same =
+    answer-not_due s fresh before turn e
+    ∙ ap (λ (patch : List (ℕ × Value)). change_answer s before turn patch)
+    (ap (λ (row : List Value). differs row turn.row) same ∙ differs_from-same 0 turn.row)
+
+no_change : (due : Bool) (next place : ℕ) (patch : List (ℕ × Value)) → cond due (Some (Alive next)) None ≢ Some (Change place patch)
+no_change true next place patch e = cc
+no_change false next place patch e = cc
+
+-- the quiet answer is no delta frame
+pub quiet_answer-no_change : (s : Settings) (before : List Answered) (turn : Turn) (place : ℕ) (patch : List (ℕ × Value)) → quiet_answer s before turn ≢ Some (Change place patch)
+quiet_answer-no_change s before turn place patch =
+    no_change (not (s.keep_alive == 0) && nat_le s.keep_alive (turn.moment - (last_turn is_any before).moment)) (next_place s before) place patch
+
+-- a patch that changes something is sent
+change_answer-some : (s : Settings) (before : List Answered) (turn : Turn) (patch : List (ℕ × Value)) → patch ≢ [] → change_answer s before turn patch ≡ Some (Change (next_place s before) patch)
+change_answer-some s before turn [] some = absurd (some refl)
+change_answer-some s before turn (change ∷ patch) some = refl
+
+-- a turn with another row has the delta frame of what differs
+pub answer-changed : (fields : List Field) (s : Settings) (fresh : Bool) (before : List Answered) (turn : Turn) → is_key_due s fresh before turn ≡ false
+    → IsRow fields (last_turn is_data before).row → IsRow fields turn.row → (last_turn is_data before).row ≢ turn.row
+    → answer s fresh before turn ≡ Some (Change (next_place s before) (differs (last_turn is_data before).row turn.row))
+answer-changed fields s fresh before turn e is_old is_new apart =
+    answer-not_due s fresh before turn e
+    ∙ change_answer-some s before turn (differs (last_turn is_data before).row turn.row)
+    (λ none. apart (same_row fields (last_turn is_data before).row turn.row is_old is_new none))
+
 -- ---- what the frames publish
+
+-- the row of the last data frame is a row of the fields, or there is none
+abbrev pub IsRowOrNone : List Field → List Value → Type 0
+IsRowOrNone fields row = IsRow fields row ⊎ (row ≡ [])
 
 -- a frame that the cadence may answer with publishes the turn's row behind that of the last data frame
 abbrev pub Fits : List Answered → Turn → Option Frame → Type 0
@@ -62,24 +121,35 @@ Fits before turn (Some (Whole place row)) = row ≡ turn.row
 Fits before turn (Some (Change place patch)) = patched (last_turn is_data before).row patch ≡ turn.row
 Fits before turn (Some (Alive next)) = Unit {0}
 
-fits_quiet : (q : Bool) (before : List Answered) (turn : Turn) (next : ℕ) → Fits before turn (cond q (Some (Alive next)) None)
+fits_quiet : (due : Bool) (before : List Answered) (turn : Turn) (next : ℕ) → Fits before turn (cond due (Some (Alive next)) None)
 fits_quiet true before turn next = tt
 fits_quiet false before turn next = tt
 
-fits_change : (b : Bool) (s : Settings) (before : List Answered) (turn : Turn) (q : Bool) (next place : ℕ)
-    → Fits before turn (cond b (cond q (Some (Alive next)) None) (Some (Change place (differs (last_turn is_data before).row turn.row))))
-fits_change true s before turn q next place = fits_quiet q before turn next
-fits_change false s before turn q next place = patched-differs (last_turn is_data before).row turn.row
+-- what differs makes the new row of the old one
+lays : (fields : List Field) (old new : List Value) (change : ℕ × Value) (patch : List (ℕ × Value)) → IsRowOrNone fields old → IsRow fields new
+    → differs old new ≡ change ∷ patch → patched old (change ∷ patch) ≡ new
+lays fields old new change patch (inl is_old) is_new e = sym (ap (λ (p : List (ℕ × Value)). patched old p) e) ∙ patched-differs fields old new is_old is_new
+lays fields old new change patch (inr none) is_new e =
+    let wrong : [] ≡ change ∷ patch = sym (ap (λ (row : List Value). differs row new) none) ∙ e in absurd (grind arith)
 
-fits_case : (c : Bool) (s : Settings) (before : List Answered) (turn : Turn) (place : ℕ) (a : Option Frame) → Fits before turn a → Fits before turn (cond c (Some (Whole place turn.row)) a)
-fits_case true s before turn place a h = refl
-fits_case false s before turn place a h = h
+fits_change : (fields : List Field) (s : Settings) (before : List Answered) (turn : Turn) (patch : List (ℕ × Value))
+    → IsRowOrNone fields (last_turn is_data before).row → IsRow fields turn.row → differs (last_turn is_data before).row turn.row ≡ patch
+    → Fits before turn (change_answer s before turn patch)
+fits_change fields s before turn [] old is_new e =
+    fits_quiet (not (s.keep_alive == 0) && nat_le s.keep_alive (turn.moment - (last_turn is_any before).moment)) before turn (next_place s before)
+fits_change fields s before turn (change ∷ patch) old is_new e = lays fields (last_turn is_data before).row turn.row change patch old is_new e
 
-fits_answer : (s : Settings) (fresh : Bool) (before : List Answered) (turn : Turn) → Fits before turn (answer s fresh before turn)
-fits_answer s fresh before turn =
-    fits_case (fresh || turn.closing || nat_le s.key_frame_count (turns_since is_key before)) s before turn (next_place s before) (change_answer s before turn)
-    (fits_change (row_eq (last_turn is_data before).row turn.row) s before turn
-    (not (s.keep_alive == 0) && nat_le s.keep_alive (turn.moment - (last_turn is_any before).moment)) (next_place s before) (next_place s before))
+fits_case : (due : Bool) (before : List Answered) (turn : Turn) (place : ℕ) (a : Option Frame) → Fits before turn a → Fits before turn (cond due (Some (Whole place turn.row)) a)
+fits_case true before turn place a h = refl
+fits_case false before turn place a h = h
+
+-- each answer is such a frame
+fits_answer : (fields : List Field) (s : Settings) (fresh : Bool) (before : List Answered) (turn : Turn) → IsRowOrNone fields (last_turn is_data before).row → IsRow fields turn.row
+    → Fits before turn (answer s fresh before turn)
+fits_answer fields s fresh before turn old is_new =
+    let patch = differs (last_turn is_data before).row turn.row in
+    fits_case (is_key_due s fresh before turn) before turn (next_place s before) (change_answer s before turn patch)
+    (fits_change fields s before turn patch old is_new refl)
 
 publishes_on : (before : List Answered) (turn : Turn) (a : Option Frame) → Fits before turn a → published (frames_of before) ≡ (last_turn is_data before).row
     → published (frames_of (record { turn = turn; answer = a } ∷ before)) ≡ (last_turn is_data (record { turn = turn; answer = a } ∷ before)).row
@@ -88,9 +158,24 @@ publishes_on before turn (Some (Whole place row)) fits same = fits
 publishes_on before turn (Some (Change place patch)) fits same = rw same fits
 publishes_on before turn (Some (Alive next)) fits same = same
 
+-- one more turn with its answer
+row_on : (fields : List Field) (before : List Answered) (turn : Turn) (a : Option Frame) → IsRow fields turn.row → IsRowOrNone fields (last_turn is_data before).row
+    → IsRowOrNone fields (last_turn is_data (record { turn = turn; answer = a } ∷ before)).row
+row_on fields before turn None is_new old = old
+row_on fields before turn (Some (Whole place row)) is_new old = inl is_new
+row_on fields before turn (Some (Change place patch)) is_new old = inl is_new
+row_on fields before turn (Some (Alive next)) is_new old = old
+
+-- the row of a writer's last data frame is a row of the fields, or it has sent none
+pub last_row_or_none : (fields : List Field) (s : Settings) (deeds : List Deed) → HasRowsOf fields deeds → IsRowOrNone fields (last_turn is_data (cadence s deeds)).row
+last_row_or_none fields s [] rows = inr refl
+last_row_or_none fields s (Refreshed ∷ before) rows = last_row_or_none fields s before rows
+last_row_or_none fields s (Took turn ∷ before) rows = row_on fields (cadence s before) turn _ rows.0 (last_row_or_none fields s before rows.1)
+
 -- what a writer's frames publish is the row of the last turn that had a data frame
-pub cadence-publishes : (s : Settings) (deeds : List Deed) → published (frames_of (cadence s deeds)) ≡ (last_turn is_data (cadence s deeds)).row
-cadence-publishes s [] = refl
-cadence-publishes s (Refreshed ∷ before) = cadence-publishes s before
-cadence-publishes s (Took turn ∷ before) =
-    publishes_on (cadence s before) turn _ (fits_answer s (is_fresh before) (cadence s before) turn) (cadence-publishes s before)
+pub cadence-publishes : (fields : List Field) (s : Settings) (deeds : List Deed) → HasRowsOf fields deeds → published (frames_of (cadence s deeds)) ≡ (last_turn is_data (cadence s deeds)).row
+cadence-publishes fields s [] rows = refl
+cadence-publishes fields s (Refreshed ∷ before) rows = cadence-publishes fields s before rows
+cadence-publishes fields s (Took turn ∷ before) rows =
+    publishes_on (cadence s before) turn _ (fits_answer fields s (is_fresh before) (cadence s before) turn (last_row_or_none fields s before rows.1) rows.0)
+    (cadence-publishes fields s before rows.1)

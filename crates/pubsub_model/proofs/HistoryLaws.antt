@@ -1,12 +1,14 @@
--- Histories by one thread.
-use Rattle.std.proofs.Common.{◌≡◌, refl, sym, ap, ◌∙◌, arith, ℕ, zero, suc, ◌+◌, Bool, true, false, cond, List, [], ◌∷◌, length, replicate}
-use Rattle.std.specs.Prelude.{◌==◌, count_by, slice_index_or}
+-- Histories by one thread, and rows of histories.
+use Rattle.std.proofs.Common.{◌≡◌, refl, ap, ◌∙◌, arith, ℕ, zero, suc, ◌+◌, Bool, true, false, cond, List, [], ◌∷◌, length, replicate}
+use Rattle.std.specs.Prelude.{◌==◌, slice_get, slice_index_or, option_map, unwrap_or, All}
 use Rattle.std.proofs.lemmas.Bool.Decides.{nat_tests}
 use Rattle.std.proofs.lemmas.List.Sums.{sum_by-cons}
-use Rattle.pubsub_model.specs.declared.row.Row.{Row}
-use Rattle.pubsub_model.specs.declared.row.Patch.{Patch}
-use Rattle.pubsub_model.specs.Rows.{patched}
-use Rattle.pubsub_model.specs.History.{IsLegal, times_of, legal_rows, last_row, patch_at}
+use Rattle.std.proofs.lemmas.List.Elements.{All-nil, All-cons, All-head, All-tail}
+use Rattle.ua_values.specs.declared.value.Value.{Value}
+use Rattle.dataset_meta.specs.declared.field.Field.{Field}
+use Rattle.dataset_meta.specs.Rows.{IsRow, IsPatch, opening_row}
+use Rattle.dataset_meta.proofs.RowLaws.{IsRow-opening, IsRow-patched}
+use Rattle.pubsub_model.specs.History.{Written, IsHistory, ArePatches, IsLegal, row_of, times_of, legal_rows, last_row, no_patch, patch_at}
 
 -- one more thread of the list
 pub times_of-cons : (thread other : ℕ) (threads : List ℕ) → times_of thread (other ∷ threads) ≡ cond (other == thread) 1 0 + times_of thread threads
@@ -25,10 +27,60 @@ times_of-other thread other (suc n) e =
     times_of-cons thread other (replicate n other) ∙ ap (λ (b : Bool). cond b 1 0 + times_of thread (replicate n other)) e ∙ omega (arith, times_of-other thread other n e)
 
 -- a list of the first thread alone is legal where that thread has so many patches and no other has one
-first_alone : (patches : List Patch) (thread : ℕ) → times_of thread (replicate (length patches) 0) ≡ length (slice_index_or (patches ∷ []) thread [])
+first_alone : (patches : List (List (ℕ × Value))) (thread : ℕ) → times_of thread (replicate (length patches) 0) ≡ length (slice_index_or (patches ∷ []) thread [])
 first_alone patches zero = times_of-alone 0 (length patches)
 first_alone patches (suc thread) =
     let apart : (0 == suc thread) ≡ false = grind (arith, nat_tests) in times_of-other (suc thread) 0 (length patches) apart
 
-pub IsLegal-alone : (patches : List Patch) → IsLegal (replicate (length patches) 0) (patches ∷ [])
+pub IsLegal-alone : (patches : List (List (ℕ × Value))) → IsLegal (replicate (length patches) 0) (patches ∷ [])
 IsLegal-alone patches = record { each = first_alone patches }
+
+-- ---- rows of the fields
+
+-- what holds of each element, and of the default, holds of what an index gives
+element_or : {X : Type 0} (P : X → Type 0) (xs : List X) (k : ℕ) (d : X) → All P xs → P d → P (slice_index_or xs k d)
+element_or P [] k d all none = none
+element_or P (x ∷ xs) zero d all none = All-head P x xs all
+element_or P (x ∷ xs) (suc k) d all none = element_or P xs k d (All-tail P x xs all) none
+
+-- the k-th patch of a thread is a patch of the fields
+pub IsPatch-patch_at : (fields : List Field) (patches : List (List (List (ℕ × Value)))) (thread k : ℕ) → ArePatches fields patches → IsPatch fields (patch_at patches thread k)
+IsPatch-patch_at fields patches thread k are =
+    element_or (λ (patch : List (ℕ × Value)). IsPatch fields patch) (slice_index_or patches thread []) k no_patch
+    (element_or (λ (of_thread : List (List (ℕ × Value))). All (λ patch. IsPatch fields patch) of_thread) patches thread [] are
+    (All-nil (λ (patch : List (ℕ × Value)). IsPatch fields patch)))
+    tt
+
+-- rows of the fields end with a row of the fields
+pub IsRow-last_row : (fields : List Field) (rows : List (List Value)) → All (λ row. IsRow fields row) rows → IsRow fields (last_row fields rows)
+IsRow-last_row fields [] are = IsRow-opening fields
+IsRow-last_row fields (row ∷ rows) are = All-head (λ (r : List Value). IsRow fields r) row rows are
+
+-- patches of the fields leave rows of the fields
+pub All-legal_rows : (fields : List Field) (patches : List (List (List (ℕ × Value)))) (threads : List ℕ) → ArePatches fields patches
+    → All (λ row. IsRow fields row) (legal_rows fields patches threads)
+All-legal_rows fields patches [] are = All-nil (λ (row : List Value). IsRow fields row)
+All-legal_rows fields patches (thread ∷ before) are =
+    let rows = legal_rows fields patches before in
+    let earlier = All-legal_rows fields patches before are in
+    All-cons (λ (row : List Value). IsRow fields row) _ rows
+    (IsRow-patched fields 0 (last_row fields rows) (patch_at patches thread (times_of thread before))
+    (IsRow-last_row fields rows earlier) (IsPatch-patch_at fields patches thread (times_of thread before) are))
+    earlier
+
+-- and they end with one
+pub IsRow-last_legal : (fields : List Field) (patches : List (List (List (ℕ × Value)))) (threads : List ℕ) → ArePatches fields patches
+    → IsRow fields (last_row fields (legal_rows fields patches threads))
+IsRow-last_legal fields patches threads are = IsRow-last_row fields (legal_rows fields patches threads) (All-legal_rows fields patches threads are)
+
+-- the row of an entry is a row of the fields
+entry_fits : (fields : List Field) (history : List Written) (n : ℕ) → IsHistory fields history
+    → IsRow fields (unwrap_or (option_map (λ (entry : Written). entry.row) (slice_get history n)) (opening_row fields))
+entry_fits fields [] n is = IsRow-opening fields
+entry_fits fields (entry ∷ history) zero is = All-head (λ (e : Written). IsRow fields e.row) entry history is
+entry_fits fields (entry ∷ history) (suc n) is = entry_fits fields history n (All-tail (λ (e : Written). IsRow fields e.row) entry history is)
+
+-- the row of each version of a history of such rows is a row of the fields
+pub IsRow-row_of : (fields : List Field) (history : List Written) (version : ℕ) → IsHistory fields history → IsRow fields (row_of fields history version)
+IsRow-row_of fields history zero is = IsRow-opening fields
+IsRow-row_of fields history (suc n) is = entry_fits fields history n is

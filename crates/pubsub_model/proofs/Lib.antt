@@ -1,4 +1,3 @@
-pub mod RowLaws
 pub mod RecordsLaws
 pub mod CadenceLaws
 pub mod HistoryLaws

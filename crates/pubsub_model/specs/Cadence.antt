@@ -1,19 +1,22 @@
 -- Cadence: what a writer sends at each of its turns (OPC 10000-14, KeyFrameCount and KeepAliveTime). Lists have the latest first.
-use Rattle.std.specs.Prelude.{ℕ, ◌+◌, ◌-◌, List, [], ◌∷◌, reverse, filter_map, count_by, Bool, true, false, not, ◌&&◌, ◌||◌, nat_le, ◌==◌, Option, Some, None, is_some, option_map, find, if◌then◌else◌}
+use Rattle.std.specs.Prelude.{ℕ, ◌+◌, ◌-◌, List, [], ◌∷◌, reverse, filter_map, count_by, Bool, true, false, not, ◌&&◌, ◌||◌, nat_le, ◌==◌, Option, Some, None, is_some, option_map, find, if◌then◌else◌, ⊤}
 use Rattle.std.specs.Option.{option_map_or}
 use Rattle.std.specs.List.{position_or_len}
-use Rattle.pubsub_model.specs.declared.row.Row.{Row}
-use Rattle.pubsub_model.specs.Rows.{opening, differs, row_eq}
+use Rattle.ua_values.specs.declared.value.Value.{Value}
+use Rattle.dataset_meta.specs.declared.field.Field.{Field}
+use Rattle.dataset_meta.specs.Rows.{IsRow, differs}
 use Rattle.pubsub_model.specs.Frames.{Frame, Whole, Change, Alive, is_whole, is_silent, place_of}
 
+-- a writer's first message number, KeyFrameCount and KeepAliveTime
 pub record Settings : Type 0 where
   pub first_number : ℕ
   pub key_frame_count : ℕ
   pub keep_alive : ℕ
 
+-- a publishing cycle: its moment, the sampled row with its version, and whether it is the closing one
 pub record Turn : Type 0 where
   pub moment : ℕ
-  pub row : Row
+  pub row : List Value
   pub version : ℕ
   pub closing : Bool
 
@@ -22,17 +25,26 @@ pub data Deed : Type 0 where
   Refreshed : Deed
   Took : Turn → Deed
 
+-- each turn's row is a row of these fields
+abbrev pub HasRowsOf : List Field → List Deed → Type 0
+HasRowsOf fields [] = ⊤
+HasRowsOf fields (Refreshed ∷ before) = HasRowsOf fields before
+HasRowsOf fields (Took turn ∷ before) = IsRow fields turn.row × HasRowsOf fields before
+
 -- a turn with its answer
 pub record Answered : Type 0 where
   pub turn : Turn
   pub answer : Option Frame
 
+-- answered by a key frame
 abbrev pub is_key : Answered → Bool
 is_key a = option_map_or is_whole a.answer false
 
+-- answered by a data frame: a key frame or a delta frame
 abbrev pub is_data : Answered → Bool
 is_data a = option_map_or (λ frame. not (is_silent frame)) a.answer false
 
+-- answered by a frame
 abbrev pub is_any : Answered → Bool
 is_any a = is_some a.answer
 
@@ -40,11 +52,12 @@ is_any a = is_some a.answer
 abbrev pub turns_since : (Answered → Bool) → List Answered → ℕ
 turns_since test before = position_or_len test before + 1
 
--- the last turn that passed the test
+-- the turn, or one with no row where there is none
 abbrev pub turn_of : Option Answered → Turn
-turn_of None = record { moment = 0; row = opening; version = 0; closing = false }
+turn_of None = record { moment = 0; row = []; version = 0; closing = false }
 turn_of (Some a) = a.turn
 
+-- the last turn that passed the test
 abbrev pub last_turn : (Answered → Bool) → List Answered → Turn
 last_turn test before = turn_of (find test before)
 
@@ -58,18 +71,21 @@ quiet_answer s before turn =
     if not (s.keep_alive == 0) && nat_le s.keep_alive (turn.moment - (last_turn is_any before).moment)
     then Some (Alive (next_place s before)) else None
 
--- what differs from the row of the last data frame
-abbrev pub change_answer : Settings → List Answered → Turn → Option Frame
-change_answer s before turn =
-    let last = last_turn is_data before in
-    if row_eq last.row turn.row then quiet_answer s before turn else Some (Change (next_place s before) (differs last.row turn.row))
+-- the delta frame of a patch, and the quiet answer where nothing changes
+abbrev pub change_answer : Settings → List Answered → Turn → List (ℕ × Value) → Option Frame
+change_answer s before turn [] = quiet_answer s before turn
+change_answer s before turn (change ∷ patch) = Some (Change (next_place s before) (change ∷ patch))
 
--- the answer of a turn, the first case that holds: a key frame, what differs, a keep-alive, nothing
+-- a key frame is due at a fresh turn, at the closing one, and where the last one is at least KeyFrameCount turns ago
+abbrev pub is_key_due : Settings → Bool → List Answered → Turn → Bool
+is_key_due s fresh before turn = fresh || turn.closing || nat_le s.key_frame_count (turns_since is_key before)
+
+-- the answer of a turn, the first case that holds: a key frame, what differs from the row of the last data frame, a keep-alive, nothing
 abbrev pub answer : Settings → Bool → List Answered → Turn → Option Frame
 answer s fresh before turn =
-    if fresh || turn.closing || nat_le s.key_frame_count (turns_since is_key before)
+    if is_key_due s fresh before turn
     then Some (Whole (next_place s before) turn.row)
-    else change_answer s before turn
+    else change_answer s before turn (differs (last_turn is_data before).row turn.row)
 
 -- a turn is fresh where it is the first, or a refresh came since the turn before
 abbrev pub is_fresh : List Deed → Bool
@@ -77,6 +93,7 @@ is_fresh [] = true
 is_fresh (Refreshed ∷ before) = true
 is_fresh (Took turn ∷ before) = false
 
+-- the turns with their answers
 abbrev pub cadence : Settings → List Deed → List Answered
 cadence s [] = []
 cadence s (Refreshed ∷ before) = cadence s before
@@ -84,10 +101,11 @@ cadence s (Took turn ∷ before) =
     let earlier = cadence s before in
     record { turn = turn; answer = answer s (is_fresh before) earlier turn } ∷ earlier
 
--- place and version of each data frame, in order
+-- place and version of a data frame
 abbrev pub log_entry : Answered → Option (ℕ × ℕ)
 log_entry a = if is_data a then option_map (λ frame. (place_of frame, a.turn.version)) a.answer else None
 
+-- place and version of each data frame, in order
 abbrev pub log_of : Settings → List Deed → List (ℕ × ℕ)
 log_of s deeds = reverse (filter_map log_entry (cadence s deeds))
 

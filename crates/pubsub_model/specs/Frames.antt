@@ -1,14 +1,13 @@
 -- Model frame, Published row: DataSetMessages, and the rows that they publish (OPC 10000-14, DataSetMessage). Lists have the latest first.
 use Rattle.std.specs.Prelude.{ℕ, ◌-◌, List, [], ◌∷◌, Bool, true, false}
-use Rattle.pubsub_model.specs.declared.row.Row.{Row}
-use Rattle.pubsub_model.specs.declared.row.Patch.{Patch}
-use Rattle.pubsub_model.specs.Rows.{opening, patched}
+use Rattle.ua_values.specs.declared.value.Value.{Value}
+use Rattle.dataset_meta.specs.Rows.{patched}
 use Rattle.seq_number.specs.Numbers.{wire}
 
 -- a DataSetMessage: a key frame, a delta frame or a keep-alive
 pub data Frame : Type 0 where
-  Whole : (place : ℕ) (row : Row) → Frame
-  Change : (place : ℕ) (patch : Patch) → Frame
+  Whole : (place : ℕ) (row : List Value) → Frame
+  Change : (place : ℕ) (patch : List (ℕ × Value)) → Frame
   Alive : (next : ℕ) → Frame
 
 -- where a frame stands; an Alive stands, silent, at the place before the next one
@@ -23,23 +22,25 @@ carried (Whole place row) = wire place
 carried (Change place patch) = wire place
 carried (Alive next) = wire next
 
+-- a key frame
 abbrev pub is_whole : Frame → Bool
 is_whole (Whole place row) = true
 is_whole (Change place patch) = false
 is_whole (Alive next) = false
 
+-- a keep-alive
 abbrev pub is_silent : Frame → Bool
 is_silent (Whole place row) = false
 is_silent (Change place patch) = false
 is_silent (Alive next) = true
 
 -- the row that a frame publishes behind a row
-abbrev pub publishes : Row → Frame → Row
+abbrev pub publishes : List Value → Frame → List Value
 publishes before (Whole place row) = row
 publishes before (Change place patch) = patched before patch
 publishes before (Alive next) = before
 
--- the row that the last data frame publishes, the latest first
-abbrev pub published : List Frame → Row
-published [] = opening
+-- the row that the last data frame publishes, the latest first; there is none before the first key frame
+abbrev pub published : List Frame → List Value
+published [] = []
 published (frame ∷ before) = publishes (published before) frame

@@ -1,4 +1,3 @@
-pub mod Rows
 pub mod History
 pub mod Frames
 pub mod Cadence

@@ -1,11 +1,11 @@
 -- Records: records, breaks and what a reader holds, from all that came to it (OPC 10000-14, DataSetReader). Lists have the latest first.
 use Rattle.std.specs.Prelude.{ℕ, ◌+◌, List, [], ◌∷◌, ◌++◌, map, find, Bool, true, false, not, ◌&&◌, ◌||◌, nat_lt, ◌==◌, Option, Some, None, if◌then◌else◌}
 use Rattle.std.specs.List.{list_any, list_all}
-use Rattle.pubsub_model.specs.declared.row.Row.{Row}
+use Rattle.ua_values.specs.declared.value.Value.{Value}
 use Rattle.pubsub_model.specs.declared.reading.Break.{Break}
 use Rattle.pubsub_model.specs.declared.reading.Why.{Why}
 use Rattle.pubsub_model.specs.declared.reading.Why.TheVariants.{Start, Gap}
-use Rattle.pubsub_model.specs.Rows.{cons_if}
+use Rattle.dataset_meta.specs.Rows.{cons_if}
 use Rattle.seq_number.specs.Numbers.{wire}
 use Rattle.pubsub_model.specs.Frames.{Frame, place_of, carried, is_whole, is_silent, published}
 
@@ -15,26 +15,31 @@ pub record Item : Type 0 where
   pub stamp : Option ℕ
   pub frame : Frame
 
+-- a frame that came at this moment, with this nonce number
 abbrev pub at : ℕ → Option ℕ → Frame → Item
 at moment stamp frame = record { moment = moment; stamp = stamp; frame = frame }
 
+-- what came to a reader, and what cut its run
 pub data Arrival : Type 0 where
   Came : Item → Arrival
   Cut : Why → Arrival
 
+-- what a reader holds: a row, and the place of the last frame that it was made of
 pub record Held : Type 0 where
   pub place : ℕ
-  pub row : Row
+  pub row : List Value
 
+-- where an item's frame stands
 abbrev pub place_in : Item → ℕ
 place_in item = place_of item.frame
 
--- the items since the last cut, and its reason
+-- the items since the last cut
 abbrev pub since_cut : List Arrival → List Item
 since_cut [] = []
 since_cut (Cut why ∷ before) = []
 since_cut (Came item ∷ before) = item ∷ since_cut before
 
+-- the reason of the last cut, and Start before any
 abbrev pub cut_reason : List Arrival → Why
 cut_reason [] = Start
 cut_reason (Cut why ∷ before) = why
@@ -44,6 +49,7 @@ cut_reason (Came item ∷ before) = cut_reason before
 abbrev pub is_record : List Item → Item → Bool
 is_record before item = list_all (λ earlier. nat_lt (place_in earlier) (place_in item)) before
 
+-- the records among these items
 abbrev pub records : List Item → List Item
 records [] = []
 records (item ∷ before) = cons_if (is_record before item) item (records before)
@@ -52,6 +58,7 @@ records (item ∷ before) = cons_if (is_record before item) item (records before
 abbrev pub breaks_with : Item → Item → Bool
 breaks_with last item = is_silent item.frame || not (place_in item == place_in last + 1)
 
+-- the break of a record with the record before it, if it breaks: the number that was due, and the one that came
 abbrev pub break_between : Item → Item → List Break
 break_between last item =
     cons_if (breaks_with last item) (record { expected = wire (place_in last + 1); got = carried item.frame }) []
@@ -67,21 +74,23 @@ abbrev pub from_whole : List Item → List Item
 from_whole [] = []
 from_whole (item ∷ before) = if is_whole item.frame then item ∷ [] else item ∷ from_whole before
 
+-- whether the list is empty
 abbrev pub is_nothing : {X : Type 0} → List X → Bool
 is_nothing [] = true
 is_nothing (x ∷ xs) = false
 
--- what the records hold: the last one, with the row published since the last Whole, where nothing after it breaks
+-- the last of these records, with the row that they publish
 abbrev pub last_with : List Item → Option Held
 last_with [] = None
 last_with (item ∷ before) = Some (record { place = place_in item; row = published (map (λ i. i.frame) (item ∷ before)) })
 
+-- what the records hold: the last one, with the row published since the last Whole, where nothing after it breaks
 abbrev pub held_in : List Item → Option Held
 held_in records =
     if list_any (λ item. is_whole item.frame) records && is_nothing (breaks_of (from_whole records))
     then last_with (from_whole records) else None
 
--- Records with numbering `message`
+-- what a reader holds, with numbering `message`
 abbrev pub held : List Arrival → Option Held
 held arrivals = held_in (records (since_cut arrivals))
 
@@ -89,14 +98,16 @@ held arrivals = held_in (records (since_cut arrivals))
 abbrev pub reason_in : List Item → Why → Why
 reason_in records reason = if is_nothing (breaks_of records) then reason else Gap
 
+-- why a reader holds nothing
 abbrev pub why : List Arrival → Why
 why arrivals = reason_in (records (since_cut arrivals)) (cut_reason arrivals)
 
--- all breaks, over all cuts
+-- the break of a record with the last of the records before it
 abbrev pub break_with : List Item → Item → List Break
 break_with [] item = []
 break_with (last ∷ before) item = break_between last item
 
+-- all breaks, over all cuts
 abbrev pub breaks : List Arrival → List Break
 breaks [] = []
 breaks (Cut why ∷ before) = breaks before
@@ -104,12 +115,13 @@ breaks (Came item ∷ before) =
     let earlier = since_cut before in
     (if is_record earlier item then break_with (records earlier) item else []) ++ breaks before
 
--- with numbering `none`: the last Whole since the cut
-abbrev pub row_of : Option Item → Option Row
+-- the row that an item publishes alone
+abbrev pub row_of : Option Item → Option (List Value)
 row_of None = None
 row_of (Some item) = Some (published (item.frame ∷ []))
 
-abbrev pub unnumbered_row : List Arrival → Option Row
+-- what a reader holds, with numbering `none`: the row of the last Whole since the cut
+abbrev pub unnumbered_row : List Arrival → Option (List Value)
 unnumbered_row arrivals = row_of (find (λ item. is_whole item.frame) (since_cut arrivals))
 
 -- a record or an Alive: what counts for the receive timeout

@@ -1,21 +1,27 @@
 //! Laws of the model's definitions, each the contract of a function that does nothing.
-ghost use Rattle.std.specs.Prelude.{◌≡◌, ◌++◌, ◌+◌, [], ◌∷◌, ℕ, List, Option, Some, None, length, replicate, Bool, false, option_map};
-ghost use Rattle.pubsub_model.specs.declared.row.Row.{Row as RowValue};
-ghost use Rattle.pubsub_model.specs.declared.row.Patch.{Patch as PatchValue};
-ghost use Rattle.pubsub_model.specs.Rows.{patched, differs};
-ghost use Rattle.pubsub_model.specs.History.{IsLegal};
+ghost use Rattle.std.specs.Prelude.{◌≡◌, ◌≢◌, ◌++◌, ◌+◌, [], ◌∷◌, ℕ, List, All, Option, Some, None, length, replicate, Bool, false, option_map};
+ghost use Rattle.ua_values.specs.declared.value.Value.{Value};
+ghost use Rattle.dataset_meta.specs.declared.field.Field.{Field};
+ghost use Rattle.dataset_meta.specs.Rows.{IsRow, patched, differs};
+ghost use Rattle.pubsub_model.specs.History.{Written, IsHistory, ArePatches, IsLegal, row_of, last_row, legal_rows};
 ghost use Rattle.pubsub_model.specs.Frames.{Whole, Change, published};
-ghost use Rattle.pubsub_model.specs.Cadence.{Settings, Turn, Answered, Deed, Took, answer, cadence, next_place, is_data, last_turn, log_of, frames_of};
+ghost use Rattle.pubsub_model.specs.Cadence.{Settings, Turn, Answered, Deed, Took, HasRowsOf, answer, quiet_answer, is_key_due, cadence, next_place, is_data, last_turn, log_of, frames_of};
 ghost use Rattle.pubsub_model.specs.Records.{Item, Held, breaks_with, held_in, at};
 
-/// A row into which its differences from a new row are laid is the new row.
-pub fn differences_lay_the_new_row()
-    ensures { (old new : RowValue) → patched old (differs old new) ≡ new }
+/// Where the rows of all turns are rows of the same fields, what a writer's frames publish is the row of its last turn with a data frame.
+pub fn frames_publish_whole_rows()
+    ensures { (fields : List Field) (s : Settings) (deeds : List Deed) → HasRowsOf fields deeds
+        → published (frames_of (cadence s deeds)) ≡ (last_turn is_data (cadence s deeds)).row }
 {}
 
-/// What a writer's frames publish is the row of its last turn with a data frame.
-pub fn frames_publish_whole_rows()
-    ensures { (s : Settings) (deeds : List Deed) → published (frames_of (cadence s deeds)) ≡ (last_turn is_data (cadence s deeds)).row }
+/// Where no key frame is due, a turn with the row of the last data frame gets the quiet answer, which is no delta frame; a turn with another row of the same fields gets the delta frame of exactly the fields that differ.
+pub fn turns_change_only_what_differs()
+    ensures same { (s : Settings) (fresh : Bool) (before : List Answered) (turn : Turn) → is_key_due s fresh before turn ≡ false
+        → (last_turn is_data before).row ≡ turn.row → answer s fresh before turn ≡ quiet_answer s before turn }
+    ensures quiet { (s : Settings) (before : List Answered) (turn : Turn) (place : ℕ) (patch : List (ℕ × Value)) → quiet_answer s before turn ≢ Some (Change place patch) }
+    ensures changed { (fields : List Field) (s : Settings) (fresh : Bool) (before : List Answered) (turn : Turn) → is_key_due s fresh before turn ≡ false
+        → IsRow fields (last_turn is_data before).row → IsRow fields turn.row → (last_turn is_data before).row ≢ turn.row
+        → answer s fresh before turn ≡ Some (Change (next_place s before) (differs (last_turn is_data before).row turn.row)) }
 {}
 
 /// With a key frame count of 1 each turn is answered by a key frame, and the log gets its place and version.
@@ -27,12 +33,19 @@ pub fn key_frames_alone()
 
 /// A key frame that is a record is held, and a delta frame that follows is laid into the row that is held.
 pub fn records_are_held()
-    ensures whole { (moment : ℕ) (stamp : Option ℕ) (place : ℕ) (row : RowValue) (rest : List Item) → held_in (at moment stamp (Whole place row) ∷ rest) ≡ Some (record { place = place; row = row }) }
-    ensures change { (moment : ℕ) (stamp : Option ℕ) (place : ℕ) (patch : PatchValue) (last : Item) (rest : List Item) → breaks_with last (at moment stamp (Change place patch)) ≡ false
+    ensures whole { (moment : ℕ) (stamp : Option ℕ) (place : ℕ) (row : List Value) (rest : List Item) → held_in (at moment stamp (Whole place row) ∷ rest) ≡ Some (record { place = place; row = row }) }
+    ensures change { (moment : ℕ) (stamp : Option ℕ) (place : ℕ) (patch : List (ℕ × Value)) (last : Item) (rest : List Item) → breaks_with last (at moment stamp (Change place patch)) ≡ false
         → held_in (at moment stamp (Change place patch) ∷ last ∷ rest) ≡ option_map (λ h. record { place = place; row = patched h.row patch }) (held_in (last ∷ rest)) }
 {}
 
 /// A list of the first thread alone is legal where it is as long as that thread's patches.
 pub fn one_thread_is_legal()
-    ensures { (patches : List PatchValue) → IsLegal (replicate (length patches) 0) (patches ∷ []) }
+    ensures { (patches : List (List (ℕ × Value))) → IsLegal (replicate (length patches) 0) (patches ∷ []) }
+{}
+
+/// Where each thread's patches are patches of the fields, the rows of each order of the threads are rows of the fields, and so is the one that they end with; so is that of each version of a history of such rows.
+pub fn legal_rows_fit()
+    ensures rows { (fields : List Field) (patches : List (List (List (ℕ × Value)))) (threads : List ℕ) → ArePatches fields patches → All (λ row. IsRow fields row) (legal_rows fields patches threads) }
+    ensures last { (fields : List Field) (patches : List (List (List (ℕ × Value)))) (threads : List ℕ) → ArePatches fields patches → IsRow fields (last_row fields (legal_rows fields patches threads)) }
+    ensures versions { (fields : List Field) (history : List Written) (version : ℕ) → IsHistory fields history → IsRow fields (row_of fields history version) }
 {}

@@ -1,13 +1,11 @@
-//! What the definitions of the publish-subscribe model speak of: rows, patches, and how a reader's run of frames breaks.
+//! Definitions of the publish-subscribe model over rows of any data set: its history, the frames that a writer sends of it, and what a reader holds of them; and how a reader's run of frames breaks.
 #![tactic(auto)]
 
 mod laws;
 mod reading;
-mod row;
 
 pub use laws::{
-    differences_lay_the_new_row, frames_publish_whole_rows, key_frames_alone, one_thread_is_legal,
-    records_are_held,
+    frames_publish_whole_rows, key_frames_alone, legal_rows_fit, one_thread_is_legal,
+    records_are_held, turns_change_only_what_differs,
 };
 pub use reading::{Break, Why};
-pub use row::{Patch, Row};

@@ -77,6 +77,13 @@ wire_of-sent false ds d next first marks more le is = refl
 items_more : (sent now : List (Vec ℕ Global)) (v : Vec ℕ Global) (d : List ℕ) → now ≡ sent ++ v ∷ [] → v.items ≡ d → map (λ (x : Vec ℕ Global). x.items) now ≡ map (λ (x : Vec ℕ Global). x.items) sent ++ d ∷ []
 items_more sent now v d is same = ap (λ (l : List (Vec ℕ Global)). map (λ (x : Vec ℕ Global). x.items) l) is ∙ map-append (λ (x : Vec ℕ Global). x.items) sent (v ∷ []) ∙ ap (λ (x : List ℕ). map (λ (y : Vec ℕ Global). y.items) sent ++ x ∷ []) same
 
+-- the journal with the entry of a datagram that is sent
+pub entries_kept : (sent now : List (Vec ℕ Global)) (v : Vec ℕ Global) (n first : ℕ) (marks more : List Mark) → now ≡ sent ++ v ∷ [] → n ≡ length sent → All (λ (m : Mark). reach m.answer ≤ n) marks
+    → ((ds : List (List ℕ)) (k : ℕ) → entries ds k more ≡ entries ds k marks ++ entry_of ds (answer.Sent n) ∷ [])
+    → entries (map (λ d. d.items) now) first more ≡ entries (map (λ d. d.items) sent) first marks ++ Sent v.items ∷ []
+entries_kept sent now v n first marks more is len all grown =
+    rw (items_more sent now v v.items is refl) (entries_sent (map (λ (d : Vec ℕ Global). d.items) sent) v.items n first marks more (len ∙ sym (length-map sent _)) all (grown _ first))
+
 -- a datagram that is sent stands last in what was sent, in the journal and in what waits
 pub order_sent : (sent now : List (Vec ℕ Global)) (v : Vec ℕ Global) (n first : ℕ) (marks more : List Mark) → now ≡ sent ++ v ∷ [] → n ≡ length sent → All (λ (m : Mark). reach m.answer ≤ n) marks
     → ((ds : List (List ℕ)) (k : ℕ) → entries ds k more ≡ entries ds k marks ++ entry_of ds (answer.Sent n) ∷ [])

@@ -2,6 +2,7 @@ pub mod Causes
 pub mod Counted
 pub mod Decimals
 pub mod Gots
+pub mod Honest
 pub mod Journals
 pub mod Named
 pub mod Ordinary

@@ -2,7 +2,7 @@
 ghost use Rattle.std.specs.Prelude.{◌≡◌, ◌≤◌, ◌<◌, ◌+◌, ◌-◌, ◌^◌, ◌++◌, ◌∷◌, [], ℕ, OnOk, OnErr, map, length, vec_len, vec_capacity, Some, None, MatchOption, slice_get};
 ghost use Rattle.std.specs.List.{All};
 ghost use Rattle.ua_base.specs.Journal.{Sent as SentEntry, SendFailed, ReceiveFailed, Wire, Tells, told_more, sent_list, received_list};
-ghost use Rattle.ua_base.specs.Marks.{reach, entries, EndsInNothings};
+ghost use Rattle.ua_base.specs.Marks.{reach, entries, KeepsHonest, KeepsHonest-prop, EndsInNothings};
 ghost use Rattle.ua_base.specs.Net.{Receives, FitsBuffer};
 
 use crate::Received;
@@ -25,6 +25,7 @@ pub struct Loopback {
     ghost room: { vec_len log + (vec_len sent - next) ≤ vec_capacity log },
     ghost order: { sent_list (entries (map (λ d. d.items) sent.items) first log.items)
         ≡ map (λ d. d.items) sent.items },
+    ghost honest: { KeepsHonest (map (λ d. d.items) sent.items) first log.items } by { KeepsHonest-prop (map (λ d. d.items) sent.items) first log.items },
 }
 
 impl Loopback {

@@ -32,5 +32,6 @@ Puts-then a b c x y first second =
       fits = omega (arith, length-append x y, first.moved, second.fits, same);
       written = both;
       moved = omega (arith, length-append x y, first.moved, second.moved);
+      same_bytes = second.same_bytes ∙ first.same_bytes;
       same_length = second.same_length ∙ first.same_length;
     }

@@ -17,7 +17,7 @@ at_most_one true = omega arith
 at_most_one false = omega arith
 
 by_or_not : (thread : ℕ) (line : Line) → cond (is_by thread line) 1 0 ≤ cond (is_write line) 1 0
-by_or_not thread (Write other patch) = at_most_one (is_by thread (Write other patch))
+by_or_not thread (Write other value) = at_most_one (is_by thread (Write other value))
 by_or_not thread (Tick ms) = omega arith
 
 -- a thread has no more writes than all threads have

@@ -2,7 +2,7 @@
 use Rattle.std.proofs.Common.{ℕ, ◌+◌, ◌≤◌, Bool, true, false, List, [], ◌∷◌, length, Option, Some, None, sym, subst, arith}
 use Rattle.std.specs.Prelude.{reverse, filter_map, ◌||◌}
 use Rattle.std.proofs.lemmas.List.{reverse-reverse}
-use Rattle.pubsub_model.specs.Rows.{cons_if}
+use Rattle.dataset_meta.specs.Rows.{cons_if}
 use Rattle.pubsub_model.specs.Frames.{Frame, Whole, Change, Alive}
 use Rattle.pubsub_model.specs.Cadence.{Turn, Answered, cadence, answer, is_fresh, log_entry}
 use Rattle.pubsub_engine.specs.Steps.{Step, Tick as TickStep, moment_of}
@@ -26,7 +26,7 @@ one_more : (turn : Turn) (a : Option Frame) (before : List Answered) → NeverFa
     → NeverFalls turn.version (filter_map log_entry (record { turn = turn; answer = a } ∷ before))
 one_more turn None before falls = falls
 one_more turn (Some (Whole place row)) before falls = (omega arith, falls)
-one_more turn (Some (Change place patch)) before falls = (omega arith, falls)
+one_more turn (Some (Change place value)) before falls = (omega arith, falls)
 one_more turn (Some (Alive next)) before falls = falls
 
 turned : (b : Bool) (turn : GroupTurn) (past : List Deed) → NeverFalls turn.took.version (logged past)
@@ -46,8 +46,8 @@ ticked ms closing lines done earlier falls =
 
 played_falls : (lines : List Line) (steps : List Step) → IsPlayed lines steps → NeverFalls (length (written lines)) (logged (deeds steps))
 played_falls [] steps played = subst (λ (s : List Step). NeverFalls 0 (logged (deeds s))) (sym played) tt
-played_falls (Write thread patch ∷ before) steps played =
-    weaker (length (written before)) (length (written (Write thread patch ∷ before))) (logged (deeds steps)) (omega arith) (played_falls before steps played)
+played_falls (Write thread value ∷ before) steps played =
+    weaker (length (written before)) (length (written (Write thread value ∷ before))) (logged (deeds steps)) (omega arith) (played_falls before steps played)
 played_falls (Tick ms ∷ before) steps played =
     subst (λ (s : List Step). NeverFalls (length (written before)) (logged (deeds s))) (sym played.3)
     (ticked ms false before played.1 played.0 (played_falls before played.0 played.4))

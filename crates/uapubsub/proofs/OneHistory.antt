@@ -5,16 +5,18 @@ use mathlib.Core.List.{reverse_aux}
 use Rattle.std.specs.List.{AllByRecursion, AllZip}
 use Rattle.std.proofs.lemmas.List.{get_or_push, get_or_append_left, length-reverse}
 use Rattle.ua_base.specs.Journal.{Wire, IsHonest}
-use Rattle.pubsub_model.specs.declared.row.Row.{Row}
-use Rattle.pubsub_model.specs.declared.row.Patch.{Patch}
-use Rattle.pubsub_model.specs.Rows.{opening, patched}
+use Rattle.ua_values.specs.declared.value.Value.{Value}
+use Rattle.dataset_meta.specs.Rows.{IsRow, opening_row, patched}
+use Rattle.dataset_meta.proofs.RowLaws.{IsRow-opening, IsRow-patched}
+use Rattle.pubsub_engine.specs.BuiltIn.{demo_fields}
 use Rattle.pubsub_model.specs.History.{last_row}
-use Rattle.pubsub_engine.specs.declared.sampled.Sampled.{Sampled}
+use Rattle.pubsub_engine.specs.Samples.{Sample}
 use Rattle.pubsub_engine.specs.Steps.{Step}
 use Rattle.pubsub_engine.specs.Publishing.{log_at}
 use Rattle.pubsub_engine.specs.Reading.{held_frame}
 use Rattle.pubsub_engine.specs.Report.{version_of}
-use Rattle.pubsub_engine.specs.Holding.{HasSample, AreValues, SampleValues}
+use Rattle.pubsub_engine.specs.Holding.{HasSample, SampleRows}
+use Rattle.pubsub_engine.proofs.BuiltIns.{one_value_fits}
 use Rattle.pubsub_engine.proofs.Published.{held_published, ticks_in, log_ticks}
 use Rattle.uapubsub.specs.declared.script.Line.{Line}
 use Rattle.uapubsub.specs.declared.script.Line.TheVariants.{Write, Tick}
@@ -27,34 +29,32 @@ use Rattle.uapubsub.proofs.OneWrite.{count-cons, reverse-cons}
 -- ---- the values are UInt32
 
 abbrev HasValue : Line → Type 0
-HasValue (Write thread patch) = (value : ℕ) × (value < 2 ^ 32) × (patch ≡ only_a value)
+HasValue (Write thread value) = value < 2 ^ 32
 HasValue (Tick ms) = Unit {0}
 
 spelled_values : (lines before : List Line) (texts : List (List ℕ)) → AllZip Spells lines texts → AllByRecursion HasValue before → AllByRecursion HasValue (reverse_aux lines before)
 spelled_values [] before texts all values = values
 spelled_values (line ∷ lines) before [] all values = absurd all
-spelled_values (Write thread patch ∷ lines) before (text ∷ texts) all values =
-    spelled_values lines (Write thread patch ∷ before) texts all.1 ((all.0.0, all.0.1.fits, all.0.3), values)
+spelled_values (Write thread value ∷ lines) before (text ∷ texts) all values =
+    spelled_values lines (Write thread value ∷ before) texts all.1 (all.0.0.fits, values)
 spelled_values (Tick ms ∷ lines) before (text ∷ texts) all values = spelled_values lines (Tick ms ∷ before) texts all.1 (tt, values)
 
-last_values : (lines : List Line) → AllByRecursion HasValue lines → AreValues (last_row (written lines))
-last_values [] values = record { a = omega arith; b = omega arith; c = omega arith; d = omega arith }
+last_values : (lines : List Line) → AllByRecursion HasValue lines → IsRow demo_fields (last_row demo_fields (written lines))
+last_values [] values = IsRow-opening demo_fields
 last_values (Tick ms ∷ before) values = last_values before values.1
-last_values (Write thread patch ∷ before) values =
-    let earlier = last_values before values.1 in
-    let now : AreValues (patched (last_row (written before)) (only_a values.0.0)) = record { a = values.0.1; b = earlier.b; c = earlier.c; d = earlier.d } in
-    subst (λ (p : Patch). AreValues (patched (last_row (written before)) p)) (sym values.0.2) now
+last_values (Write thread value ∷ before) values =
+    IsRow-patched demo_fields 0 (last_row demo_fields (written before)) (only_a value) (last_values before values.1) (one_value_fits value values.0)
 
-played_values : (lines : List Line) (steps : List Step) → IsPlayed lines steps → AllByRecursion HasValue lines → SampleValues steps
-played_values [] steps played values = subst SampleValues (sym played) tt
-played_values (Write thread patch ∷ before) steps played values = played_values before steps played values.1
-played_values (Tick ms ∷ before) steps played values = subst SampleValues (sym played.3) (last_values before values.1, played_values before played.0 played.4 values.1)
+played_values : (lines : List Line) (steps : List Step) → IsPlayed lines steps → AllByRecursion HasValue lines → SampleRows steps
+played_values [] steps played values = subst SampleRows (sym played) tt
+played_values (Write thread value ∷ before) steps played values = played_values before steps played values.1
+played_values (Tick ms ∷ before) steps played values = subst SampleRows (sym played.3) (last_values before values.1, played_values before played.0 played.4 values.1)
 
 -- ---- there are as many ticks in the steps as in the lines
 
 played_ticks : (lines : List Line) (steps : List Step) → IsPlayed lines steps → ticks_in steps ≡ count_by is_tick lines
 played_ticks [] steps played = ap ticks_in played
-played_ticks (Write thread patch ∷ before) steps played = omega (arith, played_ticks before steps played, count-cons is_tick (Write thread patch) before)
+played_ticks (Write thread value ∷ before) steps played = omega (arith, played_ticks before steps played, count-cons is_tick (Write thread value) before)
 played_ticks (Tick ms ∷ before) steps played =
     omega (arith, ap ticks_in played.3, played_ticks before played.0 played.4, count-cons is_tick (Tick ms) before)
 
@@ -64,36 +64,36 @@ count-onto (line ∷ lines) before = omega (arith, count-onto lines (line ∷ be
 
 -- ---- the samples are versions
 
-last_version : (rows : List Row) → last_row rows ≡ row_at rows (length rows)
+last_version : (rows : List (List Value)) → last_row demo_fields rows ≡ row_at rows (length rows)
 last_version [] = refl
-last_version (row ∷ rows) = sym (ap (λ (l : List Row). get_or l (length rows) opening) (reverse-cons row rows) ∙ get_or_push (reverse rows) row opening (length rows) (length-reverse rows))
+last_version (row ∷ rows) = sym (ap (λ (l : List (List Value)). get_or l (length rows) (opening_row demo_fields)) (reverse-cons row rows) ∙ get_or_push (reverse rows) row (opening_row demo_fields) (length rows) (length-reverse rows))
 
-more_rows : (row : Row) (rows : List Row) (version : ℕ) → version ≤ length rows → row_at rows version ≡ row_at (row ∷ rows) version
+more_rows : (row : List Value) (rows : List (List Value)) (version : ℕ) → version ≤ length rows → row_at rows version ≡ row_at (row ∷ rows) version
 more_rows row rows zero there = refl
 more_rows row rows (suc version) there =
-    sym (ap (λ (l : List Row). get_or l version opening) (reverse-cons row rows)
-    ∙ get_or_append_left (reverse rows) (row ∷ []) opening version (omega (arith, length-reverse rows)))
+    sym (ap (λ (l : List (List Value)). get_or l version (opening_row demo_fields)) (reverse-cons row rows)
+    ∙ get_or_append_left (reverse rows) (row ∷ []) (opening_row demo_fields) version (omega (arith, length-reverse rows)))
 
-later_write : (row : Row) (rows : List Row) (sample : Sampled) → IsVersion rows sample.version sample.row → IsVersion (row ∷ rows) sample.version sample.row
+later_write : (row : List Value) (rows : List (List Value)) (sample : Sample) → IsVersion rows sample.version sample.row → IsVersion (row ∷ rows) sample.version sample.row
 later_write row rows sample v = record { there = omega (arith, v.there); row_is = v.row_is ∙ more_rows row rows sample.version v.there }
 
 -- the sample after these lines
-version_now : (lines : List Line) (sample : Sampled) → record { version = length (written lines); row = last_row (written lines) } ≡ sample → IsVersion (written lines) sample.version sample.row
+version_now : (lines : List Line) (sample : Sample) → record { version = length (written lines); row = last_row demo_fields (written lines) } ≡ sample → IsVersion (written lines) sample.version sample.row
 version_now lines sample is =
-    let now : IsVersion (written lines) (length (written lines)) (last_row (written lines)) = record { there = omega arith; row_is = last_version (written lines) } in
-    subst (λ (s : Sampled). IsVersion (written lines) s.version s.row) is now
+    let now : IsVersion (written lines) (length (written lines)) (last_row demo_fields (written lines)) = record { there = omega arith; row_is = last_version (written lines) } in
+    subst (λ (s : Sample). IsVersion (written lines) s.version s.row) is now
 
-played_versions : (lines : List Line) (steps : List Step) (sample : Sampled) → IsPlayed lines steps → HasSample steps sample → IsVersion (written lines) sample.version sample.row
+played_versions : (lines : List Line) (steps : List Step) (sample : Sample) → IsPlayed lines steps → HasSample steps sample → IsVersion (written lines) sample.version sample.row
 played_versions [] steps sample played has = absurd (subst (λ (s : List Step). HasSample s sample) played has)
-played_versions (Write thread patch ∷ before) steps sample played has =
-    later_write (patched (last_row (written before)) patch) (written before) sample (played_versions before steps sample played has)
+played_versions (Write thread value ∷ before) steps sample played has =
+    later_write (patched (last_row demo_fields (written before)) (only_a value)) (written before) sample (played_versions before steps sample played has)
 played_versions (Tick ms ∷ before) steps sample played has =
     elim (subst (λ (s : List Step). HasSample s sample) played.3 has) [
       | inl now ↦ version_now before sample now
       | inr earlier ↦ played_versions before played.0 sample played.4 earlier
     ]
 
-session_versions : (lines : List Line) (steps : List Step) (sample : Sampled) → IsSession lines steps → HasSample steps sample → IsVersion (written (reverse lines)) sample.version sample.row
+session_versions : (lines : List Line) (steps : List Step) (sample : Sample) → IsSession lines steps → HasSample steps sample → IsVersion (written (reverse lines)) sample.version sample.row
 session_versions lines steps sample session has =
     elim (subst (λ (s : List Step). HasSample s sample) session.ends has) [
       | inl now ↦ version_now (reverse lines) sample now
@@ -109,7 +109,7 @@ pub held_version : (bytes : List ℕ) (lines : List Line) (wire : Wire) (text : 
 held_version bytes lines wire text report script honest =
     let session = report.session in
     let values = spelled_values lines [] (text_lines bytes) script.text tt in
-    let sampled : SampleValues report.steps = subst SampleValues (sym session.ends) (last_values (reverse lines) values, played_values (reverse lines) session.earlier session.played values) in
+    let sampled : SampleRows report.steps = subst SampleRows (sym session.ends) (last_values (reverse lines) values, played_values (reverse lines) session.earlier session.played values) in
     let few : length (log_at report.steps) ≤ 65536 =
     omega (arith, log_ticks report.steps, ap ticks_in session.ends, played_ticks (reverse lines) session.earlier session.played, count-onto lines [], script.ticks) in
     if_some (held_frame report.steps) (λ frame. (version : ℕ) × (version_of (log_at report.steps) frame.number ≡ Some version) × IsVersion (written (reverse lines)) version frame.row)

@@ -17,7 +17,7 @@ alike steps others steps' others' e e' a = subst (λ (s : List Step). AreAlike s
 
 played_alike : (lines : List Line) (steps others : List Step) → IsPlayed lines steps → IsPlayed lines others → AreAlike steps others
 played_alike [] steps others a b = alike steps others [] [] a b tt
-played_alike (Write thread patch ∷ before) steps others a b = played_alike before steps others a b
+played_alike (Write thread value ∷ before) steps others a b = played_alike before steps others a b
 played_alike (Tick ms ∷ before) steps others a b = alike steps others _ _ a.3 b.3 (refl, refl, refl, played_alike before a.0 b.0 a.4 b.4)
 
 session_alike : (lines : List Line) (steps others : List Step) → IsSession lines steps → IsSession lines others → AreAlike steps others

@@ -5,10 +5,9 @@ use Rattle.std.specs.List.{AllZip}
 use Rattle.std.specs.Fmt.{decimal}
 use Rattle.std.proofs.lemmas.Fmt.{decimal_injective}
 use Rattle.std.proofs.lemmas.List.{append_cancel_left}
-use Rattle.pubsub_model.specs.declared.row.Patch.{Patch}
 use Rattle.uapubsub.specs.declared.script.Line.{Line}
 use Rattle.uapubsub.specs.declared.script.Line.TheVariants.{Write, Tick}
-use Rattle.uapubsub.specs.Script.{write_text, tick_text, only_a, IsWrite, IsTick, Spells, IsText, IsScript, text_lines}
+use Rattle.uapubsub.specs.Script.{write_text, tick_text, IsWrite, IsTick, Spells, IsText, IsScript, text_lines}
 
 same_write : (v w : ℕ) (text : List ℕ) → IsWrite v text → IsWrite w text → v ≡ w
 unfolding write_text
@@ -26,12 +25,10 @@ unfolding write_text tick_text
 apart v w text a b = let both : write_text v ≡ tick_text w = sym a.spelling ∙ b.spelling in let first : ◌≡◌ {A = ℕ} 119 116 = cc in omega (arith, first)
 
 same_line : (k l : Line) (text : List ℕ) → Spells k text → Spells l text → k ≡ l
-same_line (Write s p) (Write t q) text a b =
-    let value = same_write a.0 b.0 text a.1 b.1 in
-    ap (λ (n : ℕ). Write n p) (a.2 ∙ sym b.2) ∙ ap (λ (r : Patch). Write t r) (a.3 ∙ ap only_a value ∙ sym b.3)
+same_line (Write s v) (Write t w) text a b = ap (λ (n : ℕ). Write n v) (a.1 ∙ sym b.1) ∙ ap (λ (n : ℕ). Write t n) (same_write v w text a.0 b.0)
 same_line (Tick v) (Tick w) text a b = ap (λ (n : ℕ). Tick n) (same_tick v w text a b)
-same_line (Write s p) (Tick w) text a b = absurd (apart a.0 w text a.1 b)
-same_line (Tick v) (Write t q) text a b = absurd (apart b.0 v text b.1 a)
+same_line (Write s v) (Tick w) text a b = absurd (apart v w text a.0 b)
+same_line (Tick v) (Write t w) text a b = absurd (apart w v text b.0 a)
 
 same_lines : (ks ls : List Line) (texts : List (List ℕ)) → AllZip Spells ks texts → AllZip Spells ls texts → ks ≡ ls
 same_lines [] [] texts a b = refl

@@ -6,13 +6,12 @@ use Rattle.std.proofs.lemmas.Bool.Decides.{nat_tests}
 use Rattle.std.proofs.lemmas.List.{reverse-append, length-set, get_or-set_same, get_or-set_other}
 use Rattle.std.proofs.lemmas.List.Elements.{All-cons}
 use Rattle.std.proofs.lemmas.List.Sums.{sum_by-cons}
-use Rattle.pubsub_model.specs.declared.row.Row.{Row}
-use Rattle.pubsub_model.specs.declared.row.Patch.{Patch}
-use Rattle.pubsub_model.specs.Rows.{patched}
+use Rattle.ua_values.specs.declared.value.Value.{Value}
+use Rattle.dataset_meta.specs.Rows.{patched}
 use Rattle.pubsub_model.specs.History.{places}
 use Rattle.uapubsub.specs.declared.script.Line.{Line}
 use Rattle.uapubsub.specs.declared.script.Line.TheVariants.{Write}
-use Rattle.uapubsub.specs.Script.{is_write, is_by}
+use Rattle.uapubsub.specs.Script.{only_a, is_write, is_by}
 use Rattle.uapubsub.specs.Playing.{threads_of}
 use Rattle.uapubsub.specs.Rooms.{Fits}
 use Rattle.uapubsub.specs.Player.{HasWritten}
@@ -61,14 +60,14 @@ placed_more thread other threads answers lt eight placed =
           ∙ sym (more ∙ ap (λ (b : Bool). cond b (places thread 0 (reverse threads) ++ (0 + length (reverse threads) + 1) ∷ []) (places thread 0 (reverse threads))) apart)
     ]
 
-pub wrote_more : (before : List Line) (thread : ℕ) (patch : Patch) (row row' : Row) (threads threads' : List ℕ) (answers answers' : List (List ℕ)) (version : ℕ)
-    → HasWritten before row threads answers → thread < 8 → row' ≡ patched row patch → threads' ≡ threads ++ thread ∷ [] → version ≡ length threads + 1
-    → answers' ≡ set answers thread (get_or answers thread [] ++ version ∷ []) → HasWritten (Write thread patch ∷ before) row' threads' answers'
-wrote_more before thread patch row row' threads threads' answers answers' version wrote lt row_e threads_e version_e answers_e =
+pub wrote_more : (before : List Line) (thread : ℕ) (value : ℕ) (row row' : List Value) (threads threads' : List ℕ) (answers answers' : List (List ℕ)) (version : ℕ)
+    → HasWritten before row threads answers → thread < 8 → row' ≡ patched row (only_a value) → threads' ≡ threads ++ thread ∷ [] → version ≡ length threads + 1
+    → answers' ≡ set answers thread (get_or answers thread [] ++ version ∷ []) → HasWritten (Write thread value ∷ before) row' threads' answers'
+wrote_more before thread value row row' threads threads' answers answers' version wrote lt row_e threads_e version_e answers_e =
     let at : version ≡ length (reverse (threads_of before)) + 1 = version_e ∙ ap (λ (l : List ℕ). length l + 1) wrote.threads_are in
     let answers_at = answers_e ∙ ap (λ (v : ℕ). set answers thread (get_or answers thread [] ++ v ∷ [])) at in
     record {
-      row_is = row_e ∙ ap (λ (r : Row). patched r patch) wrote.row_is;
+      row_is = row_e ∙ ap (λ (r : List Value). patched r (only_a value)) wrote.row_is;
       threads_are = threads_e ∙ ap (λ (l : List ℕ). l ++ thread ∷ []) wrote.threads_are ∙ sym (reverse-cons thread (threads_of before));
       known = All-cons (λ (t : ℕ). t < 8) thread (threads_of before) lt wrote.known;
       eight = ap length answers_e ∙ length-set answers thread (get_or answers thread [] ++ version ∷ []) ∙ wrote.eight;
@@ -77,9 +76,9 @@ wrote_more before thread patch row row' threads threads' answers answers' versio
     }
 
 -- a write's own thread has room
-pub fits_here : (thread : ℕ) (patch : Patch) (rest : List Line) (writes : ℕ) (answers : List ℕ) → Fits (Write thread patch ∷ rest) writes answers → thread < 8 → 0 < get_or answers thread 0
-fits_here thread patch rest writes answers fits lt =
-    omega (arith, fits.answers_fit thread lt, count-cons (is_by thread) (Write thread patch) rest, ap {B = ℕ} (λ (b : Bool). cond b 1 0) (same thread))
+pub fits_here : (thread : ℕ) (value : ℕ) (rest : List Line) (writes : ℕ) (answers : List ℕ) → Fits (Write thread value ∷ rest) writes answers → thread < 8 → 0 < get_or answers thread 0
+fits_here thread value rest writes answers fits lt =
+    omega (arith, fits.answers_fit thread lt, count-cons (is_by thread) (Write thread value) rest, ap {B = ℕ} (λ (b : Bool). cond b 1 0) (same thread))
 
 -- one answer less for its thread, and as many for another
 less_room : (other thread : ℕ) (answers answers' : List ℕ) (all more : ℕ) (b : Bool) → thread < 8 → length answers ≡ 8 → all ≤ get_or answers other 0 → all ≡ cond b 1 0 + more
@@ -94,12 +93,12 @@ less_room other thread answers answers' all more b lt eight fits count test at =
       | inr not ↦ omega (arith, there, get_or-set_other answers thread other (get_or answers thread 0 - 1) 0 not, fits, count)
     ]
 
-pub fits_less : (thread : ℕ) (patch : Patch) (rest : List Line) (writes writes' : ℕ) (answers answers' : List ℕ)
-    → Fits (Write thread patch ∷ rest) writes answers → thread < 8 → writes' + 1 ≡ writes → answers' ≡ set answers thread (get_or answers thread 0 - 1) → Fits rest writes' answers'
-fits_less thread patch rest writes writes' answers answers' fits lt writes_e answers_e = record {
-  writes_fit = omega (arith, fits.writes_fit, count-cons is_write (Write thread patch) rest, writes_e);
+pub fits_less : (thread : ℕ) (value : ℕ) (rest : List Line) (writes writes' : ℕ) (answers answers' : List ℕ)
+    → Fits (Write thread value ∷ rest) writes answers → thread < 8 → writes' + 1 ≡ writes → answers' ≡ set answers thread (get_or answers thread 0 - 1) → Fits rest writes' answers'
+fits_less thread value rest writes writes' answers answers' fits lt writes_e answers_e = record {
+  writes_fit = omega (arith, fits.writes_fit, count-cons is_write (Write thread value) rest, writes_e);
   eight = ap length answers_e ∙ length-set answers thread (get_or answers thread 0 - 1) ∙ fits.eight;
   answers_fit = λ other other_lt.
-      less_room other thread answers answers' (count_by (is_by other) (Write thread patch ∷ rest)) (count_by (is_by other) rest) (eqb thread other) lt fits.eight
-      (fits.answers_fit other other_lt) (count-cons (is_by other) (Write thread patch) rest) refl answers_e;
+      less_room other thread answers answers' (count_by (is_by other) (Write thread value ∷ rest)) (count_by (is_by other) rest) (eqb thread other) lt fits.eight
+      (fits.answers_fit other other_lt) (count-cons (is_by other) (Write thread value) rest) refl answers_e;
 }

@@ -20,8 +20,8 @@ use Rattle.uapubsub.proofs.OneWrite.{count-cons}
 playable_lines : (lines : List Line) (texts : List (List ℕ)) → AllZip Spells lines texts → All IsPlayableLine lines
 playable_lines [] texts all = All-nil IsPlayableLine
 playable_lines (line ∷ lines) [] all = absurd all
-playable_lines (Write thread patch ∷ lines) (text ∷ texts) all =
-    All-cons IsPlayableLine (Write thread patch) lines (omega (arith, all.0.2)) (playable_lines lines texts all.1)
+playable_lines (Write thread value ∷ lines) (text ∷ texts) all =
+    All-cons IsPlayableLine (Write thread value) lines (omega (arith, all.0.1)) (playable_lines lines texts all.1)
 playable_lines (Tick ms ∷ lines) (text ∷ texts) all = All-cons IsPlayableLine (Tick ms) lines all.0.high (playable_lines lines texts all.1)
 
 pub playable : (file : Told) (lines : List Line) → IsAccepted file lines → IsPlayable lines

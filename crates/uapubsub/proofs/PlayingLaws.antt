@@ -8,28 +8,28 @@ use Rattle.std.proofs.lemmas.Bool.Decides.{nat_tests}
 use Rattle.std.proofs.lemmas.List.{get_or_append_left, get_or_push, get_or_past, length_push}
 use Rattle.std.proofs.lemmas.List.Elements.{All-nil, All-cons, All-tail}
 use Rattle.std.proofs.lemmas.List.FromFn.{get_or-map-range_with_len, length-map-range_with_len}
-use Rattle.pubsub_model.specs.declared.row.Row.{Row}
-use Rattle.pubsub_model.specs.declared.row.Patch.{Patch}
-use Rattle.pubsub_model.specs.Rows.{patched}
+use Rattle.ua_values.specs.declared.value.Value.{Value}
+use Rattle.dataset_meta.specs.Rows.{patched}
+use Rattle.pubsub_engine.specs.BuiltIn.{demo_fields}
 use Rattle.pubsub_model.specs.History.{IsLegal, times_of, legal_rows, last_row, patch_at, no_patch}
 use Rattle.pubsub_model.proofs.HistoryLaws.{times_of-cons}
 use Rattle.uapubsub.specs.declared.script.Line.{Line}
 use Rattle.uapubsub.specs.declared.script.Line.TheVariants.{Write, Tick}
-use Rattle.uapubsub.specs.Script.{Spells, IsScript, text_lines}
+use Rattle.uapubsub.specs.Script.{Spells, IsScript, only_a, text_lines}
 use Rattle.uapubsub.specs.Playing.{written, threads_of, patches_by, patches_of, AreThreads}
 
 same_thread : (thread : ℕ) → eqb thread thread ≡ true
 same_thread thread = grind (arith, nat_tests)
 
 -- a thread stands among the writes as often as it has patches
-counts_on : (b : Bool) (n : ℕ) (patches : List Patch) (patch : Patch) → n ≡ length patches → cond b 1 0 + n ≡ length (cond b (patches ++ patch ∷ []) patches)
+counts_on : (b : Bool) (n : ℕ) (patches : List (List (ℕ × Value))) (patch : List (ℕ × Value)) → n ≡ length patches → cond b 1 0 + n ≡ length (cond b (patches ++ patch ∷ []) patches)
 counts_on true n patches patch e = omega (arith, length_push patches patch, e)
 counts_on false n patches patch e = omega (arith, e)
 
 times_of-threads : (thread : ℕ) (lines : List Line) → times_of thread (threads_of lines) ≡ length (patches_by thread lines)
 times_of-threads thread [] = refl
-times_of-threads thread (Write other patch ∷ before) =
-    times_of-cons thread other (threads_of before) ∙ counts_on (eqb other thread) (times_of thread (threads_of before)) (patches_by thread before) patch (times_of-threads thread before)
+times_of-threads thread (Write other value ∷ before) =
+    times_of-cons thread other (threads_of before) ∙ counts_on (eqb other thread) (times_of thread (threads_of before)) (patches_by thread before) (only_a value) (times_of-threads thread before)
 times_of-threads thread (Tick ms ∷ before) = times_of-threads thread before
 
 -- the patches of one of the eight threads, and none of another
@@ -57,62 +57,62 @@ lines_legal lines all = record {
 }
 
 -- patches that agree where the threads use them make the same rows
-legal_rows-same : (ps qs : List (List Patch)) (threads : List ℕ) → ((thread k : ℕ) → k < times_of thread threads → patch_at ps thread k ≡ patch_at qs thread k) → legal_rows ps threads ≡ legal_rows qs threads
+legal_rows-same : (ps qs : List (List (List (ℕ × Value)))) (threads : List ℕ) → ((thread k : ℕ) → k < times_of thread threads → patch_at ps thread k ≡ patch_at qs thread k) → legal_rows demo_fields ps threads ≡ legal_rows demo_fields qs threads
 legal_rows-same ps qs [] same = refl
 legal_rows-same ps qs (thread ∷ before) same =
     let rows = legal_rows-same ps qs before (λ t k lt. same t k (omega (arith, times_of-cons t thread before, lt))) in
     let here : times_of thread before < times_of thread (thread ∷ before) =
     omega (arith, times_of-cons thread thread before, ap {B = ℕ} (λ (b : Bool). cond b 1 0) (same_thread thread)) in
-    ap (λ (p : Patch). patched (last_row (legal_rows ps before)) p ∷ legal_rows ps before) (same thread (times_of thread before) here)
-    ∙ ap (λ (rs : List Row). patched (last_row rs) (patch_at qs thread (times_of thread before)) ∷ rs) rows
+    ap (λ (p : List (ℕ × Value)). patched (last_row demo_fields (legal_rows demo_fields ps before)) p ∷ legal_rows demo_fields ps before) (same thread (times_of thread before) here)
+    ∙ ap (λ (rs : List (List Value)). patched (last_row demo_fields rs) (patch_at qs thread (times_of thread before)) ∷ rs) rows
 
 -- the k-th patch of one of the eight threads, and of another
 patch_at-thread : (lines : List Line) (thread k : ℕ) → thread < 8 → patch_at (patches_of lines) thread k ≡ get_or (patches_by thread lines) k no_patch
-patch_at-thread lines thread k lt = ap (λ (ps : List Patch). get_or ps k no_patch) (patches_of-thread lines thread lt)
+patch_at-thread lines thread k lt = ap (λ (ps : List (List (ℕ × Value))). get_or ps k no_patch) (patches_of-thread lines thread lt)
 
 patch_at-other : (lines : List Line) (thread k : ℕ) → 8 ≤ thread → patch_at (patches_of lines) thread k ≡ no_patch
-patch_at-other lines thread k past = ap (λ (ps : List Patch). get_or ps k no_patch) (patches_of-other lines thread past)
+patch_at-other lines thread k past = ap (λ (ps : List (List (ℕ × Value))). get_or ps k no_patch) (patches_of-other lines thread past)
 
 -- one more write changes no patch before it
-kept_on : (b : Bool) (patches : List Patch) (patch : Patch) (k : ℕ) → k < length patches → get_or patches k no_patch ≡ get_or (cond b (patches ++ patch ∷ []) patches) k no_patch
+kept_on : (b : Bool) (patches : List (List (ℕ × Value))) (patch : List (ℕ × Value)) (k : ℕ) → k < length patches → get_or patches k no_patch ≡ get_or (cond b (patches ++ patch ∷ []) patches) k no_patch
 kept_on true patches patch k lt = sym (get_or_append_left patches (patch ∷ []) no_patch k lt)
 kept_on false patches patch k lt = refl
 
-patch_kept : (other : ℕ) (patch : Patch) (before : List Line) (thread k : ℕ) → k < times_of thread (threads_of before)
-    → patch_at (patches_of before) thread k ≡ patch_at (patches_of (Write other patch ∷ before)) thread k
-patch_kept other patch before thread k lt =
+patch_kept : (other value : ℕ) (before : List Line) (thread k : ℕ) → k < times_of thread (threads_of before)
+    → patch_at (patches_of before) thread k ≡ patch_at (patches_of (Write other value ∷ before)) thread k
+patch_kept other value before thread k lt =
     elim (cases_lt thread 8) [
       | inl one ↦ patch_at-thread before thread k one
-          ∙ kept_on (eqb other thread) (patches_by thread before) patch k (omega (arith, times_of-threads thread before, lt))
-          ∙ sym (patch_at-thread (Write other patch ∷ before) thread k one)
-      | inr past ↦ patch_at-other before thread k past ∙ sym (patch_at-other (Write other patch ∷ before) thread k past)
+          ∙ kept_on (eqb other thread) (patches_by thread before) (only_a value) k (omega (arith, times_of-threads thread before, lt))
+          ∙ sym (patch_at-thread (Write other value ∷ before) thread k one)
+      | inr past ↦ patch_at-other before thread k past ∙ sym (patch_at-other (Write other value ∷ before) thread k past)
     ]
 
 -- and its own patch comes last
-last_on : (b : Bool) (patches : List Patch) (patch : Patch) (k : ℕ) → b ≡ true → k ≡ length patches → get_or (cond b (patches ++ patch ∷ []) patches) k no_patch ≡ patch
+last_on : (b : Bool) (patches : List (List (ℕ × Value))) (patch : List (ℕ × Value)) (k : ℕ) → b ≡ true → k ≡ length patches → get_or (cond b (patches ++ patch ∷ []) patches) k no_patch ≡ patch
 last_on true patches patch k is at = get_or_push patches patch no_patch k (sym at)
 last_on false patches patch k is at = absurd (cc)
 
-patch_last : (thread : ℕ) (patch : Patch) (before : List Line) → thread < 8 → patch_at (patches_of (Write thread patch ∷ before)) thread (times_of thread (threads_of before)) ≡ patch
-patch_last thread patch before one =
-    patch_at-thread (Write thread patch ∷ before) thread (times_of thread (threads_of before)) one
-    ∙ last_on (eqb thread thread) (patches_by thread before) patch (times_of thread (threads_of before)) (same_thread thread) (times_of-threads thread before)
+patch_last : (thread value : ℕ) (before : List Line) → thread < 8 → patch_at (patches_of (Write thread value ∷ before)) thread (times_of thread (threads_of before)) ≡ only_a value
+patch_last thread value before one =
+    patch_at-thread (Write thread value ∷ before) thread (times_of thread (threads_of before)) one
+    ∙ last_on (eqb thread thread) (patches_by thread before) (only_a value) (times_of thread (threads_of before)) (same_thread thread) (times_of-threads thread before)
 
-pub written-legal : (lines : List Line) → AreThreads (threads_of lines) → written lines ≡ legal_rows (patches_of lines) (threads_of lines)
+pub written-legal : (lines : List Line) → AreThreads (threads_of lines) → written lines ≡ legal_rows demo_fields (patches_of lines) (threads_of lines)
 written-legal [] all = refl
 written-legal (Tick ms ∷ before) all = written-legal before all
-written-legal (Write thread patch ∷ before) all =
+written-legal (Write thread value ∷ before) all =
     let rows = written-legal before (All-tail (λ (t : ℕ). t < 8) thread (threads_of before) all)
-    ∙ legal_rows-same (patches_of before) (patches_of (Write thread patch ∷ before)) (threads_of before) (patch_kept thread patch before) in
-    ap (λ (rs : List Row). patched (last_row rs) patch ∷ rs) rows
-    ∙ ap (λ (p : Patch). let rs = legal_rows (patches_of (Write thread patch ∷ before)) (threads_of before) in patched (last_row rs) p ∷ rs) (sym (patch_last thread patch before (all 0 0 (omega arith))))
+    ∙ legal_rows-same (patches_of before) (patches_of (Write thread value ∷ before)) (threads_of before) (patch_kept thread value before) in
+    ap (λ (rs : List (List Value)). patched (last_row demo_fields rs) (only_a value) ∷ rs) rows
+    ∙ ap (λ (p : List (ℕ × Value)). let rs = legal_rows demo_fields (patches_of (Write thread value ∷ before)) (threads_of before) in patched (last_row demo_fields rs) p ∷ rs) (sym (patch_last thread value before (all 0 0 (omega arith))))
 
 -- the writes of a script are made by thread 0
 spelled_threads : (lines before : List Line) (texts : List (List ℕ)) → AllZip Spells lines texts → AreThreads (threads_of before) → AreThreads (threads_of (reverse_aux lines before))
 spelled_threads [] before texts all small = small
 spelled_threads (line ∷ lines) before [] all small = absurd all
-spelled_threads (Write thread patch ∷ lines) before (text ∷ texts) all small =
-    spelled_threads lines (Write thread patch ∷ before) texts all.1 (All-cons (λ (t : ℕ). t < 8) thread (threads_of before) (omega (arith, all.0.2)) small)
+spelled_threads (Write thread value ∷ lines) before (text ∷ texts) all small =
+    spelled_threads lines (Write thread value ∷ before) texts all.1 (All-cons (λ (t : ℕ). t < 8) thread (threads_of before) (omega (arith, all.0.1)) small)
 spelled_threads (Tick ms ∷ lines) before (text ∷ texts) all small = spelled_threads lines (Tick ms ∷ before) texts all.1 small
 
 pub script_threads : (bytes : List ℕ) (lines : List Line) → IsScript bytes lines → AreThreads (threads_of (reverse lines))

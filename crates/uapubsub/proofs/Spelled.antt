@@ -1,6 +1,6 @@
 -- What the front of a text and the number behind it say of the line that it spells.
 use Rattle.std.proofs.Common.{◌≡◌, ◌≢◌, ℕ, ◌^◌, ◌<◌, ◌≤◌, List, ◌++◌, sym, ap, ◌∙◌, arith}
-use Rattle.std.specs.Prelude.{codes}
+use Rattle.std.specs.Prelude.{codes, Option, Some, None, MatchOption, IfSome}
 use Rattle.std.specs.Fmt.{decimal}
 use Rattle.std.proofs.lemmas.Fmt.{decimal_injective}
 use Rattle.std.proofs.lemmas.List.{append_cancel_left}
@@ -27,6 +27,11 @@ write_without_front text none n w = none (decimal n) w.spelling
 pub write_without_number : (text rest : List ℕ) → text ≡ write_front ++ rest → ((n : ℕ) → n < 2 ^ 32 → rest ≢ decimal n) → (n : ℕ) → IsWrite n text → ⊥
 unfolding write_text
 write_without_number text rest is none n w = none n w.fits (behind write_front text rest (decimal n) is w.spelling)
+
+pub write_read : (text rest : List ℕ) (read : Option ℕ) → text ≡ write_front ++ rest → MatchOption read ((n : ℕ) → n < 2 ^ 32 → rest ≢ decimal n) (λ n. rest ≡ decimal n) → IfSome read (λ n. n < 2 ^ 32)
+    → MatchOption read ((value : ℕ) → IsWrite value text → ⊥) (λ value. IsWrite value text)
+write_read text rest None is none small = write_without_number text rest is none
+write_read text rest (Some n) is digits small = write_is text rest n is digits small
 
 pub tick_is : (text rest : List ℕ) (n : ℕ) → text ≡ tick_front ++ rest → rest ≡ decimal n → 1 ≤ n → n ≤ 3600000 → IsTick n text
 unfolding tick_text

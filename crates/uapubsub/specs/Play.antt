@@ -4,7 +4,8 @@ use Rattle.ua_base.specs.Files.{Told, TellsFile}
 use Rattle.ua_base.specs.Journal.{Entry, Wire}
 use Rattle.ua_base.specs.Output.{appended, AppendsPrefix}
 use Rattle.pubsub_model.specs.History.{IsLegal, legal_rows, last_row}
-use Rattle.pubsub_engine.specs.declared.sampled.Sampled.{Sampled}
+use Rattle.pubsub_engine.specs.BuiltIn.{demo_fields}
+use Rattle.pubsub_engine.specs.Samples.{Sample}
 use Rattle.pubsub_engine.specs.Steps.{Step, Tick, Pump}
 use Rattle.pubsub_engine.specs.Publishing.{IsRun}
 use Rattle.pubsub_engine.specs.Standing.{TellsRun}
@@ -18,13 +19,13 @@ use Rattle.uapubsub.specs.Script.{IsScript}
 use Rattle.uapubsub.specs.Playing.{written, threads_of, patches_of}
 
 -- what a tick after these lines, the latest first, samples: how many writes there were, and the row that they left
-abbrev pub sample_of : List Line → List Sampled
-sample_of lines = record { version = length (written lines); row = last_row (written lines) } ∷ []
+abbrev pub sample_of : List Line → List Sample
+sample_of lines = record { version = length (written lines); row = last_row demo_fields (written lines) } ∷ []
 
 -- These steps are those of these lines, both with the latest first: each tick samples what the lines before it left, and a pump follows it.
 abbrev pub IsPlayed : List Line → List Step → Type 0
 IsPlayed [] steps = steps ≡ []
-IsPlayed (line.Write thread patch ∷ before) steps = IsPlayed before steps
+IsPlayed (line.Write thread value ∷ before) steps = IsPlayed before steps
 IsPlayed (line.Tick ms ∷ before) steps =
     (earlier : List Step) × (done : List Bool) × (entries : List Entry)
     × (steps ≡ Pump entries ∷ Tick ms false (sample_of before) done ∷ earlier) × IsPlayed before earlier
@@ -44,7 +45,7 @@ pub record IsReport (lines : List Line) (told : Option Wire) (text : List ℕ) :
   pub run : IsRun steps
   pub entries : TellsRun steps told
   pub legal : IsLegal (threads_of (reverse lines)) (patches_of (reverse lines))
-  pub rows : written (reverse lines) ≡ legal_rows (patches_of (reverse lines)) (threads_of (reverse lines))
+  pub rows : written (reverse lines) ≡ legal_rows demo_fields (patches_of (reverse lines)) (threads_of (reverse lines))
   pub shows : text ≡ report_text (closed (reverse (threads_of (reverse lines))) steps)
 
 -- What was read is a script of these lines; where the folder tells the file, it is what was read.

@@ -2,8 +2,10 @@
 use Rattle.std.specs.Prelude.{◌≡◌, ◌≤◌, ◌<◌, ℕ, List, [], length, reverse, count_by, Option, slice_index_or}
 use Rattle.std.specs.List.{All}
 use Rattle.ua_base.specs.Journal.{Wire}
-use Rattle.pubsub_model.specs.declared.row.Row.{Row}
+use Rattle.ua_values.specs.declared.value.Value.{Value}
 use Rattle.pubsub_model.specs.History.{last_row, places}
+use Rattle.row_words.specs.Belonging.{row_in}
+use Rattle.pubsub_engine.specs.BuiltIn.{demo_fields}
 use Rattle.pubsub_engine.specs.Authored.{answers_of}
 use Rattle.pubsub_engine.specs.Steps.{Step}
 use Rattle.pubsub_engine.specs.Standing.{Stands}
@@ -17,15 +19,15 @@ use Rattle.uapubsub.specs.Play.{IsPlayed}
 use Rattle.uapubsub.specs.Rooms.{rooms_of, Fits}
 
 -- the data set and the threads' answers after these lines
-pub record HasWritten (lines : List Line) (row : Row) (threads : List ℕ) (answers : List (List ℕ)) : Type 0 where
-  pub row_is : row ≡ last_row (written lines)
+pub record HasWritten (lines : List Line) (row : List Value) (threads : List ℕ) (answers : List (List ℕ)) : Type 0 where
+  pub row_is : row ≡ last_row demo_fields (written lines)
   pub threads_are : threads ≡ reverse (threads_of lines)
   pub known : AreThreads (threads_of lines)
   pub eight : length answers ≡ 8
   pub placed : (thread : ℕ) → thread < 8 → slice_index_or answers thread [] ≡ places thread 0 (reverse (threads_of lines))
 
 abbrev pub Wrote : List Line → Application → Type 0
-Wrote lines app = HasWritten lines app.plain.row app.plain.threads.items (answers_of app.dones.items)
+Wrote lines app = HasWritten lines (row_in demo_fields app.plain.row.words) app.plain.threads.items (answers_of app.dones.items)
 
 abbrev pub HasRoom : List Line → Application → Type 0
 HasRoom lines app = Fits lines app.plain.left (rooms_of app.dones.items)
@@ -44,7 +46,7 @@ pub record CanPlay (lines : List Line) (player : Player) : Type 0 where
 
 -- a line of a thread that there is, or a tick of an hour at most
 abbrev pub IsPlayableLine : Line → Type 0
-IsPlayableLine (Write thread patch) = thread < 8
+IsPlayableLine (Write thread value) = thread < 8
 IsPlayableLine (Tick ms) = ms ≤ 3600000
 
 pub record IsPlayable (lines : List Line) : Type 0 where

@@ -1,9 +1,10 @@
 -- A script: its grammar, and what reading one gives.
-use Rattle.std.specs.Prelude.{◌≡◌, ◌≤◌, ◌<◌, ◌^◌, ℕ, List, [], ◌∷◌, ◌++◌, count_by, codes, Bool, true, false, ◌==◌, if◌then◌else◌, Some, None, Result, Ok, Err, Vec}
+use Rattle.std.specs.Prelude.{◌≡◌, ◌≤◌, ◌<◌, ◌^◌, ℕ, List, [], ◌∷◌, ◌++◌, count_by, codes, Bool, true, false, ◌==◌, if◌then◌else◌, Result, Ok, Err, Vec}
 use Rattle.std.specs.List.{AllZip, onto_first}
 use Rattle.std.specs.Fmt.{decimal}
 use Rattle.std.specs.declared.alloc.Global.{Global}
-use Rattle.pubsub_model.specs.declared.row.Patch.{Patch}
+use Rattle.ua_values.specs.declared.value.Value.{Value}
+use Rattle.ua_values.specs.declared.value.Value.TheVariants.{UInt32}
 use Rattle.uapubsub.specs.declared.script.Line.{Line}
 use Rattle.uapubsub.specs.declared.script.Line.TheVariants.{Write, Tick}
 use Rattle.uapubsub.specs.declared.script.ScriptEnd.{ScriptEnd}
@@ -31,25 +32,26 @@ pub record IsTick (ms : ℕ) (text : List ℕ) : Type 0 where
   pub high : ms ≤ 3600000
   pub spelling : text ≡ tick_text ms
 
-abbrev pub only_a : ℕ → Patch
-only_a value = record { a = Some value; b = None; c = None; d = None }
+-- the patch of one value, that of the field a
+abbrev pub only_a : ℕ → List (ℕ × Value)
+only_a value = (0, UInt32 value) ∷ []
 
 -- the line that a text spells
 abbrev pub Spells : Line → List ℕ → Type 0
-Spells (Write thread patch) text = (value : ℕ) × IsWrite value text × (thread ≡ 0) × (patch ≡ only_a value)
+Spells (Write thread value) text = IsWrite value text × (thread ≡ 0)
 Spells (Tick ms) text = IsTick ms text
 
 abbrev pub is_tick : Line → Bool
-is_tick (Write thread patch) = false
+is_tick (Write thread value) = false
 is_tick (Tick ms) = true
 
 abbrev pub is_write : Line → Bool
-is_write (Write thread patch) = true
+is_write (Write thread value) = true
 is_write (Tick ms) = false
 
 -- a write of this thread
 abbrev pub is_by : ℕ → Line → Bool
-is_by thread (Write other patch) = other == thread
+is_by thread (Write other value) = other == thread
 is_by thread (Tick ms) = false
 
 -- each of the text's lines spells one of these

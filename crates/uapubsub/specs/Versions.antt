@@ -1,14 +1,15 @@
 -- The versions of the data set that a script's lines make.
 use Rattle.std.specs.Prelude.{◌≡◌, ◌≤◌, ⊤, ℕ, List, [], ◌∷◌, length, reverse, slice_index_or}
-use Rattle.pubsub_model.specs.declared.row.Row.{Row}
-use Rattle.pubsub_model.specs.Rows.{opening}
+use Rattle.ua_values.specs.declared.value.Value.{Value}
+use Rattle.dataset_meta.specs.Rows.{opening_row}
+use Rattle.pubsub_engine.specs.BuiltIn.{demo_fields}
 
 -- the row of a version: the opening row, or the one that the write with this number left (the rows have the latest first)
-abbrev pub row_at : List Row → ℕ → Row
-row_at rows version = slice_index_or (opening ∷ reverse rows) version opening
+abbrev pub row_at : List (List Value) → ℕ → List Value
+row_at rows version = slice_index_or (opening_row demo_fields ∷ reverse rows) version (opening_row demo_fields)
 
 -- there is such a version, and this is its row
-pub record IsVersion (rows : List Row) (version : ℕ) (row : Row) : Type 0 where
+pub record IsVersion (rows : List (List Value)) (version : ℕ) (row : List Value) : Type 0 where
   pub there : version ≤ length rows
   pub row_is : row ≡ row_at rows version
 

@@ -1,16 +1,20 @@
 //! The threads of the application, and the data set that they write.
 ghost use Rattle.std.specs.Prelude.{◌≡◌, ◌≤◌, ◌<◌, ◌-◌, ◌++◌, ◌∷◌, [], ℕ, List, IfOk, vec_len, map, replicate, count_by, slice_set, slice_index_or};
 ghost use Rattle.std.specs.List.{range_with_len};
+ghost use Rattle.row_words.specs.Patches.{IsPatchOf, patch_in};
+ghost use Rattle.pubsub_engine.specs.BuiltIn.{demo_fields, demo_meta};
 ghost use Rattle.pubsub_engine.specs.Authored.{answers_of};
 ghost use Rattle.uapubsub.specs.declared.script.Line.{Line as LineValue};
-ghost use Rattle.uapubsub.specs.Script.{is_write, is_by};
+ghost use Rattle.uapubsub.specs.Script.{only_a, is_write, is_by};
 ghost use Rattle.uapubsub.specs.Rooms.{rooms_of};
 
 use crate::script::{Line, write_count, write_count_of};
+use dataset_meta::Meta;
 use pubsub_engine::{Done, Plain};
-use pubsub_model::Patch;
+use row_words::Patch;
 use std::alloc::Global;
 use ua_base::NoMemory;
+use ua_values::Value;
 
 /// The threads are numbered from 0.
 const THREADS: u8 = 8;
@@ -46,6 +50,18 @@ fn note(dones: &mut Vec<Done>, thread: u8, version: u64)
     dones[thread as usize].answered(version);
 }
 
+/// The patch of one value, that of the field `a`.
+fn patch_of(meta: &Meta, value: u32) -> Patch
+    requires { meta.now ≡ demo_meta }
+    ensures of { IsPatchOf demo_fields result }
+    ensures patch { patch_in demo_fields result ≡ only_a value }
+{
+    prove!(meta.fields().len() == 4);
+    let mut patch = Patch::empty();
+    patch.put(meta, 0, &Value::UInt32(value));
+    patch
+}
+
 impl Application {
     ghost use Rattle.uapubsub.specs.Player.{Wrote, HasRoom};
 
@@ -62,14 +78,16 @@ impl Application {
         })
     }
 
-    /// A thread's write.
-    pub fn write(&mut self, thread: u8, patch: &Patch)
+    /// A thread's write of the field `a`.
+    pub fn write(&mut self, meta: &Meta, thread: u8, value: u32)
+        requires meta { meta.now ≡ demo_meta }
         requires thread { thread < 8 }
-        requires room { HasRoom (LineValue.Write thread patch.now ∷ []) self.old }
-        ensures wrote { (before : List LineValue) → Wrote before self.old → Wrote (LineValue.Write thread patch.now ∷ before) self.new }
-        ensures room { (rest : List LineValue) → HasRoom (LineValue.Write thread patch.now ∷ rest) self.old → HasRoom rest self.new }
+        requires room { HasRoom (LineValue.Write thread value ∷ []) self.old }
+        ensures wrote { (before : List LineValue) → Wrote before self.old → Wrote (LineValue.Write thread value ∷ before) self.new }
+        ensures room { (rest : List LineValue) → HasRoom (LineValue.Write thread value ∷ rest) self.old → HasRoom rest self.new }
     {
-        let version = self.plain.write(thread, patch);
+        let patch = patch_of(meta, value);
+        let version = self.plain.write(meta, thread, &patch);
         note(&mut self.dones, thread, version);
     }
 }

@@ -1,9 +1,12 @@
 //! Laws of scripts and of the history that they make, each the contract of a function that does nothing.
 ghost use Rattle.std.specs.Prelude.{◌≡◌, ℕ, List, Some, IfSome, length, reverse};
+ghost use Rattle.ua_base.specs.declared.memory_link.MemoryLink.{MemoryLink as LinkValue};
 ghost use Rattle.ua_base.specs.Journal.{Wire, IsHonest};
+ghost use Rattle.ua_base.specs.MemoryLinks.{told_by};
 ghost use Rattle.pubsub_engine.specs.Publishing.{log_at};
 ghost use Rattle.pubsub_engine.specs.Reading.{held_frame};
 ghost use Rattle.pubsub_engine.specs.Report.{version_of};
+ghost use Rattle.pubsub_engine.specs.BuiltIn.{demo_fields};
 ghost use Rattle.uapubsub.specs.declared.script.Line.{Line as LineValue};
 ghost use Rattle.pubsub_model.specs.History.{IsLegal, legal_rows};
 ghost use Rattle.uapubsub.specs.Script.{IsScript};
@@ -21,7 +24,7 @@ pub fn a_script_has_one_reading()
 /// history's rows. Those of a script are made by threads below 8.
 pub fn writes_make_a_legal_history()
     ensures legal { (lines : List LineValue) → AreThreads (threads_of lines) → IsLegal (threads_of lines) (patches_of lines) }
-    ensures rows { (lines : List LineValue) → AreThreads (threads_of lines) → written lines ≡ legal_rows (patches_of lines) (threads_of lines) }
+    ensures rows { (lines : List LineValue) → AreThreads (threads_of lines) → written lines ≡ legal_rows demo_fields (patches_of lines) (threads_of lines) }
     ensures accepted { (bytes : List ℕ) (lines : List LineValue) → IsScript bytes lines → AreThreads (threads_of (reverse lines)) }
 {}
 
@@ -34,6 +37,12 @@ pub fn a_session_has_one_report()
 /// history, and the report prints this version with it.
 pub fn a_held_row_is_a_version()
     ensures { (bytes : List ℕ) (lines : List LineValue) (wire : Wire) (text : List ℕ) (report : IsReport lines (Some wire) text) → IsScript bytes lines → IsHonest wire.journal
+        → IfSome (held_frame report.steps) (λ frame. (version : ℕ) × (version_of (log_at report.steps) frame.number ≡ Some version) × IsVersion (written (reverse lines)) version frame.row) }
+{}
+
+/// Over a link in memory that holds with no premise of the journal, since such a link delivers only what was sent.
+pub fn a_held_row_over_memory_is_a_version()
+    ensures { (bytes : List ℕ) (lines : List LineValue) (link : LinkValue) (wire : Wire) (text : List ℕ) (report : IsReport lines (Some wire) text) → IsScript bytes lines → told_by link ≡ Some wire
         → IfSome (held_frame report.steps) (λ frame. (version : ℕ) × (version_of (log_at report.steps) frame.number ≡ Some version) × IsVersion (written (reverse lines)) version frame.row) }
 {}
 

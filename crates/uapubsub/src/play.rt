@@ -43,6 +43,7 @@ fn perform<A: Link>(alloc: Global, lines: &[Line], lab: &mut A) -> Result<String
     ensures report { Performs lines.now (A.told lab.new) result }
     ensures unopened { result ≡ Err Status.Unopened → Rose (A.faults lab.old) (A.faults lab.new) }
     ensures unused { result ≡ Err Status.Unopened → (A.told lab.new ≡ A.told lab.old) × (A.is_open lab.new ≡ A.is_open lab.old) }
+    ensures memory_stays { A.takes_memory lab.new ≡ A.takes_memory lab.old }
 {
     let mut player = Player::open(alloc, lines)?;
     match lab.open(PORT, &[]) {
@@ -65,6 +66,7 @@ fn report_of<F: Folder, A: Link>(
     ensures unread { result ≡ Err Status.Unread → Rose (F.faults folder.old) (F.faults folder.new) }
     ensures unopened { result ≡ Err Status.Unopened → Rose (A.faults lab.old) (A.faults lab.new) }
     ensures unused { result ≡ Err Status.Unopened → (A.told lab.new ≡ A.told lab.old) × (A.is_open lab.new ≡ A.is_open lab.old) }
+    ensures memory_stays { A.takes_memory lab.new ≡ A.takes_memory lab.old }
     ensures unlinked { (result ≡ Err Status.ScriptRefused) ⊎ (result ≡ Err Status.Unread) → lab.new ≡ lab.old }
     ensures files { (other : List ℕ) → F.tells folder.new other ≡ F.tells folder.old other }
 {
@@ -85,6 +87,7 @@ pub fn play<F: Folder, A: Link, K: Sink>(
     ensures unwritten { result ≡ Status.Unwritten → Rose (K.faults out.old) (K.faults out.new) }
     ensures unopened { result ≡ Status.Unopened → Rose (A.faults lab.old) (A.faults lab.new) }
     ensures unused { result ≡ Status.Unopened → (A.told lab.new ≡ A.told lab.old) × (A.is_open lab.new ≡ A.is_open lab.old) }
+    ensures memory_stays { A.takes_memory lab.new ≡ A.takes_memory lab.old }
     ensures unlinked { (result ≡ Status.ScriptRefused) ⊎ (result ≡ Status.Unread) → lab.new ≡ lab.old }
     ensures silent { result ≢ Status.Done → result ≢ Status.Unwritten → out.new ≡ out.old }
     ensures files { (other : List ℕ) → F.tells folder.new other ≡ F.tells folder.old other }

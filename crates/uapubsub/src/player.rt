@@ -1,5 +1,5 @@
 //! The session of a script, played line by line.
-ghost use Rattle.std.specs.Prelude.{◌≡◌, ◌≤◌, ◌<◌, ◌+◌, ◌∷◌, [], ℕ, List, Bool, Option, Some, IsTrue, OnOk, IfOk, length, reverse, string_bytes};
+ghost use Rattle.std.specs.Prelude.{◌≡◌, ◌≤◌, ◌<◌, ◌+◌, ◌∷◌, [], ℕ, List, Bool, Option, Some, IsTrue, OnOk, OnErr, IfOk, length, reverse, string_bytes};
 ghost use Rattle.std.specs.List.{All};
 ghost use Rattle.ua_base.specs.Journal.{Wire, Entry};
 ghost use Rattle.pubsub_engine.specs.Steps.{Step, Tick, Pump};
@@ -47,6 +47,8 @@ impl Player {
         ensures sampled { OnOk result (self.new.session.sampled.version ≡ length self.old.application.plain.threads.items) }
         ensures left { OnOk result (self.new.session.publisher.left + 1 ≡ self.old.session.publisher.left) }
         ensures open { L.is_open link.new ≡ L.is_open link.old }
+        ensures memory { OnErr result (IsTrue (L.takes_memory link.old)) }
+        ensures memory_stays { L.takes_memory link.new ≡ L.takes_memory link.old }
     {
         self.session.sample(&self.application.plain);
         match self.session.tick(ms as u64, closing, link) {
@@ -65,10 +67,12 @@ impl Player {
         ensures played { OnOk result ((before : List LineValue) → HasPlayed before (L.told link.old) self.old → HasPlayed (line.now ∷ before) (L.told link.new) self.new) }
         ensures room { OnOk result ((rest : List LineValue) → CanPlay (line.now ∷ rest) self.old → CanPlay rest self.new) }
         ensures open { L.is_open link.new ≡ L.is_open link.old }
+        ensures memory { OnErr result (IsTrue (L.takes_memory link.old)) }
+        ensures memory_stays { L.takes_memory link.new ≡ L.takes_memory link.old }
     {
         match *line {
-            Line::Write { thread, patch } => {
-                self.application.write(thread, &patch);
+            Line::Write { thread, value } => {
+                self.application.write(&self.session.meta, thread, value);
                 Ok(())
             }
             Line::Tick { ms } => self.tick(ms, false, link),
@@ -83,6 +87,8 @@ impl Player {
         ensures played { OnOk result (HasPlayed [] (L.told link.old) self.old → HasPlayed (reverse lines.now) (L.told link.new) self.new) }
         ensures room { OnOk result (CanPlay [] self.new) }
         ensures open { L.is_open link.new ≡ L.is_open link.old }
+        ensures memory { OnErr result (IsTrue (L.takes_memory link.old)) }
+        ensures memory_stays { L.takes_memory link.new ≡ L.takes_memory link.old }
     {
         for line in lines {
             self.play_line(line, link)?;
@@ -94,7 +100,8 @@ impl Player {
     pub fn close<L: Link>(mut self, alloc: Global, link: &mut L) -> Result<String, NoMemory>
         requires open { IsTrue (L.is_open link.old) }
         requires room { CanPlay [] self }
-        ensures { IfOk result (λ text. (lines : List LineValue) → HasPlayed (reverse lines) (L.told link.old) self → IsReport lines (L.told link.new) (string_bytes text)) }
+        ensures report { IfOk result (λ text. (lines : List LineValue) → HasPlayed (reverse lines) (L.told link.old) self → IsReport lines (L.told link.new) (string_bytes text)) }
+        ensures memory_stays { L.takes_memory link.new ≡ L.takes_memory link.old }
     {
         self.tick(0, true, link)?;
         let closed = self.session.close(alloc, &self.application.dones)?;

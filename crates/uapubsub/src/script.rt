@@ -1,11 +1,10 @@
 //! Scripts: the lines of a played session, and how they are read.
-ghost use Rattle.std.specs.Prelude.{◌≡◌, ◌≢◌, ◌<◌, ◌^◌, ◌∷◌, ◌++◌, ◌==◌, ℕ, List, length, count_by, position, MatchOption, true};
+ghost use Rattle.std.specs.Prelude.{◌≡◌, ◌≢◌, ◌<◌, ◌^◌, ◌∷◌, ◌++◌, ◌==◌, ℕ, List, length, count_by, position, MatchOption, IfSome, true};
 ghost use Rattle.std.specs.Fmt.{decimal};
 ghost use Rattle.uapubsub.specs.declared.script.Line.{Line as LineValue};
 ghost use Rattle.uapubsub.specs.declared.script.ScriptEnd.TheVariants.{Memory};
-ghost use Rattle.uapubsub.specs.Script.{text_lines, IsTick, IsWrite, only_a, Spells, IsText, IsScript, Reads, is_tick, is_write, is_by};
+ghost use Rattle.uapubsub.specs.Script.{text_lines, IsTick, IsWrite, Spells, IsText, IsScript, Reads, is_tick, is_write, is_by};
 
-use pubsub_model::Patch;
 use std::alloc::{AllocError, AllocFailed, Global};
 use ua_base::decimal_number;
 
@@ -22,7 +21,7 @@ const MAX_MS: u32 = 3_600_000;
 #[derive(Clone, Copy, Debug, PartialEq, Eq)]
 pub enum Line {
     /// `write THREAD demo a=V`: one write of the data set by a thread.
-    Write { thread: u8, patch: Patch },
+    Write { thread: u8, value: u32 },
     /// `tick MS`: the moment rises by so many milliseconds, and a tick follows.
     Tick { ms: u32 },
 }
@@ -73,7 +72,8 @@ fn after<'a>(text: &'a [u8], prefix: &[u8]) -> Option<&'a [u8]>
 
 /// The number of 32 bits that the digits spell.
 fn read_u32(digits: &[u8]) -> Option<u32>
-    ensures { MatchOption result ((n : ℕ) → n < 2 ^ 32 → digits.now ≢ decimal n) (λ n. digits.now ≡ decimal n) }
+    ensures number { MatchOption result ((n : ℕ) → n < 2 ^ 32 → digits.now ≢ decimal n) (λ n. digits.now ≡ decimal n) }
+    ensures small { IfSome result (λ n. n < 2 ^ 32) }
 {
     let number = decimal_number(digits)?;
     match u32::try_from(number) {
@@ -94,17 +94,11 @@ fn read_tick(text: &[u8]) -> Option<u32>
     }
 }
 
-/// The patch of `write 0 demo a=V`.
-fn read_write(text: &[u8]) -> Option<Patch>
-    ensures { MatchOption result ((value : ℕ) → IsWrite value text.now → ⊥) (λ patch. (value : ℕ) × IsWrite value text.now × (patch ≡ only_a value)) }
+/// The value of `write 0 demo a=V`.
+fn read_write(text: &[u8]) -> Option<u32>
+    ensures { MatchOption result ((value : ℕ) → IsWrite value text.now → ⊥) (λ value. IsWrite value text.now) }
 {
-    let value = read_u32(after(text, b"write 0 demo a=")?)?;
-    Some(Patch {
-        a: Some(value),
-        b: None,
-        c: None,
-        d: None,
-    })
+    read_u32(after(text, b"write 0 demo a=")?)
 }
 
 /// The line that a text spells.
@@ -114,8 +108,8 @@ fn read_line(text: &[u8]) -> Option<Line>
     if let Some(ms) = read_tick(text) {
         return Some(Line::Tick { ms });
     }
-    let patch = read_write(text)?;
-    Some(Line::Write { thread: 0, patch })
+    let value = read_write(text)?;
+    Some(Line::Write { thread: 0, value })
 }
 
 // Where the first line feed stands.

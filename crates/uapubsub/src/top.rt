@@ -55,6 +55,7 @@ pub fn top<R: Threads + Wait + Sync, F: Folder, A: Link, B: Link, G: Gate, K: Si
     ensures silent { result ≢ 0 → result ≢ 6 → out.new ≡ out.old }
     ensures told { TellsAs result (script_of words.now) (E.written err.old) (E.written err.new) (E.faults err.old) (E.faults err.new) }
     ensures wire { wire.new ≡ wire.old }
+    ensures memory_stays { A.takes_memory lab.new ≡ A.takes_memory lab.old }
 {
     // Playing uses one link, and neither threads nor the gate.
     let _ = rt;

@@ -1,4 +1,4 @@
-use Rattle.std.proofs.Common.{◌≡◌, ◌-◌, ℕ, List, take, get_or, set, sym, ap, ◌∙◌}
+use Rattle.std.proofs.Common.{◌-◌, ℕ, List, take, get_or, set, sym, ap, ◌∙◌}
 use Rattle.std.proofs.lemmas.List.{take_more}
 use Rattle.pubsub_engine.specs.Authored.{filled}
 use Rattle.pubsub_engine.proofs.Authors.{filled-push}

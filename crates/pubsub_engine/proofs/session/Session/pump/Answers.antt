@@ -1,5 +1,4 @@
-use Rattle.std.proofs.Common.{refl, arith, sym, ◌∙◌, subst}
-use Rattle.std.specs.Prelude.{IsTrue}
+use Rattle.std.proofs.Common.{refl}
 use Rattle.pubsub_engine.proofs.Stepping.{tells_pump, publisher_pump, sent_pump, limit_pump, received_pump}
 use Rattle.pubsub_engine.proofs.session.Session.pump.Goals as goal
 

@@ -7,6 +7,7 @@ use Rattle.ua_base.specs.declared.mark.Mark.{Mark}
 use Rattle.ua_base.specs.declared.mark.Answer.TheVariants as answer
 use Rattle.ua_base.specs.Marks.{reach, entries, EndsInNothings}
 use Rattle.ua_base.proofs.Journals.{order_after, order_counted, told_journal}
+use Rattle.ua_base.proofs.Honest.{honest_counted, honest_got, honest_marked}
 use Rattle.ua_base.proofs.loopback.Loopback.receive.Goals as goal
 
 pub invariant_of-self-then-len-into-clause-places : goal.invariant_of-self-then-len-into-clause-places
@@ -45,3 +46,19 @@ pub returns-then-not-count_nothing-clause-tells : goal.returns-then-not-count_no
 returns-then-not-count_nothing-clause-tells c = λ before told none.
     let s = c.args.self.now in
     subst EndsInNothings (told_journal s.tells _ s.next s.first s.log.items before told) (rw c.deref_mut.ensures.value at c.if-not-count_nothing.ensures.full (map (λ (d : Vec ℕ Global). d.items) s.sent.items))
+
+pub invariant_of-self-then-len-into-clause-honest : goal.invariant_of-self-then-len-into-clause-honest
+invariant_of-self-then-len-into-clause-honest c =
+    let s = c.args.self.now in
+    honest_marked s.sent.items s.first s.log.items c.note.new.log.items (answer.Long s.next) c.note.ensures.entry (λ ds d got. cc) s.honest
+
+pub invariant_of-self-2-clause-honest : goal.invariant_of-self-2-clause-honest
+invariant_of-self-2-clause-honest c =
+    let s = c.args.self.now in
+    honest_got s.sent.items s.next s.first s.log.items c.note-2.new.log.items (omega arith) c.note-2.ensures.entry s.order s.honest
+
+pub invariant_of-self-else-not-count_nothing-clause-honest : goal.invariant_of-self-else-not-count_nothing-clause-honest
+invariant_of-self-else-not-count_nothing-clause-honest c =
+    let s = c.args.self.now in
+    honest_counted s.sent.items s.first c.count_nothing.new.first s.log.items (with_items s.log c.count_nothing.new.log).items
+    (λ ds. ap (λ (marks : List Mark). entries ds c.count_nothing.new.first marks) (counted s.log c.count_nothing.new.log (c.count_nothing.auto.log ∙ ap (λ (l : List Mark). length l) c.deref_mut.ensures.value)) ∙ (rw c.deref_mut.ensures.value at c.if-not-count_nothing.ensures.counted ds)) s.honest

@@ -17,8 +17,8 @@ use Rattle.uapubsub.proofs.PlayingLaws.{lines_legal, written-legal}
 use Rattle.uapubsub.proofs.Ending.{authored}
 use Rattle.uapubsub.proofs.player.Player.close.Goals as goal
 
-pub returns : goal.returns
-returns g c =
+pub returns-clause-report : goal.returns-clause-report
+returns-clause-report g c =
     let says : String Global → Type 0 = λ text. (lines : List Line) → HasPlayed (reverse lines) (g.L.Link.told c.args.link.now) c.args.self → IsReport lines (g.L.Link.told c.tick.new.link) (string_bytes text) in
     IfOk-weaker c.report.result (λ text. string_bytes text ≡ report_text (shown_of c.in_ok-closed.closed)) says (λ text shows lines played.
     let last = c.in_ok-tick.ensures.stands (reverse lines) played.steps played.wrote played.stands in

@@ -1,5 +1,6 @@
 use Rattle.std.proofs.Common.{List, ◌+◌, take, drop, sym, subst, ◌∙◌}
 use Rattle.std.specs.Prelude.{reverse}
+use Rattle.std.proofs.lemmas.List.{take_all}
 use Rattle.uapubsub.specs.declared.script.Line.{Line}
 use Rattle.uapubsub.specs.Player.{HasPlayed, CanPlay}
 use Rattle.uapubsub.proofs.Parts.{first_plays, reverse-take, drop-next}
@@ -18,4 +19,10 @@ loop-line-preserved g c =
           (c.in_ok-play_line.ensures.played (reverse (take i lines)) (c.loop-line.invariant.played start));
       room = c.in_ok-play_line.ensures.room (drop (i + 1) lines) (subst (λ (ls : List Line). CanPlay ls c.loop-line.self) (drop-next lines i _ c.loop-line-test.true) c.loop-line.invariant.room);
       is_open = c.in_ok-play_line.ensures.open ∙ c.loop-line.invariant.is_open;
+      memory = c.in_ok-play_line.ensures.memory_stays ∙ c.loop-line.invariant.memory;
     }
+
+pub returns-clause-played : goal.returns-clause-played
+returns-clause-played g c = λ start.
+    subst (λ (ls : List Line). HasPlayed (reverse ls) (g.L.Link.told c.loop-line.link) c.loop-line.self) (take_all c.loop-line.line-index c.args.lines.now c.loop-line-test.false)
+    (c.loop-line.invariant.played start)

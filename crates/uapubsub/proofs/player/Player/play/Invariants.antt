@@ -8,4 +8,5 @@ invariant-loop-line g l = record {
   played : HasPlayed [] (g.L.Link.told l.fn.link) l.fn.self → HasPlayed (reverse (take l.line-index l.lines)) (g.L.Link.told l.link) l.self;
   room : CanPlay (drop l.line-index l.lines) l.self;
   is_open : g.L.Link.is_open l.link ≡ g.L.Link.is_open l.fn.link;
+  memory : g.L.Link.takes_memory l.link ≡ g.L.Link.takes_memory l.fn.link;
 }

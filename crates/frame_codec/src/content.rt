@@ -1,0 +1,149 @@
+//! The fields of a DataSetMessage, read.
+ghost use Rattle.std.specs.Prelude.{◌≡◌, ◌<◌, ◌≤◌, ℕ, List, length, slice_index, IfOk};
+ghost use Rattle.ua_values.specs.declared.value.Value.{Value as AnyValue};
+ghost use Rattle.ua_values.specs.Values.{Fits};
+ghost use Rattle.ua_binary.specs.Reading.{Gives, KeepsBytes, rest_of};
+ghost use Rattle.row_words.specs.Patches.{IsPatchOf, patch_in};
+ghost use Rattle.frame_codec.specs.Contents.{value_at, field_at, row_at, whole_at, change_at, changes_at, patch_at, content_at};
+ghost use Rattle.frame_codec.specs.Reading.{GivesRow, GivesChange, GivesPatch, GivesKind};
+
+use crate::fault::FrameFault;
+use crate::flags::{DELTA, KEY, VARIANT};
+use crate::frame::FrameKind;
+use crate::front::Front;
+use dataset_meta::{Field, Meta};
+use row_words::{Patch, Row};
+use ua_binary::{Cursor, read_data_value, read_variant};
+use ua_values::{Value, fits};
+
+#[inline(always)]
+fn read_value(cursor: &mut Cursor<'_>, encoding: u8) -> Result<Option<Value>, FrameFault>
+    requires { cursor.old.at ≤ length cursor.old.bytes.now }
+    ensures answer { Gives result (rest_of cursor.new) (value_at encoding (rest_of cursor.old)) }
+    ensures kept { KeepsBytes cursor.old cursor.new }
+{
+    if encoding == VARIANT {
+        return Ok(Some(read_variant(cursor)?));
+    }
+    Ok(read_data_value(cursor)?.value)
+}
+
+/// A value that fits its field.
+#[inline(always)]
+#[tactic(auto, unfolding(crate::specs::Contents::field_at))]
+fn read_field(cursor: &mut Cursor<'_>, field: &Field, encoding: u8) -> Result<Value, FrameFault>
+    requires { cursor.old.at ≤ length cursor.old.bytes.now }
+    ensures answer { Gives result (rest_of cursor.new) (field_at encoding field.now (rest_of cursor.old)) }
+    ensures fits { IfOk result (λ value. Fits value field.now.kind field.now.cap) }
+    ensures kept { KeepsBytes cursor.old cursor.new }
+{
+    let Some(value) = read_value(cursor, encoding)? else {
+        return Err(FrameFault::BadValue);
+    };
+    if !fits(&value, field.kind, field.cap) {
+        return Err(FrameFault::BadValue);
+    }
+    Ok(value)
+}
+
+/// A value for each field.
+fn read_row(cursor: &mut Cursor<'_>, meta: &Meta, encoding: u8) -> Result<Row, FrameFault>
+    requires { cursor.old.at ≤ length cursor.old.bytes.now }
+    ensures answer { GivesRow meta.now.fields result (rest_of cursor.new) (row_at encoding meta.now.fields (rest_of cursor.old)) }
+    ensures kept { KeepsBytes cursor.old cursor.new }
+{
+    let mut row = Row::opening();
+    for (index, field) in meta.fields().iter().enumerate() {
+        let value = read_field(cursor, field, encoding)?;
+        row.set(meta, index as u8, &value);
+    }
+    Ok(row)
+}
+
+/// The fields of a key frame: their count, and each.
+#[tactic(auto, unfolding(crate::specs::Contents::whole_at))]
+fn read_whole(cursor: &mut Cursor<'_>, meta: &Meta, encoding: u8) -> Result<Row, FrameFault>
+    requires { cursor.old.at ≤ length cursor.old.bytes.now }
+    ensures answer { GivesRow meta.now.fields result (rest_of cursor.new) (whole_at encoding meta.now.fields (rest_of cursor.old)) }
+    ensures kept { KeepsBytes cursor.old cursor.new }
+{
+    let count = cursor.read_u16()?;
+    if usize::from(count) != meta.fields().len() {
+        return Err(FrameFault::WrongCount { got: count });
+    }
+    read_row(cursor, meta, encoding)
+}
+
+/// A field's index and its value, which is put into the patch.
+#[tactic(auto, unfolding(crate::specs::Contents::change_at))]
+fn read_change(
+    cursor: &mut Cursor<'_>,
+    meta: &Meta,
+    encoding: u8,
+    patch: &mut Patch,
+) -> Result<(), FrameFault>
+    requires cursor { cursor.old.at ≤ length cursor.old.bytes.now }
+    requires patch { IsPatchOf meta.now.fields patch.old }
+    ensures answer { GivesChange meta.now.fields result patch.new (rest_of cursor.new) (change_at encoding meta.now.fields (patch_in meta.now.fields patch.old) (rest_of cursor.old)) }
+    ensures kept { KeepsBytes cursor.old cursor.new }
+{
+    let index = cursor.read_u16()?;
+    let Some(field) = meta.fields().get(usize::from(index)) else {
+        return Err(FrameFault::BadIndex { got: index });
+    };
+    let value = read_field(cursor, field, encoding)?;
+    patch.put(meta, index as u8, &value);
+    Ok(())
+}
+
+/// So many changes, one after another. Of two of one field the later counts.
+#[tactic(auto, using(crate::proofs::Changes::changes_refused))]
+fn read_changes(
+    cursor: &mut Cursor<'_>,
+    meta: &Meta,
+    encoding: u8,
+    count: u16,
+    patch: &mut Patch,
+) -> Result<(), FrameFault>
+    requires cursor { cursor.old.at ≤ length cursor.old.bytes.now }
+    requires patch { IsPatchOf meta.now.fields patch.old }
+    ensures answer { GivesChange meta.now.fields result patch.new (rest_of cursor.new) (changes_at encoding meta.now.fields count (patch_in meta.now.fields patch.old) (rest_of cursor.old)) }
+    ensures kept { KeepsBytes cursor.old cursor.new }
+{
+    for _ in 0..count {
+        read_change(cursor, meta, encoding, patch)?;
+    }
+    Ok(())
+}
+
+/// The fields of a delta frame: a count, and so many changes.
+#[tactic(auto, unfolding(crate::specs::Contents::patch_at))]
+fn read_patch(cursor: &mut Cursor<'_>, meta: &Meta, encoding: u8) -> Result<Patch, FrameFault>
+    requires { cursor.old.at ≤ length cursor.old.bytes.now }
+    ensures answer { GivesPatch meta.now.fields result (rest_of cursor.new) (patch_at encoding meta.now.fields (rest_of cursor.old)) }
+    ensures kept { KeepsBytes cursor.old cursor.new }
+{
+    prove!(meta.fields().len() <= 64);
+    let count = cursor.read_u16()?;
+    let mut patch = Patch::empty();
+    read_changes(cursor, meta, encoding, count, &mut patch)?;
+    Ok(patch)
+}
+
+/// All that stands behind the front.
+#[tactic(auto, unfolding(crate::specs::Contents::content_at))]
+pub(crate) fn read_content(
+    cursor: &mut Cursor<'_>,
+    meta: &Meta,
+    front: &Front,
+) -> Result<FrameKind, FrameFault>
+    requires { cursor.old.at ≤ length cursor.old.bytes.now }
+    ensures answer { GivesKind meta.now.fields result (rest_of cursor.new) (content_at front.now.kind front.now.encoding meta.now.fields (rest_of cursor.old)) }
+    ensures kept { KeepsBytes cursor.old cursor.new }
+{
+    Ok(match front.kind {
+        KEY => FrameKind::Whole(read_whole(cursor, meta, front.encoding)?),
+        DELTA => FrameKind::Change(read_patch(cursor, meta, front.encoding)?),
+        _ => FrameKind::Alive,
+    })
+}

@@ -1,0 +1,186 @@
+//! Writing frames.
+ghost use Rattle.std.specs.Prelude.{◌≡◌, ◌+◌, ◌<◌, ◌≤◌, ℕ, List, Option, ◌++◌, length, OnOk, IsTrue, ◌↔◌};
+ghost use Rattle.std.specs.Int.{w16, w32, to_le_bytes};
+ghost use Rattle.ua_binary.specs.Spelling.{variant};
+ghost use Rattle.ua_binary.specs.Writing.{Puts, Writes};
+ghost use Rattle.dataset_meta.specs.declared.field.Field.{Field as AnyField};
+ghost use Rattle.row_words.specs.Belonging.{Belongs, row_in};
+ghost use Rattle.row_words.specs.Patches.{IsPatchOf, patch_in};
+ghost use Rattle.frame_codec.specs.Messages.{IsKindOf, IsFrameOf, content_in, message_in};
+ghost use Rattle.frame_codec.specs.Spelling.{flag, flags1, flags2, optional, front_bytes, values_bytes, changes_bytes, content_bytes, frame_bytes};
+
+use crate::flags::{DELTA, FLAGS2, KEEP_ALIVE, MAJOR, MINOR, NUMBER, RAW_DATA, VALID, VARIANT};
+use crate::frame::{Frame, FrameKind};
+use crate::length::{MAX_LEN, frame_len, front_len, is_marked};
+use dataset_meta::Meta;
+use row_words::{Patch, Row};
+use ua_binary::{Pen, Room, put_variant};
+use ua_values::Value;
+
+/// The weight of a flag that is set.
+#[inline(always)]
+fn flag(set: bool, weight: u8) -> u8
+    ensures { result ≡ flag set weight }
+{
+    if set { weight } else { 0 }
+}
+
+/// DataSetFlags1 of a frame whose fields have this encoding.
+#[inline(always)]
+fn flags1(frame: &Frame, encoding: u8) -> u8
+    requires { encoding ≤ 2 }
+    ensures { (fields : List AnyField) → result ≡ flags1 encoding (message_in fields frame.now) }
+{
+    let extended = match frame.kind {
+        FrameKind::Whole(_) => 0,
+        FrameKind::Change(_) | FrameKind::Alive => FLAGS2,
+    };
+    VALID
+        + 2 * encoding
+        + flag(frame.number.is_some(), NUMBER)
+        + flag(frame.major.is_some(), MAJOR)
+        + flag(frame.minor.is_some(), MINOR)
+        + extended
+}
+
+/// DataSetFlags2, where the frame has it.
+#[inline(always)]
+fn put_flags2(pen: &mut Pen<'_>, kind: &FrameKind)
+    requires { (fields : List AnyField) → pen.old.at + length (flags2 (content_in fields kind.now)) ≤ length pen.old.bytes.now }
+    ensures { (fields : List AnyField) → Puts pen.old pen.new (flags2 (content_in fields kind.now)) }
+{
+    match kind {
+        FrameKind::Whole(_) => {}
+        FrameKind::Change(_) => pen.put_u8(DELTA),
+        FrameKind::Alive => pen.put_u8(KEEP_ALIVE),
+    }
+}
+
+#[inline(always)]
+fn put_u16_if(pen: &mut Pen<'_>, number: Option<u16>)
+    requires { pen.old.at + length (optional w16 number) ≤ length pen.old.bytes.now }
+    ensures { Puts pen.old pen.new (optional w16 number) }
+{
+    if let Some(number) = number {
+        pen.put_u16(number);
+    }
+}
+
+#[inline(always)]
+fn put_u32_if(pen: &mut Pen<'_>, number: Option<u32>)
+    requires { pen.old.at + length (optional w32 number) ≤ length pen.old.bytes.now }
+    ensures { Puts pen.old pen.new (optional w32 number) }
+{
+    if let Some(number) = number {
+        pen.put_u32(number);
+    }
+}
+
+/// Writes a front that there is room for, with this field encoding.
+#[inline(always)]
+fn put_front(pen: &mut Pen<'_>, frame: &Frame, encoding: u8)
+    requires encoding { encoding ≤ 2 }
+    requires room { (fields : List AnyField) → pen.old.at + length (front_bytes encoding (message_in fields frame.now)) ≤ length pen.old.bytes.now }
+    ensures { (fields : List AnyField) → Puts pen.old pen.new (front_bytes encoding (message_in fields frame.now)) }
+{
+    pen.put_u8(flags1(frame, encoding));
+    put_flags2(pen, &frame.kind);
+    put_u16_if(pen, frame.number);
+    put_u32_if(pen, frame.major);
+    put_u32_if(pen, frame.minor);
+}
+
+/// Writes the values of a row one behind another, as Variants.
+fn put_row(pen: &mut Pen<'_>, meta: &Meta, row: &Row)
+    requires belongs { Belongs meta.now.fields row.now.words }
+    requires room { pen.old.at + length (values_bytes (row_in meta.now.fields row.now.words)) ≤ length pen.old.bytes.now }
+    ensures { Puts pen.old pen.new (values_bytes (row_in meta.now.fields row.now.words)) }
+{
+    for index in 0..meta.fields().len() {
+        put_variant(pen, &row.field(meta, index as u8));
+    }
+}
+
+/// Writes a field's index and its value.
+#[inline(always)]
+fn put_change(pen: &mut Pen<'_>, index: u16, value: &Value)
+    requires { pen.old.at + length (to_le_bytes w16 index ++ variant value.now) ≤ length pen.old.bytes.now }
+    ensures { Puts pen.old pen.new (to_le_bytes w16 index ++ variant value.now) }
+{
+    pen.put_u16(index);
+    put_variant(pen, value);
+}
+
+/// Writes each marked field with its index.
+fn put_patch(pen: &mut Pen<'_>, meta: &Meta, patch: &Patch)
+    requires of { IsPatchOf meta.now.fields patch.now }
+    requires room { pen.old.at + length (changes_bytes (patch_in meta.now.fields patch.now)) ≤ length pen.old.bytes.now }
+    ensures { Puts pen.old pen.new (changes_bytes (patch_in meta.now.fields patch.now)) }
+{
+    for index in 0..meta.fields().len() {
+        if is_marked(patch, index) {
+            put_change(pen, index as u16, &patch.row.field(meta, index as u8));
+        }
+    }
+}
+
+/// Writes all that stands behind the front, and that there is room for: the count of fields, and the fields.
+#[inline(always)]
+fn put_content(pen: &mut Pen<'_>, meta: &Meta, kind: &FrameKind)
+    requires of { IsKindOf meta.now.fields kind.now }
+    requires room { pen.old.at + length (content_bytes (content_in meta.now.fields kind.now)) ≤ length pen.old.bytes.now }
+    ensures { Puts pen.old pen.new (content_bytes (content_in meta.now.fields kind.now)) }
+{
+    match kind {
+        FrameKind::Whole(row) => {
+            pen.put_u16(meta.fields().len() as u16);
+            put_row(pen, meta, row);
+        }
+        FrameKind::Change(patch) => {
+            pen.put_u16(patch.mask.count_ones() as u16);
+            put_patch(pen, meta, patch);
+        }
+        FrameKind::Alive => {}
+    }
+}
+
+/// Writes the front of a frame of a fixed layout, whose field encoding is RawData: all that stands before the count of fields
+/// (OPC 10000-14, UADP DataSetMessage header). Its first byte is 0x0b, or 0x6b with both versions, where the frame is a
+/// numbered key frame.
+pub fn write_front(pen: &mut Pen<'_>, frame: &Frame) -> Result<(), Room>
+    requires { pen.old.at ≤ length pen.old.bytes.now }
+    ensures { (fields : List AnyField) → Writes result pen.old pen.new (front_bytes 1 (message_in fields frame.now)) }
+{
+    if pen.room() < front_len(frame) {
+        return Err(Room);
+    }
+    put_front(pen, frame, RAW_DATA);
+    Ok(())
+}
+
+/// Whether there is room for a frame. Its length is counted only where fewer than `MAX_LEN` bytes are left.
+#[inline(always)]
+fn has_room(pen: &Pen<'_>, meta: &Meta, frame: &Frame) -> bool
+    requires within { pen.now.at ≤ length pen.now.bytes.now }
+    requires frame { IsFrameOf meta.now.fields frame.now }
+    ensures room { IsTrue result ↔ (pen.now.at + length (frame_bytes (message_in meta.now.fields frame.now)) ≤ length pen.now.bytes.now) }
+    ensures short { length (frame_bytes (message_in meta.now.fields frame.now)) ≤ 2048 }
+{
+    prove!(!meta.fields().is_empty());
+    pen.room() >= MAX_LEN || pen.room() >= frame_len(meta, frame)
+}
+
+/// Writes a frame, its fields Variants (OPC 10000-14, UADP DataSetMessage).
+pub fn write_frame(pen: &mut Pen<'_>, meta: &Meta, frame: &Frame) -> Result<(), Room>
+    requires room { pen.old.at ≤ length pen.old.bytes.now }
+    requires frame { IsFrameOf meta.now.fields frame.now }
+    ensures written { Writes result pen.old pen.new (frame_bytes (message_in meta.now.fields frame.now)) }
+    ensures short { OnOk result (pen.new.at ≤ pen.old.at + 2048) }
+{
+    if !has_room(pen, meta, frame) {
+        return Err(Room);
+    }
+    put_front(pen, frame, VARIANT);
+    put_content(pen, meta, &frame.kind);
+    Ok(())
+}
