@@ -20,7 +20,7 @@ use Rattle.frame_codec.specs.declared.fault.FrameFault.TheVariants.{Short, BadVa
 use Rattle.frame_codec.specs.Spelling.{values_bytes, changes_bytes}
 use Rattle.frame_codec.specs.Contents.{in_frame, suits, suited, indexed, value_at, field_at, row_at, whole_at, change_at, changes_at, patch_at}
 
-suits-fits : (field : Field) (value : Value) → Fits value field.kind field.cap → suits field value ≡ true
+pub suits-fits : (field : Field) (value : Value) → Fits value field.kind field.cap → suits field value ≡ true
 suits-fits field value fits =
     let same : (type_of (kind_of value) == type_of field.kind) ≡ true = eq-eqb (type_of (kind_of value)) (type_of field.kind) (ap type_of fits.same_kind) in
     let within : nat_le (size_of value) field.cap ≡ true = le-leb (size_of value) field.cap fits.within in

@@ -12,6 +12,8 @@ use Rattle.std.proofs.lemmas.Grind.{flat_map-append}
 use Rattle.std.proofs.lemmas.List.Folds.{length-flat_map-take}
 use Rattle.ua_values.specs.declared.value.Value.{Value}
 use Rattle.ua_binary.specs.Spelling.{variant}
+use Rattle.ua_binary.specs.declared.pen.Pen.{Pen}
+use Rattle.ua_binary.specs.Writing.{Puts}
 use Rattle.dataset_meta.specs.declared.field.Field.{Field}
 use Rattle.dataset_meta.specs.Rows.{cons_if}
 use Rattle.row_words.specs.Belonging.{row_in}
@@ -128,3 +130,11 @@ ones_marked (v ∷ row) from mask below =
 pub count_ones-marked : (row : List Value) (mask : ℕ) → mask < 2 ^ length row → count_ones mask ≡ length (marked_from 0 mask row)
 count_ones-marked row mask below =
     ap ones (sym (div-one mask)) ∙ ones_marked row 0 mask (subst (λ (n : ℕ). mask < 2 ^ n) (omega arith) below)
+
+-- what is put by a pen that the bytes are lent to is put by the one that has them again
+pub Puts-lent : (old after : Pen) (name : ℕ) (left text : List ℕ) → Puts (record { bytes = record { ref_ptr = old.bytes.ref_ptr; ghost_name = name; now = old.bytes.now }; at = old.at }) after text
+    → (name ≡ after.bytes.ghost_name → left ≡ after.bytes.now)
+    → Puts old (record { bytes = record { ref_ptr = old.bytes.ref_ptr; ghost_name = old.bytes.ghost_name; now = left }; at = after.at }) text
+Puts-lent old after name left text puts back =
+    let is : left ≡ after.bytes.now = back (sym puts.same_bytes) in
+    record { fits = puts.fits; written = is ∙ puts.written; moved = puts.moved; same_bytes = refl; same_length = ap (λ (bytes : List ℕ). length bytes) is ∙ puts.same_length }

@@ -6,3 +6,4 @@ pub mod FrontLaws
 pub mod ContentLaws
 pub mod MessageLaws
 pub mod ReadLaws
+mod ScalarLaws

@@ -1,6 +1,7 @@
 -- How the fields of a DataSetMessage are read, from left to right (OPC 10000-14, Data Key Frame and Data Delta Frame).
-use Rattle.std.specs.Prelude.{ℕ, zero, suc, ◌==◌, ◌&&◌, Bool, nat_le, List, [], ◌∷◌, length, slice_get, Option, Some, None, Result, Ok, Err, if◌then◌else◌}
+use Rattle.std.specs.Prelude.{ℕ, zero, suc, ◌==◌, ◌&&◌, Bool, false, nat_le, List, [], ◌∷◌, length, slice_get, Option, Some, None, Result, Ok, Err, if◌then◌else◌}
 use Rattle.std.specs.Int.{w16}
+use Rattle.ua_values.specs.declared.kind.Kind.{Kind}
 use Rattle.ua_values.specs.declared.value.Value.{Value}
 use Rattle.ua_values.specs.Values.{kind_of, size_of}
 use Rattle.ua_binary.specs.declared.fault.ValueFault.{ValueFault}
@@ -10,6 +11,7 @@ use Rattle.ua_binary.specs.ReadingValues.{variant_at, data_value_at}
 use Rattle.ua_binary.specs.Types.{type_of}
 use Rattle.dataset_meta.specs.declared.field.Field.{Field}
 use Rattle.dataset_meta.specs.Rows.{put_in}
+use Rattle.row_words.specs.Words.{is_scalar}
 use Rattle.frame_codec.specs.declared.fault.FrameFault.{FrameFault}
 use Rattle.frame_codec.specs.declared.fault.FrameFault.TheVariants.{Short, KindOut, BadValue, BadIndex, WrongCount}
 use Rattle.frame_codec.specs.Messages.{Content, Whole, Change, Alive}
@@ -90,3 +92,11 @@ unfoldable pub content_at : ℕ → ℕ → List Field → List ℕ → Result (
 content_at zero encoding fields bytes = whole_at encoding fields bytes >>= λ row. Ok (Whole row.0, row.1)
 content_at (suc zero) encoding fields bytes = patch_at encoding fields bytes >>= λ patch. Ok (Change patch.0, patch.1)
 content_at (suc (suc kind)) encoding fields bytes = Ok (Alive, bytes)
+
+abbrev pub is_number : ℕ → Option ℕ → Bool
+is_number number None = false
+is_number number (Some byte) = byte == number
+
+-- a scalar kind, and the byte that is read next is its number, so that a Variant of it follows
+abbrev pub is_own_scalar : Kind → List ℕ → Bool
+is_own_scalar kind bytes = is_scalar kind && is_number (type_of kind) (slice_get bytes 0)

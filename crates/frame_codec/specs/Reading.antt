@@ -1,12 +1,14 @@
 -- How a DataSetMessage is read: the message, or the first fault from left to right. Zeros may follow it, as padding.
-use Rattle.std.specs.Prelude.{◌≡◌, ℕ, ◌==◌, Bool, false, List, Result, Ok, Err, if◌then◌else◌}
+use Rattle.std.specs.Prelude.{◌≡◌, ℕ, ◌==◌, Bool, false, List, Result, Ok, Err, if◌then◌else◌, slice_set}
 use Rattle.std.specs.List.{list_all}
 use Rattle.ua_binary.specs.Reading.{◌>>=◌}
 use Rattle.dataset_meta.specs.declared.field.Field.{Field}
 use Rattle.row_words.specs.declared.row.Row.{Row}
 use Rattle.row_words.specs.declared.patch.Patch.{Patch}
+use Rattle.row_words.specs.Words.{IsWordOf, scalar_in}
 use Rattle.row_words.specs.Belonging.{Belongs, row_in}
 use Rattle.row_words.specs.Patches.{IsPatchOf, patch_in}
+use Rattle.ua_values.specs.declared.kind.Kind.{Kind}
 use Rattle.ua_values.specs.declared.value.Value.{Value}
 use Rattle.frame_codec.specs.declared.fault.FrameFault.{FrameFault}
 use Rattle.frame_codec.specs.declared.fault.FrameFault.TheVariants.{Trailing}
@@ -30,10 +32,32 @@ message_at fields bytes = do
   content ← content_at front.0.kind front.0.encoding fields front.1
   if are_zero content.1 then Ok (message_with front.0 content.0) else Err Trailing
 
--- A call's answer, and the bytes that are still to be read after it, are what reading gives.
-abbrev pub GivesRow : List Field → Result Row FrameFault → List ℕ → Result (List Value × List ℕ) FrameFault → Type 0
-GivesRow fields (Ok row) rest read = Belongs fields row.words × (read ≡ Ok (row_in fields row.words, rest))
-GivesRow fields (Err fault) rest read = read ≡ Err fault
+-- the message of this front, whose fields the bytes spell
+unfoldable pub message_behind : List Field → Front → List ℕ → Result Message FrameFault
+message_behind fields front bytes = do
+  content ← content_at front.kind front.encoding fields bytes
+  if are_zero content.1 then Ok (message_with front content.0) else Err Trailing
+
+-- A call's answer, and the bytes that are still to be read after it, are what reading gives: here a scalar, of which the call answers the word.
+abbrev pub GivesWord : {F : Type 0} → Kind → Result ℕ F → List ℕ → Result (Value × List ℕ) F → Type 0
+GivesWord kind (Ok word) rest read = IsWordOf kind word × (read ≡ Ok (scalar_in kind word, rest))
+GivesWord kind (Err fault) rest read = read ≡ Err fault
+
+-- a value that is read, and set at this index of a row
+pub record SetsRead (fields : List Field) (index : ℕ) (old new : Row) (rest : List ℕ) (read : Result (Value × List ℕ) FrameFault) : Type 0 where
+  pub belongs : Belongs fields new.words
+  pub value : Value
+  pub set : row_in fields new.words ≡ slice_set (row_in fields old.words) index value
+  pub is_read : read ≡ Ok (value, rest)
+
+abbrev pub GivesField : List Field → ℕ → Row → Result (Unit {0}) FrameFault → Row → List ℕ → Result (Value × List ℕ) FrameFault → Type 0
+GivesField fields index old (Ok done) new rest read = SetsRead fields index old new rest read
+GivesField fields index old (Err fault) new rest read = read ≡ Err fault
+
+-- the same of a row that each value is set in
+abbrev pub GivesRow : List Field → Result (Unit {0}) FrameFault → Row → List ℕ → Result (List Value × List ℕ) FrameFault → Type 0
+GivesRow fields (Ok done) row rest read = Belongs fields row.words × (read ≡ Ok (row_in fields row.words, rest))
+GivesRow fields (Err fault) row rest read = read ≡ Err fault
 
 -- the same of a patch that one change is put into
 abbrev pub GivesChange : List Field → Result (Unit {0}) FrameFault → Patch → List ℕ → Result (List (ℕ × Value) × List ℕ) FrameFault → Type 0

@@ -1,7 +1,9 @@
 -- The one spelling of a DataSetMessage that is written (OPC 10000-14, UADP DataSetMessage header): no timestamp, picoseconds or status, and DataSetFlags2 only where it isn't a key frame. Numbers are little-endian.
 use Rattle.std.specs.Prelude.{ℕ, ◌+◌, ◌*◌, List, [], ◌∷◌, ◌++◌, length, Bool, true, false, Option, Some, None, is_some, if◌then◌else◌}
 use Rattle.std.specs.List.{flat_map}
-use Rattle.std.specs.Int.{Width, w16, w32, to_le_bytes}
+use Rattle.std.specs.Int.{Width, w16, w32, w64, to_le_bytes}
+use Rattle.ua_values.specs.declared.kind.Kind.{Kind}
+use Rattle.ua_values.specs.declared.kind.Kind.TheVariants as kinds
 use Rattle.ua_values.specs.declared.value.Value.{Value}
 use Rattle.ua_binary.specs.Spelling.{variant}
 use Rattle.frame_codec.specs.Messages.{Content, Whole, Change, Alive, Message}
@@ -53,3 +55,22 @@ content_bytes Alive = []
 -- the whole message, its fields Variants
 unfoldable pub frame_bytes : Message → List ℕ
 frame_bytes message = front_bytes 0 message ++ content_bytes message.content
+
+-- the bytes of a scalar's word, without its type
+abbrev pub scalar_bytes : Kind → ℕ → List ℕ
+scalar_bytes kinds.Boolean word = word ∷ []
+scalar_bytes kinds.SByte word = word ∷ []
+scalar_bytes kinds.Byte word = word ∷ []
+scalar_bytes kinds.Int16 word = to_le_bytes w16 word
+scalar_bytes kinds.UInt16 word = to_le_bytes w16 word
+scalar_bytes kinds.Int32 word = to_le_bytes w32 word
+scalar_bytes kinds.UInt32 word = to_le_bytes w32 word
+scalar_bytes kinds.Int64 word = to_le_bytes w64 word
+scalar_bytes kinds.UInt64 word = to_le_bytes w64 word
+scalar_bytes kinds.Float word = to_le_bytes w32 word
+scalar_bytes kinds.Double word = to_le_bytes w64 word
+scalar_bytes kinds.DateTime word = to_le_bytes w64 word
+scalar_bytes kinds.StatusCode word = to_le_bytes w32 word
+scalar_bytes kinds.String word = []
+scalar_bytes kinds.ByteString word = []
+scalar_bytes kinds.Guid word = []

@@ -1,16 +1,19 @@
 //! The fields of a DataSetMessage, read.
-ghost use Rattle.std.specs.Prelude.{◌≡◌, ◌<◌, ◌≤◌, ℕ, List, length, slice_index, IfOk};
+ghost use Rattle.std.specs.Prelude.{◌≡◌, ◌<◌, ◌≤◌, ℕ, List, length, slice_index, slice_set, IfOk};
+ghost use Rattle.std.specs.List.{HoldsAt};
 ghost use Rattle.ua_values.specs.declared.value.Value.{Value as AnyValue};
 ghost use Rattle.ua_values.specs.Values.{Fits};
 ghost use Rattle.ua_binary.specs.Reading.{Gives, KeepsBytes, rest_of};
+ghost use Rattle.row_words.specs.Belonging.{Belongs, row_in};
 ghost use Rattle.row_words.specs.Patches.{IsPatchOf, patch_in};
 ghost use Rattle.frame_codec.specs.Contents.{value_at, field_at, row_at, whole_at, change_at, changes_at, patch_at, content_at};
-ghost use Rattle.frame_codec.specs.Reading.{GivesRow, GivesChange, GivesPatch, GivesKind};
+ghost use Rattle.frame_codec.specs.Reading.{SetsRead, GivesField, GivesRow, GivesChange, GivesPatch, GivesKind};
 
 use crate::fault::FrameFault;
 use crate::flags::{DELTA, KEY, VARIANT};
 use crate::frame::FrameKind;
 use crate::front::Front;
+use crate::scalar::{is_own_scalar, read_own_scalar};
 use dataset_meta::{Field, Meta};
 use row_words::{Patch, Row};
 use ua_binary::{Cursor, read_data_value, read_variant};
@@ -46,32 +49,130 @@ fn read_field(cursor: &mut Cursor<'_>, field: &Field, encoding: u8) -> Result<Va
     Ok(value)
 }
 
-/// A value for each field.
-fn read_row(cursor: &mut Cursor<'_>, meta: &Meta, encoding: u8) -> Result<Row, FrameFault>
-    requires { cursor.old.at ≤ length cursor.old.bytes.now }
-    ensures answer { GivesRow meta.now.fields result (rest_of cursor.new) (row_at encoding meta.now.fields (rest_of cursor.old)) }
+/// Reads a value that fits its field, and sets it in the row. It is a function of its own for the room that a value takes.
+#[inline(never)]
+fn read_any_into(
+    cursor: &mut Cursor<'_>,
+    meta: &Meta,
+    index: u8,
+    encoding: u8,
+    row: &mut Row,
+) -> Result<(), FrameFault>
+    requires cursor { cursor.old.at ≤ length cursor.old.bytes.now }
+    requires row { Belongs meta.now.fields row.old.words }
+    requires index { index < length meta.now.fields }
+    ensures answer { HoldsAt (λ field. GivesField meta.now.fields index row.old result row.new (rest_of cursor.new) (field_at encoding field (rest_of cursor.old))) meta.now.fields index }
     ensures kept { KeepsBytes cursor.old cursor.new }
 {
-    let mut row = Row::opening();
-    for (index, field) in meta.fields().iter().enumerate() {
-        let value = read_field(cursor, field, encoding)?;
-        row.set(meta, index as u8, &value);
+    let field = &meta.fields()[usize::from(index)];
+    let value = read_field(cursor, field, encoding)?;
+    row.set(meta, index, &value);
+    Ok(())
+}
+
+/// The same by a copy of the cursor, so that the cursor itself need not stand in memory.
+#[inline(always)]
+fn read_lent_into(
+    cursor: &mut Cursor<'_>,
+    meta: &Meta,
+    index: u8,
+    encoding: u8,
+    row: &mut Row,
+) -> Result<(), FrameFault>
+    requires cursor { cursor.old.at ≤ length cursor.old.bytes.now }
+    requires row { Belongs meta.now.fields row.old.words }
+    requires index { index < length meta.now.fields }
+    ensures answer { HoldsAt (λ field. GivesField meta.now.fields index row.old result row.new (rest_of cursor.new) (field_at encoding field (rest_of cursor.old))) meta.now.fields index }
+    ensures kept { KeepsBytes cursor.old cursor.new }
+{
+    let mut lent = *cursor;
+    read_any_into(&mut lent, meta, index, encoding, row)?;
+    *cursor = lent;
+    Ok(())
+}
+
+/// Reads a value that fits its field, and sets it in the row. Of a scalar of the field's own kind no more than its word is
+/// copied.
+#[inline(always)]
+fn read_into(
+    cursor: &mut Cursor<'_>,
+    meta: &Meta,
+    index: u8,
+    encoding: u8,
+    row: &mut Row,
+) -> Result<(), FrameFault>
+    requires cursor { cursor.old.at ≤ length cursor.old.bytes.now }
+    requires row { Belongs meta.now.fields row.old.words }
+    requires index { index < length meta.now.fields }
+    ensures answer { HoldsAt (λ field. GivesField meta.now.fields index row.old result row.new (rest_of cursor.new) (field_at encoding field (rest_of cursor.old))) meta.now.fields index }
+    ensures kept { KeepsBytes cursor.old cursor.new }
+{
+    let field = &meta.fields()[usize::from(index)];
+    if encoding == VARIANT && is_own_scalar(cursor, field.kind) {
+        let word = read_own_scalar(cursor, field)?;
+        row.set_word(meta, index, word);
+        return Ok(());
     }
-    Ok(row)
+    read_lent_into(cursor, meta, index, encoding, row)
+}
+
+/// Reads a value for each field into the row, whatever it was.
+#[inline(always)]
+fn read_values(
+    cursor: &mut Cursor<'_>,
+    meta: &Meta,
+    encoding: u8,
+    row: &mut Row,
+) -> Result<(), FrameFault>
+    requires cursor { cursor.old.at ≤ length cursor.old.bytes.now }
+    requires row { Belongs meta.now.fields row.old.words }
+    ensures answer { GivesRow meta.now.fields result row.new (rest_of cursor.new) (row_at encoding meta.now.fields (rest_of cursor.old)) }
+    ensures kept { KeepsBytes cursor.old cursor.new }
+{
+    for index in 0..meta.fields().len() {
+        read_into(cursor, meta, index as u8, encoding, row)?;
+    }
+    Ok(())
+}
+
+/// Reads a value for each field. The cursor's place is kept apart until the last is read, so that it need not be stored for
+/// each.
+fn read_row(
+    cursor: &mut Cursor<'_>,
+    meta: &Meta,
+    encoding: u8,
+    row: &mut Row,
+) -> Result<(), FrameFault>
+    requires cursor { cursor.old.at ≤ length cursor.old.bytes.now }
+    requires row { Belongs meta.now.fields row.old.words }
+    ensures answer { GivesRow meta.now.fields result row.new (rest_of cursor.new) (row_at encoding meta.now.fields (rest_of cursor.old)) }
+    ensures kept { KeepsBytes cursor.old cursor.new }
+{
+    let mut lent = *cursor;
+    read_values(&mut lent, meta, encoding, row)?;
+    *cursor = lent;
+    Ok(())
 }
 
 /// The fields of a key frame: their count, and each.
+#[inline(always)]
 #[tactic(auto, unfolding(crate::specs::Contents::whole_at))]
-fn read_whole(cursor: &mut Cursor<'_>, meta: &Meta, encoding: u8) -> Result<Row, FrameFault>
-    requires { cursor.old.at ≤ length cursor.old.bytes.now }
-    ensures answer { GivesRow meta.now.fields result (rest_of cursor.new) (whole_at encoding meta.now.fields (rest_of cursor.old)) }
+pub(crate) fn read_whole(
+    cursor: &mut Cursor<'_>,
+    meta: &Meta,
+    encoding: u8,
+    row: &mut Row,
+) -> Result<(), FrameFault>
+    requires cursor { cursor.old.at ≤ length cursor.old.bytes.now }
+    requires row { Belongs meta.now.fields row.old.words }
+    ensures answer { GivesRow meta.now.fields result row.new (rest_of cursor.new) (whole_at encoding meta.now.fields (rest_of cursor.old)) }
     ensures kept { KeepsBytes cursor.old cursor.new }
 {
     let count = cursor.read_u16()?;
     if usize::from(count) != meta.fields().len() {
         return Err(FrameFault::WrongCount { got: count });
     }
-    read_row(cursor, meta, encoding)
+    read_row(cursor, meta, encoding, row)
 }
 
 /// A field's index and its value, which is put into the patch.
@@ -131,6 +232,7 @@ fn read_patch(cursor: &mut Cursor<'_>, meta: &Meta, encoding: u8) -> Result<Patc
 }
 
 /// All that stands behind the front.
+#[inline(always)]
 #[tactic(auto, unfolding(crate::specs::Contents::content_at))]
 pub(crate) fn read_content(
     cursor: &mut Cursor<'_>,
@@ -141,9 +243,14 @@ pub(crate) fn read_content(
     ensures answer { GivesKind meta.now.fields result (rest_of cursor.new) (content_at front.now.kind front.now.encoding meta.now.fields (rest_of cursor.old)) }
     ensures kept { KeepsBytes cursor.old cursor.new }
 {
-    Ok(match front.kind {
-        KEY => FrameKind::Whole(read_whole(cursor, meta, front.encoding)?),
-        DELTA => FrameKind::Change(read_patch(cursor, meta, front.encoding)?),
-        _ => FrameKind::Alive,
-    })
+    match front.kind {
+        KEY => {
+            prove!(meta.fields().len() <= 64);
+            let mut row = Row::opening();
+            read_whole(cursor, meta, front.encoding, &mut row)?;
+            Ok(FrameKind::Whole(row))
+        }
+        DELTA => Ok(FrameKind::Change(read_patch(cursor, meta, front.encoding)?)),
+        _ => Ok(FrameKind::Alive),
+    }
 }

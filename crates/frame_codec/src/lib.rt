@@ -9,6 +9,7 @@ mod front;
 mod laws;
 mod length;
 mod reading;
+mod scalar;
 #[cfg(test)]
 mod tests;
 mod writing;

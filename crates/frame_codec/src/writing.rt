@@ -1,21 +1,23 @@
 //! Writing frames.
-ghost use Rattle.std.specs.Prelude.{◌≡◌, ◌+◌, ◌<◌, ◌≤◌, ℕ, List, Option, ◌++◌, length, OnOk, IsTrue, ◌↔◌};
+ghost use Rattle.std.specs.Prelude.{◌≡◌, ◌+◌, ◌<◌, ◌≤◌, ℕ, List, Option, Some, ◌++◌, length, slice_get, OnOk, IsTrue, ◌↔◌};
 ghost use Rattle.std.specs.Int.{w16, w32, to_le_bytes};
+ghost use Rattle.ua_values.specs.declared.value.Value.{Value as AnyValue};
 ghost use Rattle.ua_binary.specs.Spelling.{variant};
 ghost use Rattle.ua_binary.specs.Writing.{Puts, Writes};
 ghost use Rattle.dataset_meta.specs.declared.field.Field.{Field as AnyField};
+ghost use Rattle.row_words.specs.Words.{IsWordOf, scalar_in};
 ghost use Rattle.row_words.specs.Belonging.{Belongs, row_in};
 ghost use Rattle.row_words.specs.Patches.{IsPatchOf, patch_in};
 ghost use Rattle.frame_codec.specs.Messages.{IsKindOf, IsFrameOf, content_in, message_in};
-ghost use Rattle.frame_codec.specs.Spelling.{flag, flags1, flags2, optional, front_bytes, values_bytes, changes_bytes, content_bytes, frame_bytes};
+ghost use Rattle.frame_codec.specs.Spelling.{flag, flags1, flags2, optional, front_bytes, values_bytes, changes_bytes, content_bytes, frame_bytes, scalar_bytes};
 
 use crate::flags::{DELTA, FLAGS2, KEEP_ALIVE, MAJOR, MINOR, NUMBER, RAW_DATA, VALID, VARIANT};
 use crate::frame::{Frame, FrameKind};
 use crate::length::{MAX_LEN, frame_len, front_len, is_marked};
 use dataset_meta::Meta;
-use row_words::{Patch, Row};
-use ua_binary::{Pen, Room, put_variant};
-use ua_values::Value;
+use row_words::{Patch, Row, is_scalar};
+use ua_binary::{Pen, Room, number_of, put_variant};
+use ua_values::Kind;
 
 /// The weight of a flag that is set.
 #[inline(always)]
@@ -90,25 +92,101 @@ fn put_front(pen: &mut Pen<'_>, frame: &Frame, encoding: u8)
     put_u32_if(pen, frame.minor);
 }
 
+/// Writes the bytes of a scalar's word, without its type.
+#[inline(always)]
+fn put_word(pen: &mut Pen<'_>, kind: Kind, word: u64)
+    requires word { IsWordOf kind word }
+    requires room { pen.old.at + length (scalar_bytes kind word) ≤ length pen.old.bytes.now }
+    ensures { Puts pen.old pen.new (scalar_bytes kind word) }
+{
+    match kind {
+        Kind::Boolean | Kind::SByte | Kind::Byte => pen.put_u8(word as u8),
+        Kind::Int16 | Kind::UInt16 => pen.put_u16(word as u16),
+        Kind::Int32 | Kind::UInt32 | Kind::Float | Kind::StatusCode => pen.put_u32(word as u32),
+        Kind::Int64 | Kind::UInt64 | Kind::Double | Kind::DateTime => pen.put_u64(word),
+        Kind::String | Kind::ByteString | Kind::Guid => unreachable!(),
+    }
+}
+
+/// Writes the scalar with this word as a Variant.
+#[inline(always)]
+fn put_scalar(pen: &mut Pen<'_>, kind: Kind, word: u64)
+    requires word { IsWordOf kind word }
+    requires room { pen.old.at + length (variant (scalar_in kind word)) ≤ length pen.old.bytes.now }
+    ensures { Puts pen.old pen.new (variant (scalar_in kind word)) }
+{
+    pen.put_u8(number_of(kind));
+    put_word(pen, kind, word);
+}
+
+/// Writes the value of the field at this index as a Variant. It is a function of its own for the room that a value takes.
+#[inline(never)]
+fn put_any(pen: &mut Pen<'_>, meta: &Meta, row: &Row, index: u8)
+    requires belongs { Belongs meta.now.fields row.now.words }
+    requires index { index < length meta.now.fields }
+    requires room { (value : AnyValue) → slice_get (row_in meta.now.fields row.now.words) index ≡ Some value → pen.old.at + length (variant value) ≤ length pen.old.bytes.now }
+    ensures { (value : AnyValue) → slice_get (row_in meta.now.fields row.now.words) index ≡ Some value → Puts pen.old pen.new (variant value) }
+{
+    put_variant(pen, &row.field(meta, index));
+}
+
+/// Writes the value of the field at this index as a Variant. Of a scalar no more than its word is copied.
+#[inline(always)]
+fn put_field(pen: &mut Pen<'_>, meta: &Meta, row: &Row, index: u8)
+    requires belongs { Belongs meta.now.fields row.now.words }
+    requires index { index < length meta.now.fields }
+    requires room { (value : AnyValue) → slice_get (row_in meta.now.fields row.now.words) index ≡ Some value → pen.old.at + length (variant value) ≤ length pen.old.bytes.now }
+    ensures { (value : AnyValue) → slice_get (row_in meta.now.fields row.now.words) index ≡ Some value → Puts pen.old pen.new (variant value) }
+{
+    let field = &meta.fields()[usize::from(index)];
+    if is_scalar(field.kind) {
+        put_scalar(pen, field.kind, row.word(meta, index));
+    } else {
+        let mut lent = Pen {
+            bytes: &mut *pen.bytes,
+            at: pen.at,
+        };
+        put_any(&mut lent, meta, row, index);
+        pen.at = lent.at;
+    }
+}
+
 /// Writes the values of a row one behind another, as Variants.
-fn put_row(pen: &mut Pen<'_>, meta: &Meta, row: &Row)
+#[inline(always)]
+fn put_values(pen: &mut Pen<'_>, meta: &Meta, row: &Row)
     requires belongs { Belongs meta.now.fields row.now.words }
     requires room { pen.old.at + length (values_bytes (row_in meta.now.fields row.now.words)) ≤ length pen.old.bytes.now }
     ensures { Puts pen.old pen.new (values_bytes (row_in meta.now.fields row.now.words)) }
 {
     for index in 0..meta.fields().len() {
-        put_variant(pen, &row.field(meta, index as u8));
+        put_field(pen, meta, row, index as u8);
     }
+}
+
+/// Writes the values of a row. The pen's place is kept apart until the last is written, so that it need not be stored for each.
+fn put_row(pen: &mut Pen<'_>, meta: &Meta, row: &Row)
+    requires belongs { Belongs meta.now.fields row.now.words }
+    requires room { pen.old.at + length (values_bytes (row_in meta.now.fields row.now.words)) ≤ length pen.old.bytes.now }
+    ensures { Puts pen.old pen.new (values_bytes (row_in meta.now.fields row.now.words)) }
+{
+    let mut lent = Pen {
+        bytes: &mut *pen.bytes,
+        at: pen.at,
+    };
+    put_values(&mut lent, meta, row);
+    pen.at = lent.at;
 }
 
 /// Writes a field's index and its value.
 #[inline(always)]
-fn put_change(pen: &mut Pen<'_>, index: u16, value: &Value)
-    requires { pen.old.at + length (to_le_bytes w16 index ++ variant value.now) ≤ length pen.old.bytes.now }
-    ensures { Puts pen.old pen.new (to_le_bytes w16 index ++ variant value.now) }
+fn put_change(pen: &mut Pen<'_>, meta: &Meta, row: &Row, index: u8)
+    requires belongs { Belongs meta.now.fields row.now.words }
+    requires index { index < length meta.now.fields }
+    requires room { (value : AnyValue) → slice_get (row_in meta.now.fields row.now.words) index ≡ Some value → pen.old.at + length (to_le_bytes w16 index ++ variant value) ≤ length pen.old.bytes.now }
+    ensures { (value : AnyValue) → slice_get (row_in meta.now.fields row.now.words) index ≡ Some value → Puts pen.old pen.new (to_le_bytes w16 index ++ variant value) }
 {
-    pen.put_u16(index);
-    put_variant(pen, value);
+    pen.put_u16(u16::from(index));
+    put_field(pen, meta, row, index);
 }
 
 /// Writes each marked field with its index.
@@ -119,7 +197,7 @@ fn put_patch(pen: &mut Pen<'_>, meta: &Meta, patch: &Patch)
 {
     for index in 0..meta.fields().len() {
         if is_marked(patch, index) {
-            put_change(pen, index as u16, &patch.row.field(meta, index as u8));
+            put_change(pen, meta, &patch.row, index as u8);
         }
     }
 }

@@ -1,6 +1,7 @@
 //! The publishing side: the turns of the writer group, and its writer's log.
 ghost use Rattle.std.specs.Prelude.{◌≡◌, ◌≤◌, ◌<◌, ◌+◌, ◌*◌, ◌-◌, ◌++◌, ◌∷◌, ◌^◌, ◌||◌, take, [], IsTrue, IfOk, ℕ, List, Bool, vec_len, vec_capacity, length, nat_le, if◌then◌else◌};
 ghost use Rattle.seq_number.specs.Numbers.{wire};
+ghost use Rattle.ua_base.specs.Journal.{Tells};
 ghost use Rattle.pubsub_engine.specs.Steps.{Step};
 ghost use Rattle.row_words.specs.Belonging.{row_in};
 ghost use Rattle.pubsub_engine.specs.BuiltIn.{demo_fields, demo_meta};
@@ -91,6 +92,7 @@ impl Publisher {
         ensures kept { result ≡ Ticked.Memory → (self.new.moment ≡ self.old.moment + ms) × Keeps self.old.last self.old.log.items self.old.sequence self.old.sent self.old.failed self.new.last self.new.log.items self.new.sequence self.new.sent self.new.failed }
         ensures open { L.is_open link.new ≡ L.is_open link.old }
         ensures memory_stays { L.takes_memory link.new ≡ L.takes_memory link.old }
+        ensures untold { result ≡ Ticked.Memory → Tells (L.told link.old) (L.told link.new) (λ before after. after.journal ≡ before.journal) }
     {
         self.left -= 1;
         self.moment += ms;
@@ -128,6 +130,7 @@ impl Publisher {
         ensures kept { result ≡ Ticked.Memory → (self.new.moment ≡ self.old.moment) × Keeps self.old.last self.old.log.items self.old.sequence self.old.sent self.old.failed self.new.last self.new.log.items self.new.sequence self.new.sent self.new.failed }
         ensures open { L.is_open link.new ≡ L.is_open link.old }
         ensures memory_stays { L.takes_memory link.new ≡ L.takes_memory link.old }
+        ensures untold { result ≡ Ticked.Memory → Tells (L.told link.old) (L.told link.new) (λ before after. after.journal ≡ before.journal) }
     {
         let place = self.log.len();
         let frame = Frame {
@@ -159,6 +162,7 @@ impl Publisher {
         ensures kept { result ≡ Ticked.Memory → (self.new.sent ≡ self.old.sent) × (self.new.failed ≡ self.old.failed) }
         ensures open { L.is_open link.new ≡ L.is_open link.old }
         ensures memory_stays { L.takes_memory link.new ≡ L.takes_memory link.old }
+        ensures untold { result ≡ Ticked.Memory → Tells (L.told link.old) (L.told link.new) (λ before after. after.journal ≡ before.journal) }
     {
         match link.send(&self.buffer[..len]) {
             Sent::Done => {

@@ -1,6 +1,6 @@
 //! A session over a link: samples, ticks and pumps.
 ghost use Rattle.std.specs.Prelude.{◌≡◌, ◌≤◌, ◌<◌, ◌+◌, ◌∷◌, ◌↔◌, [], IsTrue, IfOk, ℕ, List, Bool, Option, Some, count_by, length, vec_len};
-ghost use Rattle.ua_base.specs.Journal.{Wire, Entry};
+ghost use Rattle.ua_base.specs.Journal.{Wire, Entry, Tells};
 ghost use Rattle.row_words.specs.Belonging.{row_in};
 ghost use Rattle.pubsub_engine.specs.BuiltIn.{demo_fields, demo_meta};
 ghost use Rattle.pubsub_engine.specs.Samples.{sample_of};
@@ -81,6 +81,7 @@ impl Session {
         ensures receiving { (self.new.receiving ≡ self.old.receiving) × (self.new.limit ≡ self.old.limit) }
         ensures open { L.is_open link.new ≡ L.is_open link.old }
         ensures memory_stays { L.takes_memory link.new ≡ L.takes_memory link.old }
+        ensures untold { result ≡ Ticked.Memory → Tells (L.told link.old) (L.told link.new) (λ before after. after.journal ≡ before.journal) }
     {
         self.publisher
             .tick(ms, closing, &self.meta, &self.sampled, link)

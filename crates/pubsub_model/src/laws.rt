@@ -1,10 +1,10 @@
 //! Laws of the model's definitions, each the contract of a function that does nothing.
-ghost use Rattle.std.specs.Prelude.{◌≡◌, ◌≢◌, ◌++◌, ◌+◌, [], ◌∷◌, ℕ, List, All, Option, Some, None, length, replicate, Bool, false, option_map};
+ghost use Rattle.std.specs.Prelude.{◌≡◌, ◌≢◌, ◌++◌, ◌+◌, [], ◌∷◌, ℕ, List, All, Option, Some, None, length, replicate, Bool, false, true, option_map};
 ghost use Rattle.ua_values.specs.declared.value.Value.{Value};
 ghost use Rattle.dataset_meta.specs.declared.field.Field.{Field};
 ghost use Rattle.dataset_meta.specs.Rows.{IsRow, patched, differs};
 ghost use Rattle.pubsub_model.specs.History.{Written, IsHistory, ArePatches, IsLegal, row_of, last_row, legal_rows};
-ghost use Rattle.pubsub_model.specs.Frames.{Whole, Change, published};
+ghost use Rattle.pubsub_model.specs.Frames.{Whole, Change, is_whole, published};
 ghost use Rattle.pubsub_model.specs.Cadence.{Settings, Turn, Answered, Deed, Took, HasRowsOf, answer, quiet_answer, is_key_due, cadence, next_place, is_data, last_turn, log_of, frames_of};
 ghost use Rattle.pubsub_model.specs.Records.{Item, Held, breaks_with, held_in, at};
 
@@ -36,6 +36,7 @@ pub fn records_are_held()
     ensures whole { (moment : ℕ) (stamp : Option ℕ) (place : ℕ) (row : List Value) (rest : List Item) → held_in (at moment stamp (Whole place row) ∷ rest) ≡ Some (record { place = place; row = row }) }
     ensures change { (moment : ℕ) (stamp : Option ℕ) (place : ℕ) (patch : List (ℕ × Value)) (last : Item) (rest : List Item) → breaks_with last (at moment stamp (Change place patch)) ≡ false
         → held_in (at moment stamp (Change place patch) ∷ last ∷ rest) ≡ option_map (λ h. record { place = place; row = patched h.row patch }) (held_in (last ∷ rest)) }
+    ensures broken { (item last : Item) (rest : List Item) → is_whole item.frame ≡ false → breaks_with last item ≡ true → held_in (item ∷ last ∷ rest) ≡ None }
 {}
 
 /// A list of the first thread alone is legal where it is as long as that thread's patches.

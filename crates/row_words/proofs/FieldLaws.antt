@@ -49,7 +49,7 @@ pub record ReadsAs (fields : List Field) (words : List ℕ) (index : ℕ) (field
   pub spells : Spells field.kind part
   pub value : slice_get (row_in fields words) index ≡ Some (value_in field.kind part)
 
-read_part : (fields : List Field) (words : List ℕ) (index : ℕ) (field : Field) → IsMeta fields → Belongs fields words → index < length fields → field ≡ get_or fields index field
+pub read_part : (fields : List Field) (words : List ℕ) (index : ℕ) (field : Field) → IsMeta fields → Belongs fields words → index < length fields → field ≡ get_or fields index field
     → ReadsAs fields words index field (take (width_of field) (drop (start_of fields index) words))
 read_part fields words index field meta belongs within at =
     let row = row_in fields words in

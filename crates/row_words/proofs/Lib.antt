@@ -2,8 +2,9 @@ mod DigitLaws
 mod ValueLaws
 mod RowLaws
 mod Loops
-mod FieldLaws
+pub mod FieldLaws
 mod OpeningLaws
 mod PatchLaws
 mod ShapeLaws
 mod LayLaws
+pub mod ScalarLaws

@@ -7,6 +7,7 @@ mod meta_shape;
 mod patch;
 mod reading;
 mod row;
+mod scalar;
 #[cfg(test)]
 mod tests;
 mod writing;
@@ -17,3 +18,4 @@ pub use laws::{
 pub use meta_shape::shape;
 pub use patch::Patch;
 pub use row::Row;
+pub use scalar::is_scalar;

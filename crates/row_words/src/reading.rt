@@ -7,6 +7,7 @@ use crate::digits::unpack;
 use ua_values::{Blob, Kind, Text, Value};
 
 /// The value of this kind whose words these are.
+#[inline(always)]
 pub(crate) fn value_at(kind: Kind, words: &[u64]) -> Value
     requires { Spells kind words.now }
     ensures { result ≡ value_in kind words.now }
@@ -53,6 +54,7 @@ fn guid_at(words: &[u64]) -> [u8; 16]
     bytes
 }
 
+#[inline(always)]
 fn scalar_at(kind: Kind, word: u64) -> Value
     requires { IsWordOf kind word }
     ensures { result ≡ scalar_in kind word }

@@ -8,6 +8,7 @@ use crate::digits::pack;
 use ua_values::Value;
 
 /// Fills the words of a field of this cap with a value.
+#[inline(always)]
 pub(crate) fn write_value(words: &mut [u64], cap: u16, value: &Value)
     requires { length words.old ≡ width (kind_of value.now) cap }
     ensures words { words.new ≡ spelled_value cap value.now }
@@ -37,6 +38,7 @@ fn write_guid(words: &mut [u64], bytes: &[u8; 16])
     pack(words, bytes);
 }
 
+#[inline(always)]
 fn scalar_word(value: &Value) -> u64
     requires { is_scalar (kind_of value.now) ≡ true }
     ensures word { result ≡ scalar_word value.now }

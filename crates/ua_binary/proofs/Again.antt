@@ -84,7 +84,7 @@ plain_again (Guid bytes) rest h = ap (as_value Guid) (bytes_again Short 16 bytes
 plain_again (ByteString bytes) rest h = ap (as_value ByteString) (block_again bytes rest h.at_most_256)
 plain_again (StatusCode code) rest h = ap (as_value StatusCode) (u32_again Short code rest h)
 
-kind_again : (kind : Kind) (rest : List ℕ) → kind_at (type_of kind ∷ rest) ≡ Ok (kind, rest)
+pub kind_again : (kind : Kind) (rest : List ℕ) → kind_at (type_of kind ∷ rest) ≡ Ok (kind, rest)
 unfolding kind_at
 kind_again kinds.Boolean rest = refl
 kind_again kinds.SByte rest = refl

@@ -1,5 +1,5 @@
 //! Bytes that are read from left to right.
-ghost use Rattle.std.specs.Prelude.{◌≡◌, ◌≤◌, length, OnErr};
+ghost use Rattle.std.specs.Prelude.{◌≡◌, ◌≤◌, length, slice_get, OnErr};
 ghost use Rattle.std.specs.Int.{w16, w32, w64};
 
 /// Fewer bytes are left than are asked for.
@@ -15,6 +15,18 @@ pub struct Cursor<'a> {
 
 impl<'a> Cursor<'a> {
     ghost use Rattle.ua_binary.specs.Reading.{Gives, GivesBytes, KeepsBytes, rest_of, byte_at, number_at, bytes_at};
+
+    /// The byte that is read next, if one is left.
+    #[inline(always)]
+    pub fn peek(&self) -> Option<u8>
+        requires { self.now.at ≤ length self.now.bytes.now }
+        ensures { result ≡ slice_get (rest_of self.now) 0 }
+    {
+        if self.bytes.len() == self.at {
+            return None;
+        }
+        Some(self.bytes[self.at])
+    }
 
     #[inline(always)]
     pub fn read_u8(&mut self) -> Result<u8, Short>

@@ -18,4 +18,5 @@ pub use fault::ValueFault;
 pub use laws::{written_data_values_are_read, written_variants_are_read};
 pub use pen::{Pen, Room};
 pub use reading::read_variant;
+pub use types::number_of;
 pub use writing::{put_variant, variant_len, write_variant};

@@ -11,3 +11,4 @@ pub mod Parts
 pub mod OneReport
 pub mod OneHistory
 pub mod NeverFalling
+pub mod Standing

@@ -74,11 +74,11 @@ more_rows row rows (suc version) there =
     sym (ap (λ (l : List (List Value)). get_or l version (opening_row demo_fields)) (reverse-cons row rows)
     ∙ get_or_append_left (reverse rows) (row ∷ []) (opening_row demo_fields) version (omega (arith, length-reverse rows)))
 
-later_write : (row : List Value) (rows : List (List Value)) (sample : Sample) → IsVersion rows sample.version sample.row → IsVersion (row ∷ rows) sample.version sample.row
+pub later_write : (row : List Value) (rows : List (List Value)) (sample : Sample) → IsVersion rows sample.version sample.row → IsVersion (row ∷ rows) sample.version sample.row
 later_write row rows sample v = record { there = omega (arith, v.there); row_is = v.row_is ∙ more_rows row rows sample.version v.there }
 
 -- the sample after these lines
-version_now : (lines : List Line) (sample : Sample) → record { version = length (written lines); row = last_row demo_fields (written lines) } ≡ sample → IsVersion (written lines) sample.version sample.row
+pub version_now : (lines : List Line) (sample : Sample) → record { version = length (written lines); row = last_row demo_fields (written lines) } ≡ sample → IsVersion (written lines) sample.version sample.row
 version_now lines sample is =
     let now : IsVersion (written lines) (length (written lines)) (last_row demo_fields (written lines)) = record { there = omega arith; row_is = last_version (written lines) } in
     subst (λ (s : Sample). IsVersion (written lines) s.version s.row) is now

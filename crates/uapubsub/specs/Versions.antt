@@ -1,7 +1,9 @@
 -- The versions of the data set that a script's lines make.
-use Rattle.std.specs.Prelude.{◌≡◌, ◌≤◌, ⊤, ℕ, List, [], ◌∷◌, length, reverse, slice_index_or}
+use Rattle.std.specs.Prelude.{◌≡◌, ◌≤◌, ⊤, ℕ, List, [], ◌∷◌, length, reverse, slice_index_or, Some}
 use Rattle.ua_values.specs.declared.value.Value.{Value}
 use Rattle.dataset_meta.specs.Rows.{opening_row}
+use Rattle.pubsub_model.specs.Frames.{Whole}
+use Rattle.pubsub_model.specs.Cadence.{Answered}
 use Rattle.pubsub_engine.specs.BuiltIn.{demo_fields}
 
 -- the row of a version: the opening row, or the one that the write with this number left (the rows have the latest first)
@@ -17,3 +19,7 @@ pub record IsVersion (rows : List (List Value)) (version : ℕ) (row : List Valu
 abbrev pub NeverFalls : ℕ → List (ℕ × ℕ) → Type 0
 NeverFalls bound [] = ⊤
 NeverFalls bound (entry ∷ before) = (entry.1 ≤ bound) × NeverFalls entry.1 before
+
+-- The turn was answered by a key frame with the row of its version, which is one of these.
+abbrev pub StandsFor : List (List Value) → Answered → Type 0
+StandsFor rows a = (place : ℕ) × (a.answer ≡ Some (Whole place a.turn.row)) × IsVersion rows a.turn.version a.turn.row

@@ -1,5 +1,5 @@
 //! Laws of scripts and of the history that they make, each the contract of a function that does nothing.
-ghost use Rattle.std.specs.Prelude.{◌≡◌, ℕ, List, Some, IfSome, length, reverse};
+ghost use Rattle.std.specs.Prelude.{◌≡◌, ℕ, List, Some, IfSome, length, reverse, All};
 ghost use Rattle.ua_base.specs.declared.memory_link.MemoryLink.{MemoryLink as LinkValue};
 ghost use Rattle.ua_base.specs.Journal.{Wire, IsHonest};
 ghost use Rattle.ua_base.specs.MemoryLinks.{told_by};
@@ -13,7 +13,9 @@ ghost use Rattle.uapubsub.specs.Script.{IsScript};
 ghost use Rattle.uapubsub.specs.Playing.{written, threads_of, patches_of, AreThreads};
 ghost use Rattle.pubsub_engine.specs.Steps.{Step};
 ghost use Rattle.uapubsub.specs.Play.{IsSession, IsReport};
-ghost use Rattle.uapubsub.specs.Versions.{IsVersion, NeverFalls};
+ghost use Rattle.uapubsub.specs.Versions.{IsVersion, NeverFalls, StandsFor};
+ghost use Rattle.pubsub_model.specs.Cadence.{cadence};
+ghost use Rattle.pubsub_engine.specs.Publishing.{built_in, writer_past, deeds};
 
 /// A text is the script of one list of lines at most.
 pub fn a_script_has_one_reading()
@@ -46,8 +48,12 @@ pub fn a_held_row_over_memory_is_a_version()
         → IfSome (held_frame report.steps) (λ frame. (version : ℕ) × (version_of (log_at report.steps) frame.number ≡ Some version) × IsVersion (written (reverse lines)) version frame.row) }
 {}
 
-/// A data message never stands for an older version than the one before it, and each stands for a version of the
-/// script's history.
+/// No data message is logged with an older version than the one before it, and none with a version above the script's last.
 pub fn a_logged_version_never_falls()
     ensures { (lines : List LineValue) (steps : List Step) → IsSession lines steps → NeverFalls (length (written (reverse lines))) (reverse (log_at steps)) }
+{}
+
+/// Each data message stands for one whole version: it is a key frame with the row of the version that is logged for its place.
+pub fn a_data_message_is_a_version()
+    ensures { (lines : List LineValue) (steps : List Step) → IsSession lines steps → All (StandsFor (written (reverse lines))) (cadence built_in (writer_past (deeds steps))) }
 {}

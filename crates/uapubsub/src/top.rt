@@ -46,6 +46,10 @@ pub fn top<R: Threads + Wait + Sync, F: Folder, A: Link, B: Link, G: Gate, K: Si
         → length bytes ≤ 1048576 → IsScript bytes lines
         → IsQuiet (F.faults folder.old) (F.faults folder.new) → IsQuiet (K.faults out.old) (K.faults out.new) → IsQuiet (A.faults lab.old) (A.faults lab.new)
         → (result ≡ 0) ⊎ (result ≡ 7) }
+    ensures complete_but_for_opening { (script bytes : List ℕ) (lines : List Line) → script_of words.now ≡ Some script → F.tells folder.old script ≡ Some (Some bytes)
+        → length bytes ≤ 1048576 → IsScript bytes lines
+        → IsQuiet (F.faults folder.old) (F.faults folder.new) → IsQuiet (K.faults out.old) (K.faults out.new)
+        → (result ≡ 0) ⊎ (result ≡ 7) ⊎ (result ≡ 8) }
 
     // What an answer other than 0 leaves.
     ensures untouched { result ≡ 2 → folder.new ≡ folder.old }

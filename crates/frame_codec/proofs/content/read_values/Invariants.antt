@@ -3,7 +3,7 @@ use Rattle.ua_binary.specs.Reading.{KeepsBytes, rest_of}
 use Rattle.row_words.specs.Belonging.{Belongs, row_in}
 use Rattle.frame_codec.specs.Contents.{row_at}
 use Rattle.frame_codec.proofs.Rows.{behind}
-use Rattle.frame_codec.proofs.content.read_row.Given as goal
+use Rattle.frame_codec.proofs.content.read_values.Given as goal
 
 -- what was read so far stands in front of what is still to be read
 abbrev pub invariant-loop-index : goal.invariant-loop-index

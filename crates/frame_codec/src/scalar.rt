@@ -1,0 +1,64 @@
+//! Scalars, read as words.
+ghost use Rattle.std.specs.Prelude.{◌≡◌, ◌≤◌, true, length};
+ghost use Rattle.ua_binary.specs.Reading.{KeepsBytes, rest_of};
+ghost use Rattle.ua_binary.specs.ReadingValues.{plain_at};
+ghost use Rattle.row_words.specs.Words.{is_scalar as is_scalar_kind};
+ghost use Rattle.frame_codec.specs.Contents.{field_at, is_number, is_own_scalar};
+ghost use Rattle.frame_codec.specs.Reading.{GivesWord};
+
+use crate::fault::FrameFault;
+use dataset_meta::Field;
+use row_words::is_scalar;
+use ua_binary::{Cursor, ValueFault, number_of};
+use ua_values::Kind;
+
+#[inline(always)]
+fn is_number(number: u8, byte: Option<u8>) -> bool
+    ensures { result ≡ is_number number byte }
+{
+    match byte {
+        None => false,
+        Some(byte) => byte == number,
+    }
+}
+
+/// Whether the kind is a scalar's, and the byte that is read next its number, so that a Variant of it follows.
+#[inline(always)]
+pub(crate) fn is_own_scalar(cursor: &Cursor<'_>, kind: Kind) -> bool
+    requires { cursor.now.at ≤ length cursor.now.bytes.now }
+    ensures { result ≡ is_own_scalar kind (rest_of cursor.now) }
+{
+    is_scalar(kind) && is_number(number_of(kind), cursor.peek())
+}
+
+/// The word of a scalar of this kind.
+#[inline(always)]
+fn read_word(cursor: &mut Cursor<'_>, kind: Kind) -> Result<u64, ValueFault>
+    requires cursor { cursor.old.at ≤ length cursor.old.bytes.now }
+    requires scalar { is_scalar_kind kind ≡ true }
+    ensures answer { GivesWord kind result (rest_of cursor.new) (plain_at kind (rest_of cursor.old)) }
+    ensures kept { KeepsBytes cursor.old cursor.new }
+{
+    match kind {
+        Kind::Boolean => Ok(u64::from(cursor.read_u8()? != 0)),
+        Kind::SByte | Kind::Byte => Ok(u64::from(cursor.read_u8()?)),
+        Kind::Int16 | Kind::UInt16 => Ok(u64::from(cursor.read_u16()?)),
+        Kind::Int32 | Kind::UInt32 | Kind::Float | Kind::StatusCode => Ok(u64::from(
+            cursor.read_u32()?,
+        )),
+        Kind::Int64 | Kind::UInt64 | Kind::Double | Kind::DateTime => Ok(cursor.read_u64()?),
+        Kind::String | Kind::ByteString | Kind::Guid => unreachable!(),
+    }
+}
+
+/// The word of a Variant of the field's own kind, which follows. It fits the field.
+#[inline(always)]
+pub(crate) fn read_own_scalar(cursor: &mut Cursor<'_>, field: &Field) -> Result<u64, FrameFault>
+    requires cursor { cursor.old.at ≤ length cursor.old.bytes.now }
+    requires own { is_own_scalar field.now.kind (rest_of cursor.old) ≡ true }
+    ensures answer { GivesWord field.now.kind result (rest_of cursor.new) (field_at 0 field.now (rest_of cursor.old)) }
+    ensures kept { KeepsBytes cursor.old cursor.new }
+{
+    cursor.read_u8()?;
+    Ok(read_word(cursor, field.kind)?)
+}
