@@ -1,6 +1,5 @@
 -- What keeps the gates of a circuit keeps the circuit.
 use Rattle.std.proofs.Common.{◌≡◌, ℕ, zero, suc, List, [], ◌∷◌, ◌++◌, map, slice_index_or, refl, ap, ap₂, sym, ◌∙◌}
-use Rattle.std.specs.Simd.Lanes.{Each1}
 
 -- a gate, of two earlier wires by their numbers
 pub data Gate : Type 0 where
@@ -12,7 +11,7 @@ wire_of d xor and ws (Xor a b) = xor (slice_index_or ws a d) (slice_index_or ws 
 wire_of d xor and ws (And a b) = and (slice_index_or ws a d) (slice_index_or ws b d)
 
 -- the wires that the gates add
-abbrev run : {A : Type 0} → A → (A → A → A) → (A → A → A) → List Gate → List A → List A
+abbrev pub run : {A : Type 0} → A → (A → A → A) → (A → A → A) → List Gate → List A → List A
 run d xor and [] ws = ws
 run d xor and (g ∷ gs) ws = run d xor and gs (ws ++ wire_of d xor and ws g ∷ [])
 
@@ -20,19 +19,8 @@ run d xor and (g ∷ gs) ws = run d xor and gs (ws ++ wire_of d xor and ws g ∷
 abbrev pub outputs : {A : Type 0} → A → (A → A → A) → (A → A → A) → List Gate → List ℕ → List A → List A
 outputs d xor and gs out ws = let all = run d xor and gs ws in map (λ k. slice_index_or all k d) out
 
-module _ {A B : Type 0} (P : A → Type 0) (h : A → B) (d : A) (xor and : A → A → A) (xor' and' : B → B → B)
-    (ok : P d) (ok_xor : (a b : A) → P a → P b → P (xor a b)) (ok_and : (a b : A) → P a → P b → P (and a b))
-    (is_xor : (a b : A) → P a → P b → h (xor a b) ≡ xor' (h a) (h b))
-    (is_and : (a b : A) → P a → P b → h (and a b) ≡ and' (h a) (h b)) where
-  each_get : (xs : List A) → Each1 P xs → (k : ℕ) → P (slice_index_or xs k d)
-  each_get [] e k = ok
-  each_get (x ∷ xs) e zero = e.0
-  each_get (x ∷ xs) e (suc k) = each_get xs e.1 k
-
-  each_push : (xs : List A) (y : A) → Each1 P xs → P y → Each1 P (xs ++ y ∷ [])
-  each_push [] y e p = (p, tt)
-  each_push (x ∷ xs) y e p = (e.0, each_push xs y e.1 p)
-
+module _ {A B : Type 0} (h : A → B) (d : A) (xor and : A → A → A) (xor' and' : B → B → B)
+    (is_xor : (a b : A) → h (xor a b) ≡ xor' (h a) (h b)) (is_and : (a b : A) → h (and a b) ≡ and' (h a) (h b)) where
   map_push : (xs : List A) (y : A) → map h (xs ++ y ∷ []) ≡ map h xs ++ h y ∷ []
   map_push [] y = refl
   map_push (x ∷ xs) y = ap (λ (r : List B). h x ∷ r) (map_push xs y)
@@ -42,35 +30,18 @@ module _ {A B : Type 0} (P : A → Type 0) (h : A → B) (d : A) (xor and : A �
   get_map (x ∷ xs) zero = refl
   get_map (x ∷ xs) (suc k) = get_map xs k
 
-  wire_ok : (ws : List A) (g : Gate) → Each1 P ws → P (wire_of d xor and ws g)
-  wire_ok ws (Xor a b) e = ok_xor _ _ (each_get ws e a) (each_get ws e b)
-  wire_ok ws (And a b) e = ok_and _ _ (each_get ws e a) (each_get ws e b)
+  wire_is : (ws : List A) (g : Gate) → h (wire_of d xor and ws g) ≡ wire_of (h d) xor' and' (map h ws) g
+  wire_is ws (Xor a b) = is_xor _ _ ∙ sym (ap₂ xor' (get_map ws a) (get_map ws b))
+  wire_is ws (And a b) = is_and _ _ ∙ sym (ap₂ and' (get_map ws a) (get_map ws b))
 
-  wire_is : (ws : List A) (g : Gate) → Each1 P ws → h (wire_of d xor and ws g) ≡ wire_of (h d) xor' and' (map h ws) g
-  wire_is ws (Xor a b) e = is_xor _ _ (each_get ws e a) (each_get ws e b) ∙ sym (ap₂ xor' (get_map ws a) (get_map ws b))
-  wire_is ws (And a b) e = is_and _ _ (each_get ws e a) (each_get ws e b) ∙ sym (ap₂ and' (get_map ws a) (get_map ws b))
-
-  run_ok : (gs : List Gate) (ws : List A) → Each1 P ws → Each1 P (run d xor and gs ws)
-  run_ok [] ws e = e
-  run_ok (g ∷ gs) ws e = run_ok gs _ (each_push ws _ e (wire_ok ws g e))
-
-  run_is : (gs : List Gate) (ws : List A) → Each1 P ws → map h (run d xor and gs ws) ≡ run (h d) xor' and' gs (map h ws)
-  run_is [] ws e = refl
-  run_is (g ∷ gs) ws e =
-      run_is gs _ (each_push ws _ e (wire_ok ws g e))
-      ∙ ap (run (h d) xor' and' gs) (map_push ws _ ∙ ap (λ (w : B). map h ws ++ w ∷ []) (wire_is ws g e))
+  run_is : (gs : List Gate) (ws : List A) → map h (run d xor and gs ws) ≡ run (h d) xor' and' gs (map h ws)
+  run_is [] ws = refl
+  run_is (g ∷ gs) ws =
+      run_is gs _ ∙ ap (run (h d) xor' and' gs) (map_push ws _ ∙ ap (λ (w : B). map h ws ++ w ∷ []) (wire_is ws g))
 
   pick_is : (all : List A) (out : List ℕ) → map h (map (λ k. slice_index_or all k d) out) ≡ map (λ k. slice_index_or (map h all) k (h d)) out
   pick_is all [] = refl
   pick_is all (k ∷ out) = ap₂ (λ (x : B) (r : List B). x ∷ r) (sym (get_map all k)) (pick_is all out)
 
-  each_output : (all : List A) (out : List ℕ) → Each1 P all → Each1 P (map (λ k. slice_index_or all k d) out)
-  each_output all [] e = tt
-  each_output all (k ∷ out) e = (each_get all e k, each_output all out e)
-
-  pub circuit_is : (gs : List Gate) (out : List ℕ) (ws : List A) → Each1 P ws
-      → (map h (outputs d xor and gs out ws) ≡ outputs (h d) xor' and' gs out (map h ws)) × Each1 P (outputs d xor and gs out ws)
-  circuit_is gs out ws e = (
-    pick_is (run d xor and gs ws) out ∙ ap (λ (all : List B). map (λ k. slice_index_or all k (h d)) out) (run_is gs ws e),
-    each_output (run d xor and gs ws) out (run_ok gs ws e),
-  )
+  pub circuit_is : (gs : List Gate) (out : List ℕ) (ws : List A) → map h (outputs d xor and gs out ws) ≡ outputs (h d) xor' and' gs out (map h ws)
+  circuit_is gs out ws = pick_is (run d xor and gs ws) out ∙ ap (λ (all : List B). map (λ k. slice_index_or all k (h d)) out) (run_is gs ws)

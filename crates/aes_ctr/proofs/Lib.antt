@@ -1,11 +1,10 @@
 pub mod AllBytes
-pub mod Bits
+pub mod Bytes
 pub mod Circuits
 pub mod Gates
 pub mod Lists
-pub mod Mixing
-pub mod Moving
 pub mod Packing
+pub mod Rounds
 pub mod Schedules
 pub mod Streaming
 pub mod SubPlanes

@@ -1,25 +1,21 @@
 -- A list as the values of a function, and as lanes.
-use Rattle.std.proofs.Common.{◌≡◌, ℕ, zero, suc, ◌<◌, ◌+◌, List, [], ◌∷◌, ◌++◌, length, slice_index, Fits, w8, refl, arith, ap, ap₂, ◌∙◌}
+use Rattle.std.proofs.Common.{◌≡◌, ℕ, zero, suc, ◌<◌, List, [], ◌∷◌, ◌++◌, length, slice_index, Fits, w8, refl, lit<, arith, ap₂, ◌∙◌}
 use Rattle.std.specs.Simd.Lanes.{Each1}
-use Rattle.std.proofs.lemmas.Simd.{Each1-get_or}
-use Rattle.aes_ctr.specs.InPlanes.{IsLanes}
+use Rattle.aes_ctr.specs.InPlanes.{IsLanes, Eight, values}
 
 pub cons_is : {x y : ℕ} {xs ys : List ℕ} → x ≡ y → xs ≡ ys → x ∷ xs ≡ y ∷ ys
 cons_is e es = ap₂ (λ (x : ℕ) (xs : List ℕ). x ∷ xs) e es
 
--- f i, f (i + 1) and so on, n of them
-abbrev pub values : (ℕ → ℕ) → ℕ → ℕ → List ℕ
-values f i zero = []
-values f i (suc n) = f i ∷ values f (suc i) n
-
-pub values_cong : (f g : ℕ → ℕ) (i n : ℕ) → ((k : ℕ) → k < i + n → f k ≡ g k) → values f i n ≡ values g i n
-values_cong f g i zero e = refl
-values_cong f g i (suc n) e = cons_is (e i (omega arith)) (values_cong f g (suc i) n (λ k h. e k (omega arith)))
-
-pub value_at : (f : ℕ → ℕ) (i n k : ℕ) → k < n → slice_index (values f i n) k ≡ f (i + k)
-value_at f i zero k h = absurd (omega arith)
-value_at f i (suc n) zero h = let e : i ≡ i + 0 = omega arith in ap f e
-value_at f i (suc n) (suc k) h = let e : suc i + k ≡ i + suc k = omega arith in value_at f (suc i) n k (omega arith) ∙ ap f e
+pub below_eight : (P : ℕ → Type 0) → Eight P → (p : ℕ) → p < 8 → P p
+below_eight P all zero h = all.0
+below_eight P all (suc zero) h = all.1
+below_eight P all (suc (suc zero)) h = all.2
+below_eight P all (suc (suc (suc zero))) h = all.3
+below_eight P all (suc (suc (suc (suc zero)))) h = all.4
+below_eight P all (suc (suc (suc (suc (suc zero))))) h = all.5
+below_eight P all (suc (suc (suc (suc (suc (suc zero)))))) h = all.6
+below_eight P all (suc (suc (suc (suc (suc (suc (suc zero))))))) h = all.7
+below_eight P all (suc (suc (suc (suc (suc (suc (suc (suc n)))))))) h = absurd (omega arith)
 
 values_suc : (f : ℕ → ℕ) (i n : ℕ) → values (λ k. f (suc k)) i n ≡ values f (suc i) n
 values_suc f i zero = refl
@@ -34,9 +30,19 @@ values_of (x ∷ xs) (suc n) h =
     let shorter : length xs ≡ n = omega arith in
     cons_is refl (values_of xs n shorter ∙ values_suc (slice_index (x ∷ xs)) 0 n)
 
--- sixteen bytes
+pub values-lt : (f : ℕ → ℕ) (b : ℕ) → 0 < b → ((k : ℕ) → f k < b) → (i n k : ℕ) → slice_index (values f i n) k < b
+values-lt f b some small i zero k = some
+values-lt f b some small i (suc n) zero = small i
+values-lt f b some small i (suc n) (suc k) = values-lt f b some small (suc i) n k
+
+-- bytes
+pub bytes-lt : (v : List ℕ) → Each1 (Fits w8) v → (i : ℕ) → slice_index v i < 256
+bytes-lt [] e i = lit< tt
+bytes-lt (x ∷ xs) e zero = e.0.fits
+bytes-lt (x ∷ xs) e (suc i) = bytes-lt xs e.1 i
+
 pub lanes_are : (v : List ℕ) → length v ≡ 16 → Each1 (Fits w8) v → IsLanes v
-lanes_are v l e = (l, λ i h. let a : i < length v = omega arith in let fits = Each1-get_or (Fits w8) v i 0 a e in omega arith)
+lanes_are v l e = (l, bytes-lt v e)
 
 -- bytes before other bytes
 pub bytes_before : (f : ℕ → ℕ) (i n : ℕ) (ys : List ℕ) → ((k : ℕ) → f k < 256) → Each1 (Fits w8) ys → Each1 (Fits w8) (values f i n ++ ys)

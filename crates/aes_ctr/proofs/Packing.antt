@@ -1,41 +1,37 @@
 -- Blocks into planes, and back.
-use Rattle.std.proofs.Common.{◌≡◌, ℕ, ◌<◌, ◌+◌, ◌*◌, ◌/◌, ◌%◌, List, [], slice_index_or, sym, ◌∙◌, arith}
-use Rattle.std.proofs.lemmas.Nat.Bits.{same_from_bits_below}
-use Rattle.aes_ctr.specs.InPlanes.{IsLanes, lane_in, bit_in, byte_in, block_in}
-use Rattle.aes_ctr.proofs.Lists.{values_of, values_cong}
-use Rattle.aes_ctr.proofs.Bits.{from_bits_is}
-use Rattle.aes_ctr.proofs.Moving.{byte_in-lt, bit_of_byte_in, moved, moved_full, moved_lane}
-use Rattle.aes_ctr.proofs.Mixing.{state_is}
+use Rattle.std.proofs.Common.{◌≡◌, ℕ, ◌<◌, ◌+◌, ◌*◌, ◌/◌, ◌%◌, List, [], slice_index_or, refl, ap, sym, ◌∙◌, lit<}
+use Rattle.aes_ctr.specs.InPlanes.{AreLanes, IsLanes, lane_in, planes_of, byte_of, block_in, transposed, values}
+use Rattle.aes_ctr.proofs.Lists.{values_of, values-lt, below_eight}
+use Rattle.aes_ctr.proofs.Rounds.{plane, by_lanes, moved, state_is}
+use Rattle.aes_ctr.proofs.Swapping.{transposed-lt, byte_transposed, transposed_byte}
 
-abbrev flipped : ℕ → ℕ
-flipped i = i / 4 + i % 4 * 4
+abbrev pub flipped : List (List ℕ) → List (List ℕ)
+flipped q = moved (λ i. i / 4 + i % 4 * 4) q
 
-abbrev AreTransposed : List (List ℕ) → List (List ℕ) → Type 0
-AreTransposed q t = (i j p : ℕ) → i < 16 → j < 8 → p < 8 → bit_in t j i p ≡ bit_in q p i j
-
-abbrev AreLanes : List (List ℕ) → Type 0
-AreLanes q = (p : ℕ) → p < 8 → IsLanes (slice_index_or q p [])
+abbrev pub transposition : List (List ℕ) → List (List ℕ)
+transposition q = planes_of (λ p i. transposed (λ k. lane_in q k i) p)
 
 module _ (q : List (List ℕ)) (lanes : AreLanes q) where
-  flipped_lane : (j i : ℕ) → j < 8 → i < 16 → lane_in (moved flipped q) j i ≡ lane_in q j (flipped i)
-  flipped_lane j i hj hi = moved_lane flipped q (λ p h. (lanes p h).0) i hi (omega arith) j hj
+  small : (i k : ℕ) → k < 8 → lane_in q k i < 256
+  small i k h = (lanes k h).1 i
 
-  pub flipped_lanes : AreLanes (moved flipped q)
-  flipped_lanes p hp = (moved_full flipped q p hp, λ i hi. rw (flipped_lane p i hp hi) ((lanes p hp).1 (flipped i) (omega arith)))
+  pub packed : (j : ℕ) → j < 8 → block_in (transposition (flipped q)) j ≡ slice_index_or q j []
+  unfolding byte_of transposed
+  packed j hj =
+      let long = λ (p : ℕ) (h : p < 8). (lanes p h).0 in
+      ap (λ t. block_in (transposition (flipped t)) j)
+      (by_lanes q (long 0 (lit< tt), long 1 (lit< tt), long 2 (lit< tt), long 3 (lit< tt), long 4 (lit< tt), long 5 (lit< tt), long 6 (lit< tt), long 7 (lit< tt)))
+      ∙ state_is _ _ (λ r c. byte_transposed (λ k. lane_in q k (r + 4 * c)) (small (r + 4 * c)) j hj)
+      ∙ sym (values_of (plane q j) 16 (long j hj))
 
-  pub packed : (t : List (List ℕ)) → AreTransposed (moved flipped q) t → (j : ℕ) → j < 8 → block_in t j ≡ slice_index_or q j []
-  unfolding byte_in
-  packed t bits j hj =
-      let byte : (i : ℕ) → i < 16 → byte_in t j i ≡ lane_in q j (flipped i) = λ i hi.
-      from_bits_is (bit_in t j i) (lane_in (moved flipped q) j i) ((flipped_lanes j hj).1 i hi) (λ p hp. bits i j p hi hj hp) ∙ flipped_lane j i hj hi in
-      state_is (λ r c. byte_in t j (4 * r + c)) (λ r c. lane_in q j (flipped (4 * r + c))) (λ r c hr hc. byte (4 * r + c) (omega arith))
-      ∙ sym (values_of (slice_index_or q j []) 16 (lanes j hj).0)
+  pub unpacked_lanes : AreLanes (flipped (transposition q))
+  unpacked_lanes =
+      let bytes = λ (i k : ℕ). lane_in q k (i / 4 + i % 4 * 4) in
+      let here : (j : ℕ) → j < 8 → IsLanes (values (λ i. transposed (bytes i) j) 0 16) = λ j h.
+      (refl, values-lt (λ i. transposed (bytes i) j) 256 (lit< tt) (λ i. transposed-lt (bytes i) (small (i / 4 + i % 4 * 4)) j h) 0 16) in
+      below_eight _ (here 0 (lit< tt), here 1 (lit< tt), here 2 (lit< tt), here 3 (lit< tt), here 4 (lit< tt), here 5 (lit< tt), here 6 (lit< tt), here 7 (lit< tt))
 
-  -- where q itself is the transposition of planes
-  pub unpacked : (planes : List (List ℕ)) → AreTransposed planes q → (j : ℕ) → j < 8 → slice_index_or (moved flipped q) j [] ≡ block_in planes j
-  unpacked planes bits j hj =
-      let lane : (i : ℕ) → i < 16 → lane_in q j i ≡ byte_in planes j i = λ i hi.
-      same_from_bits_below 8 (lane_in q j i) (byte_in planes j i) ((lanes j hj).1 i hi) (byte_in-lt planes j i)
-      (λ p hp. bits i p j hi hp hj ∙ sym (bit_of_byte_in planes j i p hp)) in
-      values_of (slice_index_or (moved flipped q) j []) 16 (moved_full flipped q j hj)
-      ∙ values_cong (λ i. lane_in (moved flipped q) j i) (λ i. byte_in planes j (flipped i)) 0 16 (λ i hi. flipped_lane j i hj hi ∙ lane (flipped i) (omega arith))
+  pub unpacked : (j : ℕ) → j < 8 → slice_index_or (flipped (transposition q)) j [] ≡ block_in q j
+  unpacked =
+      let here = λ (j : ℕ) (h : j < 8). state_is _ _ (λ r c. sym (transposed_byte (λ k. lane_in q k (4 * r + c)) (small (4 * r + c)) j h)) in
+      below_eight _ (here 0 (lit< tt), here 1 (lit< tt), here 2 (lit< tt), here 3 (lit< tt), here 4 (lit< tt), here 5 (lit< tt), here 6 (lit< tt), here 7 (lit< tt))

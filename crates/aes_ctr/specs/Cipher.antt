@@ -21,17 +21,13 @@ sub_bytes s = state_of (λ r c. sub_byte (at s r c))
 unfoldable pub shift_rows : List ℕ → List ℕ
 shift_rows s = state_of (λ r c. at s r ((c + r) % 4))
 
--- the circulant matrix whose first row is 02 03 01 01
-abbrev pub mix_entry : ℕ → ℕ → ℕ
-mix_entry r k = slice_index (2 ∷ 3 ∷ 1 ∷ 1 ∷ []) ((k + 4 - r) % 4)
+-- 2 a + 3 b + c + d in the field
+unfoldable pub mixed : ℕ → ℕ → ℕ → ℕ → ℕ
+mixed a b c d = bit_xor (bit_xor (bit_xor (field_mul 2 a) (field_mul 3 b)) c) d
 
--- each column times the matrix (5.1.3)
-abbrev pub mix_term : List ℕ → ℕ → ℕ → ℕ → ℕ
-mix_term s r c k = field_mul (mix_entry r k) (at s k c)
-
+-- each column times the circulant matrix whose first row is 02 03 01 01 (5.1.3)
 unfoldable pub mix_columns : List ℕ → List ℕ
-mix_columns s = state_of (λ r c.
-    bit_xor (bit_xor (bit_xor (mix_term s r c 0) (mix_term s r c 1)) (mix_term s r c 2)) (mix_term s r c 3))
+mix_columns s = state_of (λ r c. mixed (at s r c) (at s ((r + 1) % 4) c) (at s ((r + 2) % 4) c) (at s ((r + 3) % 4) c))
 
 -- word i of a list of words
 abbrev pub word : List (List ℕ) → ℕ → List ℕ
@@ -41,9 +37,13 @@ word ws i = slice_index_or ws i []
 unfoldable pub round_key : List (List ℕ) → ℕ → List ℕ
 round_key ws r = state_of (λ i c. slice_index (word ws (4 * r + c)) i)
 
+-- the sum of two states, byte by byte
+unfoldable pub add_states : List ℕ → List ℕ → List ℕ
+add_states s k = state_of (λ r c. bit_xor (at s r c) (at k r c))
+
 -- the state plus round key r (5.1.4)
-unfoldable pub add_round_key : List (List ℕ) → ℕ → List ℕ → List ℕ
-add_round_key ws r s = let k = round_key ws r in state_of (λ i c. bit_xor (at s i c) (at k i c))
+abbrev pub add_round_key : List (List ℕ) → ℕ → List ℕ → List ℕ
+add_round_key ws r s = add_states s (round_key ws r)
 
 -- the state after round r: before the first, the key is added alone
 unfoldable pub after_round : List (List ℕ) → List ℕ → ℕ → List ℕ

@@ -1,7 +1,7 @@
 // The rounds, on eight blocks at once.
 ghost use Rattle.std.specs.Prelude.{◌≡◌, ℕ, ◌+◌, ◌-◌, ◌*◌, ◌<◌, ◌≤◌, List, [], length, slice_index_or};
 ghost use Rattle.aes_ctr.specs.Cipher.{cipher, round_key};
-ghost use Rattle.aes_ctr.specs.InPlanes.{IsLanes, IsPlanes, block_in};
+ghost use Rattle.aes_ctr.specs.InPlanes.{AreLanes, IsLanes, IsPlanes, block_in};
 ghost use Rattle.aes_ctr.specs.RoundKeys.{planes_at, AreFull, AreRoundKeys};
 
 use crate::planes::{Planes, add, each_plane, from_planes, mix_columns, shift_rows, to_planes};
@@ -30,6 +30,7 @@ impl RoundKey {
     }
 
     #[inline(always)]
+    #[tactic(auto, unfolding(crate::specs::InPlanes::byte_of))]
     fn planes(&self) -> Planes
         requires { IsPlanes self.now.planes }
         ensures full { IsPlanes result }
@@ -40,6 +41,7 @@ impl RoundKey {
 }
 
 /// Round key `r` of the words.
+#[tactic(auto, unfolding(crate::specs::Cipher::round_key))]
 pub fn round_key(words: &[[u8; 4]], r: usize) -> [u8; 16]
     requires { 4 * r + 4 ≤ length words.now }
     ensures { result ≡ round_key words.now r }
@@ -69,8 +71,8 @@ pub fn fill_round_keys(words: &[[u8; 4]], keys: &mut [RoundKey])
 pub fn encrypt_eight(keys: &[RoundKey], blocks: Planes) -> Planes
     requires ends { 2 ≤ length keys.now }
     requires keys { AreFull keys.now }
-    requires lanes { (j : ℕ) → j < 8 → IsLanes (slice_index_or blocks j []) }
-    ensures lanes { (j : ℕ) → j < 8 → IsLanes (slice_index_or result j []) }
+    requires lanes { AreLanes blocks }
+    ensures lanes { AreLanes result }
     ensures blocks { (ws : List (List ℕ)) → AreRoundKeys keys.now ws (length keys.now)
         → (j : ℕ) → j < 8
         → slice_index_or result j [] ≡ cipher (length keys.now - 2) ws (slice_index_or blocks j []) }

@@ -1,6 +1,6 @@
 // The key expansion (FIPS 197, 5.2).
 ghost use Rattle.std.specs.Prelude.{◌≡◌, ℕ, ◌+◌, ◌-◌, ◌*◌, ◌<◌, ◌≤◌, ◌⊎◌, length, bit_xor, slice_index};
-ghost use Rattle.aes_ctr.specs.Cipher.{schedule_term, expanded, add_words, round_constant};
+ghost use Rattle.aes_ctr.specs.Cipher.{schedule_term, expanded, add_words};
 
 use crate::sbox::sub_word;
 
@@ -10,23 +10,21 @@ fn add_words(v: [u8; 4], w: [u8; 4]) -> [u8; 4]
     [v[0] ^ w[0], v[1] ^ w[1], v[2] ^ w[2], v[3] ^ w[3]]
 }
 
+// The powers of x, from x ^ 0 on, behind a place that isn't used.
 static POWERS: [u8; 11] = [
     0x01, 0x01, 0x02, 0x04, 0x08, 0x10, 0x20, 0x40, 0x80, 0x1b, 0x36,
 ];
 
-fn round_constant(i: usize) -> [u8; 4]
-    requires { i < 11 }
-    ensures { result ≡ round_constant i }
-{
-    [POWERS[i], 0, 0, 0]
-}
-
+#[tactic(auto, unfolding(crate::specs::Cipher::schedule_term))]
 fn schedule_term(nk: usize, i: usize, w: [u8; 4]) -> [u8; 4]
     requires { (0 < nk) × (i < 11 * nk) }
     ensures { result ≡ schedule_term nk i w }
 {
     if i % nk == 0 {
-        add_words(sub_word(&[w[1], w[2], w[3], w[0]]), round_constant(i / nk))
+        add_words(
+            sub_word(&[w[1], w[2], w[3], w[0]]),
+            [POWERS[i / nk], 0, 0, 0],
+        )
     } else if nk == 8 && i % nk == 4 {
         sub_word(&w)
     } else {

@@ -1,7 +1,7 @@
 // Keys of 16 and of 32 bytes.
 ghost use Rattle.std.specs.Prelude.{◌≡◌, ◌<◌, ℕ, List, [], slice_index_or};
 ghost use Rattle.aes_ctr.specs.Cipher.{aes128, aes256, expanded};
-ghost use Rattle.aes_ctr.specs.InPlanes.{IsLanes};
+ghost use Rattle.aes_ctr.specs.InPlanes.{AreLanes, IsLanes};
 ghost use Rattle.aes_ctr.specs.RoundKeys.{AreRoundKeys};
 
 use crate::cipher::{RoundKey, encrypt_eight, fill_round_keys};
@@ -50,8 +50,8 @@ impl Key128 {
 
     // Eight blocks under the key, a vector each.
     pub(crate) fn encrypt_eight(&self, blocks: Planes) -> Planes
-        requires { (j : ℕ) → j < 8 → IsLanes (slice_index_or blocks j []) }
-        ensures lanes { (j : ℕ) → j < 8 → IsLanes (slice_index_or result j []) }
+        requires { AreLanes blocks }
+        ensures lanes { AreLanes result }
         ensures blocks { (j : ℕ) → j < 8
             → slice_index_or result j [] ≡ aes128 self.now (slice_index_or blocks j []) }
     {
@@ -99,8 +99,8 @@ impl Key256 {
 
     // Eight blocks under the key, a vector each.
     pub(crate) fn encrypt_eight(&self, blocks: Planes) -> Planes
-        requires { (j : ℕ) → j < 8 → IsLanes (slice_index_or blocks j []) }
-        ensures lanes { (j : ℕ) → j < 8 → IsLanes (slice_index_or result j []) }
+        requires { AreLanes blocks }
+        ensures lanes { AreLanes result }
         ensures blocks { (j : ℕ) → j < 8
             → slice_index_or result j [] ≡ aes256 self.now (slice_index_or blocks j []) }
     {

@@ -5,8 +5,6 @@ mod cipher;
 mod expand;
 mod keys;
 mod laws;
-#[cfg(test)]
-mod plain;
 mod planes;
 mod sbox;
 mod stream;

@@ -1,7 +1,7 @@
 // Eight blocks in bit planes, and what AES does to all of them at once.
-ghost use Rattle.std.specs.Prelude.{◌≡◌, ℕ, ◌+◌, ◌-◌, ◌*◌, ◌/◌, ◌%◌, ◌<◌, [], ◌∷◌, slice_index_or, bit_xor, IsTrue};
-ghost use Rattle.aes_ctr.specs.Cipher.{mix_columns, shift_rows};
-ghost use Rattle.aes_ctr.specs.InPlanes.{IsLanes, IsPlanes, is_mask, bit_in, byte_in, block_in};
+ghost use Rattle.std.specs.Prelude.{◌≡◌, ℕ, ◌<◌, [], slice_index, slice_index_or};
+ghost use Rattle.aes_ctr.specs.Cipher.{add_states, mix_columns, shift_rows};
+ghost use Rattle.aes_ctr.specs.InPlanes.{AreLanes, IsLanes, IsPlanes, block_in, exchanged, lane_in, planes_of, swapped, transposed, values};
 
 use std::simd::prelude::*;
 
@@ -35,14 +35,13 @@ macro_rules! each_plane {
 
 pub(crate) use each_plane;
 
-/// The sum of each byte and its fellow.
+/// The sum of each block and its fellow.
 #[inline(always)]
 pub fn add(q: Planes, k: Planes) -> Planes
     requires left { IsPlanes q }
     requires right { IsPlanes k }
     ensures full { IsPlanes result }
-    ensures bytes { (j i : ℕ) → i < 16
-        → byte_in result j i ≡ bit_xor (byte_in q j i) (byte_in k j i) }
+    ensures blocks { (j : ℕ) → block_in result j ≡ add_states (block_in q j) (block_in k j) }
 {
     each_plane!(p => q[p] ^ k[p])
 }
@@ -74,13 +73,10 @@ pub fn mix_columns(q: Planes) -> Planes
 // Swaps the bits of a at the mask's places + by with those of b at the mask's places.
 #[inline(always)]
 fn swap(a: u8x16, b: u8x16, by: u8, mask: u8) -> (u8x16, u8x16)
-    requires within { by < 8 }
-    requires mask { IsTrue (is_mask by mask) }
-    ensures lanes { IsLanes result.0 × IsLanes result.1 }
-    ensures first { (i j : ℕ) → i < 16 → j < 8
-        → bit_in (result.0 ∷ []) j i 0 ≡ bit_in (a ∷ b ∷ []) (j - j / by % 2 * by) i (j / by % 2) }
-    ensures second { (i j : ℕ) → i < 16 → j < 8
-        → bit_in (result.1 ∷ []) j i 0 ≡ bit_in (a ∷ b ∷ []) (j - j / by % 2 * by + by) i (j / by % 2) }
+    requires { by < 8 }
+    ensures given { IsLanes a × IsLanes b }
+    ensures first { result.0 ≡ values (λ i. swapped by mask 0 (slice_index a i) (slice_index b i)) 0 16 }
+    ensures second { result.1 ≡ values (λ i. swapped by mask 1 (slice_index a i) (slice_index b i)) 0 16 }
 {
     let places = u8x16::splat(by);
     let t = ((a >> places) ^ b) & u8x16::splat(mask);
@@ -91,11 +87,9 @@ fn swap(a: u8x16, b: u8x16, by: u8, mask: u8) -> (u8x16, u8x16)
 // bit `by` of a bit's number change places.
 #[inline(always)]
 fn exchange(q: Planes, by: u8, mask: u8) -> Planes
-    requires within { by < 8 }
-    requires mask { IsTrue (is_mask by mask) }
-    ensures lanes { (p : ℕ) → p < 8 → IsLanes (slice_index_or result p []) }
-    ensures bits { (i j p : ℕ) → i < 16 → j < 8 → p < 8
-        → bit_in result j i p ≡ bit_in q (j - j / by % 2 * by + p % 2 * by) i (p / 2 + j / by % 2 * 4) }
+    requires { by < 8 }
+    ensures given { AreLanes q }
+    ensures lanes { result ≡ planes_of (λ p i. exchanged by mask (λ k. lane_in q k i) p) }
 {
     let (a, b) = swap(q[0], q[4], by, mask);
     let (c, d) = swap(q[1], q[5], by, mask);
@@ -106,9 +100,10 @@ fn exchange(q: Planes, by: u8, mask: u8) -> Planes
 
 // Bit j of a lane of vector p becomes bit p of that lane of vector j.
 #[inline(always)]
+#[tactic(auto, unfolding(crate::specs::InPlanes::transposed))]
 fn transpose(q: Planes) -> Planes
-    ensures lanes { (p : ℕ) → p < 8 → IsLanes (slice_index_or result p []) }
-    ensures bits { (i j p : ℕ) → i < 16 → j < 8 → p < 8 → bit_in result j i p ≡ bit_in q p i j }
+    ensures given { AreLanes q }
+    ensures lanes { result ≡ planes_of (λ p i. transposed (λ k. lane_in q k i) p) }
 {
     exchange(exchange(exchange(q, 4, 0x0f), 2, 0x33), 1, 0x55)
 }
@@ -116,7 +111,7 @@ fn transpose(q: Planes) -> Planes
 /// The planes of eight blocks, a vector each.
 #[inline(always)]
 pub fn to_planes(blocks: Planes) -> Planes
-    requires { (j : ℕ) → j < 8 → IsLanes (slice_index_or blocks j []) }
+    requires { AreLanes blocks }
     ensures full { IsPlanes result }
     ensures blocks { (j : ℕ) → j < 8 → block_in result j ≡ slice_index_or blocks j [] }
 {
@@ -126,7 +121,7 @@ pub fn to_planes(blocks: Planes) -> Planes
 /// The eight blocks of planes, a vector each.
 #[inline(always)]
 pub fn from_planes(q: Planes) -> Planes
-    ensures lanes { (j : ℕ) → j < 8 → IsLanes (slice_index_or result j []) }
+    ensures lanes { AreLanes result }
     ensures blocks { (j : ℕ) → j < 8 → slice_index_or result j [] ≡ block_in q j }
 {
     let blocks = transpose(q);

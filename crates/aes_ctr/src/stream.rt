@@ -2,7 +2,7 @@
 ghost use Rattle.std.specs.Prelude.{◌*◌, ◌/◌, ◌%◌, ◌^◌, List, [], slice_index_or, ◌≡◌, ℕ, ◌+◌, ◌-◌, ◌<◌, ◌≤◌, ◌++◌, length, bit_xor, slice_index};
 ghost use Rattle.std.specs.Int.{w32, to_be_bytes};
 ghost use Rattle.aes_ctr.specs.Blocks.{stream_byte, streamed};
-ghost use Rattle.aes_ctr.specs.InPlanes.{IsLanes};
+ghost use Rattle.aes_ctr.specs.InPlanes.{AreLanes, IsLanes};
 ghost use Rattle.aes_ctr.specs.Keyed.{encrypted};
 
 use crate::keys::{Key128, Key256};
@@ -21,8 +21,8 @@ pub enum Key {
 impl Key {
     // Eight blocks under the key.
     fn encrypt_eight(&self, blocks: Planes) -> Planes
-        requires { (j : ℕ) → j < 8 → IsLanes (slice_index_or blocks j []) }
-        ensures lanes { (j : ℕ) → j < 8 → IsLanes (slice_index_or result j []) }
+        requires { AreLanes blocks }
+        ensures lanes { AreLanes result }
         ensures blocks { (j : ℕ) → j < 8
             → slice_index_or result j [] ≡ encrypted self.now (slice_index_or blocks j []) }
     {
@@ -50,47 +50,38 @@ fn counter_block(front: &[u8; 12], counter: u32) -> u8x16
 
 // Eight blocks from the counter on.
 fn counter_blocks(front: &[u8; 12], counter: u32) -> Planes
-    ensures lanes { (j : ℕ) → j < 8 → IsLanes (slice_index_or result j []) }
+    ensures lanes { AreLanes result }
     ensures blocks { (j : ℕ) → j < 8
         → slice_index_or result j [] ≡ front.now ++ to_be_bytes w32 ((counter + j) % 2 ^ 32) }
 {
     each_plane!(j => counter_block(front, counter.wrapping_add(j)))
 }
 
-// Adds a block to the 16 bytes from start on.
+// Adds a block to the 16 bytes from start on, as far as there are bytes.
 #[inline(always)]
-fn add_whole(pad: u8x16, start: usize, bytes: &mut [u8])
+fn add_pad(pad: u8x16, start: usize, bytes: &mut [u8])
     requires lanes { IsLanes pad }
-    requires within { start + 16 ≤ length bytes.old }
-    ensures inside { (k : ℕ) → start ≤ k → k < start + 16
+    requires order { start ≤ length bytes.old }
+    ensures inside { (k : ℕ) → start ≤ k → k < start + 16 → k < length bytes.old
         → slice_index bytes.new k ≡ bit_xor (slice_index bytes.old k) (slice_index pad (k - start)) }
     ensures below { (k : ℕ) → k < start → slice_index bytes.new k ≡ slice_index bytes.old k }
     ensures above { (k : ℕ) → start + 16 ≤ k → slice_index bytes.new k ≡ slice_index bytes.old k }
 {
     let block = pad.to_array();
-    'each: for i in 0..16 {
-        bytes[start + i] ^= block[i];
-    }
-}
-
-// Adds the first of a block to the bytes from start to the end.
-fn add_part(pad: u8x16, start: usize, bytes: &mut [u8])
-    requires lanes { IsLanes pad }
-    requires order { start ≤ length bytes.old }
-    requires short { length bytes.old ≤ start + 16 }
-    ensures inside { (k : ℕ) → start ≤ k → k < length bytes.old
-        → slice_index bytes.new k ≡ bit_xor (slice_index bytes.old k) (slice_index pad (k - start)) }
-    ensures below { (k : ℕ) → k < start → slice_index bytes.new k ≡ slice_index bytes.old k }
-{
-    let block = pad.to_array();
-    'each: for i in start..bytes.len() {
-        bytes[i] ^= block[i - start];
+    if 16 <= bytes.len() - start {
+        'whole: for i in 0..16 {
+            bytes[start + i] ^= block[i];
+        }
+    } else {
+        'part: for i in start..bytes.len() {
+            bytes[i] ^= block[i - start];
+        }
     }
 }
 
 // Adds eight blocks to the bytes from start on, as far as there are bytes.
 fn add_pads(pads: &Planes, start: usize, bytes: &mut [u8])
-    requires lanes { (j : ℕ) → j < 8 → IsLanes (slice_index_or pads.now j []) }
+    requires lanes { AreLanes pads.now }
     requires order { start ≤ length bytes.old }
     ensures length { length bytes.new ≡ length bytes.old }
     ensures inside { (k : ℕ) → start ≤ k → k < start + 128 → k < length bytes.old
@@ -100,11 +91,8 @@ fn add_pads(pads: &Planes, start: usize, bytes: &mut [u8])
     ensures above { (k : ℕ) → start + 128 ≤ k → slice_index bytes.new k ≡ slice_index bytes.old k }
 {
     'pads: for j in 0..8 {
-        let left = bytes.len() - start;
-        if 16 * j + 16 <= left {
-            add_whole(pads[j], start + 16 * j, bytes);
-        } else if 16 * j < left {
-            add_part(pads[j], start + 16 * j, bytes);
+        if 16 * j < bytes.len() - start {
+            add_pad(pads[j], start + 16 * j, bytes);
         }
     }
 }

@@ -1,51 +1,43 @@
-use crate::expand::expand;
-use crate::{Key, Key128, Key256, apply_stream, plain};
+// Outside values: FIPS 197, NIST SP 800-38A, and what OpenSSL makes.
+use crate::{Key, Key128, Key256, apply_stream};
 use std::process::Abort;
 
-// The fast program and the plain one on one block.
-fn check_block(rt: &impl Abort, key: &[u8; 32], short: &[u8; 16], long: &[u8; 16]) {
-    let block = [
-        0x00, 0x11, 0x22, 0x33, 0x44, 0x55, 0x66, 0x77, 0x88, 0x99, 0xaa, 0xbb, 0xcc, 0xdd, 0xee,
-        0xff,
-    ];
-    let mut half = [0; 16];
-    half.copy_from_slice(&key[..16]);
-    let mut words = [[0; 4]; 44];
-    expand(4, &half, &mut words);
-    assert_eq!(rt; Key128::new(&half).encrypt_block(&block), *short);
-    assert_eq!(rt; plain::encrypt(9, &words, &block), *short);
-    let mut words = [[0; 4]; 60];
-    expand(8, key, &mut words);
-    assert_eq!(rt; Key256::new(key).encrypt_block(&block), *long);
-    assert_eq!(rt; plain::encrypt(13, &words, &block), *long);
+// The bytes of blocks.
+fn bytes<const N: usize>(blocks: &[u128]) -> [u8; N] {
+    let mut bytes = [0; N];
+    for i in 0..N {
+        if i / 16 < blocks.len() {
+            bytes[i] = blocks[i / 16].to_be_bytes()[i % 16];
+        }
+    }
+    bytes
 }
 
 // FIPS 197, C.1 and C.3.
 #[test]
 fn one_block(rt: HostRuntime) {
-    let mut key = [0; 32];
-    for i in 0..32 {
-        key[i] = i as u8;
-    }
-    let short = [
-        0x69, 0xc4, 0xe0, 0xd8, 0x6a, 0x7b, 0x04, 0x30, 0xd8, 0xcd, 0xb7, 0x80, 0x70, 0xb4, 0xc5,
-        0x5a,
-    ];
-    let long = [
-        0x8e, 0xa2, 0xb7, 0xca, 0x51, 0x67, 0x45, 0xbf, 0xea, 0xfc, 0x49, 0x90, 0x4b, 0x49, 0x60,
-        0x89,
-    ];
-    check_block(&rt, &key, &short, &long);
+    let short: [u8; 16] = bytes(&[0x0001_0203_0405_0607_0809_0a0b_0c0d_0e0f]);
+    let long: [u8; 32] = bytes(&[
+        0x0001_0203_0405_0607_0809_0a0b_0c0d_0e0f,
+        0x1011_1213_1415_1617_1819_1a1b_1c1d_1e1f,
+    ]);
+    let block = bytes(&[0x0011_2233_4455_6677_8899_aabb_ccdd_eeff]);
+    let by_short: [u8; 16] = bytes(&[0x69c4_e0d8_6a7b_0430_d8cd_b780_70b4_c55a]);
+    let by_long: [u8; 16] = bytes(&[0x8ea2_b7ca_5167_45bf_eafc_4990_4b49_6089]);
+    assert_eq!(rt; Key128::new(&short).encrypt_block(&block), by_short);
+    assert_eq!(rt; Key256::new(&long).encrypt_block(&block), by_long);
 }
 
-const KEY128: [u8; 16] = [
-    0x2b, 0x7e, 0x15, 0x16, 0x28, 0xae, 0xd2, 0xa6, 0xab, 0xf7, 0x15, 0x88, 0x09, 0xcf, 0x4f, 0x3c,
-];
+fn short_key() -> Key {
+    Key::Short(Key128::new(&bytes(&[0x2b7e_1516_28ae_d2a6_abf7_1588_09cf_4f3c])))
+}
 
-const KEY256: [u8; 32] = [
-    0x60, 0x3d, 0xeb, 0x10, 0x15, 0xca, 0x71, 0xbe, 0x2b, 0x73, 0xae, 0xf0, 0x85, 0x7d, 0x77, 0x81,
-    0x1f, 0x35, 0x2c, 0x07, 0x3b, 0x61, 0x08, 0xd7, 0x2d, 0x98, 0x10, 0xa3, 0x09, 0x14, 0xdf, 0xf4,
-];
+fn long_key() -> Key {
+    Key::Long(Key256::new(&bytes(&[
+        0x603d_eb10_15ca_71be_2b73_aef0_857d_7781,
+        0x1f35_2c07_3b61_08d7_2d98_10a3_0914_dff4,
+    ])))
+}
 
 const FRONT: [u8; 12] = [
     0xf0, 0xf1, 0xf2, 0xf3, 0xf4, 0xf5, 0xf6, 0xf7, 0xf8, 0xf9, 0xfa, 0xfb,
@@ -54,82 +46,72 @@ const FRONT: [u8; 12] = [
 // NIST SP 800-38A, F.5.1 and F.5.5.
 #[test]
 fn four_blocks(rt: HostRuntime) {
-    let text = [
-        0x6b, 0xc1, 0xbe, 0xe2, 0x2e, 0x40, 0x9f, 0x96, 0xe9, 0x3d, 0x7e, 0x11, 0x73, 0x93, 0x17,
-        0x2a, 0xae, 0x2d, 0x8a, 0x57, 0x1e, 0x03, 0xac, 0x9c, 0x9e, 0xb7, 0x6f, 0xac, 0x45, 0xaf,
-        0x8e, 0x51, 0x30, 0xc8, 0x1c, 0x46, 0xa3, 0x5c, 0xe4, 0x11, 0xe5, 0xfb, 0xc1, 0x19, 0x1a,
-        0x0a, 0x52, 0xef, 0xf6, 0x9f, 0x24, 0x45, 0xdf, 0x4f, 0x9b, 0x17, 0xad, 0x2b, 0x41, 0x7b,
-        0xe6, 0x6c, 0x37, 0x10,
-    ];
-    let short = [
-        0x87, 0x4d, 0x61, 0x91, 0xb6, 0x20, 0xe3, 0x26, 0x1b, 0xef, 0x68, 0x64, 0x99, 0x0d, 0xb6,
-        0xce, 0x98, 0x06, 0xf6, 0x6b, 0x79, 0x70, 0xfd, 0xff, 0x86, 0x17, 0x18, 0x7b, 0xb9, 0xff,
-        0xfd, 0xff, 0x5a, 0xe4, 0xdf, 0x3e, 0xdb, 0xd5, 0xd3, 0x5e, 0x5b, 0x4f, 0x09, 0x02, 0x0d,
-        0xb0, 0x3e, 0xab, 0x1e, 0x03, 0x1d, 0xda, 0x2f, 0xbe, 0x03, 0xd1, 0x79, 0x21, 0x70, 0xa0,
-        0xf3, 0x00, 0x9c, 0xee,
-    ];
-    let long = [
-        0x60, 0x1e, 0xc3, 0x13, 0x77, 0x57, 0x89, 0xa5, 0xb7, 0xa7, 0xf5, 0x04, 0xbb, 0xf3, 0xd2,
-        0x28, 0xf4, 0x43, 0xe3, 0xca, 0x4d, 0x62, 0xb5, 0x9a, 0xca, 0x84, 0xe9, 0x90, 0xca, 0xca,
-        0xf5, 0xc5, 0x2b, 0x09, 0x30, 0xda, 0xa2, 0x3d, 0xe9, 0x4c, 0xe8, 0x70, 0x17, 0xba, 0x2d,
-        0x84, 0x98, 0x8d, 0xdf, 0xc9, 0xc5, 0x8d, 0xb6, 0x7a, 0xad, 0xa6, 0x13, 0xc2, 0xdd, 0x08,
-        0x45, 0x79, 0x41, 0xa6,
-    ];
-    let mut bytes = text;
-    apply_stream(
-        &Key::Short(Key128::new(&KEY128)),
-        &FRONT,
-        0xfcfd_feff,
-        &mut bytes,
-    );
-    assert_eq!(rt; bytes, short);
-    let mut bytes = text;
-    apply_stream(
-        &Key::Long(Key256::new(&KEY256)),
-        &FRONT,
-        0xfcfd_feff,
-        &mut bytes,
-    );
-    assert_eq!(rt; bytes, long);
-}
-
-// The stream over the first bytes of a buffer, against the plain program's.
-fn check_streams(rt: &impl Abort, key: &Key, n: usize, words: &[[u8; 4]]) {
-    assert!(rt; n < 100);
-    assert!(rt; 4 * n + 8 <= words.len());
-    for (first, len) in [
-        (1, 0),
-        (1, 1),
-        (1, 15),
-        (1, 16),
-        (1, 17),
-        (0, 127),
-        (0, 128),
-        (0, 129),
-        (1, 1400),
-        (0xffff_fffa, 1400),
-        (0xffff_ffff, 17),
-    ] {
-        let mut bytes = [0x5a; 1500];
-        assert!(rt; len <= bytes.len());
-        apply_stream(key, &FRONT, first, &mut bytes[..len]);
-        for i in 0..1500 {
-            let added = if i < len {
-                plain::stream_byte(n, words, &FRONT, first, i)
-            } else {
-                0
-            };
-            assert_eq!(rt; bytes[i], 0x5a ^ added, "byte {i} of {len} from {first}");
-        }
+    let text: [u8; 64] = bytes(&[
+        0x6bc1_bee2_2e40_9f96_e93d_7e11_7393_172a,
+        0xae2d_8a57_1e03_ac9c_9eb7_6fac_45af_8e51,
+        0x30c8_1c46_a35c_e411_e5fb_c119_1a0a_52ef,
+        0xf69f_2445_df4f_9b17_ad2b_417b_e66c_3710,
+    ]);
+    let short: [u8; 64] = bytes(&[
+        0x874d_6191_b620_e326_1bef_6864_990d_b6ce,
+        0x9806_f66b_7970_fdff_8617_187b_b9ff_fdff,
+        0x5ae4_df3e_dbd5_d35e_5b4f_0902_0db0_3eab,
+        0x1e03_1dda_2fbe_03d1_7921_70a0_f300_9cee,
+    ]);
+    let long: [u8; 64] = bytes(&[
+        0x601e_c313_7757_89a5_b7a7_f504_bbf3_d228,
+        0xf443_e3ca_4d62_b59a_ca84_e990_caca_f5c5,
+        0x2b09_30da_a23d_e94c_e870_17ba_2d84_988d,
+        0xdfc9_c58d_b67a_ada6_13c2_dd08_4579_41a6,
+    ]);
+    for (key, sum) in [(short_key(), short), (long_key(), long)] {
+        let mut bytes = text;
+        apply_stream(&key, &FRONT, 0xfcfd_feff, &mut bytes);
+        assert_eq!(rt; bytes, sum);
     }
 }
 
+// The FNV-1a hash of a buffer whose first bytes had the stream added.
+fn hash_of_streamed(rt: &impl Abort, key: &Key, first: u32, len: usize) -> u64 {
+    let mut bytes = [0x5a; 1500];
+    assert!(rt; len <= bytes.len());
+    apply_stream(key, &FRONT, first, &mut bytes[..len]);
+    let mut hash = 0xcbf2_9ce4_8422_2325_u64;
+    for byte in bytes {
+        hash = (hash ^ byte as u64).wrapping_mul(0x100_0000_01b3);
+    }
+    hash
+}
+
+// Lengths about those of a block and of eight, and counters that wrap: the hashes of what OpenSSL
+// makes of the same buffers, a block at a time.
 #[test]
 fn streams(rt: HostRuntime) {
-    let mut words = [[0; 4]; 44];
-    expand(4, &KEY128, &mut words);
-    check_streams(&rt, &Key::Short(Key128::new(&KEY128)), 9, &words);
-    let mut words = [[0; 4]; 60];
-    expand(8, &KEY256, &mut words);
-    check_streams(&rt, &Key::Long(Key256::new(&KEY256)), 13, &words);
+    let (short, long) = (short_key(), long_key());
+    for (first, len, by_short, by_long) in [
+        (1, 0, 0x34d7_eae7_0e0d_82c5, 0x34d7_eae7_0e0d_82c5),
+        (1, 1, 0x3b7b_7111_bbe0_fe8e, 0x6a60_0c0d_67e8_f7d5),
+        (1, 15, 0xb08d_6f41_1c0e_02b8, 0xaf39_0afd_7149_cfba),
+        (1, 16, 0xa819_04ad_fe97_3e6b, 0x4bfe_25b9_e1d1_b6d9),
+        (1, 17, 0x3199_6ca1_8473_ed16, 0x225e_b9af_0f7c_af07),
+        (0, 127, 0xd071_65ec_8f01_e466, 0x46b6_f608_2180_7976),
+        (0, 128, 0xd071_65ec_8f01_e466, 0x6002_17b7_723d_6855),
+        (0, 129, 0xe56b_293a_0532_da4d, 0x197e_25f6_15f2_05a3),
+        (1, 1400, 0x0d45_f75a_0d71_baf0, 0xb0e5_de2c_5b32_5c14),
+        (
+            0xffff_fffa,
+            1400,
+            0xecc6_bd4a_0253_f5ce,
+            0x0bfd_b41d_50be_93ca,
+        ),
+        (
+            0xffff_ffff,
+            17,
+            0xe361_e70d_a069_c79d,
+            0x2870_574a_3539_51ba,
+        ),
+    ] {
+        assert_eq!(rt; hash_of_streamed(&rt, &short, first, len), by_short);
+        assert_eq!(rt; hash_of_streamed(&rt, &long, first, len), by_long);
+    }
 }

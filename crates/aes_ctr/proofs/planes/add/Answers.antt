@@ -1,8 +1,8 @@
-use Rattle.aes_ctr.proofs.Moving.{sums_full, sums_byte}
+use Rattle.aes_ctr.proofs.Rounds.{sum_full, sum_block}
 use Rattle.aes_ctr.proofs.planes.add.Goals as goal
 
 pub returns : goal.returns
 returns c = record {
-  full = sums_full c.args.q c.args.k c.requires.left c.requires.right;
-  bytes = sums_byte c.args.q c.args.k c.requires.left c.requires.right;
+  full = sum_full c.args.q c.requires.left c.args.k c.requires.right;
+  blocks = sum_block c.args.q c.requires.left c.args.k c.requires.right;
 }

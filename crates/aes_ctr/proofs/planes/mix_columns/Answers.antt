@@ -1,4 +1,4 @@
-use Rattle.aes_ctr.proofs.Mixing.{mixed_full, mixed_block}
+use Rattle.aes_ctr.proofs.Rounds.{mixed_full, mixed_block}
 use Rattle.aes_ctr.proofs.planes.mix_columns.Goals as goal
 
 pub returns : goal.returns

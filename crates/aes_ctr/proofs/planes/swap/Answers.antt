@@ -1,22 +1,17 @@
-use Rattle.std.proofs.Common.{refl}
-use Rattle.std.proofs.lemmas.Simd.{shifts_fit_splat}
-use Rattle.aes_ctr.proofs.Lists.{lanes_are}
-use Rattle.aes_ctr.proofs.Swapping.{both_fit, first_bit, second_bit}
+use Rattle.std.proofs.Common.{ap₂, ◌*◌, ◌/◌, ◌%◌, ◌^◌, List, ℕ, bit_and, bit_xor, replicate}
+use Rattle.std.specs.Simd.Lanes.{zip2}
+use Rattle.aes_ctr.proofs.Lists.{values_of}
 use Rattle.aes_ctr.proofs.planes.swap.Goals as goal
 
-pub overflow_shr-t : goal.overflow_shr-t
-overflow_shr-t c = shifts_fit_splat 8 _ 16 c.args.by c.requires.within
-
-pub overflow_shl-result : goal.overflow_shl-result
-overflow_shl-result c = shifts_fit_splat 8 _ 16 c.args.by c.requires.within
-
-pub returns-clause-lanes : goal.returns-clause-lanes
-returns-clause-lanes c =
-    both_fit c.args.by c.args.mask c.args.a c.args.b c.ranges.mask.fits
-    (lanes_are c.args.a c.fits-a.0 c.fits-a.1) (lanes_are c.args.b c.fits-b.0 c.fits-b.1)
+-- what changes in the second
+abbrev changes : ℕ → ℕ → List ℕ → List ℕ → List ℕ
+changes n m a b = zip2 bit_and (zip2 bit_xor (zip2 (λ x n. x / 2 ^ n) a (replicate 16 n)) b) (replicate 16 m)
 
 pub returns-clause-first : goal.returns-clause-first
-returns-clause-first c i j hi hj = first_bit c.args.by c.args.mask c.args.a c.args.b c.requires.mask c.fits-a.0 c.fits-b.0 i j hi hj _ refl
+returns-clause-first c =
+    ap₂ (λ a b. zip2 bit_xor a (zip2 (λ x n. x * 2 ^ n % 2 ^ 8) (changes c.args.by c.args.mask a b) (replicate 16 c.args.by)))
+    (values_of c.args.a 16 c.fits-a.0) (values_of c.args.b 16 c.fits-b.0)
 
 pub returns-clause-second : goal.returns-clause-second
-returns-clause-second c i j hi hj = second_bit c.args.by c.args.mask c.args.a c.args.b c.requires.mask c.fits-a.0 c.fits-b.0 i j hi hj _ refl
+returns-clause-second c =
+    ap₂ (λ a b. zip2 bit_xor b (changes c.args.by c.args.mask a b)) (values_of c.args.a 16 c.fits-a.0) (values_of c.args.b 16 c.fits-b.0)

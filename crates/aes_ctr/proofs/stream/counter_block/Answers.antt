@@ -1,6 +1,7 @@
 use Rattle.std.proofs.Common.{ℕ, List, ◌++◌, slice_index, refl, ap, sym, ◌∙◌}
 use Rattle.std.specs.Int.{w32, to_be_bytes}
-use Rattle.aes_ctr.proofs.Lists.{values, values_of, lanes_are, bytes_before}
+use Rattle.aes_ctr.specs.InPlanes.{values}
+use Rattle.aes_ctr.proofs.Lists.{values_of, lanes_are, bytes_before}
 use Rattle.aes_ctr.proofs.Streaming.{digits, digits_are, digits_fit}
 use Rattle.aes_ctr.proofs.stream.counter_block.Goals as goal
 

@@ -2,9 +2,6 @@ use Rattle.std.proofs.Common.{◌≡◌, length, arith}
 use Rattle.aes_ctr.specs.Cipher.{aes128, expanded}
 use Rattle.aes_ctr.proofs.keys.Key128.encrypt_eight.Goals as goal
 
-pub encrypt_eight-requires-clause-keys : goal.encrypt_eight-requires-clause-keys
-encrypt_eight-requires-clause-keys c r h = (c.self.invariant r (omega arith)).0
-
 pub returns-clause-blocks : goal.returns-clause-blocks
 unfolding aes128
 returns-clause-blocks c j h =
