@@ -1,0 +1,10 @@
+//! The fields in which two rows of a data set differ, and rows with such changes laid in.
+#![tactic(auto)]
+
+mod changes;
+mod laws;
+#[cfg(test)]
+mod tests;
+
+pub use changes::{apply, changed};
+pub use laws::changes_give_the_new_row;
