@@ -1,0 +1,5 @@
+mod Notes
+mod KeepingLaws
+mod RunLaws
+mod AnswerLaws
+mod Rows

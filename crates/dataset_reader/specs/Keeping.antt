@@ -1,0 +1,111 @@
+-- What a reader keeps is what Records of pubsub_model says of all that came to it. Lists have the latest first.
+use Rattle.std.specs.Prelude.{◌≡◌, ℕ, ◌+◌, ◌-◌, ◌^◌, ◌≤◌, min, List, [], ◌∷◌, length, map, take, filter_map, Bool, false, not, ◌&&◌, nat_le, Option, Some, None, option_map, if◌then◌else◌, ⊤}
+use Rattle.seq_number.specs.Numbers.{wire, greatest, IsNear}
+use Rattle.pubsub_model.specs.declared.reading.Break.{Break}
+use Rattle.pubsub_model.specs.declared.reading.Why.{Why}
+use Rattle.pubsub_model.specs.declared.reading.Why.TheVariants.{Jump}
+use Rattle.pubsub_model.specs.Frames.{Frame, Whole, Change, Alive, carried}
+use Rattle.pubsub_model.specs.Records.{Item, Arrival, Came, Cut, place_in, since_cut, cut_reason, records, held_in, reason_in, breaks, unnumbered_row, is_nothing}
+use Rattle.frame_codec.specs.Messages as messages
+use Rattle.frame_codec.specs.Messages.{Content, Message}
+use Rattle.dataset_reader.specs.declared.took.Numbering.{Numbering}
+use Rattle.dataset_reader.specs.Kept.{Kept, fresh, cut_kept}
+use Rattle.dataset_reader.specs.Cases.{frame_case}
+
+-- ---- what came
+
+-- the numbers of the nonces of these items
+abbrev pub stamps : List Item → List ℕ
+stamps items = filter_map (λ item. item.stamp) items
+
+-- a nonce's number that is 16,384 or more above the greatest of these items'
+abbrev pub jumps : List Item → Option ℕ → Bool
+jumps items None = false
+jumps items (Some stamp) = not (is_nothing (stamps items)) && nat_le (greatest (stamps items) + 16384) stamp
+
+-- the arrivals with an item more; a jump cuts before it
+abbrev pub came_on : List Arrival → Item → List Arrival
+came_on before item = if jumps (since_cut before) item.stamp then Came item ∷ Cut Jump ∷ before else Came item ∷ before
+
+-- what came, with the cuts that jumps make
+abbrev pub with_jumps : List Arrival → List Arrival
+with_jumps [] = []
+with_jumps (Cut why ∷ before) = Cut why ∷ with_jumps before
+with_jumps (Came item ∷ before) = came_on (with_jumps before) item
+
+-- the places of the items since the last cut are near
+abbrev pub AreNear : List Arrival → Type 0
+AreNear arrivals = IsNear (map place_in (since_cut arrivals))
+
+-- the places of the items are near in each stretch without a cut
+abbrev pub AreNearInEach : List Arrival → Type 0
+AreNearInEach [] = ⊤
+AreNearInEach (Cut why ∷ before) = AreNearInEach before
+AreNearInEach (Came item ∷ before) = AreNear (Came item ∷ before) × AreNearInEach before
+
+-- ---- messages of frames
+
+abbrev pub content_of : Frame → Content
+content_of (Whole place row) = messages.Whole row
+content_of (Change place patch) = messages.Change patch
+content_of (Alive next) = messages.Alive
+
+-- a keep-alive tells of a next place, which isn't the first
+abbrev pub HasPlace : Frame → Type 0
+HasPlace (Whole place row) = ⊤
+HasPlace (Change place patch) = ⊤
+HasPlace (Alive next) = 1 ≤ next
+
+-- a message of a data set with this major version, or with none
+abbrev pub IsOfMajor : ℕ → Option ℕ → Type 0
+IsOfMajor major None = ⊤
+IsOfMajor major (Some got) = got ≡ major
+
+-- the message is the frame as it is sent
+pub record IsMessageOf (major : ℕ) (frame : Frame) (message : Message) : Type 0 where
+  pub version : IsOfMajor major message.major
+  pub number : message.number ≡ Some (carried frame)
+  pub content : message.content ≡ content_of frame
+  pub place : HasPlace frame
+
+-- ---- what is kept
+
+-- the number at which the last of these records stands
+abbrev pub last_wire : List Item → Option ℕ
+last_wire [] = None
+last_wire (last ∷ before) = Some (wire (place_in last))
+
+-- these records since a cut of this reason, and these breaks in all
+pub record KeepsOver (rs : List Item) (reason : Why) (all : List Break) (kept : Kept) : Type 0 where
+  pub last : kept.last ≡ last_wire rs
+  pub number : kept.number ≡ option_map (λ h. wire h.place) (held_in rs)
+  pub row : kept.row ≡ option_map (λ h. h.row) (held_in rs)
+  pub why : held_in rs ≡ None → kept.why ≡ reason_in rs reason
+  pub count : kept.breaks ≡ min (length all) (2 ^ 64 - 1)
+  pub recent : kept.recent ≡ take 8 all
+
+abbrev pub greatest_of : List ℕ → Option ℕ
+greatest_of [] = None
+greatest_of (stamp ∷ before) = Some (greatest (stamp ∷ before))
+
+-- What a reader with numbering by message keeps after these arrivals: the row that is held, with the number at which it stands; where nothing is held, why;
+-- how many breaks there were, and the last eight.
+pub record Keeps (arrivals : List Arrival) (kept : Kept) : Type 0 where
+  pub over : KeepsOver (records (since_cut arrivals)) (cut_reason arrivals) (breaks arrivals) kept
+  pub stamp : kept.stamp ≡ greatest_of (stamps (since_cut arrivals))
+
+-- what a reader with no numbering keeps after these arrivals
+pub record KeepsUnnumbered (arrivals : List Arrival) (kept : Kept) : Type 0 where
+  pub row : kept.row ≡ unnumbered_row arrivals
+  pub why : kept.why ≡ cut_reason arrivals
+  pub number : kept.number ≡ None
+  pub breaks : kept.breaks ≡ 0
+  pub recent : kept.recent ≡ []
+
+-- What a reader with this numbering, for a data set with this major version, keeps after these arrivals, each of which came to it as a message of its frame,
+-- or cut it.
+abbrev pub IsRun : Numbering → ℕ → List Arrival → Kept → Type 0
+IsRun numbering major [] kept = kept ≡ fresh
+IsRun numbering major (Cut why ∷ before) kept = (old : Kept) × IsRun numbering major before old × (kept ≡ cut_kept why old)
+IsRun numbering major (Came item ∷ before) kept =
+    (old : Kept) × (message : Message) × IsRun numbering major before old × IsMessageOf major item.frame message × (kept ≡ (frame_case numbering major old message item.stamp).0)

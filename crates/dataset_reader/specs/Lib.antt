@@ -1,0 +1,5 @@
+pub mod Kept
+pub mod Cases
+pub mod Keeping
+pub mod Answers
+pub mod Reader

@@ -1,0 +1,49 @@
+//! Laws of what a reader keeps, each the contract of a function that does nothing. What a reader keeps is `kept_by`, and what a
+//! message and a cut do to it are `frame_case` and `cut_kept`, as the contract of `Reader` says.
+ghost use Rattle.std.specs.Prelude.{◌≡◌, ℕ, List, [], ◌∷◌, Option};
+ghost use Rattle.pubsub_model.specs.declared.reading.Why.{Why as AnyWhy};
+ghost use Rattle.pubsub_model.specs.Records.{Item, Arrival, Came, Cut};
+ghost use Rattle.frame_codec.specs.Messages.{Message as AnyMessage};
+ghost use Rattle.dataset_reader.specs.declared.took.Numbering.{Numbering as AnyNumbering};
+ghost use Rattle.dataset_reader.specs.Kept.{Kept, fresh, cut_kept};
+ghost use Rattle.dataset_reader.specs.Cases.{frame_case};
+ghost use Rattle.dataset_reader.specs.Answers.{BeginsEmpty, Tells};
+ghost use Rattle.dataset_reader.specs.Keeping.{Keeps, KeepsUnnumbered, IsMessageOf, IsOfMajor, IsRun, AreNear, AreNearInEach, came_on, with_jumps, content_of};
+
+use crate::took::Numbering;
+
+/// Where places are near in each stretch without a cut, a jump being one, a reader keeps what *Records* says of all that came.
+pub fn a_run_keeps_records()
+    ensures { (major : ℕ) (arrivals : List Arrival) (kept : Kept) → IsRun Numbering.Message major arrivals kept → AreNearInEach (with_jumps arrivals) → Keeps (with_jumps arrivals) kept }
+{}
+
+/// The same by steps: a new reader keeps it, and so does one that kept it, after one more message and after a cut.
+pub fn each_step_keeps_records()
+    ensures fresh { Keeps [] fresh }
+    ensures frame { (major : ℕ) (arrivals : List Arrival) (kept : Kept) (item : Item) (message : AnyMessage) → IsMessageOf major item.frame message
+        → AreNear (came_on arrivals item) → Keeps arrivals kept → Keeps (came_on arrivals item) (frame_case Numbering.Message major kept message item.stamp).0 }
+    ensures cut { (arrivals : List Arrival) (kept : Kept) (why : AnyWhy) → Keeps arrivals kept → Keeps (Cut why ∷ arrivals) (cut_kept why kept) }
+{}
+
+/// With no numbering a reader keeps the row of the last key frame since the cut, whatever came.
+pub fn an_unnumbered_run_keeps_the_last_whole()
+    ensures { (major : ℕ) (arrivals : List Arrival) (kept : Kept) → IsRun Numbering.Unnumbered major arrivals kept → KeepsUnnumbered arrivals kept }
+{}
+
+/// The same by steps.
+pub fn each_unnumbered_step_keeps_the_last_whole()
+    ensures fresh { KeepsUnnumbered [] fresh }
+    ensures frame { (major : ℕ) (arrivals : List Arrival) (kept : Kept) (item : Item) (message : AnyMessage) → IsOfMajor major message.major → message.content ≡ content_of item.frame
+        → KeepsUnnumbered arrivals kept → KeepsUnnumbered (Came item ∷ arrivals) (frame_case Numbering.Unnumbered major kept message item.stamp).0 }
+    ensures cut { (arrivals : List Arrival) (kept : Kept) (why : AnyWhy) → KeepsUnnumbered arrivals kept → KeepsUnnumbered (Cut why ∷ arrivals) (cut_kept why kept) }
+{}
+
+/// Each answer tells its cause in the message and in what the reader kept, and what it keeps then. Before its first record a
+/// reader with numbering by message holds no row.
+pub fn each_answer_has_its_cause()
+    ensures tells { (numbering : AnyNumbering) (major : ℕ) (message : AnyMessage) (kept : Kept) (stamp : Option ℕ)
+        → let after = frame_case numbering major kept message stamp in Tells numbering major message kept after.0 after.1.outcome }
+    ensures fresh { BeginsEmpty fresh }
+    ensures frame { (major : ℕ) (kept : Kept) (message : AnyMessage) (stamp : Option ℕ) → BeginsEmpty kept → BeginsEmpty (frame_case Numbering.Message major kept message stamp).0 }
+    ensures cut { (kept : Kept) (why : AnyWhy) → BeginsEmpty (cut_kept why kept) }
+{}

@@ -1,0 +1,17 @@
+//! The reader of a data set's messages: which row it holds, why it holds none, and where the run of messages broke
+//! (OPC 10000-14 6.2.9, DataSetReader).
+#![tactic(auto)]
+
+mod laws;
+mod reader;
+#[cfg(test)]
+mod tests;
+mod took;
+
+pub use laws::{
+    a_run_keeps_records, an_unnumbered_run_keeps_the_last_whole, each_answer_has_its_cause,
+    each_step_keeps_records, each_unnumbered_step_keeps_the_last_whole,
+};
+pub use pubsub_model::{Break, Why};
+pub use reader::Reader;
+pub use took::{Numbering, Outcome, Took};
