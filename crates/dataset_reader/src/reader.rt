@@ -1,5 +1,5 @@
 //! Readers.
-ghost use Rattle.std.specs.Prelude.{◌≡◌, true, false, ◌<◌, ◌^◌, ℕ, List, Some, None, IfSome, option_map, reverse, take, ◌∷◌, if◌then◌else◌};
+ghost use Rattle.std.specs.Prelude.{◌≡◌, true, false, ◌<◌, ◌≤◌, ◌^◌, ℕ, List, Some, None, IfSome, option_map, reverse, take, length, ◌∷◌, if◌then◌else◌};
 ghost use Rattle.dataset_meta.specs.declared.field.Field.{Field};
 ghost use Rattle.row_words.specs.Belonging.{Belongs, row_in};
 ghost use Rattle.frame_codec.specs.Messages.{IsFrameOf, IsKindOf, content_in};
@@ -122,7 +122,8 @@ impl Reader {
 
     /// The last eight breaks, the oldest first.
     pub fn recent(&self) -> &[Break]
-        ensures { (fields : List Field) → reverse result.now ≡ (kept_by fields self.now).recent }
+        ensures recent { (fields : List Field) → reverse result.now ≡ (kept_by fields self.now).recent }
+        ensures few { length result.now ≤ 8 }
     {
         self.recent.as_slice()
     }

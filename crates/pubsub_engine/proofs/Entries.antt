@@ -1,18 +1,17 @@
 -- The entries of one pump.
 use Rattle.std.proofs.Common.{◌≡◌, refl, sym, ap, ◌∙◌, subst, arith, ℕ, zero, suc, ◌+◌, ◌-◌, ◌^◌, ◌<◌, min, Bool, true, false, cond, List, [], ◌∷◌, ◌++◌, length, reverse, filter_map, append_assoc, length-append, Option}
-use Rattle.std.specs.Prelude.{count_by, IsTrue, option_map}
-use Rattle.pubsub_engine.specs.Samples.{keyed_of}
+use Rattle.std.specs.Prelude.{count_by, IsTrue}
 use Rattle.std.proofs.lemmas.List.{append-nil, reverse-append}
 use Rattle.std.proofs.lemmas.List.Elements.{filter_map-append}
 use Rattle.std.proofs.lemmas.List.Sums.{sum_by-append, sum_by-cons}
 use Rattle.ua_base.specs.Journal.{Entry, Sent, SendFailed, Got, Empty, Long, ReceiveFailed, Wire, Tells}
 use Rattle.ua_base.proofs.Told.{Tells-refl, Tells-then}
-use Rattle.pubsub_model.specs.Records.{Arrival}
+use Rattle.frame_codec.specs.Messages.{Message}
 use Rattle.pubsub_engine.specs.declared.receiving.Receiving.{Receiving}
 use Rattle.pubsub_engine.specs.Steps.{IsPump, send_entry, send_entries}
-use Rattle.pubsub_engine.specs.Reading.{arrival_in, arrivals_in}
+use Rattle.pubsub_engine.specs.Reading.{brought_by, messages_in}
 use Rattle.pubsub_engine.specs.Counts.{is_sent, is_send_failed, is_got, is_long, is_broken, is_taken, is_datagram}
-use Rattle.pubsub_engine.specs.Standing.{IsReader}
+use Rattle.pubsub_engine.specs.Standing.{HasRead}
 use Rattle.pubsub_engine.specs.Taking.{Takes, IsReceive}
 
 -- ---- counts
@@ -26,16 +25,16 @@ count-cons p x xs = sum_by-cons (λ (e : Entry). cond (p e) 1 0) x xs
 -- ---- receives one after another
 
 pub Takes-none : (r : Receiving) → Takes [] r r
-Takes-none r = record { reader = λ moment arrivals h. h; taken = omega arith; received = omega arith; broken = omega arith; long = omega arith }
+Takes-none r = record { read = λ before h. h; taken = omega arith; received = omega arith; broken = omega arith; long = omega arith }
 
-arrivals-append : (moment : ℕ) (xs ys : List Entry) (arrivals : List Arrival) → arrivals_in moment ys ++ (arrivals_in moment xs ++ arrivals) ≡ arrivals_in moment (xs ++ ys) ++ arrivals
-arrivals-append moment xs ys arrivals =
-    sym (append_assoc (arrivals_in moment ys) (arrivals_in moment xs) arrivals)
-    ∙ ap (λ (l : List Arrival). l ++ arrivals) (sym (ap reverse (filter_map-append (arrival_in moment) xs ys) ∙ reverse-append (filter_map (arrival_in moment) xs) (filter_map (arrival_in moment) ys)))
+messages-append : (xs ys : List Entry) (before : List Message) → messages_in ys ++ (messages_in xs ++ before) ≡ messages_in (xs ++ ys) ++ before
+messages-append xs ys before =
+    sym (append_assoc (messages_in ys) (messages_in xs) before)
+    ∙ ap (λ (l : List Message). l ++ before) (sym (ap reverse (filter_map-append brought_by xs ys) ∙ reverse-append (filter_map brought_by xs) (filter_map brought_by ys)))
 
 pub Takes-then : (xs ys : List Entry) (a b c : Receiving) → Takes xs a b → Takes ys b c → Takes (xs ++ ys) a c
 Takes-then xs ys a b c p q = record {
-  reader = λ moment arrivals h. subst (λ (l : List Arrival). IsReader l (option_map keyed_of c.reader.last) c.reader.breaks c.reader.recent.items) (arrivals-append moment xs ys arrivals) (q.reader moment (arrivals_in moment xs ++ arrivals) (p.reader moment arrivals h));
+  read = λ before h. subst (λ (l : List Message). HasRead l c) (messages-append xs ys before) (q.read (messages_in xs ++ before) (p.read before h));
   taken = omega (arith, p.taken, q.taken, count-append is_taken xs ys);
   received = omega (arith, p.received, q.received, count-append is_got xs ys);
   broken = omega (arith, p.broken, q.broken, count-append is_broken xs ys);
@@ -174,6 +173,6 @@ pub so_full : (count : ℕ) (r s : Receiving) (a b : Option Wire) → count ≡ 
 so_full count r s a b is so = (so.entries, pump-full 65536 so.entries so.datagrams (so.count_is ∙ is), so.takes, sym (count-datagrams so.entries so.datagrams ∙ so.count_is ∙ is), so.told)
 
 -- a datagram that was too long
-pub Takes-long : (n : ℕ) (old : Receiving) (long' : ℕ) → long' ≡ min (old.long + 1) (2 ^ 64 - 1)
-    → Takes (Long n ∷ []) old (record { reader = old.reader; taken = old.taken; received = old.received; broken = old.broken; long = long' })
-Takes-long n old long' e = record { reader = λ moment arrivals h. h; taken = omega arith; received = omega arith; broken = omega arith; long = omega (arith, e) }
+pub Takes-long : (n : ℕ) (old new : Receiving) → ((before : List Message) → HasRead before old → HasRead before new) → new.taken ≡ old.taken → new.received ≡ old.received → new.broken ≡ old.broken → new.long ≡ min (old.long + 1) (2 ^ 64 - 1)
+    → Takes (Long n ∷ []) old new
+Takes-long n old new read taken received broken long = record { read = read; taken = omega (arith, taken); received = omega (arith, received); broken = omega (arith, broken); long = omega (arith, long) }

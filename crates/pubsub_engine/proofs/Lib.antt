@@ -1,11 +1,12 @@
 pub mod BuiltIns
 pub mod Datagrams
-pub mod Readings
 pub mod Entries
+pub mod Carried
+pub mod Publishes
 pub mod Turning
 pub mod Stepping
 pub mod Authors
 pub mod Showing
 pub mod DivisionLaws
-mod Rows
 pub mod Published
+mod Rows

@@ -1,5 +1,6 @@
--- Where each received datagram was sent before, what the reader holds is the row of the version that the log has at its number.
-use Rattle.std.proofs.Common.{◌≡◌, refl, sym, ap, ◌∙◌, subst, arith, ℕ, zero, suc, ◌+◌, ◌%◌, ◌^◌, ◌<◌, ◌≤◌, Bool, true, false, cond, List, [], ◌∷◌, ◌++◌, length, reverse, Option, Some, None, inl, inr, All, lit≤, append_assoc, length-append}
+-- Where each received datagram was sent before, the reader keeps what Records says of the items that came, and what it holds is the row of the version
+-- that the log has at its number.
+use Rattle.std.proofs.Common.{◌≡◌, refl, sym, ap, ◌∙◌, subst, arith, ℕ, zero, suc, ◌+◌, ◌%◌, ◌^◌, ◌<◌, ◌≤◌, Bool, true, false, cond, List, [], ◌∷◌, ◌++◌, map, length, reverse, Option, Some, None, inl, inr, All, lit≤, append_assoc, length-append}
 use Rattle.std.specs.Prelude.{nat_le, ◌==◌, ◌/◌, find, option_map, filter_map, Contains}
 use Rattle.std.specs.Option.{option_or}
 use Rattle.std.specs.List.{cons_option}
@@ -7,26 +8,46 @@ use Rattle.std.proofs.lemmas.Bool.Decides.{nat_tests}
 use Rattle.std.proofs.lemmas.List.{append-nil, reverse-append}
 use Rattle.std.proofs.lemmas.List.Elements.{All-nil, All-cons, All-head, All-tail, All-append, All-push, All-weaker, All-contains, Contains-append_left}
 use Rattle.std.proofs.lemmas.List.Folds.{find-append}
-use Rattle.seq_number.specs.Numbers.{wire, place_from}
+use Rattle.seq_number.specs.Numbers.{wire, place_from, greatest, IsNear}
 use Rattle.ua_base.specs.Journal.{Entry, Sent, SendFailed, Got, Empty, Long, ReceiveFailed, IsHonest}
 use Rattle.ua_values.specs.declared.value.Value.{Value}
 use Rattle.dataset_meta.specs.Rows.{cons_if, IsRow}
+use Rattle.pubsub_model.specs.declared.reading.Why.TheVariants.{Jump}
 use Rattle.pubsub_model.specs.Frames.{Frame, Whole}
-use Rattle.pubsub_model.specs.Records.{Item, Arrival, Came, Cut, at, since_cut, records, is_record, held_in}
-use Rattle.pubsub_model.proofs.CadenceLaws.{log_of-key}
+use Rattle.pubsub_model.specs.Cadence.{Turn, cadence, is_fresh, next_place, log_of}
+use Rattle.pubsub_model.specs.Records.{Item, Arrival, Came, Cut, at, since_cut, records, is_record, place_in, held_in}
+use Rattle.pubsub_model.proofs.CadenceLaws.{answer-key, length-log_of, log_of-key}
+use Rattle.frame_codec.specs.Messages as messages
 use Rattle.frame_codec.specs.Messages.{Message, IsMessage}
 use Rattle.frame_codec.specs.Spelling.{frame_bytes}
 use Rattle.frame_codec.specs.Reading.{message_at}
 use Rattle.frame_codec.proofs.MessageLaws.{message_again}
+use Rattle.dataset_reader.specs.declared.took.Numbering.TheVariants as numberings
+use Rattle.dataset_reader.specs.Kept.{Kept}
+use Rattle.dataset_reader.specs.Keeping.{Keeps, IsRun as IsReading, AreNearInEach, jumps, came_on, with_jumps}
 use Rattle.pubsub_engine.specs.BuiltIn.{demo_fields}
-use Rattle.pubsub_engine.specs.Samples.{Sample, Keyed}
-use Rattle.pubsub_engine.specs.Datagram.{datagram, key_message, key_read, has_header, frame_in}
+use Rattle.pubsub_engine.specs.Samples.{Sample}
+use Rattle.pubsub_engine.specs.Datagram.{datagram, message_read, has_header, message_carried}
 use Rattle.pubsub_engine.specs.Steps.{Step, Tick, Pump, moment_of, IsPump, send_entry, send_entries}
-use Rattle.pubsub_engine.specs.Publishing.{built_in, Ticked, turns_in, writer_past, made_in, turn_at, deeds, sampled_in, sends_of, log_at, journal, IsRun}
-use Rattle.pubsub_engine.specs.Reading.{item_of, arrival_in, arrivals_in, arrivals, numbered, held_frame}
-use Rattle.pubsub_engine.specs.Report.{version_of}
+use Rattle.pubsub_engine.specs.Publishing.{built_in, Deed, Ticked, turns_in, writer_past, made_in, turn_at, datagrams_with, datagrams_of, deeds, sampled_in, sends_of, log_at, journal, IsRun}
+use Rattle.pubsub_engine.specs.Reading.{brought_by, messages_in, messages_at, kept_of, kept_at, HeldRow, held_by, arrival_of, arrivals_in, arrivals}
+use Rattle.pubsub_engine.specs.Closing.{version_of, version_at}
 use Rattle.pubsub_engine.specs.Holding.{HasSample, SampleRows, IsPublished}
-use Rattle.pubsub_engine.proofs.Turning.{has_turn, made_is}
+use Rattle.pubsub_engine.proofs.Turning.{has_turn}
+
+-- a key frame's message
+abbrev pub key_message : ℕ → List Value → Message
+key_message number row = record { number = Some number; major = None; minor = None; content = messages.Whole row }
+
+-- a turn makes one datagram: that of the key frame at the next place
+made_is : (ds : List Deed) (turn : Turn) → length (log_of built_in (writer_past ds)) < 2 ^ 16
+    → datagrams_of ds turn ≡ datagram (wire (made_in (turns_in ds))) (key_message (length (log_of built_in (writer_past ds))) turn.row) ∷ []
+made_is ds turn few =
+    let log = log_of built_in (writer_past ds) in
+    let key = answer-key built_in (is_fresh (writer_past ds)) (cadence built_in (writer_past ds)) turn refl in
+    let place : wire (next_place built_in (cadence built_in (writer_past ds))) ≡ length log = omega (arith, length-log_of built_in (writer_past ds)) in
+    ap (datagrams_with (wire (made_in (turns_in ds)))) key
+    ∙ ap (λ (n : ℕ). datagram (wire (made_in (turns_in ds))) (key_message n turn.row) ∷ []) place
 
 -- ---- what is written is read
 
@@ -40,13 +61,13 @@ starts sequence message = rw (ten (sequence % 256) (sequence / 256 % 256) (frame
 key_fits : (number : ℕ) (row : List Value) → number < 2 ^ 16 → IsRow demo_fields row → IsMessage demo_fields (key_message number row)
 key_fits number row small is = record { number = small; major = tt; minor = tt; content = is }
 
-pub frame_in-datagram : (sequence number : ℕ) (row : List Value) → number < 2 ^ 16 → IsRow demo_fields row → frame_in (datagram sequence (key_message number row)) ≡ Some (record { number = number; row = row })
-unfolding frame_in datagram
-frame_in-datagram sequence number row small is =
+carried-datagram : (sequence number : ℕ) (row : List Value) → number < 2 ^ 16 → IsRow demo_fields row → message_carried (datagram sequence (key_message number row)) ≡ Some (key_message number row)
+unfolding message_carried datagram
+carried-datagram sequence number row small is =
     let message = key_message number row in
     rw (starts sequence message)
-    (ap (λ (bytes : List ℕ). key_read (message_at demo_fields bytes)) (sym (append-nil (frame_bytes message)))
-    ∙ ap key_read (message_again demo_fields message 0 (lit≤ tt) (key_fits number row small is)))
+    (ap (λ (bytes : List ℕ). message_read (message_at demo_fields bytes)) (sym (append-nil (frame_bytes message)))
+    ∙ ap message_read (message_again demo_fields message 0 (lit≤ tt) (key_fits number row small is)))
 
 -- ---- the log after one more step
 
@@ -111,6 +132,14 @@ still_logged : (b : Bool) (log : List (ℕ × ℕ)) (v n version : ℕ) → vers
 unfolding log_on
 still_logged b log v n version h = still_found log (cond b ((length log, v) ∷ []) []) n version (find (λ (e : ℕ × ℕ). wire e.0 == n) log) refl h
 
+longer : (b : Bool) (log : List (ℕ × ℕ)) (version : ℕ) → length log ≤ length (log_on b log version)
+unfolding log_on
+longer b log version = omega (arith, length-append log (cond b ((length log, version) ∷ []) []))
+
+length_on : (log : List (ℕ × ℕ)) (version : ℕ) → length (log_on true log version) ≡ length log + 1
+unfolding log_on
+length_on log version = length-append log ((length log, version) ∷ [])
+
 -- ---- what was sent
 
 -- a datagram that a turn of these steps made, with the sample that it publishes
@@ -119,6 +148,7 @@ record SentOf (steps : List Step) (bytes : List ℕ) : Type 0 where
   number : ℕ
   sample : Sample
   small : number < 2 ^ 16
+  early : number < length (log_at steps)
   values : IsRow demo_fields sample.row
   spelled : bytes ≡ datagram sequence (key_message number sample.row)
   sampled : HasSample steps sample
@@ -126,7 +156,7 @@ record SentOf (steps : List Step) (bytes : List ℕ) : Type 0 where
 
 sent_pump : (entries : List Entry) (steps : List Step) (bytes : List ℕ) → SentOf steps bytes → SentOf (Pump entries ∷ steps) bytes
 sent_pump entries steps bytes s =
-    record { sequence = s.sequence; number = s.number; sample = s.sample; small = s.small; values = s.values; spelled = s.spelled; sampled = s.sampled; logged = s.logged }
+    record { sequence = s.sequence; number = s.number; sample = s.sample; small = s.small; early = s.early; values = s.values; spelled = s.spelled; sampled = s.sampled; logged = s.logged }
 
 sent_tick : (ms : ℕ) (closing : Bool) (sample : List Sample) (done : List Bool) (steps : List Step) (bytes : List ℕ) → SentOf steps bytes → SentOf (Tick ms closing sample done ∷ steps) bytes
 sent_tick ms closing sample done steps bytes s = record {
@@ -134,6 +164,9 @@ sent_tick ms closing sample done steps bytes s = record {
   number = s.number;
   sample = s.sample;
   small = s.small;
+  early =
+      let b = has_turn steps (moment_of steps + ms) closing in
+      omega (arith, s.early, longer b (log_at steps) (sampled_in sample).version, ap length (log_case b steps ms closing sample done refl));
   values = s.values;
   spelled = s.spelled;
   sampled = inr s.sampled;
@@ -202,6 +235,7 @@ turn_sent steps ms closing sample done v few turns = record {
   number = length (log_at steps);
   sample = sampled_in sample;
   small = few;
+  early = omega (arith, ap length (log_case true steps ms closing sample done turns), length_on (log_at steps) (sampled_in sample).version);
   values = v;
   spelled = refl;
   sampled = inl refl;
@@ -222,10 +256,6 @@ tick_sent true steps ms closing sample done e v few =
 tick_sent false steps ms closing sample done e v few =
     let sends : sends_of (Tick ms closing sample done ∷ steps) ≡ [] = rw e refl in
     subst (λ (ds : List (List ℕ)). All (SentEntry (Tick ms closing sample done ∷ steps)) (send_entries ds done)) (sym sends) (All-nil (SentEntry (Tick ms closing sample done ∷ steps)))
-
-longer : (b : Bool) (log : List (ℕ × ℕ)) (version : ℕ) → length log ≤ length (log_on b log version)
-unfolding log_on
-longer b log version = omega (arith, length-append log (cond b ((length log, version) ∷ []) []))
 
 all_sent : (steps : List Step) → IsRun steps → SampleRows steps → length (log_at steps) ≤ 65536 → All (SentEntry steps) (journal steps)
 all_sent [] run v few = All-nil (SentEntry [])
@@ -271,12 +301,49 @@ all_parts P [] ys all = (All-nil P, all)
 all_parts P (x ∷ xs) ys all =
     let rest = all_parts P xs ys (All-tail P x (xs ++ ys) all) in (All-cons P x xs (All-head P x (xs ++ ys) all) rest.0, rest.1)
 
+all_reversed : {X : Type 0} (P : X → Type 0) (xs : List X) → All P xs → All P (reverse xs)
+all_reversed P [] all = all
+all_reversed P (x ∷ xs) all =
+    subst (All P) (sym (reverse-append (x ∷ []) xs)) (All-append P (reverse xs) (x ∷ []) (all_reversed P xs (All-tail P x xs all)) (All-cons P x [] (All-head P x xs all) (All-nil P)))
+
+-- a message that was sent with a sample of these steps
+record MessageOf (steps : List Step) (message : Message) : Type 0 where
+  number : ℕ
+  sample : Sample
+  small : number < 2 ^ 16
+  early : number < length (log_at steps)
+  is : message ≡ key_message number sample.row
+  sampled : HasSample steps sample
+  logged : version_of (log_at steps) number ≡ Some sample.version
+
+message_for : (steps : List Step) (bytes : List ℕ) (s : SentOf steps bytes) → MessageOf steps (key_message s.number s.sample.row)
+message_for steps bytes s = record { number = s.number; sample = s.sample; small = s.small; early = s.early; is = refl; sampled = s.sampled; logged = s.logged }
+
+brought : (steps : List Step) (x : Entry) (rest : List Message) → GotEntry steps x → All (MessageOf steps) rest → All (MessageOf steps) (cons_option (brought_by x) rest)
+brought steps (Sent bytes) rest h all = all
+brought steps SendFailed rest h all = all
+brought steps (Got bytes) rest h all =
+    let carried : message_carried bytes ≡ Some (key_message h.number h.sample.row) = ap message_carried h.spelled ∙ carried-datagram h.sequence h.number h.sample.row h.small h.values in
+    subst (λ (o : Option Message). All (MessageOf steps) (cons_option o rest)) (sym carried)
+    (All-cons (MessageOf steps) (key_message h.number h.sample.row) rest (message_for steps bytes h) all)
+brought steps Empty rest h all = all
+brought steps (Long size) rest h all = all
+brought steps ReceiveFailed rest h all = all
+
+all_brought : (steps : List Step) (entries : List Entry) → All (GotEntry steps) entries → All (MessageOf steps) (filter_map brought_by entries)
+all_brought steps [] all = All-nil (MessageOf steps)
+all_brought steps (x ∷ entries) all =
+    brought steps x (filter_map brought_by entries) (All-head (GotEntry steps) x entries all) (all_brought steps entries (All-tail (GotEntry steps) x entries all))
+
+-- ---- the items that these messages give
+
 -- an item that stands for a sample of these steps
 record ItemOf (steps : List Step) (item : Item) : Type 0 where
   number : ℕ
   sample : Sample
-  small : number < 2 ^ 16
+  early : number < length (log_at steps)
   is : item.frame ≡ Whole number sample.row
+  unstamped : item.stamp ≡ None
   sampled : HasSample steps sample
   logged : version_of (log_at steps) number ≡ Some sample.version
 
@@ -284,79 +351,151 @@ abbrev ArrivalOf : List Step → Arrival → Type 0
 ArrivalOf steps (Came item) = ItemOf steps item
 ArrivalOf steps (Cut why) = ⊥
 
-item_is : (steps : List Step) (m : ℕ) (bytes : List ℕ) (s : SentOf steps bytes) → arrival_in m (Got bytes) ≡ Some (Came (item_of m (record { number = s.number; row = s.sample.row })))
-item_is steps m bytes s =
-    ap (option_map (λ (frame : Keyed). Came (item_of m frame))) (ap frame_in s.spelled ∙ frame_in-datagram s.sequence s.number s.sample.row s.small s.values)
+-- the item of a message
+abbrev item_with : ℕ → ℕ → List Value → Item
+item_with moment number row = at moment None (Whole number row)
 
-item_for : (steps : List Step) (m : ℕ) (bytes : List ℕ) (s : SentOf steps bytes) → ItemOf steps (item_of m (record { number = s.number; row = s.sample.row }))
-item_for steps m bytes s =
-    let small = s.small in
-    let place : place_from 0 s.number ≡ s.number = omega arith in
-    record { number = s.number; sample = s.sample; small = s.small; is = ap (λ (p : ℕ). Whole p s.sample.row) place; sampled = s.sampled; logged = s.logged }
+arrival_is : (moment number : ℕ) (row : List Value) → number < 2 ^ 16 → arrival_of moment (key_message number row) ≡ Some (Came (item_with moment number row))
+arrival_is moment number row small =
+    let place : place_from 0 number ≡ number = omega arith in ap (λ (p : ℕ). Some (Came (item_with moment p row))) place
 
-arrived : (steps : List Step) (m : ℕ) (x : Entry) (rest : List Arrival) → GotEntry steps x → All (ArrivalOf steps) rest → All (ArrivalOf steps) (cons_option (arrival_in m x) rest)
-arrived steps m (Sent bytes) rest h all = all
-arrived steps m SendFailed rest h all = all
-arrived steps m (Got bytes) rest h all =
-    subst (λ (o : Option Arrival). All (ArrivalOf steps) (cons_option o rest)) (sym (item_is steps m bytes h))
-    (All-cons (ArrivalOf steps) (Came (item_of m (record { number = h.number; row = h.sample.row }))) rest (item_for steps m bytes h) all)
-arrived steps m Empty rest h all = all
-arrived steps m (Long size) rest h all = all
-arrived steps m ReceiveFailed rest h all = all
+item_for : (steps : List Step) (moment : ℕ) (message : Message) (m : MessageOf steps message) → ItemOf steps (item_with moment m.number m.sample.row)
+item_for steps moment message m = record { number = m.number; sample = m.sample; early = m.early; is = refl; unstamped = refl; sampled = m.sampled; logged = m.logged }
 
-all_arrived : (steps : List Step) (m : ℕ) (entries : List Entry) → All (GotEntry steps) entries → All (ArrivalOf steps) (filter_map (arrival_in m) entries)
-all_arrived steps m [] all = All-nil (ArrivalOf steps)
-all_arrived steps m (x ∷ entries) all =
-    arrived steps m x (filter_map (arrival_in m) entries) (All-head (GotEntry steps) x entries all) (all_arrived steps m entries (All-tail (GotEntry steps) x entries all))
+arrival_for : (steps : List Step) (moment : ℕ) (message : Message) (m : MessageOf steps message) → arrival_of moment message ≡ Some (Came (item_with moment m.number m.sample.row))
+arrival_for steps moment message m = ap (arrival_of moment) m.is ∙ arrival_is moment m.number m.sample.row m.small
 
-all_reversed : {X : Type 0} (P : X → Type 0) (xs : List X) → All P xs → All P (reverse xs)
-all_reversed P [] all = all
-all_reversed P (x ∷ xs) all =
-    subst (All P) (sym (reverse-append (x ∷ []) xs)) (All-append P (reverse xs) (x ∷ []) (all_reversed P xs (All-tail P x xs all)) (All-cons P x [] (All-head P x xs all) (All-nil P)))
+-- What came with these messages in front: the items are those of the steps, and the reader's run goes on.
+record Reads (steps : List Step) (came : List Arrival) (kept : Kept) : Type 0 where
+  items : All (ArrivalOf steps) came
+  run : IsReading numberings.Message 1 came kept
 
-arrivals_of : (all steps : List Step) → All (GotEntry all) (journal steps) → All (ArrivalOf all) (arrivals steps)
-arrivals_of all [] h = All-nil (ArrivalOf all)
-arrivals_of all (Tick ms closing sample done ∷ before) h = arrivals_of all before (all_parts (GotEntry all) (journal before) (send_entries (sends_of (Tick ms closing sample done ∷ before)) done) h).0
-arrivals_of all (Pump entries ∷ before) h =
+read_on : (steps : List Step) (moment : ℕ) (message : Message) (before : List Message) (came : List Arrival) → MessageOf steps message → Reads steps came (kept_of before)
+    → Reads steps (cons_option (arrival_of moment message) came) (kept_of (message ∷ before))
+read_on steps moment message before came m r =
+    let item = item_with moment m.number m.sample.row in
+    let same = m.is in
+    let number : message.number ≡ Some m.number = ap (λ (x : Message). x.number) same in
+    let small : m.number ≡ wire m.number = let s = m.small in omega arith in
+    rw (arrival_for steps moment message m) (record {
+      items = All-cons (ArrivalOf steps) (Came item) came (item_for steps moment message m) r.items;
+      run = (
+        kept_of before,
+        message,
+        r.run,
+        record { version = rw same tt; number = number ∙ ap Some small; content = ap (λ (x : Message). x.content) same; place = tt },
+        refl,
+      );
+    })
+
+reads_on : (steps : List Step) (moment : ℕ) (messages before : List Message) (came : List Arrival) → All (MessageOf steps) messages → Reads steps came (kept_of before)
+    → Reads steps (arrivals_in moment messages ++ came) (kept_of (messages ++ before))
+reads_on steps moment [] before came all r = r
+reads_on steps moment (message ∷ messages) before came all r =
+    let rest = reads_on steps moment messages before came (All-tail (MessageOf steps) message messages all) r in
+    let m = All-head (MessageOf steps) message messages all in
+    let on = read_on steps moment message (messages ++ before) (arrivals_in moment messages ++ came) m rest in
+    rw (arrival_for steps moment message m) (rw (arrival_for steps moment message m) at on)
+
+reads_of : (all steps : List Step) → All (GotEntry all) (journal steps) → Reads all (arrivals steps) (kept_at steps)
+reads_of all [] h = record { items = All-nil (ArrivalOf all); run = refl }
+reads_of all (Tick ms closing sample done ∷ before) h = reads_of all before (all_parts (GotEntry all) (journal before) (send_entries (sends_of (Tick ms closing sample done ∷ before)) done) h).0
+reads_of all (Pump entries ∷ before) h =
     let parts = all_parts (GotEntry all) (journal before) entries h in
-    All-append (ArrivalOf all) (arrivals_in (moment_of before) entries) (arrivals before)
-    (all_reversed (ArrivalOf all) (filter_map (arrival_in (moment_of before)) entries) (all_arrived all (moment_of before) entries parts.1)) (arrivals_of all before parts.0)
+    reads_on all (moment_of before) (messages_in entries) (messages_at before) (arrivals before)
+    (all_reversed (MessageOf all) (filter_map brought_by entries) (all_brought all entries parts.1)) (reads_of all before parts.0)
 
--- ---- what is held
+-- ---- they are near, and without jumps
 
 items_of : (steps : List Step) (arrivals : List Arrival) → All (ArrivalOf steps) arrivals → All (ItemOf steps) (since_cut arrivals)
 items_of steps [] all = All-nil (ItemOf steps)
 items_of steps (Came item ∷ before) all = All-cons (ItemOf steps) item (since_cut before) (All-head (ArrivalOf steps) (Came item) before all) (items_of steps before (All-tail (ArrivalOf steps) (Came item) before all))
 items_of steps (Cut why ∷ before) all = absurd (All-head (ArrivalOf steps) (Cut why) before all)
 
-kept : (steps : List Step) (b : Bool) (item : Item) (rest : List Item) → ItemOf steps item → All (ItemOf steps) rest → All (ItemOf steps) (cons_if b item rest)
-kept steps true item rest h all = All-cons (ItemOf steps) item rest h all
-kept steps false item rest h all = all
+low_place : (steps : List Step) (item : Item) → ItemOf steps item → length (log_at steps) ≤ 16384 → place_in item < 16384
+low_place steps item i few = let e = i.early in rw i.is (omega (arith, e, few))
+
+low_greatest : (steps : List Step) (items : List Item) → All (ItemOf steps) items → length (log_at steps) ≤ 16384 → greatest (map place_in items) < 16384
+low_greatest steps [] all few = omega arith
+low_greatest steps (item ∷ items) all few =
+    let rest = low_greatest steps items (All-tail (ItemOf steps) item items all) few in
+    let here = low_place steps item (All-head (ItemOf steps) item items all) few in
+    omega (arith, rest, here)
+
+near_of : (steps : List Step) (items : List Item) → All (ItemOf steps) items → length (log_at steps) ≤ 16384 → IsNear (map place_in items)
+near_of steps [] all few = tt
+near_of steps (item ∷ []) all few = tt
+near_of steps (item ∷ last ∷ items) all few =
+    let tail = All-tail (ItemOf steps) item (last ∷ items) all in
+    let high = low_greatest steps (last ∷ items) tail few in
+    let here = low_place steps item (All-head (ItemOf steps) item (last ∷ items) all) few in
+    (omega (arith, here), omega (arith, high), near_of steps (last ∷ items) tail few)
+
+near_each : (steps : List Step) (came : List Arrival) → All (ArrivalOf steps) came → length (log_at steps) ≤ 16384 → AreNearInEach came
+near_each steps [] all few = tt
+near_each steps (Came item ∷ before) all few =
+    (near_of steps (item ∷ since_cut before) (items_of steps (Came item ∷ before) all) few, near_each steps before (All-tail (ArrivalOf steps) (Came item) before all) few)
+near_each steps (Cut why ∷ before) all few = absurd (All-head (ArrivalOf steps) (Cut why) before all)
+
+came_plain : (before : List Arrival) (item : Item) → item.stamp ≡ None → came_on before item ≡ Came item ∷ before
+came_plain before item e = ap (λ (s : Option ℕ). cond (jumps (since_cut before) s) (Came item ∷ Cut Jump ∷ before) (Came item ∷ before)) e
+
+no_jumps : (steps : List Step) (came : List Arrival) → All (ArrivalOf steps) came → with_jumps came ≡ came
+no_jumps steps [] all = refl
+no_jumps steps (Came item ∷ before) all =
+    let i = All-head (ArrivalOf steps) (Came item) before all in
+    came_plain (with_jumps before) item i.unstamped ∙ ap (λ (l : List Arrival). Came item ∷ l) (no_jumps steps before (All-tail (ArrivalOf steps) (Came item) before all))
+no_jumps steps (Cut why ∷ before) all = absurd (All-head (ArrivalOf steps) (Cut why) before all)
+
+-- the law of a reader over any run
+abbrev pub KeepsRuns : Type 0
+KeepsRuns = (major : ℕ) (came : List Arrival) (kept : Kept) → IsReading numberings.Message major came kept → AreNearInEach (with_jumps came) → Keeps (with_jumps came) kept
+
+came_all : (steps : List Step) → IsRun steps → SampleRows steps → length (log_at steps) ≤ 16384 → IsHonest (journal steps) → Reads steps (arrivals steps) (kept_at steps)
+came_all steps run v few honest = reads_of steps steps (honest_all steps [] (journal steps) (all_sent steps run v (omega (arith, few))) honest refl)
+
+pub keeps_records : KeepsRuns → (steps : List Step) → IsRun steps → SampleRows steps → length (log_at steps) ≤ 16384 → IsHonest (journal steps) → Keeps (arrivals steps) (kept_at steps)
+keeps_records law steps run v few honest =
+    let r = came_all steps run v few honest in
+    let same = no_jumps steps (arrivals steps) r.items in
+    subst (λ (l : List Arrival). Keeps l (kept_at steps)) same
+    (law 1 (arrivals steps) (kept_at steps) r.run (subst AreNearInEach (sym same) (near_each steps (arrivals steps) r.items few)))
+
+-- ---- what is held
+
+chosen : (steps : List Step) (b : Bool) (item : Item) (rest : List Item) → ItemOf steps item → All (ItemOf steps) rest → All (ItemOf steps) (cons_if b item rest)
+chosen steps true item rest h all = All-cons (ItemOf steps) item rest h all
+chosen steps false item rest h all = all
 
 records_of : (steps : List Step) (items : List Item) → All (ItemOf steps) items → All (ItemOf steps) (records items)
 records_of steps [] all = All-nil (ItemOf steps)
-records_of steps (item ∷ before) all = kept steps (is_record before item) item (records before) (All-head (ItemOf steps) item before all) (records_of steps before (All-tail (ItemOf steps) item before all))
+records_of steps (item ∷ before) all = chosen steps (is_record before item) item (records before) (All-head (ItemOf steps) item before all) (records_of steps before (All-tail (ItemOf steps) item before all))
 
-held_of : (steps : List Step) (frame : Keyed) (rs : List Item) → All (ItemOf steps) rs → option_map numbered (held_in rs) ≡ Some frame → IsPublished steps frame
-held_of steps frame [] all e = absurd (cc)
-held_of steps frame (item ∷ rest) all e =
+-- the row and the number that a reader keeps of these records
+held_of : (steps : List Step) (held : HeldRow) (kept : Kept) (rs : List Item) → All (ItemOf steps) rs → length (log_at steps) ≤ 16384
+    → kept.row ≡ option_map (λ h. h.row) (held_in rs) → kept.number ≡ option_map (λ h. wire h.place) (held_in rs) → held_by kept ≡ Some held → IsPublished steps held
+held_of steps held kept [] all few row number e = let none : held_by kept ≡ None = rw row refl in absurd (cc)
+held_of steps held kept (item ∷ rest) all few row number e =
     let i = All-head (ItemOf steps) item rest all in
     let whole : held_in (item ∷ rest) ≡ Some (record { place = i.number; row = i.sample.row }) = ap (λ (f : Frame). held_in (at item.moment item.stamp f ∷ rest)) i.is in
-    let same : Some (numbered (record { place = i.number; row = i.sample.row })) ≡ Some frame = sym (ap (option_map numbered) whole) ∙ e in
-    let frame_is : numbered (record { place = i.number; row = i.sample.row }) ≡ frame = cc in
-    let small = i.small in
-    let number_is : i.number ≡ wire i.number = omega arith in
+    let row_is : kept.row ≡ Some i.sample.row = row ∙ ap (option_map (λ h. h.row)) whole in
+    let number_is : kept.number ≡ Some (wire i.number) = number ∙ ap (option_map (λ h. wire h.place)) whole in
+    let same : Some (record { number = kept.number; row = i.sample.row }) ≡ Some held = sym (ap (option_map (λ (r : List Value). record { number = kept.number; row = r })) row_is) ∙ e in
+    let is : record { number = kept.number; row = i.sample.row } ≡ held = cc in
+    let early = i.early in
+    let wired : wire i.number ≡ i.number = omega (arith, early, few) in
     record {
       sample = i.sample;
       sampled = i.sampled;
-      row_is = sym (ap (λ (f : Keyed). f.row) frame_is);
-      logged = ap (λ (n : ℕ). version_of (log_at steps) n) (sym (number_is ∙ ap (λ (f : Keyed). f.number) frame_is)) ∙ i.logged;
+      row_is = sym (ap (λ (h : HeldRow). h.row) is);
+      logged = ap (version_at (log_at steps)) (sym (ap (λ (h : HeldRow). h.number) is) ∙ number_is ∙ ap Some wired) ∙ i.logged;
     }
 
-pub held_published : (steps : List Step) (frame : Keyed) → IsRun steps → SampleRows steps → length (log_at steps) ≤ 65536 → IsHonest (journal steps) → held_frame steps ≡ Some frame → IsPublished steps frame
-held_published steps frame run v few honest e =
-    let got = honest_all steps [] (journal steps) (all_sent steps run v few) honest refl in
-    held_of steps frame (records (since_cut (arrivals steps))) (records_of steps (since_cut (arrivals steps)) (items_of steps (arrivals steps) (arrivals_of steps steps got))) e
+pub held_published : KeepsRuns → (steps : List Step) (held : HeldRow) → IsRun steps → SampleRows steps → length (log_at steps) ≤ 16384 → IsHonest (journal steps) → held_by (kept_at steps) ≡ Some held → IsPublished steps held
+held_published law steps held run v few honest e =
+    let r = came_all steps run v few honest in
+    let k = (keeps_records law steps run v few honest).over in
+    held_of steps held (kept_at steps) (records (since_cut (arrivals steps))) (records_of steps (since_cut (arrivals steps)) (items_of steps (arrivals steps) r.items)) few k.row k.number e
 
 -- ---- the log has at most an entry for each tick
 

@@ -3,11 +3,12 @@ use Rattle.std.proofs.Common.{◌≡◌, refl, sym, ap, ◌∙◌, subst, arith,
 use Rattle.std.specs.Prelude.{count_by, ◌==◌, IsTrue}
 use Rattle.std.proofs.lemmas.Bool.Decides.{nat_tests}
 use Rattle.ua_base.specs.Journal.{Entry, Wire, Tells}
+use Rattle.dataset_writer.specs.declared.writer.Writer.{Writer}
 use Rattle.pubsub_engine.specs.Samples.{Sample}
 use Rattle.pubsub_engine.specs.declared.receiving.Receiving.{Receiving}
-use Rattle.pubsub_engine.specs.Steps.{Step, Tick, Pump, moment_of, IsPump, send_entries}
+use Rattle.pubsub_engine.specs.Steps.{Step, Tick, Pump, IsPump, send_entries}
 use Rattle.pubsub_engine.specs.Publishing.{sends_of, journal}
-use Rattle.pubsub_engine.specs.Reading.{arrivals}
+use Rattle.pubsub_engine.specs.Reading.{messages_at}
 use Rattle.pubsub_engine.specs.Counts.{counted, is_sent, is_send_failed, is_got, is_long, is_broken, is_taken, is_datagram, limits}
 use Rattle.pubsub_engine.specs.Standing.{IsPublisher, HasSent, HasReceived, TellsRun}
 use Rattle.pubsub_engine.specs.Taking.{Takes}
@@ -33,7 +34,7 @@ received_tick steps ms closing sample done r limit h =
     let sends = sends_of (Tick ms closing sample done ∷ steps) in
     let more : (p : Entry → Bool) → count_by p (journal steps ++ send_entries sends done) ≡ count_by p (journal steps) + count_by p (send_entries sends done) = λ p. count-append p (journal steps) (send_entries sends done) in
     record {
-      reader = h.reader;
+      read = h.read;
       taken = omega (arith, h.taken, more is_taken, send_counts is_taken (λ d b. (send_is d b).taken) sends done);
       received = omega (arith, h.received, more is_got, send_counts is_got (λ d b. (send_is d b).got) sends done);
       broken = omega (arith, h.broken, more is_broken, send_counts is_broken (λ d b. (send_is d b).broken) sends done);
@@ -42,8 +43,8 @@ received_tick steps ms closing sample done r limit h =
     }
 
 -- a pump leaves the publisher
-pub publisher_pump : (steps : List Step) (entries : List Entry) (moment last : ℕ) (log : List (ℕ × ℕ)) (sequence : ℕ) → IsPublisher steps moment last log sequence → IsPublisher (Pump entries ∷ steps) moment last log sequence
-publisher_pump steps entries moment last log sequence p = record { moment_is = p.moment_is; last_is = p.last_is; log_is = p.log_is; sequence_is = p.sequence_is }
+pub publisher_pump : (steps : List Step) (entries : List Entry) (moment last : ℕ) (writer : Writer) (sequence : ℕ) → IsPublisher steps moment last writer sequence → IsPublisher (Pump entries ∷ steps) moment last writer sequence
+publisher_pump steps entries moment last writer sequence p = record { moment_is = p.moment_is; last_is = p.last_is; writer_is = p.writer_is; sequence_is = p.sequence_is }
 
 pub sent_pump : (steps : List Step) (entries : List Entry) (sent failed : ℕ) (is_failing : Bool) → IsPump 65536 entries → HasSent steps sent failed is_failing → HasSent (Pump entries ∷ steps) sent failed is_failing
 sent_pump steps entries sent failed is_failing pump h =
@@ -70,7 +71,7 @@ limit_pump limit limit' n false steps entries is to from before after =
 
 pub received_pump : (steps : List Step) (entries : List Entry) (old new : Receiving) (limit limit' : ℕ) → Takes entries old new → counted limit' ≡ counted (limits (Pump entries ∷ steps)) → HasReceived steps old limit → HasReceived (Pump entries ∷ steps) new limit'
 received_pump steps entries old new limit limit' t limited h = record {
-  reader = t.reader (moment_of steps) (arrivals steps) h.reader;
+  read = t.read (messages_at steps) h.read;
   taken = omega (arith, h.taken, t.taken, count-append is_taken (journal steps) entries);
   received = omega (arith, h.received, t.received, count-append is_got (journal steps) entries);
   broken = omega (arith, h.broken, t.broken, count-append is_broken (journal steps) entries);

@@ -1,26 +1,37 @@
 -- Session run, as a report shows it: what a session is when it is closed.
-use Rattle.std.specs.Prelude.{ℕ, List, [], ◌∷◌, length, take, reverse, zip, count_by, Bool, false, Option, Some, None, option_map, is_some, if◌then◌else◌}
+use Rattle.std.specs.Prelude.{ℕ, List, [], ◌∷◌, reverse, zip, count_by, find, Bool, false, ◌==◌, Option, Some, None, option_map, if◌then◌else◌}
+use Rattle.seq_number.specs.Numbers.{wire}
+use Rattle.row_words.specs.Belonging.{row_in}
 use Rattle.pubsub_model.specs.declared.reading.Break.{Break}
 use Rattle.pubsub_model.specs.declared.reading.Why.{Why}
-use Rattle.pubsub_model.specs.Records.{why, breaks}
-use Rattle.pubsub_engine.specs.Samples.{Keyed, keyed_of}
+use Rattle.pubsub_engine.specs.BuiltIn.{demo_fields}
 use Rattle.pubsub_engine.specs.declared.closed.Closed.{Closed}
+use Rattle.pubsub_engine.specs.declared.closed.HeldEnd.{HeldEnd}
 use Rattle.pubsub_engine.specs.declared.closed.State.{State}
 use Rattle.pubsub_engine.specs.declared.closed.State.TheVariants.{Paused, Operational, Error, PreOperational}
 use Rattle.pubsub_engine.specs.declared.closed.LinkEnd.{LinkEnd}
 use Rattle.pubsub_engine.specs.Steps.{Step, Tick, Pump}
 use Rattle.pubsub_engine.specs.Publishing.{sends_of, last_failed, log_at, journal}
-use Rattle.pubsub_engine.specs.Reading.{arrivals, held_frame}
+use Rattle.pubsub_engine.specs.Reading.{HeldRow, held_by, kept_at, messages_at, was_held}
 use Rattle.pubsub_engine.specs.Counts.{counted, is_sent, is_send_failed, is_got, is_long, is_broken, is_taken, limits}
 
--- what a reader holds, or why it waits
+-- the version of the data frame with this number
+abbrev pub version_of : List (ℕ × ℕ) → ℕ → Option ℕ
+version_of log number = option_map (λ entry. entry.1) (find (λ entry. wire entry.0 == number) log)
+
+-- the same of a number, if there is one
+abbrev pub version_at : List (ℕ × ℕ) → Option ℕ → Option ℕ
+version_at log None = None
+version_at log (Some number) = version_of log number
+
+-- what a reader holds, with the version that the writer's log has at its number, or why it waits
 pub data Holding : Type 0 where
-  Holds : Keyed → Holding
+  Holds : HeldRow → Option ℕ → Holding
   Waits : Why → Holding
 
-abbrev pub holding : Option Keyed → Why → Holding
-holding None why = Waits why
-holding (Some frame) why = Holds frame
+abbrev pub holding : List (ℕ × ℕ) → Option HeldRow → Why → Holding
+holding log None why = Waits why
+holding log (Some held) why = Holds held (version_at log held.number)
 
 -- everything that a report prints
 pub record Shown : Type 0 where
@@ -37,6 +48,13 @@ pub record Shown : Type 0 where
   pub recent : List Break
   pub link : LinkEnd
 
+abbrev pub row_of : HeldEnd → HeldRow
+row_of held = record { number = held.number; row = row_in demo_fields held.row.words }
+
+abbrev pub holding_of : Option HeldEnd → Why → Holding
+holding_of None why = Waits why
+holding_of (Some held) why = Holds (row_of held) held.version
+
 abbrev pub shown_of : Closed → Shown
 shown_of c = record {
   threads = c.threads.items;
@@ -47,7 +65,7 @@ shown_of c = record {
   read_group_state = c.read_group.state;
   taken = c.read_group.taken;
   reader_state = c.reader.state;
-  holding = holding (option_map keyed_of c.reader.held) c.reader.why;
+  holding = holding_of c.reader.held c.reader.why;
   breaks = c.reader.breaks;
   recent = c.reader.recent.items;
   link = c.link;
@@ -65,8 +83,9 @@ group_state steps = if send_failed steps then Error else Operational
 abbrev pub writer_state : List Step → State
 writer_state steps = if send_failed steps then Paused else Operational
 
+-- until its first message that was answered Held a reader isn't ready
 abbrev pub reader_state : List Step → State
-reader_state steps = if is_some (held_frame steps) then Operational else PreOperational
+reader_state steps = if was_held (messages_at steps) then Operational else PreOperational
 
 abbrev pub link_end : List Step → LinkEnd
 link_end steps = record {
@@ -89,8 +108,8 @@ closed threads steps = record {
   read_group_state = Operational;
   taken = counted (count_by is_taken (journal steps));
   reader_state = reader_state steps;
-  holding = holding (held_frame steps) (why (arrivals steps));
-  breaks = counted (length (breaks (arrivals steps)));
-  recent = reverse (take 8 (breaks (arrivals steps)));
+  holding = holding (log_at steps) (held_by (kept_at steps)) (kept_at steps).why;
+  breaks = (kept_at steps).breaks;
+  recent = reverse (kept_at steps).recent;
   link = link_end steps;
 }

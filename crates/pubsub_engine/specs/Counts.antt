@@ -1,7 +1,7 @@
 -- The counts of a session: they are those of its journal, and stand at the last value of a u64.
 use Rattle.std.specs.Prelude.{ℕ, ◌+◌, ◌-◌, ◌^◌, min, List, [], ◌∷◌, count_by, Bool, true, false, ◌||◌, ◌==◌, is_some, if◌then◌else◌}
 use Rattle.ua_base.specs.Journal.{Entry, Sent, SendFailed, Got, Empty, Long, ReceiveFailed}
-use Rattle.pubsub_engine.specs.Datagram.{frame_in}
+use Rattle.pubsub_engine.specs.Datagram.{message_carried}
 use Rattle.pubsub_engine.specs.Steps.{Step, Tick, Pump}
 
 abbrev pub counted : ℕ → ℕ
@@ -47,11 +47,11 @@ is_broken Empty = false
 is_broken (Long size) = false
 is_broken ReceiveFailed = true
 
--- a datagram that the read group takes: it carries a key frame of the reader's writer
+-- a datagram that the read group takes: it carries a message of the reader's writer
 abbrev pub is_taken : Entry → Bool
 is_taken (Sent bytes) = false
 is_taken SendFailed = false
-is_taken (Got bytes) = is_some (frame_in bytes)
+is_taken (Got bytes) = is_some (message_carried bytes)
 is_taken Empty = false
 is_taken (Long size) = false
 is_taken ReceiveFailed = false

@@ -2,10 +2,11 @@
 use Rattle.std.specs.Prelude.{◌≡◌, ◌⊎◌, List, [], ◌∷◌, Some}
 use Rattle.dataset_meta.specs.Rows.{IsRow}
 use Rattle.pubsub_engine.specs.BuiltIn.{demo_fields}
-use Rattle.pubsub_engine.specs.Samples.{Sample, Keyed}
+use Rattle.pubsub_engine.specs.Samples.{Sample}
 use Rattle.pubsub_engine.specs.Steps.{Step, Tick, Pump}
 use Rattle.pubsub_engine.specs.Publishing.{sampled_in, log_at}
-use Rattle.pubsub_engine.specs.Report.{version_of}
+use Rattle.pubsub_engine.specs.Reading.{HeldRow}
+use Rattle.pubsub_engine.specs.Closing.{version_at}
 
 -- some tick of these steps had this sample
 abbrev pub HasSample : List Step → Sample → Type 0
@@ -19,9 +20,9 @@ SampleRows [] = Unit {0}
 SampleRows (Tick ms closing now done ∷ before) = IsRow demo_fields (sampled_in now).row × SampleRows before
 SampleRows (Pump entries ∷ before) = SampleRows before
 
--- the frame's row is that of the version which the log has at its number
-pub record IsPublished (steps : List Step) (frame : Keyed) : Type 0 where
+-- the row is that of the version which the log has at its number
+pub record IsPublished (steps : List Step) (held : HeldRow) : Type 0 where
   pub sample : Sample
   pub sampled : HasSample steps sample
-  pub row_is : frame.row ≡ sample.row
-  pub logged : version_of (log_at steps) frame.number ≡ Some sample.version
+  pub row_is : held.row ≡ sample.row
+  pub logged : version_at (log_at steps) held.number ≡ Some sample.version

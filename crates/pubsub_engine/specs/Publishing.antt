@@ -5,15 +5,16 @@ use Rattle.seq_number.specs.Numbers.{wire}
 use Rattle.ua_base.specs.Journal.{Entry}
 use Rattle.dataset_meta.specs.Rows.{opening_row, cons_if}
 use Rattle.pubsub_model.specs.Frames.{Frame}
-use Rattle.pubsub_model.specs.Cadence.{Settings, Turn, Deed as WriterDeed, Took, Answered, cadence, log_of}
-use Rattle.pubsub_engine.specs.BuiltIn.{demo_fields}
+use Rattle.pubsub_model.specs.Cadence.{Settings, Turn, Deed as WriterDeed, Took, cadence, log_of}
+use Rattle.dataset_writer.specs.Sending.{model_settings, latest_answer}
+use Rattle.pubsub_engine.specs.BuiltIn.{demo_fields, demo_settings}
 use Rattle.pubsub_engine.specs.Samples.{Sample}
-use Rattle.pubsub_engine.specs.Datagram.{datagram, message_of}
+use Rattle.pubsub_engine.specs.Datagram.{datagram, demo_message}
 use Rattle.pubsub_engine.specs.Steps.{Step, Tick, Pump, moment_of, IsPump, send_entries}
 
 -- the writer and the publishing interval of the built-in configuration
 abbrev pub built_in : Settings
-built_in = record { first_number = 0; key_frame_count = 1; keep_alive = 0 }
+built_in = model_settings demo_settings
 
 abbrev pub interval : ℕ
 interval = 100
@@ -54,24 +55,23 @@ last_moment (turn ∷ before) = if turn.took.closing then last_moment before els
 abbrev pub is_due : List Deed → ℕ → Bool
 is_due deeds now = nat_le interval (now - last_moment (turns_in deeds))
 
--- the datagrams of a frame, where the group has made so many before
-abbrev pub datagrams_with : ℕ → Frame → List (List ℕ)
-datagrams_with made frame = datagram (wire made) (message_of frame) ∷ []
-
-abbrev pub first_answer : List Answered → Option Frame
-first_answer [] = None
-first_answer (a ∷ before) = a.answer
+-- the datagrams of a writer's answer, from this sequence number on
+abbrev pub datagrams_with : ℕ → Option Frame → List (List ℕ)
+datagrams_with sequence answer = option_map_or (λ frame. datagram sequence (demo_message frame) ∷ []) answer []
 
 -- the datagrams of a turn: Cadence's answer, spelled
 abbrev pub datagrams_of : List Deed → Turn → List (List ℕ)
-datagrams_of deeds turn = option_map_or (datagrams_with (made_in (turns_in deeds))) (first_answer (cadence built_in (Took turn ∷ writer_past deeds))) []
+datagrams_of deeds turn = datagrams_with (wire (made_in (turns_in deeds))) (latest_answer (cadence built_in (Took turn ∷ writer_past deeds)))
 
 -- what a tick samples of the data set
 abbrev pub sampled_in : List Sample → Sample
 sampled_in sample = slice_index_or sample 0 (record { version = 0; row = opening_row demo_fields })
 
+abbrev pub writer_turn : ℕ → Bool → Sample → Turn
+writer_turn now closing sample = record { moment = now; row = sample.row; version = sample.version; closing = closing }
+
 abbrev pub turn_at : ℕ → Bool → List Sample → Turn
-turn_at now closing sample = record { moment = now; row = (sampled_in sample).row; version = (sampled_in sample).version; closing = closing }
+turn_at now closing sample = writer_turn now closing (sampled_in sample)
 
 -- the group has its turn where it is due, or closing
 abbrev pub turned_on : ℕ → Bool → List Sample → List Deed → List Deed

@@ -1,38 +1,107 @@
--- Session run, the subscriber: what comes to the reader (Arrivals), and what it holds of it (Records). Lists have the latest first.
-use Rattle.std.specs.Prelude.{ℕ, List, [], ◌∷◌, ◌++◌, reverse, filter_map, Option, None, option_map}
-use Rattle.seq_number.specs.Numbers.{wire, place_from}
+-- Session run, the subscriber: the messages that come to the reader and what it makes of them, step by step (the plain reading), and, for Arrivals, the
+-- frames that these messages stand for. Lists have the latest first.
+use Rattle.std.specs.Prelude.{ℕ, ◌+◌, List, [], ◌∷◌, ◌++◌, reverse, filter_map, Bool, true, false, ◌||◌, ◌==◌, Option, Some, None, option_map, if◌then◌else◌}
+use Rattle.seq_number.specs.Numbers.{place_from}
 use Rattle.ua_base.specs.Journal.{Entry, Sent, SendFailed, Got, Empty, Long, ReceiveFailed}
-use Rattle.pubsub_model.specs.Frames.{Whole}
-use Rattle.pubsub_model.specs.Records.{Item, Arrival, Came, Held, held, at}
-use Rattle.pubsub_engine.specs.Samples.{Keyed}
-use Rattle.pubsub_engine.specs.Datagram.{frame_in}
+use Rattle.ua_values.specs.declared.value.Value.{Value}
+use Rattle.pubsub_model.specs.Frames.{Frame, Whole, Change, Alive}
+use Rattle.pubsub_model.specs.Records.{Arrival, Came, at}
+use Rattle.frame_codec.specs.Messages as messages
+use Rattle.frame_codec.specs.Messages.{Content, Message}
+use Rattle.dataset_reader.specs.declared.took.Numbering.TheVariants as numberings
+use Rattle.dataset_reader.specs.declared.took.Outcome.{Outcome}
+use Rattle.dataset_reader.specs.declared.took.Outcome.TheVariants as outcomes
+use Rattle.dataset_reader.specs.declared.took.Took.{Took}
+use Rattle.dataset_reader.specs.Kept.{Kept, fresh}
+use Rattle.dataset_reader.specs.Cases.{frame_case}
+use Rattle.pubsub_engine.specs.BuiltIn.{demo_meta}
+use Rattle.pubsub_engine.specs.Datagram.{message_carried}
 use Rattle.pubsub_engine.specs.Steps.{Step, Tick, Pump, moment_of}
 use Rattle.pubsub_engine.specs.Publishing.{built_in}
 
--- a key frame that came at a moment: its number stands for a place from the writer's first number on
-abbrev pub item_of : ℕ → Keyed → Item
-item_of moment frame = at moment None (Whole (place_from built_in.first_number frame.number) frame.row)
+-- ---- the plain reading
 
 -- what a journal's entry brings to the reader
-abbrev pub arrival_in : ℕ → Entry → Option Arrival
-arrival_in moment (Got bytes) = option_map (λ frame. Came (item_of moment frame)) (frame_in bytes)
-arrival_in moment (Sent bytes) = None
-arrival_in moment SendFailed = None
-arrival_in moment Empty = None
-arrival_in moment (Long size) = None
-arrival_in moment ReceiveFailed = None
+abbrev pub brought_by : Entry → Option Message
+brought_by (Got bytes) = message_carried bytes
+brought_by (Sent bytes) = None
+brought_by SendFailed = None
+brought_by Empty = None
+brought_by (Long size) = None
+brought_by ReceiveFailed = None
 
-abbrev pub arrivals_in : ℕ → List Entry → List Arrival
-arrivals_in moment entries = reverse (filter_map (arrival_in moment) entries)
+abbrev pub messages_in : List Entry → List Message
+messages_in entries = reverse (filter_map brought_by entries)
+
+abbrev pub messages_at : List Step → List Message
+messages_at [] = []
+messages_at (Tick ms closing sample done ∷ before) = messages_at before
+messages_at (Pump entries ∷ before) = messages_in entries ++ messages_at before
+
+-- one step of the reader, which goes by message numbers: what it keeps and answers
+abbrev pub reading_step : Kept → Message → Kept × Took
+reading_step kept message = frame_case numberings.Message demo_meta.major kept message None
+
+-- what the reader keeps of these messages
+abbrev pub kept_of : List Message → Kept
+kept_of [] = fresh
+kept_of (message ∷ before) = (reading_step (kept_of before) message).0
+
+abbrev pub is_held : Outcome → Bool
+is_held outcomes.Held = true
+is_held outcomes.Alive = false
+is_held outcomes.Older = false
+is_held (outcomes.Waiting why) = false
+is_held (outcomes.WrongMajor got) = false
+is_held outcomes.Unnumbered = false
+
+-- a message among these was answered Held
+abbrev pub was_held : List Message → Bool
+was_held [] = false
+was_held (message ∷ before) = is_held (reading_step (kept_of before) message).1.outcome || was_held before
+
+-- what the reader keeps after these steps
+abbrev pub kept_at : List Step → Kept
+kept_at steps = kept_of (messages_at steps)
+
+-- a row that is held, with the number of the message that it was last made of
+pub record HeldRow : Type 0 where
+  pub number : Option ℕ
+  pub row : List Value
+
+abbrev pub held_by : Kept → Option HeldRow
+held_by kept = option_map (λ row. record { number = kept.number; row = row }) kept.row
+
+-- ---- Arrivals
+
+-- the frame with this number: it stands for a place from the writer's first number on, and that of a keep-alive, which tells the next place, for one behind it
+abbrev pub frame_at : ℕ → Content → Frame
+frame_at number (messages.Whole row) = Whole (place_from built_in.first_number number) row
+frame_at number (messages.Change patch) = Change (place_from built_in.first_number number) patch
+frame_at number messages.Alive = Alive (place_from (built_in.first_number + 1) number)
+
+-- the data set's major version, or none
+abbrev pub agrees : Option ℕ → Bool
+agrees None = true
+agrees (Some major) = major == demo_meta.major
+
+-- a message without a number gives no item
+abbrev pub numbered_frame : Option ℕ → Content → Option Frame
+numbered_frame None content = None
+numbered_frame (Some number) content = Some (frame_at number content)
+
+-- nor does one of another major version
+abbrev pub frame_of : Message → Option Frame
+frame_of message = if agrees message.major then numbered_frame message.number message.content else None
+
+abbrev pub arrival_of : ℕ → Message → Option Arrival
+arrival_of moment message = option_map (λ frame. Came (at moment None frame)) (frame_of message)
+
+-- the items that these messages, which came at a moment, give
+abbrev pub arrivals_in : ℕ → List Message → List Arrival
+arrivals_in moment messages = filter_map (arrival_of moment) messages
 
 abbrev pub arrivals : List Step → List Arrival
 arrivals [] = []
 arrivals (Tick ms closing sample done ∷ before) = arrivals before
-arrivals (Pump entries ∷ before) = arrivals_in (moment_of before) entries ++ arrivals before
-
--- what is held, with its message number
-abbrev pub numbered : Held → Keyed
-numbered h = record { number = wire h.place; row = h.row }
-
-abbrev pub held_frame : List Step → Option Keyed
-held_frame steps = option_map numbered (held (arrivals steps))
+arrivals (Pump entries ∷ before) = arrivals_in (moment_of before) (messages_in entries) ++ arrivals before

@@ -1,7 +1,6 @@
 -- Report text: the bytes of a report.
-use Rattle.std.specs.Prelude.{ℕ, List, [], ◌∷◌, ◌++◌, length, Option, Some, None, codes, find, flat_map, option_map, slice_index_or, ◌==◌}
+use Rattle.std.specs.Prelude.{ℕ, List, [], ◌∷◌, ◌++◌, length, Option, Some, None, codes, flat_map, slice_index_or}
 use Rattle.std.specs.Fmt.{decimal}
-use Rattle.seq_number.specs.Numbers.{wire}
 use Rattle.ua_values.specs.declared.value.Value.{Value}
 use Rattle.ua_values.specs.declared.value.Value.TheVariants.{UInt32}
 use Rattle.pubsub_model.specs.declared.reading.Break.{Break}
@@ -40,16 +39,9 @@ log_text log = flat_map (λ entry. 32 ∷ (decimal entry.0 ++ 61 ∷ decimal ent
 abbrev pub breaks_text : List Break → List ℕ
 breaks_text breaks = flat_map (λ b. 32 ∷ (decimal b.expected ++ 47 ∷ decimal b.got)) breaks
 
--- the version of the data frame with this number
-abbrev pub version_of : List (ℕ × ℕ) → ℕ → Option ℕ
-version_of log number = option_map (λ entry. entry.1) (find (λ entry. wire entry.0 == number) log)
-
 abbrev pub number_or_dash : Option ℕ → List ℕ
 number_or_dash None = 45 ∷ []
 number_or_dash (Some n) = decimal n
-
-abbrev pub version_text : List (ℕ × ℕ) → ℕ → List ℕ
-version_text log number = number_or_dash (version_of log number)
 
 -- the number of a UInt32, which the four fields are
 abbrev pub number_of : Value → ℕ
@@ -63,9 +55,9 @@ abbrev pub fields_text : List Value → List ℕ
 fields_text row = codes "a=" ++ number_text row 0 ++ codes " b=" ++ number_text row 1 ++ codes " c=" ++ number_text row 2 ++ codes " d=" ++ number_text row 3
 
 -- what a reader holds, or why it waits
-unfoldable pub held_text : List (ℕ × ℕ) → Holding → List ℕ
-held_text log (Waits why) = codes " waits " ++ why_text why
-held_text log (Holds frame) = codes " number " ++ decimal frame.number ++ codes " version " ++ version_text log frame.number ++ codes ": " ++ fields_text frame.row
+unfoldable pub held_text : Holding → List ℕ
+held_text (Waits why) = codes " waits " ++ why_text why
+held_text (Holds held version) = codes " number " ++ number_or_dash held.number ++ codes " version " ++ number_or_dash version ++ codes ": " ++ fields_text held.row
 
 unfoldable pub history_line : List ℕ → List ℕ
 history_line threads = codes "history demo " ++ decimal (length threads) ++ codes ":" ++ threads_text threads ++ feed
@@ -79,8 +71,8 @@ writer_line state log = codes "writer w1 " ++ state_text state ++ codes " " ++ d
 unfoldable pub read_group_line : State → ℕ → List ℕ
 read_group_line state taken = codes "readgroup rg1 " ++ state_text state ++ codes " taken " ++ decimal taken ++ codes ":" ++ feed
 
-unfoldable pub reader_line : State → List (ℕ × ℕ) → Holding → List ℕ
-reader_line state log held = codes "reader r1 " ++ state_text state ++ held_text log held ++ feed
+unfoldable pub reader_line : State → Holding → List ℕ
+reader_line state held = codes "reader r1 " ++ state_text state ++ held_text held ++ feed
 
 unfoldable pub gaps_line : ℕ → List Break → List ℕ
 gaps_line breaks recent = codes "gaps r1 " ++ decimal breaks ++ codes ":" ++ breaks_text recent ++ feed
@@ -96,4 +88,4 @@ end_line = codes "end" ++ feed
 abbrev pub report_text : Shown → List ℕ
 report_text s =
     history_line s.threads ++ group_line s.group_state s.sent ++ writer_line s.writer_state s.log ++ read_group_line s.read_group_state s.taken
-    ++ reader_line s.reader_state s.log s.holding ++ gaps_line s.breaks s.recent ++ link_line s.link ++ end_line
+    ++ reader_line s.reader_state s.holding ++ gaps_line s.breaks s.recent ++ link_line s.link ++ end_line

@@ -1,26 +1,26 @@
 -- Where a session stands after these steps, over a link that may tell its journal.
-use Rattle.std.specs.Prelude.{◌≡◌, ◌<◌, ◌^◌, ℕ, List, ◌∷◌, ◌++◌, length, take, reverse, count_by, Option, Some, Bool, true, option_map}
-use Rattle.std.specs.List.{AllByRecursion}
+use Rattle.std.specs.Prelude.{◌≡◌, ℕ, List, ◌∷◌, ◌++◌, length, count_by, Option, Some, Bool}
 use Rattle.seq_number.specs.Numbers.{wire}
 use Rattle.ua_base.specs.Journal.{Wire, Tells}
-use Rattle.pubsub_model.specs.declared.reading.Break.{Break}
-use Rattle.pubsub_model.specs.declared.reading.Why.TheVariants.{Start}
-use Rattle.pubsub_model.specs.Frames.{is_whole}
-use Rattle.pubsub_model.specs.Records.{Item, Arrival, since_cut, cut_reason, records, held, breaks, place_in}
-use Rattle.pubsub_engine.specs.Samples.{Sample, Keyed, keyed_of}
+use Rattle.frame_codec.specs.Messages.{Message}
+use Rattle.dataset_writer.specs.declared.writer.Writer.{Writer}
+use Rattle.dataset_writer.specs.Standing.{IsWriter}
+use Rattle.dataset_reader.specs.Reader.{kept_by}
+use Rattle.pubsub_engine.specs.BuiltIn.{demo_fields, demo_settings}
+use Rattle.pubsub_engine.specs.Samples.{Sample}
 use Rattle.pubsub_engine.specs.declared.receiving.Receiving.{Receiving}
 use Rattle.pubsub_engine.specs.declared.session.Session.{Session}
 use Rattle.pubsub_engine.specs.Steps.{Step, Tick, moment_of, send_entries}
-use Rattle.pubsub_engine.specs.Publishing.{deeds, turns_in, made_in, last_moment, log_at, sends_of, journal, IsRun}
-use Rattle.pubsub_engine.specs.Reading.{arrivals, numbered}
+use Rattle.pubsub_engine.specs.Publishing.{deeds, turns_in, writer_past, made_in, last_moment, sends_of, journal, IsRun}
+use Rattle.pubsub_engine.specs.Reading.{messages_at, kept_of, was_held}
 use Rattle.pubsub_engine.specs.Counts.{counted, is_sent, is_send_failed, is_got, is_long, is_broken, is_taken, limits}
 use Rattle.pubsub_engine.specs.Closing.{send_failed}
 
 -- the publisher's fields after these steps
-pub record IsPublisher (steps : List Step) (moment last : ℕ) (log : List (ℕ × ℕ)) (sequence : ℕ) : Type 0 where
+pub record IsPublisher (steps : List Step) (moment last : ℕ) (writer : Writer) (sequence : ℕ) : Type 0 where
   pub moment_is : moment ≡ moment_of steps
   pub last_is : last ≡ last_moment (turns_in (deeds steps))
-  pub log_is : log ≡ log_at steps
+  pub writer_is : IsWriter demo_fields demo_settings (writer_past (deeds steps)) writer
   pub sequence_is : sequence ≡ wire (made_in (turns_in (deeds steps)))
 
 -- and what came of its sends
@@ -30,29 +30,21 @@ pub record HasSent (steps : List Step) (sent failed : ℕ) (is_failing : Bool) :
   pub failing_is : is_failing ≡ send_failed steps
 
 -- a tick after these steps: how its sends ended, the publisher's fields after it, and what its sends left in the journal
-pub record Ticks (steps : List Step) (ms : ℕ) (closing : Bool) (sample : List Sample) (moment last : ℕ) (log : List (ℕ × ℕ)) (sequence sent failed : ℕ) (is_failing : Bool) (before after : Option Wire) : Type 0 where
+pub record Ticks (steps : List Step) (ms : ℕ) (closing : Bool) (sample : List Sample) (moment last : ℕ) (writer : Writer) (sequence sent failed : ℕ) (is_failing : Bool) (before after : Option Wire) : Type 0 where
   pub done : List Bool
   pub each : length done ≡ length (sends_of (Tick ms closing sample done ∷ steps))
-  pub publisher : IsPublisher (Tick ms closing sample done ∷ steps) moment last log sequence
+  pub publisher : IsPublisher (Tick ms closing sample done ∷ steps) moment last writer sequence
   pub has_sent : HasSent (Tick ms closing sample done ∷ steps) sent failed is_failing
   pub told : Tells before after (λ x y. y.journal ≡ x.journal ++ send_entries (sends_of (Tick ms closing sample done ∷ steps)) done)
 
--- a key frame whose place is its number
-pub record IsKey (item : Item) : Type 0 where
-  pub whole : is_whole item.frame ≡ true
-  pub small : place_in item < 2 ^ 16
-
--- a reader of key frames, after these arrivals
-pub record IsReader (arrivals : List Arrival) (last : Option Keyed) (count : ℕ) (recent : List Break) : Type 0 where
-  pub keys : AllByRecursion IsKey (records (since_cut arrivals))
-  pub uncut : cut_reason arrivals ≡ Start
-  pub holds : last ≡ option_map numbered (held arrivals)
-  pub counts : counted count ≡ counted (length (breaks arrivals))
-  pub shows : recent ≡ reverse (take 8 (breaks arrivals))
+-- what the receiving side keeps of these messages
+pub record HasRead (messages : List Message) (receiving : Receiving) : Type 0 where
+  pub kept : kept_by demo_fields receiving.reader ≡ kept_of messages
+  pub ready : receiving.ready ≡ was_held messages
 
 -- the receiving side after these steps
 pub record HasReceived (steps : List Step) (receiving : Receiving) (limit : ℕ) : Type 0 where
-  pub reader : IsReader (arrivals steps) (option_map keyed_of receiving.reader.last) receiving.reader.breaks receiving.reader.recent.items
+  pub read : HasRead (messages_at steps) receiving
   pub taken : counted receiving.taken ≡ counted (count_by is_taken (journal steps))
   pub received : counted receiving.received ≡ counted (count_by is_got (journal steps))
   pub broken : counted receiving.broken ≡ counted (count_by is_broken (journal steps))
@@ -67,6 +59,6 @@ TellsRun steps told = (wire : Wire) → told ≡ Some wire → wire.journal ≡ 
 pub record Stands (steps : List Step) (told : Option Wire) (session : Session) : Type 0 where
   pub run : IsRun steps
   pub entries : TellsRun steps told
-  pub publisher : IsPublisher steps session.publisher.moment session.publisher.last session.publisher.log.items session.publisher.sequence
+  pub publisher : IsPublisher steps session.publisher.moment session.publisher.last session.publisher.writer session.publisher.sequence
   pub sent : HasSent steps session.publisher.sent session.publisher.failed session.publisher.failing
   pub receiving : HasReceived steps session.receiving session.limit

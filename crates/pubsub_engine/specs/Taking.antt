@@ -1,12 +1,11 @@
 -- What receives do to the receiving side.
-use Rattle.std.specs.Prelude.{◌≡◌, ◌≤◌, ◌<◌, ◌+◌, ℕ, List, [], ◌∷◌, ◌++◌, length, count_by, option_map}
+use Rattle.std.specs.Prelude.{◌≡◌, ◌≤◌, ◌<◌, ◌+◌, List, [], ◌∷◌, ◌++◌, length, count_by}
 use Rattle.ua_base.specs.Journal.{Entry, Sent, SendFailed, Got, Empty, Long, ReceiveFailed}
-use Rattle.pubsub_model.specs.Records.{Arrival}
+use Rattle.frame_codec.specs.Messages.{Message}
 use Rattle.pubsub_engine.specs.declared.receiving.Receiving.{Receiving}
-use Rattle.pubsub_engine.specs.Reading.{arrivals_in}
+use Rattle.pubsub_engine.specs.Reading.{messages_in}
 use Rattle.pubsub_engine.specs.Counts.{counted, is_got, is_long, is_broken, is_taken}
-use Rattle.pubsub_engine.specs.Samples.{keyed_of}
-use Rattle.pubsub_engine.specs.Standing.{IsReader}
+use Rattle.pubsub_engine.specs.Standing.{HasRead}
 
 -- the entry of a receive into a buffer of 65,536 bytes
 abbrev pub IsReceive : Entry → Type 0
@@ -19,8 +18,7 @@ IsReceive ReceiveFailed = Unit {0}
 
 -- these receives, in order, lead from old to new
 pub record Takes (entries : List Entry) (old new : Receiving) : Type 0 where
-  pub reader : (moment : ℕ) (arrivals : List Arrival) → IsReader arrivals (option_map keyed_of old.reader.last) old.reader.breaks old.reader.recent.items
-      → IsReader (arrivals_in moment entries ++ arrivals) (option_map keyed_of new.reader.last) new.reader.breaks new.reader.recent.items
+  pub read : (before : List Message) → HasRead before old → HasRead (messages_in entries ++ before) new
   pub taken : counted new.taken ≡ counted (old.taken + count_by is_taken entries)
   pub received : counted new.received ≡ counted (old.received + count_by is_got entries)
   pub broken : counted new.broken ≡ counted (old.broken + count_by is_broken entries)

@@ -1,11 +1,12 @@
 //! What a closed session shows in its report.
 ghost use Rattle.std.specs.Prelude.{◌≡◌};
-ghost use Rattle.pubsub_engine.specs.BuiltIn.{demo_meta};
+ghost use Rattle.row_words.specs.Belonging.{Belongs};
+ghost use Rattle.pubsub_engine.specs.BuiltIn.{demo_fields, demo_meta};
 
-use crate::KeyFrame;
 use arrayvec::ArrayVec;
 use dataset_meta::Meta;
 use pubsub_model::{Break, Why};
+use row_words::Row;
 
 /// The state of a component (OPC 10000-14, PubSubState).
 #[derive(Clone, Copy, Debug, PartialEq, Eq)]
@@ -38,11 +39,21 @@ pub struct ReadGroupEnd {
     pub taken: u64,
 }
 
+/// A row that a reader holds, the number of the message that it was last made of, and the version that the writer's log has
+/// at that number.
+#[derive(Clone, Copy, Debug, PartialEq, Eq)]
+pub struct HeldEnd {
+    pub number: Option<u16>,
+    pub version: Option<u64>,
+    pub row: Row,
+    ghost belongs: { Belongs demo_fields row.words },
+}
+
 /// The reader: what it holds or else why it waits, and its breaks, of which the last eight are kept.
 #[derive(Drop)]
 pub struct ReaderEnd {
     pub state: State,
-    pub held: Option<KeyFrame>,
+    pub held: Option<HeldEnd>,
     pub why: Why,
     pub breaks: u64,
     pub recent: ArrayVec<Break, 8>,

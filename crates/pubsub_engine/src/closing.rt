@@ -1,12 +1,22 @@
 //! The end of a session.
-ghost use Rattle.std.specs.Prelude.{◌≡◌, ◌≤◌, ◌-◌, ◌+◌, ℕ, List, Option, IfOk, length, replicate, slice_set, is_some, if◌then◌else◌};
+ghost use Rattle.std.specs.Prelude.{◌≡◌, ◌≤◌, ◌-◌, ◌+◌, ℕ, List, Option, IfOk, length, replicate, reverse, slice_set, if◌then◌else◌};
 ghost use Rattle.ua_base.specs.Journal.{Wire};
+ghost use Rattle.dataset_meta.specs.declared.field.Field.{Field};
+ghost use Rattle.pubsub_model.specs.declared.reading.Why.{Why as AnyWhy};
+ghost use Rattle.dataset_reader.specs.Reader.{kept_by, IsReaderOf};
+ghost use Rattle.pubsub_engine.specs.BuiltIn.{demo_fields};
+ghost use Rattle.pubsub_engine.specs.Reading.{held_by};
+ghost use Rattle.pubsub_engine.specs.Closing.{version_of, version_at, holding, holding_of};
 ghost use Rattle.pubsub_engine.specs.Steps.{Step};
 ghost use Rattle.pubsub_engine.specs.Authored.{answers_of, IsAuthored, filled, filled_by};
 
-use crate::closed::{Closed, GroupEnd, LinkEnd, ReadGroupEnd, ReaderEnd, State, WriterEnd};
-use crate::{Done, Reader, Session};
-use pubsub_model::Why;
+use crate::closed::{
+    Closed, GroupEnd, HeldEnd, LinkEnd, ReadGroupEnd, ReaderEnd, State, WriterEnd,
+};
+use crate::{Done, Receiving, Session};
+use arrayvec::ArrayVec;
+use dataset_reader::Reader;
+use pubsub_model::Break;
 use std::alloc::Global;
 use ua_base::NoMemory;
 
@@ -40,21 +50,76 @@ fn authors(alloc: Global, dones: &[Done], count: u64) -> Result<Vec<u8>, NoMemor
     Ok(threads)
 }
 
-fn reader_end(reader: Reader) -> ReaderEnd
-    ensures { (result.held ≡ reader.last) × (result.why ≡ Why.Start) × (result.breaks ≡ reader.breaks) × (result.recent.items ≡ reader.recent.items)
-        × (result.state ≡ (if is_some reader.last then State.Operational else State.PreOperational)) }
+/// The version of the data frame with this number.
+fn version_of(log: &[(u64, u64)], number: u16) -> Option<u64>
+    ensures { result ≡ version_of log.now number }
 {
-    let state = if reader.last.is_some() {
+    for (place, version) in log {
+        if place % 65_536 == number as u64 {
+            return Some(*version);
+        }
+    }
+    None
+}
+
+fn version_at(log: &[(u64, u64)], number: Option<u16>) -> Option<u64>
+    ensures { result ≡ version_at log.now number }
+{
+    match number {
+        Some(number) => version_of(log, number),
+        None => None,
+    }
+}
+
+/// What a reader holds.
+fn held_end(reader: &Reader, log: &[(u64, u64)]) -> Option<HeldEnd>
+    requires { IsReaderOf demo_fields reader.now }
+    ensures { (why : AnyWhy) → holding_of result why ≡ holding log.now (held_by (kept_by demo_fields reader.now)) why }
+{
+    let Some(row) = reader.row() else {
+        return None;
+    };
+    let number = reader.number();
+    Some(HeldEnd {
+        number,
+        version: version_at(log, number),
+        row: *row,
+    })
+}
+
+/// The last eight breaks, the oldest first.
+fn recent_breaks(reader: &Reader) -> ArrayVec<Break, 8>
+    ensures { (fields : List Field) → result.items ≡ reverse (kept_by fields reader.now).recent }
+{
+    let mut recent = ArrayVec::new();
+    match recent.try_extend_from_slice(reader.recent()) {
+        Ok(()) => recent,
+        Err(_) => unreachable!(),
+    }
+}
+
+/// The state of a reader, which isn't ready before a message was answered Held.
+fn reader_state(ready: bool) -> State
+    ensures { result ≡ (if ready then State.Operational else State.PreOperational) }
+{
+    if ready {
         State::Operational
     } else {
         State::PreOperational
-    };
+    }
+}
+
+fn reader_end(receiving: &Receiving, log: &[(u64, u64)]) -> ReaderEnd
+    ensures { let kept = kept_by demo_fields receiving.now.reader in (holding_of result.held result.why ≡ holding log.now (held_by kept) kept.why) × (result.breaks ≡ kept.breaks) × (result.recent.items ≡ reverse kept.recent)
+        × (result.state ≡ (if receiving.now.ready then State.Operational else State.PreOperational)) }
+{
+    let reader = &receiving.reader;
     ReaderEnd {
-        state,
-        held: reader.last,
-        why: Why::Start,
-        breaks: reader.breaks,
-        recent: reader.recent,
+        state: reader_state(receiving.ready),
+        held: held_end(reader, log),
+        why: reader.why(),
+        breaks: reader.breaks(),
+        recent: recent_breaks(reader),
     }
 }
 
@@ -69,6 +134,12 @@ fn states(failing: bool) -> (State, State)
     }
 }
 
+fn copied(alloc: Global, log: &[(u64, u64)]) -> Result<Vec<(u64, u64)>, NoMemory>
+    ensures { IfOk result (λ copy. copy.items ≡ log.now) }
+{
+    Ok(log.to_vec(alloc)?)
+}
+
 impl Session {
     ghost use Rattle.pubsub_engine.specs.Standing.{Stands};
     ghost use Rattle.pubsub_engine.specs.Closing.{shown_of, closed};
@@ -81,6 +152,8 @@ impl Session {
         let threads = authors(alloc, dones, self.sampled.version)?;
         let publisher = self.publisher;
         let receiving = self.receiving;
+        let log = copied(alloc, publisher.writer.log())?;
+        let reader = reader_end(&receiving, &log);
         let (group, writer) = states(publisher.failing);
         Ok(Closed {
             meta: self.meta,
@@ -89,15 +162,12 @@ impl Session {
                 state: group,
                 sent: publisher.sent,
             },
-            writer: WriterEnd {
-                state: writer,
-                log: publisher.log,
-            },
+            writer: WriterEnd { state: writer, log },
             read_group: ReadGroupEnd {
                 state: State::Operational,
                 taken: receiving.taken,
             },
-            reader: reader_end(receiving.reader),
+            reader,
             link: LinkEnd {
                 sent: publisher.sent,
                 failed: publisher.failed,

@@ -1,14 +1,12 @@
 //! The datagrams of the built-in configuration.
-ghost use Rattle.std.specs.Prelude.{◌≡◌, ◌+◌, ◌≤◌, IsTrue, length, take, option_map};
+ghost use Rattle.std.specs.Prelude.{◌≡◌, ◌+◌, ◌≤◌, IsTrue, Some, None, length, take, drop, option_map, if◌then◌else◌};
 ghost use Rattle.ua_binary.specs.Writing.{Puts};
 ghost use Rattle.frame_codec.specs.Messages.{IsFrameOf, message_in};
 ghost use Rattle.pubsub_engine.specs.BuiltIn.{demo_fields, demo_meta};
-ghost use Rattle.pubsub_engine.specs.Datagram.{header, datagram, has_header, key_in, frame_in};
-ghost use Rattle.pubsub_engine.specs.Samples.{keyed_of};
+ghost use Rattle.pubsub_engine.specs.Datagram.{header, datagram, has_header};
 
-use crate::KeyFrame;
 use dataset_meta::Meta;
-use frame_codec::{Frame, FrameKind, MAX_LEN, read_frame, write_frame};
+use frame_codec::{Frame, MAX_LEN, write_frame};
 use ua_binary::Pen;
 
 /// UADPFlags: version 1, with PublisherId, GroupHeader and PayloadHeader.
@@ -82,32 +80,12 @@ fn is_ours(bytes: &[u8]) -> bool
         && bytes[7..10] == [1, ID[0], ID[1]]
 }
 
-/// The key frame that a frame is, where it has a number and isn't of another major version.
-fn key_frame(meta: &Meta, frame: &Frame) -> Option<KeyFrame>
-    requires meta { meta.now ≡ demo_meta }
-    requires frame { IsFrameOf demo_fields frame.now }
-    ensures { option_map keyed_of result ≡ key_in (message_in demo_fields frame.now) }
-{
-    if frame.major.is_some_and(|major| major != meta.major()) {
-        return None;
-    }
-    match (frame.number, &frame.kind) {
-        (Some(number), FrameKind::Whole(row)) => Some(KeyFrame { number, row: *row }),
-        _ => None,
-    }
-}
-
-/// The key frame that a datagram carries.
-#[tactic(auto, unfolding(crate::specs::Datagram::frame_in))]
-pub fn read_datagram(meta: &Meta, bytes: &[u8]) -> Option<KeyFrame>
-    requires { meta.now ≡ demo_meta }
-    ensures { option_map keyed_of result ≡ frame_in bytes.now }
+/// The message in a datagram with the header of the built-in configuration.
+pub fn message_bytes(bytes: &[u8]) -> Option<&[u8]>
+    ensures { option_map (λ message. message.now) result ≡ (if has_header bytes.now then Some (drop 10 bytes.now) else None) }
 {
     if !is_ours(bytes) {
         return None;
     }
-    let Ok(frame) = read_frame(meta, &bytes[HEADER_LEN..]) else {
-        return None;
-    };
-    key_frame(meta, &frame)
+    Some(&bytes[HEADER_LEN..])
 }

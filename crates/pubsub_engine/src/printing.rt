@@ -1,15 +1,14 @@
 //! The report of a closed session.
-ghost use Rattle.std.specs.Prelude.{◌≡◌, ◌++◌, ◌+◌, ◌∷◌, [], ℕ, List, IfOk, IsOk, OnOk, string_bytes, codes, option_map, find, ◌==◌, ◌<◌, slice_index_or};
+ghost use Rattle.std.specs.Prelude.{◌≡◌, ◌++◌, ◌+◌, ◌∷◌, [], ℕ, List, IfOk, IsOk, OnOk, string_bytes, codes, ◌<◌, slice_index_or};
 ghost use Rattle.ua_values.specs.declared.value.Value.TheVariants.{UInt32};
-ghost use Rattle.seq_number.specs.Numbers.{wire};
 ghost use Rattle.row_words.specs.Belonging.{Belongs, row_in};
 ghost use Rattle.pubsub_engine.specs.BuiltIn.{demo_fields, demo_meta};
-ghost use Rattle.pubsub_engine.specs.Samples.{keyed_of};
-ghost use Rattle.pubsub_engine.specs.Report.{state_text, why_text, threads_text, log_text, breaks_text, version_text, number_of, fields_text, held_text, history_line, group_line, writer_line, read_group_line, reader_line, gaps_line, link_line, end_line, report_text};
-ghost use Rattle.pubsub_engine.specs.Closing.{shown_of, holding};
+ghost use Rattle.pubsub_engine.specs.Report.{state_text, why_text, threads_text, log_text, breaks_text, number_or_dash, number_of, fields_text, held_text, history_line, group_line, writer_line, read_group_line, reader_line, gaps_line, link_line, end_line, report_text};
+ghost use Rattle.pubsub_engine.specs.Closing.{shown_of, holding_of};
 
-use crate::KeyFrame;
-use crate::closed::{Closed, GroupEnd, LinkEnd, ReadGroupEnd, ReaderEnd, State, WriterEnd};
+use crate::closed::{
+    Closed, GroupEnd, HeldEnd, LinkEnd, ReadGroupEnd, ReaderEnd, State, WriterEnd,
+};
 use dataset_meta::Meta;
 use pubsub_model::{Break, Why};
 use row_words::Row;
@@ -76,23 +75,11 @@ fn put_breaks(out: &mut String, breaks: &[Break]) -> Result<(), NoMemory>
     Ok(())
 }
 
-/// The version of the data frame with this number.
-fn version_of(log: &[(u64, u64)], number: u16) -> Option<u64>
-    ensures { result ≡ option_map (λ entry. entry.1) (find (λ entry. wire entry.0 == number) log.now) }
+fn put_number(out: &mut String, number: Option<u64>) -> Result<(), NoMemory>
+    ensures { OnOk result (string_bytes out.new ≡ string_bytes out.old ++ number_or_dash number) }
 {
-    for (place, version) in log {
-        if place % 65_536 == number as u64 {
-            return Some(*version);
-        }
-    }
-    None
-}
-
-fn put_version(out: &mut String, log: &[(u64, u64)], number: u16) -> Result<(), NoMemory>
-    ensures { OnOk result (string_bytes out.new ≡ string_bytes out.old ++ version_text log.now number) }
-{
-    match version_of(log, number) {
-        Some(version) => write!(out, "{version}")?,
+    match number {
+        Some(number) => write!(out, "{number}")?,
         None => out.push_str("-")?,
     }
     Ok(())
@@ -126,24 +113,20 @@ fn put_fields(out: &mut String, meta: &Meta, row: &Row) -> Result<(), NoMemory>
 
 /// What is held, or why nothing is.
 #[tactic(auto, unfolding(crate::specs::Report::held_text))]
-fn put_held(
-    out: &mut String,
-    meta: &Meta,
-    log: &[(u64, u64)],
-    held: &Option<KeyFrame>,
-    why: Why,
-) -> Result<(), NoMemory>
+fn put_held(out: &mut String, meta: &Meta, held: &Option<HeldEnd>, why: Why) -> Result<(), NoMemory>
     requires { meta.now ≡ demo_meta }
-    ensures { OnOk result (string_bytes out.new ≡ string_bytes out.old ++ held_text log.now (holding (option_map keyed_of held.now) why)) }
+    ensures { OnOk result (string_bytes out.new ≡ string_bytes out.old ++ held_text (holding_of held.now why)) }
 {
-    let Some(frame) = held else {
+    let Some(held) = held else {
         write!(out, " waits {}", why_word(why))?;
         return Ok(());
     };
-    write!(out, " number {} version ", frame.number)?;
-    put_version(out, log, frame.number)?;
+    out.push_str(" number ")?;
+    put_number(out, held.number.map(u64::from))?;
+    out.push_str(" version ")?;
+    put_number(out, held.version)?;
     out.push_str(": ")?;
-    put_fields(out, meta, &frame.row)
+    put_fields(out, meta, &held.row)
 }
 
 #[tactic(auto, unfolding(crate::specs::Report::history_line))]
@@ -188,17 +171,12 @@ fn read_group(out: &mut String, end: &ReadGroupEnd) -> Result<(), NoMemory>
 }
 
 #[tactic(auto, unfolding(crate::specs::Report::reader_line))]
-fn reader(
-    out: &mut String,
-    meta: &Meta,
-    log: &[(u64, u64)],
-    end: &ReaderEnd,
-) -> Result<(), NoMemory>
+fn reader(out: &mut String, meta: &Meta, end: &ReaderEnd) -> Result<(), NoMemory>
     requires { meta.now ≡ demo_meta }
-    ensures { OnOk result (string_bytes out.new ≡ string_bytes out.old ++ reader_line end.now.state log.now (holding (option_map keyed_of end.now.held) end.now.why)) }
+    ensures { OnOk result (string_bytes out.new ≡ string_bytes out.old ++ reader_line end.now.state (holding_of end.now.held end.now.why)) }
 {
     write!(out, "reader r1 {}", end.state.word())?;
-    put_held(out, meta, log, &end.held, end.why)?;
+    put_held(out, meta, &end.held, end.why)?;
     out.push_str("\n")?;
     Ok(())
 }
@@ -247,7 +225,7 @@ pub fn report(alloc: Global, closed: &Closed) -> Result<String, NoMemory>
     group(&mut out, &closed.group)?;
     writer(&mut out, &closed.writer)?;
     read_group(&mut out, &closed.read_group)?;
-    reader(&mut out, &closed.meta, &closed.writer.log, &closed.reader)?;
+    reader(&mut out, &closed.meta, &closed.reader)?;
     gaps(&mut out, &closed.reader)?;
     link(&mut out, &closed.link)?;
     end(&mut out)?;

@@ -1,32 +1,44 @@
-//! The publishing side: the turns of the writer group, and its writer's log.
-ghost use Rattle.std.specs.Prelude.{◌≡◌, ◌≤◌, ◌<◌, ◌+◌, ◌*◌, ◌-◌, ◌++◌, ◌∷◌, ◌^◌, ◌||◌, take, [], IsTrue, IfOk, ℕ, List, Bool, vec_len, vec_capacity, length, nat_le, if◌then◌else◌};
+//! The publishing side: the turns of the writer group, and its writer.
+ghost use Rattle.std.specs.Prelude.{◌≡◌, ◌≤◌, ◌<◌, ◌+◌, ◌*◌, ◌-◌, ◌++◌, ◌∷◌, ◌^◌, ◌||◌, take, false, [], IsTrue, IfOk, List, Option, option_map, vec_len, nat_le, if◌then◌else◌};
 ghost use Rattle.seq_number.specs.Numbers.{wire};
 ghost use Rattle.ua_base.specs.Journal.{Tells};
+ghost use Rattle.pubsub_model.specs.Frames.{Frame as ModelFrame};
+ghost use Rattle.pubsub_model.specs.Cadence.{Deed};
+ghost use Rattle.frame_codec.specs.Messages.{IsFrameOf, message_in};
+ghost use Rattle.dataset_writer.specs.Sending.{message_sent, IsTurnOf};
+ghost use Rattle.dataset_writer.specs.Standing.{IsWriter, HoldsRowOf};
 ghost use Rattle.pubsub_engine.specs.Steps.{Step};
-ghost use Rattle.row_words.specs.Belonging.{row_in};
-ghost use Rattle.pubsub_engine.specs.BuiltIn.{demo_fields, demo_meta};
-ghost use Rattle.pubsub_engine.specs.Datagram.{datagram, key_message};
+ghost use Rattle.pubsub_engine.specs.BuiltIn.{demo_fields, demo_meta, demo_settings};
+ghost use Rattle.pubsub_engine.specs.Datagram.{datagram, demo_message};
 ghost use Rattle.pubsub_engine.specs.Samples.{sample_of};
 
 use crate::Sampled;
 use crate::datagram::{DATAGRAM_LEN, write_datagram};
 use dataset_meta::Meta;
-use frame_codec::{Frame, FrameKind};
+use dataset_writer::{Turn, Writer, WriterSettings};
+use frame_codec::Frame;
 use std::alloc::Global;
 use ua_base::{Link, NoMemory, Sent, Ticked};
 
 /// The publishing interval, in milliseconds.
 const INTERVAL: u64 = 100;
 
-/// The present moment, the moment of the last turn, the writer's log, and what came of the sends.
+/// The writer sends a key frame at every turn.
+const SETTINGS: WriterSettings = WriterSettings {
+    first_number: 0,
+    key_frame_count: 1,
+    keep_alive: 0,
+    versions: false,
+};
+
+/// The present moment, the moment of the last turn, the writer, and what came of the sends.
 #[derive(Drop)]
 pub struct Publisher {
     /// Milliseconds since the session opened.
     pub moment: u64,
     /// The moment of the last turn, at first 0.
     pub last: u64,
-    /// Place and version of each data frame.
-    pub log: Vec<(u64, u64)>,
+    pub writer: Writer,
     /// The group's sequence number of the next datagram.
     pub sequence: u16,
     /// Sends that were done.
@@ -41,19 +53,20 @@ pub struct Publisher {
     buffer: Vec<u8>,
     ghost long: { vec_len buffer ≡ 2058 },
     ghost ordered: { last ≤ moment },
-    ghost room: { vec_len log + left ≤ vec_capacity log },
-    ghost few: { vec_len log + left < 2 ^ 16 },
+    ghost belongs: { HoldsRowOf demo_fields writer },
+    ghost room: { left ≤ writer.left },
     ghost time: { moment + left * 3600000 < 2 ^ 64 },
 }
 
 impl Publisher {
+    ghost use Rattle.pubsub_engine.specs.Publishing.{writer_turn};
     ghost use Rattle.pubsub_engine.specs.Standing.{IsPublisher, HasSent, Ticks};
-    ghost use Rattle.pubsub_engine.specs.Sending.{Sends, Keeps};
+    ghost use Rattle.pubsub_engine.specs.Sending.{Sends, SendsAnswer, Publishes, Keeps};
 
     /// A publisher before its first tick, with room for so many ticks and the closing one.
     pub fn new(alloc: Global, ticks: u32) -> Result<Publisher, NoMemory>
         requires { ticks ≤ 4096 }
-        ensures stands { IfOk result (λ p. IsPublisher [] p.moment p.last p.log.items p.sequence) }
+        ensures stands { IfOk result (λ p. IsPublisher [] p.moment p.last p.writer p.sequence) }
         ensures sent { IfOk result (λ p. HasSent [] p.sent p.failed p.failing) }
         ensures room { IfOk result (λ p. p.left ≡ ticks + 1) }
     {
@@ -61,7 +74,7 @@ impl Publisher {
         Ok(Publisher {
             moment: 0,
             last: 0,
-            log: Vec::with_capacity(alloc, left as usize)?,
+            writer: Writer::new(alloc, SETTINGS, left)?,
             sequence: 0,
             sent: 0,
             failed: 0,
@@ -85,11 +98,11 @@ impl Publisher {
         requires short { ms ≤ 3600000 }
         requires meta { meta.now ≡ demo_meta }
         ensures done { result ≡ Ticked.Done → (steps : List Step)
-            → IsPublisher steps self.old.moment self.old.last self.old.log.items self.old.sequence → HasSent steps self.old.sent self.old.failed self.old.failing
-            → Ticks steps ms closing (sample_of sampled.now ∷ []) self.new.moment self.new.last self.new.log.items self.new.sequence self.new.sent self.new.failed self.new.failing (L.told link.old) (L.told link.new) }
+            → IsPublisher steps self.old.moment self.old.last self.old.writer self.old.sequence → HasSent steps self.old.sent self.old.failed self.old.failing
+            → Ticks steps ms closing (sample_of sampled.now ∷ []) self.new.moment self.new.last self.new.writer self.new.sequence self.new.sent self.new.failed self.new.failing (L.told link.old) (L.told link.new) }
         ensures left { result ≡ Ticked.Done → self.new.left + 1 ≡ self.old.left }
         ensures memory { result ≡ Ticked.Memory → IsTrue (L.takes_memory link.old) }
-        ensures kept { result ≡ Ticked.Memory → (self.new.moment ≡ self.old.moment + ms) × Keeps self.old.last self.old.log.items self.old.sequence self.old.sent self.old.failed self.new.last self.new.log.items self.new.sequence self.new.sent self.new.failed }
+        ensures kept { result ≡ Ticked.Memory → (self.new.moment ≡ self.old.moment + ms) × Keeps self.old.last self.old.sequence self.old.sent self.old.failed self.new.last self.new.sequence self.new.sent self.new.failed }
         ensures open { L.is_open link.new ≡ L.is_open link.old }
         ensures memory_stays { L.takes_memory link.new ≡ L.takes_memory link.old }
         ensures untold { result ≡ Ticked.Memory → Tells (L.told link.old) (L.told link.new) (λ before after. after.journal ≡ before.journal) }
@@ -110,7 +123,7 @@ impl Publisher {
         closing || self.moment - self.last >= INTERVAL
     }
 
-    /// The group's turn: the key frame of the sample is sent and logged.
+    /// The group's turn: the writer has its turn, and the frame that it answers is sent.
     fn publish<L: Link>(
         &mut self,
         closing: bool,
@@ -120,35 +133,68 @@ impl Publisher {
     ) -> Ticked
         requires open { IsTrue (L.is_open link.old) }
         requires meta { meta.now ≡ demo_meta }
-        requires room { vec_len self.old.log + self.old.left < vec_capacity self.old.log }
-        requires few { vec_len self.old.log + self.old.left + 1 < 2 ^ 16 }
-        ensures done { result ≡ Ticked.Done → Sends (datagram self.old.sequence (key_message (vec_len self.old.log) (row_in demo_fields sampled.now.row.words))) self.old.sent self.new.sent self.old.failed self.new.failed self.new.failing (L.told link.old) (L.told link.new) }
-        ensures log { result ≡ Ticked.Done → self.new.log.items ≡ self.old.log.items ++ (vec_len self.old.log, sampled.now.version) ∷ [] }
-        ensures sequence { result ≡ Ticked.Done → self.new.sequence ≡ wire (self.old.sequence + 1) }
+        requires room { self.old.left < self.old.writer.left }
+        requires unfailing { self.old.failing ≡ false }
+        ensures done { result ≡ Ticked.Done → (past : List Deed) → IsWriter demo_fields demo_settings past self.old.writer
+            → Publishes past (writer_turn self.old.moment closing (sample_of sampled.now)) self.new.writer self.old.sequence self.new.sequence self.old.sent self.new.sent self.old.failed self.new.failed self.new.failing (L.told link.old) (L.told link.new) }
         ensures moments { result ≡ Ticked.Done → (self.new.moment ≡ self.old.moment) × (self.new.last ≡ (if closing then self.old.last else self.old.moment)) × (self.new.left ≡ self.old.left) }
         ensures memory { result ≡ Ticked.Memory → IsTrue (L.takes_memory link.old) }
-        ensures kept { result ≡ Ticked.Memory → (self.new.moment ≡ self.old.moment) × Keeps self.old.last self.old.log.items self.old.sequence self.old.sent self.old.failed self.new.last self.new.log.items self.new.sequence self.new.sent self.new.failed }
+        ensures kept { result ≡ Ticked.Memory → (self.new.moment ≡ self.old.moment) × Keeps self.old.last self.old.sequence self.old.sent self.old.failed self.new.last self.new.sequence self.new.sent self.new.failed }
         ensures open { L.is_open link.new ≡ L.is_open link.old }
         ensures memory_stays { L.takes_memory link.new ≡ L.takes_memory link.old }
         ensures untold { result ≡ Ticked.Memory → Tells (L.told link.old) (L.told link.new) (λ before after. after.journal ≡ before.journal) }
     {
-        let place = self.log.len();
-        let frame = Frame {
-            number: Some(place as u16),
-            kind: FrameKind::Whole(sampled.row),
-            major: None,
-            minor: None,
+        let turn = self
+            .writer
+            .turn(meta, self.moment, &sampled.row, sampled.version, closing);
+        let Ticked::Done = self.send_turn(meta, &turn, link) else {
+            return Ticked::Memory;
         };
-        let len = write_datagram(&mut self.buffer, meta, self.sequence, &frame);
+        self.last = last_turn(closing, self.last, self.moment);
+        Ticked::Done
+    }
+
+    /// Sends what the writer answered its turn, if it is a frame.
+    fn send_turn<L: Link>(&mut self, meta: &Meta, turn: &Turn, link: &mut L) -> Ticked
+        requires open { IsTrue (L.is_open link.old) }
+        requires meta { meta.now ≡ demo_meta }
+        requires turn { IsTurnOf demo_fields turn.now }
+        requires unfailing { self.old.failing ≡ false }
+        ensures done { result ≡ Ticked.Done → (answer : Option ModelFrame) → message_sent demo_fields turn.now ≡ option_map demo_message answer
+            → SendsAnswer answer self.old.sequence self.new.sequence self.old.sent self.new.sent self.old.failed self.new.failed self.new.failing (L.told link.old) (L.told link.new) }
+        ensures others { (self.new.moment ≡ self.old.moment) × (self.new.last ≡ self.old.last) × (self.new.writer ≡ self.old.writer) × (self.new.left ≡ self.old.left) }
+        ensures memory { result ≡ Ticked.Memory → IsTrue (L.takes_memory link.old) }
+        ensures kept { result ≡ Ticked.Memory → (self.new.sequence ≡ self.old.sequence) × (self.new.sent ≡ self.old.sent) × (self.new.failed ≡ self.old.failed) }
+        ensures open { L.is_open link.new ≡ L.is_open link.old }
+        ensures memory_stays { L.takes_memory link.new ≡ L.takes_memory link.old }
+        ensures untold { result ≡ Ticked.Memory → Tells (L.told link.old) (L.told link.new) (λ before after. after.journal ≡ before.journal) }
+    {
+        let _sequence = self.sequence;
+        match turn {
+            Turn::Send(frame) => self.send_frame(meta, frame, link),
+            Turn::Quiet => Ticked::Done,
+        }
+    }
+
+    /// Sends the datagram of a frame.
+    fn send_frame<L: Link>(&mut self, meta: &Meta, frame: &Frame, link: &mut L) -> Ticked
+        requires open { IsTrue (L.is_open link.old) }
+        requires meta { meta.now ≡ demo_meta }
+        requires frame { IsFrameOf demo_fields frame.now }
+        ensures done { result ≡ Ticked.Done → Sends (datagram self.old.sequence (message_in demo_fields frame.now) ∷ []) self.old.sent self.new.sent self.old.failed self.new.failed self.new.failing (L.told link.old) (L.told link.new) }
+        ensures sequence { result ≡ Ticked.Done → self.new.sequence ≡ wire (self.old.sequence + 1) }
+        ensures others { (self.new.moment ≡ self.old.moment) × (self.new.last ≡ self.old.last) × (self.new.writer ≡ self.old.writer) × (self.new.left ≡ self.old.left) }
+        ensures memory { result ≡ Ticked.Memory → IsTrue (L.takes_memory link.old) }
+        ensures kept { result ≡ Ticked.Memory → (self.new.sequence ≡ self.old.sequence) × (self.new.sent ≡ self.old.sent) × (self.new.failed ≡ self.old.failed) }
+        ensures open { L.is_open link.new ≡ L.is_open link.old }
+        ensures memory_stays { L.takes_memory link.new ≡ L.takes_memory link.old }
+        ensures untold { result ≡ Ticked.Memory → Tells (L.told link.old) (L.told link.new) (λ before after. after.journal ≡ before.journal) }
+    {
+        let len = write_datagram(&mut self.buffer, meta, self.sequence, frame);
         let Ticked::Done = self.send(len, link) else {
             return Ticked::Memory;
         };
-        match self.log.push((place as u64, sampled.version)) {
-            Ok(()) => {}
-            Err(_) => unreachable!(),
-        }
         self.sequence = self.sequence.wrapping_add(1);
-        self.last = last_turn(closing, self.last, self.moment);
         Ticked::Done
     }
 
@@ -156,8 +202,8 @@ impl Publisher {
     fn send<L: Link>(&mut self, len: usize, link: &mut L) -> Ticked
         requires open { IsTrue (L.is_open link.old) }
         requires within { len ≤ 2058 }
-        ensures done { result ≡ Ticked.Done → Sends (take len self.old.buffer.items) self.old.sent self.new.sent self.old.failed self.new.failed self.new.failing (L.told link.old) (L.told link.new) }
-        ensures others { (self.new.moment ≡ self.old.moment) × (self.new.last ≡ self.old.last) × (self.new.log ≡ self.old.log) × (self.new.sequence ≡ self.old.sequence) × (self.new.left ≡ self.old.left) }
+        ensures done { result ≡ Ticked.Done → Sends (take len self.old.buffer.items ∷ []) self.old.sent self.new.sent self.old.failed self.new.failed self.new.failing (L.told link.old) (L.told link.new) }
+        ensures others { (self.new.moment ≡ self.old.moment) × (self.new.last ≡ self.old.last) × (self.new.writer ≡ self.old.writer) × (self.new.sequence ≡ self.old.sequence) × (self.new.left ≡ self.old.left) }
         ensures memory { result ≡ Ticked.Memory → IsTrue (L.takes_memory link.old) }
         ensures kept { result ≡ Ticked.Memory → (self.new.sent ≡ self.old.sent) × (self.new.failed ≡ self.old.failed) }
         ensures open { L.is_open link.new ≡ L.is_open link.old }

@@ -1,14 +1,17 @@
 //! The receiving side: datagrams from the link to the reader.
-ghost use Rattle.std.specs.Prelude.{◌≡◌, ◌++◌, ◌∷◌, ◌↔◌, [], ℕ, List, IsTrue, length, count_by, Bool, true, false, option_map};
+ghost use Rattle.std.specs.Prelude.{◌≡◌, ◌++◌, ◌∷◌, ◌↔◌, [], List, IsTrue, length, count_by};
 ghost use Rattle.ua_base.specs.Journal.{Tells, Entry};
+ghost use Rattle.dataset_reader.specs.declared.took.Numbering.{Numbering as AnyNumbering};
+ghost use Rattle.dataset_reader.specs.Reader.{numbering_of, IsReaderOf};
 ghost use Rattle.pubsub_engine.specs.Steps.{IsPump};
-ghost use Rattle.pubsub_engine.specs.BuiltIn.{demo_meta};
+ghost use Rattle.pubsub_engine.specs.BuiltIn.{demo_fields, demo_meta};
+ghost use Rattle.pubsub_engine.specs.Reading.{is_held};
 ghost use Rattle.pubsub_engine.specs.Counts.{is_datagram};
-ghost use Rattle.pubsub_engine.specs.Samples.{keyed_of};
 
-use crate::Reader;
-use crate::datagram::read_datagram;
+use crate::datagram::message_bytes;
 use dataset_meta::Meta;
+use dataset_reader::{Numbering, Outcome, Reader};
+use frame_codec::read_frame;
 use ua_base::{Link, Pumped, Received};
 
 /// A pump takes at most so many datagrams.
@@ -18,6 +21,8 @@ const PUMP_LIMIT: u32 = 65_536;
 #[derive(Drop)]
 pub struct Receiving {
     pub reader: Reader,
+    /// Whether a message was ever answered Held.
+    pub ready: bool,
     /// Datagrams that the read group took.
     pub taken: u64,
     /// Datagrams that came.
@@ -26,19 +31,22 @@ pub struct Receiving {
     pub broken: u64,
     /// Datagrams that were too long for the buffer.
     pub long: u64,
+    ghost numbered: { numbering_of reader ≡ AnyNumbering.Message },
+    ghost belongs: { IsReaderOf demo_fields reader },
 }
 
 impl Receiving {
     ghost use Rattle.pubsub_engine.specs.Taking.{Takes, TakesOne, IsReceive};
-    ghost use Rattle.pubsub_engine.specs.Standing.{IsReader};
+    ghost use Rattle.pubsub_engine.specs.Standing.{HasRead};
 
     /// Nothing has come.
     pub fn new() -> Receiving
-        ensures reader { IsReader [] (option_map keyed_of result.reader.last) result.reader.breaks result.reader.recent.items }
+        ensures read { HasRead [] result }
         ensures counts { (result.taken ≡ 0) × (result.received ≡ 0) × (result.broken ≡ 0) × (result.long ≡ 0) }
     {
         Receiving {
-            reader: Reader::new(),
+            reader: Reader::new(Numbering::Message),
+            ready: false,
             taken: 0,
             received: 0,
             broken: 0,
@@ -46,15 +54,21 @@ impl Receiving {
         }
     }
 
+    /// A datagram that came. The reader gets the message that it carries; any other datagram is only counted.
     fn accept(&mut self, meta: &Meta, datagram: &[u8])
         requires { meta.now ≡ demo_meta }
         ensures { TakesOne (Entry.Got datagram.now) self.old self.new }
     {
         self.received = self.received.saturating_add(1);
-        if let Some(frame) = read_datagram(meta, datagram) {
-            self.taken = self.taken.saturating_add(1);
-            self.reader.take(&frame);
-        }
+        let Some(message) = message_bytes(datagram) else {
+            return;
+        };
+        let Ok(frame) = read_frame(meta, message) else {
+            return;
+        };
+        self.taken = self.taken.saturating_add(1);
+        let took = self.reader.frame(meta, &frame, None);
+        self.ready = is_held(&took.outcome) || self.ready;
     }
 
     /// One receive. The answer says whether a datagram was taken off the link.
@@ -108,4 +122,10 @@ impl Receiving {
             limit: true,
         }
     }
+}
+
+fn is_held(outcome: &Outcome) -> bool
+    ensures { result ≡ is_held outcome.now }
+{
+    matches!(outcome, Outcome::Held)
 }

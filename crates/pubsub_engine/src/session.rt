@@ -74,10 +74,10 @@ impl Session {
         ensures left { result ≡ Ticked.Done → self.new.publisher.left + 1 ≡ self.old.publisher.left }
         ensures memory { result ≡ Ticked.Memory → IsTrue (L.takes_memory link.old) }
 
-        // After want of memory all that the call did before that send stands.
+        // After want of memory the moment has risen and the writer has had its turn, and nothing was sent.
         ensures kept { result ≡ Ticked.Memory → (self.new.publisher.moment ≡ self.old.publisher.moment + ms)
-            × Keeps self.old.publisher.last self.old.publisher.log.items self.old.publisher.sequence self.old.publisher.sent self.old.publisher.failed
-            self.new.publisher.last self.new.publisher.log.items self.new.publisher.sequence self.new.publisher.sent self.new.publisher.failed }
+            × Keeps self.old.publisher.last self.old.publisher.sequence self.old.publisher.sent self.old.publisher.failed
+            self.new.publisher.last self.new.publisher.sequence self.new.publisher.sent self.new.publisher.failed }
         ensures receiving { (self.new.receiving ≡ self.old.receiving) × (self.new.limit ≡ self.old.limit) }
         ensures open { L.is_open link.new ≡ L.is_open link.old }
         ensures memory_stays { L.takes_memory link.new ≡ L.takes_memory link.old }

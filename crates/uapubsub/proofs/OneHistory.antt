@@ -12,12 +12,13 @@ use Rattle.pubsub_engine.specs.BuiltIn.{demo_fields}
 use Rattle.pubsub_model.specs.History.{last_row}
 use Rattle.pubsub_engine.specs.Samples.{Sample}
 use Rattle.pubsub_engine.specs.Steps.{Step}
-use Rattle.pubsub_engine.specs.Publishing.{log_at}
-use Rattle.pubsub_engine.specs.Reading.{held_frame}
-use Rattle.pubsub_engine.specs.Report.{version_of}
-use Rattle.pubsub_engine.specs.Holding.{HasSample, SampleRows}
+use Rattle.pubsub_engine.specs.Publishing.{journal, log_at, IsRun}
+use Rattle.dataset_reader.specs.Keeping.{Keeps}
+use Rattle.pubsub_engine.specs.Reading.{arrivals, kept_at, HeldRow, held_by}
+use Rattle.pubsub_engine.specs.Closing.{version_at}
+use Rattle.pubsub_engine.specs.Holding.{HasSample, SampleRows, IsPublished}
 use Rattle.pubsub_engine.proofs.BuiltIns.{one_value_fits}
-use Rattle.pubsub_engine.proofs.Published.{held_published, ticks_in, log_ticks}
+use Rattle.pubsub_engine.proofs.Published.{ticks_in, log_ticks}
 use Rattle.uapubsub.specs.declared.script.Line.{Line}
 use Rattle.uapubsub.specs.declared.script.Line.TheVariants.{Write, Tick}
 use Rattle.uapubsub.specs.Script.{Spells, IsScript, only_a, text_lines, is_tick}
@@ -104,16 +105,35 @@ if_some : {X : Type 0} (o : Option X) (P : X → Type 0) → ((x : X) → o ≡ 
 if_some None P each = tt
 if_some (Some x) P each = each x refl
 
-pub held_version : (bytes : List ℕ) (lines : List Line) (wire : Wire) (text : List ℕ) (report : IsReport lines (Some wire) text) → IsScript bytes lines → IsHonest wire.journal
-    → IfSome (held_frame report.steps) (λ frame. (version : ℕ) × (version_of (log_at report.steps) frame.number ≡ Some version) × IsVersion (written (reverse lines)) version frame.row)
-held_version bytes lines wire text report script honest =
+-- what a report's steps meet: each sample has a row, and the log is short
+sampled_rows : (bytes : List ℕ) (lines : List Line) (told : Option Wire) (text : List ℕ) (report : IsReport lines told text) → IsScript bytes lines → SampleRows report.steps
+sampled_rows bytes lines told text report script =
     let session = report.session in
     let values = spelled_values lines [] (text_lines bytes) script.text tt in
-    let sampled : SampleRows report.steps = subst SampleRows (sym session.ends) (last_values (reverse lines) values, played_values (reverse lines) session.earlier session.played values) in
-    let few : length (log_at report.steps) ≤ 65536 =
-    omega (arith, log_ticks report.steps, ap ticks_in session.ends, played_ticks (reverse lines) session.earlier session.played, count-onto lines [], script.ticks) in
-    if_some (held_frame report.steps) (λ frame. (version : ℕ) × (version_of (log_at report.steps) frame.number ≡ Some version) × IsVersion (written (reverse lines)) version frame.row)
-    (λ frame held.
-    let published = held_published report.steps frame report.run sampled few (subst IsHonest (report.entries wire refl) honest) held in
-    let version = session_versions lines report.steps published.sample session published.sampled in
+    subst SampleRows (sym session.ends) (last_values (reverse lines) values, played_values (reverse lines) session.earlier session.played values)
+
+short_log : (bytes : List ℕ) (lines : List Line) (told : Option Wire) (text : List ℕ) (report : IsReport lines told text) → IsScript bytes lines → length (log_at report.steps) ≤ 16384
+short_log bytes lines told text report script =
+    let session = report.session in
+    omega (arith, log_ticks report.steps, ap ticks_in session.ends, played_ticks (reverse lines) session.earlier session.played, count-onto lines [], script.ticks)
+
+-- the laws of a session's steps
+abbrev pub HoldsPublished : Type 0
+HoldsPublished = (steps : List Step) (held : HeldRow) → IsRun steps → SampleRows steps → length (log_at steps) ≤ 16384 → IsHonest (journal steps) → held_by (kept_at steps) ≡ Some held → IsPublished steps held
+
+abbrev pub KeepsRecords : Type 0
+KeepsRecords = (steps : List Step) → IsRun steps → SampleRows steps → length (log_at steps) ≤ 16384 → IsHonest (journal steps) → Keeps (arrivals steps) (kept_at steps)
+
+pub held_version : HoldsPublished → (bytes : List ℕ) (lines : List Line) (wire : Wire) (text : List ℕ) (report : IsReport lines (Some wire) text) → IsScript bytes lines → IsHonest wire.journal
+    → IfSome (held_by (kept_at report.steps)) (λ held. (version : ℕ) × (version_at (log_at report.steps) held.number ≡ Some version) × IsVersion (written (reverse lines)) version held.row)
+held_version law bytes lines wire text report script honest =
+    if_some (held_by (kept_at report.steps)) (λ held. (version : ℕ) × (version_at (log_at report.steps) held.number ≡ Some version) × IsVersion (written (reverse lines)) version held.row)
+    (λ held is.
+    let published = law report.steps held report.run (sampled_rows bytes lines (Some wire) text report script) (short_log bytes lines (Some wire) text report script) (subst IsHonest (report.entries wire refl) honest) is in
+    let version = session_versions lines report.steps published.sample report.session published.sampled in
     (published.sample.version, published.logged, record { there = version.there; row_is = published.row_is ∙ version.row_is }))
+
+pub shows_records : KeepsRecords → (bytes : List ℕ) (lines : List Line) (wire : Wire) (text : List ℕ) (report : IsReport lines (Some wire) text) → IsScript bytes lines → IsHonest wire.journal
+    → Keeps (arrivals report.steps) (kept_at report.steps)
+shows_records law bytes lines wire text report script honest =
+    law report.steps report.run (sampled_rows bytes lines (Some wire) text report script) (short_log bytes lines (Some wire) text report script) (subst IsHonest (report.entries wire refl) honest)

@@ -4,8 +4,9 @@ ghost use Rattle.ua_base.specs.declared.memory_link.MemoryLink.{MemoryLink as Li
 ghost use Rattle.ua_base.specs.Journal.{Wire, IsHonest};
 ghost use Rattle.ua_base.specs.MemoryLinks.{told_by};
 ghost use Rattle.pubsub_engine.specs.Publishing.{log_at};
-ghost use Rattle.pubsub_engine.specs.Reading.{held_frame};
-ghost use Rattle.pubsub_engine.specs.Report.{version_of};
+ghost use Rattle.dataset_reader.specs.Keeping.{Keeps};
+ghost use Rattle.pubsub_engine.specs.Reading.{arrivals, kept_at, held_by};
+ghost use Rattle.pubsub_engine.specs.Closing.{version_at};
 ghost use Rattle.pubsub_engine.specs.BuiltIn.{demo_fields};
 ghost use Rattle.uapubsub.specs.declared.script.Line.{Line as LineValue};
 ghost use Rattle.pubsub_model.specs.History.{IsLegal, legal_rows};
@@ -16,6 +17,8 @@ ghost use Rattle.uapubsub.specs.Play.{IsSession, IsReport};
 ghost use Rattle.uapubsub.specs.Versions.{IsVersion, NeverFalls, StandsFor};
 ghost use Rattle.pubsub_model.specs.Cadence.{cadence};
 ghost use Rattle.pubsub_engine.specs.Publishing.{built_in, writer_past, deeds};
+
+use pubsub_engine::{a_held_row_is_published, a_reader_keeps_records};
 
 /// A text is the script of one list of lines at most.
 pub fn a_script_has_one_reading()
@@ -36,17 +39,27 @@ pub fn a_session_has_one_report()
 {}
 
 /// Where each received datagram was sent before, the row that the reader holds is that of a version of the script's
-/// history, and the report prints this version with it.
+/// history, and the report prints this version with it; and what the report says of the reader is what *Records* says of
+/// the items that came.
 pub fn a_held_row_is_a_version()
-    ensures { (bytes : List ℕ) (lines : List LineValue) (wire : Wire) (text : List ℕ) (report : IsReport lines (Some wire) text) → IsScript bytes lines → IsHonest wire.journal
-        → IfSome (held_frame report.steps) (λ frame. (version : ℕ) × (version_of (log_at report.steps) frame.number ≡ Some version) × IsVersion (written (reverse lines)) version frame.row) }
-{}
+    ensures held { (bytes : List ℕ) (lines : List LineValue) (wire : Wire) (text : List ℕ) (report : IsReport lines (Some wire) text) → IsScript bytes lines → IsHonest wire.journal
+        → IfSome (held_by (kept_at report.steps)) (λ held. (version : ℕ) × (version_at (log_at report.steps) held.number ≡ Some version) × IsVersion (written (reverse lines)) version held.row) }
+    ensures records { (bytes : List ℕ) (lines : List LineValue) (wire : Wire) (text : List ℕ) (report : IsReport lines (Some wire) text) → IsScript bytes lines → IsHonest wire.journal
+        → Keeps (arrivals report.steps) (kept_at report.steps) }
+{
+    a_held_row_is_published();
+    a_reader_keeps_records();
+}
 
-/// Over a link in memory that holds with no premise of the journal, since such a link delivers only what was sent.
+/// Over a link in memory both hold with no premise of the journal, since such a link delivers only what was sent.
 pub fn a_held_row_over_memory_is_a_version()
-    ensures { (bytes : List ℕ) (lines : List LineValue) (link : LinkValue) (wire : Wire) (text : List ℕ) (report : IsReport lines (Some wire) text) → IsScript bytes lines → told_by link ≡ Some wire
-        → IfSome (held_frame report.steps) (λ frame. (version : ℕ) × (version_of (log_at report.steps) frame.number ≡ Some version) × IsVersion (written (reverse lines)) version frame.row) }
-{}
+    ensures held { (bytes : List ℕ) (lines : List LineValue) (link : LinkValue) (wire : Wire) (text : List ℕ) (report : IsReport lines (Some wire) text) → IsScript bytes lines → told_by link ≡ Some wire
+        → IfSome (held_by (kept_at report.steps)) (λ held. (version : ℕ) × (version_at (log_at report.steps) held.number ≡ Some version) × IsVersion (written (reverse lines)) version held.row) }
+    ensures records { (bytes : List ℕ) (lines : List LineValue) (link : LinkValue) (wire : Wire) (text : List ℕ) (report : IsReport lines (Some wire) text) → IsScript bytes lines → told_by link ≡ Some wire
+        → Keeps (arrivals report.steps) (kept_at report.steps) }
+{
+    a_held_row_is_a_version();
+}
 
 /// No data message is logged with an older version than the one before it, and none with a version above the script's last.
 pub fn a_logged_version_never_falls()

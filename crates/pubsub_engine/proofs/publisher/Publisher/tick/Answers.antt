@@ -1,5 +1,6 @@
-use Rattle.std.proofs.Common.{arith, sym, ◌∙◌}
+use Rattle.std.proofs.Common.{sym, ◌∙◌}
 use Rattle.pubsub_engine.specs.Samples.{sample_of}
+use Rattle.pubsub_engine.specs.Publishing.{writer_past, deeds}
 use Rattle.pubsub_engine.proofs.Turning.{early, turned}
 use Rattle.pubsub_engine.proofs.publisher.Publisher.tick.Goals as goal
 
@@ -8,5 +9,5 @@ returns-then-not-has_turn-clause-done g c = λ is steps p h. early steps c.args.
 
 pub returns-clause-done : goal.returns-clause-done
 returns-clause-done g c = λ is steps p h.
-    turned steps _ c.args.ms c.args.self.now.moment _ c.args.self.now.last _ c.args.closing (sample_of c.args.sampled.now) c.args.self.now.log.items _ c.args.self.now.sequence _ _ _ _ _ _ _ _ _ p h (sym c.has_turn.ensures ∙ c.if-not-has_turn.false) (omega arith) (omega arith)
-    (c.publish.ensures.done is) (c.publish.ensures.log is) (c.publish.ensures.sequence is) (c.publish.ensures.moments is).0 (c.publish.ensures.moments is).1
+    turned steps c.args.ms c.args.self.now.moment _ c.args.self.now.last _ c.args.closing (sample_of c.args.sampled.now) c.args.self.now.writer _ c.args.self.now.sequence _ _ _ _ _ _ _ _ _ p h (sym c.has_turn.ensures ∙ c.if-not-has_turn.false)
+    (c.publish.ensures.moments is).0 (c.publish.ensures.moments is).1 (c.publish.ensures.done is (writer_past (deeds steps)) p.writer_is)
