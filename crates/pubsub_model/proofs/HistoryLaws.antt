@@ -1,14 +1,15 @@
 -- Histories by one thread, and rows of histories.
-use Rattle.std.proofs.Common.{◌≡◌, refl, ap, ◌∙◌, arith, ℕ, zero, suc, ◌+◌, Bool, true, false, cond, List, [], ◌∷◌, length, replicate}
+use Rattle.std.proofs.Common.{◌≡◌, refl, sym, ap, ◌∙◌, arith, ℕ, zero, suc, ◌+◌, Bool, true, false, cond, List, [], ◌∷◌, ◌++◌, map, length, reverse, replicate, Option, Some, append_assoc}
 use Rattle.std.specs.Prelude.{◌==◌, slice_get, slice_index_or, option_map, unwrap_or, All}
 use Rattle.std.proofs.lemmas.Bool.Decides.{nat_tests}
+use Rattle.std.proofs.lemmas.List.{length-reverse, map-append, reverse-append}
 use Rattle.std.proofs.lemmas.List.Sums.{sum_by-cons}
 use Rattle.std.proofs.lemmas.List.Elements.{All-nil, All-cons, All-head, All-tail}
 use Rattle.ua_values.specs.declared.value.Value.{Value}
 use Rattle.dataset_meta.specs.declared.field.Field.{Field}
-use Rattle.dataset_meta.specs.Rows.{IsRow, IsPatch, opening_row}
+use Rattle.dataset_meta.specs.Rows.{IsRow, IsPatch, opening_row, patched}
 use Rattle.dataset_meta.proofs.RowLaws.{IsRow-opening, IsRow-patched}
-use Rattle.pubsub_model.specs.History.{Written, IsHistory, ArePatches, IsLegal, row_of, times_of, legal_rows, last_row, no_patch, patch_at}
+use Rattle.pubsub_model.specs.History.{Written, IsHistory, ArePatches, IsLegal, row_of, times_of, legal_rows, last_row, no_patch, patch_at, legal_entries, legal_history}
 
 -- one more thread of the list
 pub times_of-cons : (thread other : ℕ) (threads : List ℕ) → times_of thread (other ∷ threads) ≡ cond (other == thread) 1 0 + times_of thread threads
@@ -84,3 +85,72 @@ entry_fits fields (entry ∷ history) (suc n) is = entry_fits fields history n (
 pub IsRow-row_of : (fields : List Field) (history : List Written) (version : ℕ) → IsHistory fields history → IsRow fields (row_of fields history version)
 IsRow-row_of fields history zero is = IsRow-opening fields
 IsRow-row_of fields history (suc n) is = entry_fits fields history n is
+
+-- ---- the versions of a legal history
+
+slice_get-seam : {X : Type 0} (xs : List X) (y : X) (ys : List X) → slice_get (xs ++ y ∷ ys) (length xs) ≡ Some y
+slice_get-seam [] y ys = refl
+slice_get-seam (x ∷ xs) y ys = slice_get-seam xs y ys
+
+-- the entry that a thread makes behind these
+abbrev entry_on : List Field → List (List (List (ℕ × Value))) → ℕ → List ℕ → Written
+entry_on fields patches thread before = record { author = thread; row = last_row fields (legal_rows fields patches (thread ∷ before)) }
+
+entries_split : (fields : List Field) (patches : List (List (List (ℕ × Value)))) (later : List ℕ) (thread : ℕ) (before : List ℕ)
+    → (es : List Written) × (legal_entries fields patches (later ++ thread ∷ before) ≡ es ++ entry_on fields patches thread before ∷ legal_entries fields patches before)
+entries_split fields patches [] thread before = ([], refl)
+entries_split fields patches (other ∷ later) thread before =
+    let rest = entries_split fields patches later thread before in
+    let e = entry_on fields patches other (later ++ thread ∷ before) in (e ∷ rest.0, ap (λ (l : List Written). e ∷ l) rest.1)
+
+length-entries : (fields : List Field) (patches : List (List (List (ℕ × Value)))) (threads : List ℕ) → length (legal_entries fields patches threads) ≡ length threads
+length-entries fields patches [] = refl
+length-entries fields patches (thread ∷ before) = omega (arith, length-entries fields patches before)
+
+-- the row of the version that these threads make is the row that they leave
+row_of-version : (fields : List Field) (patches : List (List (List (ℕ × Value)))) (later before : List ℕ)
+    → row_of fields (legal_history fields patches (later ++ before)) (length before) ≡ last_row fields (legal_rows fields patches before)
+row_of-version fields patches later [] = refl
+row_of-version fields patches later (thread ∷ before) =
+    let split = entries_split fields patches later thread before in
+    let entry = entry_on fields patches thread before in
+    let earlier = reverse (legal_entries fields patches before) in
+    let turned : legal_history fields patches (later ++ thread ∷ before) ≡ earlier ++ entry ∷ reverse split.0 =
+    ap reverse split.1 ∙ reverse-append split.0 (entry ∷ legal_entries fields patches before)
+    ∙ ap (λ (l : List Written). l ++ reverse split.0) (reverse-append (entry ∷ []) (legal_entries fields patches before)) ∙ append_assoc earlier (entry ∷ []) (reverse split.0) in
+    let place : length before ≡ length earlier = sym (length-reverse (legal_entries fields patches before) ∙ length-entries fields patches before) in
+    let found : slice_get (legal_history fields patches (later ++ thread ∷ before)) (length before) ≡ Some entry =
+    ap (λ (l : List Written). slice_get l (length before)) turned ∙ ap (slice_get (earlier ++ entry ∷ reverse split.0)) place ∙ slice_get-seam earlier entry (reverse split.0) in
+    ap (λ (o : Option Written). unwrap_or (option_map (λ e. e.row) o) (opening_row fields)) found
+
+pub versions-patched : (fields : List Field) (patches : List (List (List (ℕ × Value)))) (later : List ℕ) (thread : ℕ) (before : List ℕ)
+    → row_of fields (legal_history fields patches (later ++ thread ∷ before)) (length (thread ∷ before))
+    ≡ patched (row_of fields (legal_history fields patches (later ++ thread ∷ before)) (length before)) (patch_at patches thread (times_of thread before))
+versions-patched fields patches later thread before =
+    let earlier = row_of-version fields patches (later ++ thread ∷ []) before in
+    let same : row_of fields (legal_history fields patches (later ++ thread ∷ before)) (length before) ≡ last_row fields (legal_rows fields patches before) =
+    ap (λ (l : List ℕ). row_of fields (legal_history fields patches l) (length before)) (sym (append_assoc later (thread ∷ []) before)) ∙ earlier in
+    row_of-version fields patches later (thread ∷ before) ∙ ap (λ (row : List Value). patched row (patch_at patches thread (times_of thread before))) (sym same)
+
+map-reverse : {X Y : Type 0} (f : X → Y) (xs : List X) → map f (reverse xs) ≡ reverse (map f xs)
+map-reverse f [] = refl
+map-reverse f (x ∷ xs) =
+    ap (map f) (reverse-append (x ∷ []) xs) ∙ map-append f (reverse xs) (x ∷ []) ∙ ap (λ l. l ++ f x ∷ []) (map-reverse f xs) ∙ sym (reverse-append (f x ∷ []) (map f xs))
+
+-- rows of entries by their index
+row_at-map : (history : List Written) (n : ℕ) (none : List Value) → unwrap_or (option_map (λ e. e.row) (slice_get history n)) none ≡ slice_index_or (map (λ e. e.row) history) n none
+row_at-map [] n none = refl
+row_at-map (entry ∷ history) zero none = refl
+row_at-map (entry ∷ history) (suc n) none = row_at-map history n none
+
+rows-entries : (fields : List Field) (patches : List (List (List (ℕ × Value)))) (threads : List ℕ) → map (λ e. e.row) (legal_entries fields patches threads) ≡ legal_rows fields patches threads
+rows-entries fields patches [] = refl
+rows-entries fields patches (thread ∷ before) =
+    ap (λ (rows : List (List Value)). last_row fields (legal_rows fields patches (thread ∷ before)) ∷ rows) (rows-entries fields patches before)
+
+pub versions-rows : (fields : List Field) (patches : List (List (List (ℕ × Value)))) (threads : List ℕ) (version : ℕ)
+    → row_of fields (legal_history fields patches threads) version ≡ slice_index_or (opening_row fields ∷ reverse (legal_rows fields patches threads)) version (opening_row fields)
+versions-rows fields patches threads zero = refl
+versions-rows fields patches threads (suc n) =
+    row_at-map (legal_history fields patches threads) n (opening_row fields)
+    ∙ ap (λ (rows : List (List Value)). slice_index_or rows n (opening_row fields)) (map-reverse (λ (e : Written). e.row) (legal_entries fields patches threads) ∙ ap reverse (rows-entries fields patches threads))

@@ -1,5 +1,5 @@
 -- History, Legal history: the single history of a data set.
-use Rattle.std.specs.Prelude.{◌≡◌, ◌+◌, ℕ, zero, suc, List, [], ◌∷◌, length, ◌==◌, unwrap_or, option_map, count_by, slice_get, slice_index_or, if◌then◌else◌, All}
+use Rattle.std.specs.Prelude.{◌≡◌, ◌+◌, ℕ, zero, suc, List, [], ◌∷◌, length, reverse, ◌==◌, unwrap_or, option_map, count_by, slice_get, slice_index_or, if◌then◌else◌, All}
 use Rattle.ua_values.specs.declared.value.Value.{Value}
 use Rattle.dataset_meta.specs.declared.field.Field.{Field}
 use Rattle.dataset_meta.specs.Rows.{IsRow, IsPatch, opening_row, patched}
@@ -49,6 +49,16 @@ legal_rows fields patches [] = []
 legal_rows fields patches (thread ∷ before) =
     let rows = legal_rows fields patches before in
     patched (last_row fields rows) (patch_at patches thread (times_of thread before)) ∷ rows
+
+-- the entries that these threads, the latest first, make with their patches
+abbrev pub legal_entries : List Field → List (List (List (ℕ × Value))) → List ℕ → List Written
+legal_entries fields patches [] = []
+legal_entries fields patches (thread ∷ before) =
+    record { author = thread; row = last_row fields (legal_rows fields patches (thread ∷ before)) } ∷ legal_entries fields patches before
+
+-- their history
+abbrev pub legal_history : List Field → List (List (List (ℕ × Value))) → List ℕ → List Written
+legal_history fields patches threads = reverse (legal_entries fields patches threads)
 
 -- the versions, counted from the one after n, that a thread made, where the threads stand in the order of the versions
 abbrev pub places : ℕ → ℕ → List ℕ → List ℕ

@@ -1,9 +1,9 @@
 //! Laws of the model's definitions, each the contract of a function that does nothing.
-ghost use Rattle.std.specs.Prelude.{◌≡◌, ◌≢◌, ◌++◌, ◌+◌, [], ◌∷◌, ℕ, List, All, Option, Some, None, length, replicate, Bool, false, true, option_map};
+ghost use Rattle.std.specs.Prelude.{◌≡◌, ◌≢◌, ◌++◌, ◌+◌, [], ◌∷◌, ℕ, List, All, Option, Some, None, length, reverse, replicate, slice_index_or, Bool, false, true, option_map};
 ghost use Rattle.ua_values.specs.declared.value.Value.{Value};
 ghost use Rattle.dataset_meta.specs.declared.field.Field.{Field};
-ghost use Rattle.dataset_meta.specs.Rows.{IsRow, patched, differs};
-ghost use Rattle.pubsub_model.specs.History.{Written, IsHistory, ArePatches, IsLegal, row_of, last_row, legal_rows};
+ghost use Rattle.dataset_meta.specs.Rows.{IsRow, opening_row, patched, differs};
+ghost use Rattle.pubsub_model.specs.History.{Written, IsHistory, ArePatches, IsLegal, row_of, times_of, patch_at, last_row, legal_rows, legal_history};
 ghost use Rattle.pubsub_model.specs.Frames.{Whole, Change, is_whole, published};
 ghost use Rattle.pubsub_model.specs.Cadence.{Settings, Turn, Answered, Deed, Took, HasRowsOf, answer, quiet_answer, is_key_due, cadence, next_place, is_data, last_turn, log_of, frames_of};
 ghost use Rattle.pubsub_model.specs.Records.{Item, Held, breaks_with, held_in, at};
@@ -49,4 +49,12 @@ pub fn legal_rows_fit()
     ensures rows { (fields : List Field) (patches : List (List (List (ℕ × Value)))) (threads : List ℕ) → ArePatches fields patches → All (λ row. IsRow fields row) (legal_rows fields patches threads) }
     ensures last { (fields : List Field) (patches : List (List (List (ℕ × Value)))) (threads : List ℕ) → ArePatches fields patches → IsRow fields (last_row fields (legal_rows fields patches threads)) }
     ensures versions { (fields : List Field) (history : List Written) (version : ℕ) → IsHistory fields history → IsRow fields (row_of fields history version) }
+{}
+
+/// In the history that any list of threads makes with their patches, the row of a version is the row of the version before it with its thread's next patch laid in; and the rows of its versions are the opening row and then those that the threads leave.
+pub fn versions_of_a_legal_history()
+    ensures patched { (fields : List Field) (patches : List (List (List (ℕ × Value)))) (later : List ℕ) (thread : ℕ) (before : List ℕ)
+        → let history = legal_history fields patches (later ++ thread ∷ before) in row_of fields history (length (thread ∷ before)) ≡ patched (row_of fields history (length before)) (patch_at patches thread (times_of thread before)) }
+    ensures rows { (fields : List Field) (patches : List (List (List (ℕ × Value)))) (threads : List ℕ) (version : ℕ)
+        → row_of fields (legal_history fields patches threads) version ≡ slice_index_or (opening_row fields ∷ reverse (legal_rows fields patches threads)) version (opening_row fields) }
 {}

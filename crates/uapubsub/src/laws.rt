@@ -9,16 +9,17 @@ ghost use Rattle.pubsub_engine.specs.Reading.{arrivals, kept_at, held_by};
 ghost use Rattle.pubsub_engine.specs.Closing.{version_at};
 ghost use Rattle.pubsub_engine.specs.BuiltIn.{demo_fields};
 ghost use Rattle.uapubsub.specs.declared.script.Line.{Line as LineValue};
-ghost use Rattle.pubsub_model.specs.History.{IsLegal, legal_rows};
+ghost use Rattle.pubsub_model.specs.History.{IsLegal, legal_rows, legal_history, row_of};
 ghost use Rattle.uapubsub.specs.Script.{IsScript};
 ghost use Rattle.uapubsub.specs.Playing.{written, threads_of, patches_of, AreThreads};
 ghost use Rattle.pubsub_engine.specs.Steps.{Step};
 ghost use Rattle.uapubsub.specs.Play.{IsSession, IsReport};
-ghost use Rattle.uapubsub.specs.Versions.{IsVersion, NeverFalls, StandsFor};
+ghost use Rattle.uapubsub.specs.Versions.{row_at, IsVersion, NeverFalls, StandsFor};
 ghost use Rattle.pubsub_model.specs.Cadence.{cadence};
 ghost use Rattle.pubsub_engine.specs.Publishing.{built_in, writer_past, deeds};
 
 use pubsub_engine::{a_held_row_is_published, a_reader_keeps_records};
+use pubsub_model::versions_of_a_legal_history;
 
 /// A text is the script of one list of lines at most.
 pub fn a_script_has_one_reading()
@@ -26,12 +27,16 @@ pub fn a_script_has_one_reading()
 {}
 
 /// The writes of any lines, the latest first, are a legal history of their threads' patches and leave that
-/// history's rows. Those of a script are made by threads below 8.
+/// history's rows, so that the row of each version is that of the history. Those of a script are made by threads below 8.
 pub fn writes_make_a_legal_history()
     ensures legal { (lines : List LineValue) → AreThreads (threads_of lines) → IsLegal (threads_of lines) (patches_of lines) }
     ensures rows { (lines : List LineValue) → AreThreads (threads_of lines) → written lines ≡ legal_rows demo_fields (patches_of lines) (threads_of lines) }
+    ensures versions { (lines : List LineValue) (version : ℕ) → AreThreads (threads_of lines)
+        → row_at (written lines) version ≡ row_of demo_fields (legal_history demo_fields (patches_of lines) (threads_of lines)) version }
     ensures accepted { (bytes : List ℕ) (lines : List LineValue) → IsScript bytes lines → AreThreads (threads_of (reverse lines)) }
-{}
+{
+    versions_of_a_legal_history();
+}
 
 /// The lines and the journal of the link fix the report.
 pub fn a_session_has_one_report()
