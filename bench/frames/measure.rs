@@ -1,4 +1,4 @@
-// Times the calls of libframe_bench.a beside a plain hand-written codec, in turns, and prints the least time of each.
+// Times the calls of libpubsub_bench.a beside a plain hand-written codec, in turns, and prints the least time of each.
 use std::hint::black_box;
 use std::time::Instant;
 
@@ -187,7 +187,7 @@ fn measure(fields: u8) -> [f64; 2] {
         let mut other = 0u64;
         for _ in 0..TURNS {
             let frame = plain::read(black_box(&meta), black_box(&theirs[..end])).expect("a frame");
-            other = other.wrapping_add(black_box(frame).row.words[0]);
+            other = other.wrapping_add(black_box(&frame).row.words[0]);
         }
         keep_least(&mut their_read, start);
         assert_eq!(sum, other, "what is read differs");

@@ -16,9 +16,10 @@ use Rattle.frame_codec.specs.Messages as messages
 use Rattle.frame_codec.specs.Messages.{Content}
 use Rattle.dataset_reader.specs.Kept.{Kept}
 use Rattle.dataset_reader.specs.Cases.{placed_case, change_case, noted, placed_at}
-use Rattle.dataset_reader.specs.Keeping.{KeepsOver, AreNear, last_wire, content_of}
+use Rattle.frame_codec.specs.Carrying.{content_of}
+use Rattle.dataset_reader.specs.Keeping.{KeepsOver, AreNear, last_wire}
 
-next-wire : (p g : ℕ) → g < p → p ≤ g + 16384 → (p % 65536 == (g % 65536 + 1) % 65536) ≡ (p == g + 1)
+pub next-wire : (p g : ℕ) → g < p → p ≤ g + 16384 → (p % 65536 == (g % 65536 + 1) % 65536) ≡ (p == g + 1)
 next-wire p g a b = grind (arith, nat_tests)
 
 -- what isn't a record leaves all
@@ -42,10 +43,10 @@ count_more n b all e = omega arith
 recent_more : (b : Break) (recent all : List Break) → recent ≡ take 8 all → take 8 (b ∷ recent) ≡ take 8 (b ∷ all)
 recent_more b recent all e = ap (λ (l : List Break). b ∷ take 7 l) e ∙ ap (λ (l : List Break). b ∷ l) (take_less 7 all)
 
-abbrev break_at : ℕ → ℕ → Break
+abbrev pub break_at : ℕ → ℕ → Break
 break_at expected got = record { expected = expected; got = got }
 
-same_break : (g n : ℕ) → break_at ((wire g + 1) % 65536) n ≡ break_at (wire (g + 1)) n
+pub same_break : (g n : ℕ) → break_at ((wire g + 1) % 65536) n ≡ break_at (wire (g + 1)) n
 same_break g n = let e : (wire g + 1) % 65536 ≡ wire (g + 1) = omega arith in ap (λ (x : ℕ). break_at x n) e
 
 -- the break that is noted is the one that Records sees
@@ -150,11 +151,11 @@ near_last : (rs : List Item) (g place : ℕ) → g ≡ last_place rs → place �
 near_last [] g place e a b = tt
 near_last (last ∷ before) g place e a b = (omega (arith, e), omega (arith, e))
 
-near_items : (items : List Item) (x : Item) → IsNear (map place_in (x ∷ items)) → IsNearTo (records items) (place_in x)
+pub near_items : (items : List Item) (x : Item) → IsNear (map place_in (x ∷ items)) → IsNearTo (records items) (place_in x)
 near_items [] x near = tt
 near_items (y ∷ items) x near = near_last (records (y ∷ items)) (greatest (map place_in (y ∷ items))) (place_in x) (greatest-last (y ∷ items)) near.0 near.1
 
-abbrev new_breaks : Bool → List Item → Item → List Break
+abbrev pub new_breaks : Bool → List Item → Item → List Break
 new_breaks b rs x = if b then break_with rs x else []
 
 -- what a frame is on the wire

@@ -7,7 +7,7 @@ use Rattle.seq_number.specs.Numbers.{wire, newer, greatest}
 use Rattle.seq_number.proofs.NumberLaws.{wire-before}
 use Rattle.pubsub_model.specs.declared.reading.Why.{Why}
 use Rattle.pubsub_model.specs.declared.reading.Why.TheVariants.{Jump}
-use Rattle.pubsub_model.specs.Frames.{Frame, Whole, Change, Alive, place_of, carried}
+use Rattle.pubsub_model.specs.Frames.{Frame, IsFrame, Whole, Change, Alive, place_of, carried}
 use Rattle.pubsub_model.specs.Records.{Item, Arrival, Came, Cut, at, since_cut, is_nothing, records, cut_reason, breaks}
 use Rattle.frame_codec.specs.Messages as messages
 use Rattle.frame_codec.specs.Messages.{Content, Message}
@@ -15,7 +15,8 @@ use Rattle.dataset_reader.specs.declared.took.Numbering.{Numbering}
 use Rattle.dataset_reader.specs.declared.took.Numbering.TheVariants as numberings
 use Rattle.dataset_reader.specs.Kept.{Kept, fresh, cut_kept}
 use Rattle.dataset_reader.specs.Cases.{placed_case, place_at, following_case, breaks_run, record_case, change_case, noted, placed_at, due, is_jump, stamped, numbered_case, numbering_case, unnumbered_case, frame_case, major_case}
-use Rattle.dataset_reader.specs.Keeping.{stamps, jumps, came_on, AreNear, AreNearInEach, with_jumps, content_of, HasPlace, IsOfMajor, IsMessageOf, KeepsOver, Keeps, KeepsUnnumbered, greatest_of, IsRun}
+use Rattle.frame_codec.specs.Carrying.{content_of}
+use Rattle.dataset_reader.specs.Keeping.{stamps, jumps, came_on, AreNear, AreNearInEach, with_jumps, IsOfMajor, IsMessageOf, KeepsOver, Keeps, KeepsUnnumbered, greatest_of, IsRun}
 use Rattle.dataset_reader.proofs.KeepingLaws.{placed, keeps_over-came}
 
 -- ---- the stamp
@@ -44,15 +45,15 @@ pub placed-stamp : (k : Kept) (c : Content) (n p : ℕ) (last : Option ℕ) → 
 placed-stamp k c n p None = record-stamp (placed_at k p) c n false
 placed-stamp k c n p (Some last) = newer-stamp (newer p last) k c n p last refl
 
-abbrev jumps_at : List ℕ → ℕ → Bool
+abbrev pub jumps_at : List ℕ → ℕ → Bool
 jumps_at [] n = false
 jumps_at (s ∷ before) n = nat_le (greatest (s ∷ before) + 16384) n
 
-kept_jump : (list : List ℕ) (n : ℕ) → is_jump (greatest_of list) n ≡ jumps_at list n
+pub kept_jump : (list : List ℕ) (n : ℕ) → is_jump (greatest_of list) n ≡ jumps_at list n
 kept_jump [] n = refl
 kept_jump (s ∷ before) n = refl
 
-list_jump : (items : List Item) (n : ℕ) → jumps items (Some n) ≡ jumps_at (stamps items) n
+pub list_jump : (items : List Item) (n : ℕ) → jumps items (Some n) ≡ jumps_at (stamps items) n
 list_jump items n = by_list (stamps items)
   where
     by_list : (list : List ℕ) → (not (is_nothing list) && nat_le (greatest list + 16384) n) ≡ jumps_at list n
@@ -67,10 +68,10 @@ greatest_one : (n : ℕ) → Some n ≡ greatest_of (n ∷ [])
 greatest_one n = let e : n ≡ max n 0 = omega arith in ap (λ (x : ℕ). Some x) e
 
 -- the arrivals with an item more, by whether it jumps
-abbrev came_if : Bool → List Arrival → Item → List Arrival
+abbrev pub came_if : Bool → List Arrival → Item → List Arrival
 came_if j before item = if j then Came item ∷ Cut Jump ∷ before else Came item ∷ before
 
-abbrev stamped_if : Bool → Kept → ℕ → Kept
+abbrev pub stamped_if : Bool → Kept → ℕ → Kept
 stamped_if j k n = if j then record (cut_kept Jump k) { stamp = Some n } else record k { stamp = Some (max n (unwrap_or k.stamp 0)) }
 
 abbrev placed_on : Kept → Frame → Kept
@@ -118,18 +119,18 @@ keeps-placed arrivals k m (Some n) frame near h =
 -- ---- a message of a frame
 
 -- where a frame stands by its number
-place_at-carried : (frame : Frame) → HasPlace frame → place_at (content_of frame) (carried frame) ≡ wire (place_of frame)
+pub place_at-carried : (frame : Frame) → IsFrame frame → place_at (content_of frame) (carried frame) ≡ wire (place_of frame)
 place_at-carried (Whole place row) has = refl
 place_at-carried (Change place patch) has = refl
 place_at-carried (Alive next) has = wire-before next has
 
 -- a message of this major version or of none
-major_of : (numbering : Numbering) (major : ℕ) (k : Kept) (message : Message) (stamp carries : Option ℕ) → IsOfMajor major carries
+pub major_of : (numbering : Numbering) (major : ℕ) (k : Kept) (message : Message) (stamp carries : Option ℕ) → IsOfMajor major carries
     → major_case numbering major k message stamp carries ≡ numbering_case numbering k message stamp
 major_of numbering major k message stamp None of = refl
 major_of numbering major k message stamp (Some got) of = let same : (got == major) ≡ true = grind (arith, nat_tests) in rw same refl
 
-numbered_as : (k : Kept) (frame : Frame) (message : Message) (stamp : Option ℕ) → message.number ≡ Some (carried frame) → message.content ≡ content_of frame → HasPlace frame
+numbered_as : (k : Kept) (frame : Frame) (message : Message) (stamp : Option ℕ) → message.number ≡ Some (carried frame) → message.content ≡ content_of frame → IsFrame frame
     → (numbered_case k message.content stamp message.number).0 ≡ placed_on (stamped k stamp) frame
 numbered_as k frame message stamp number content has =
     ap (λ (n : Option ℕ). (numbered_case k message.content stamp n).0) number
@@ -193,4 +194,4 @@ unnumbered-run major (Cut why ∷ before) k run =
     subst (λ (now : Kept). KeepsUnnumbered (Cut why ∷ before) now) (sym run.2) (unnumbered-cut before run.0 why (unnumbered-run major before run.0 run.1))
 unnumbered-run major (Came item ∷ before) k run =
     subst (λ (now : Kept). KeepsUnnumbered (Came item ∷ before) now) (sym run.4)
-    (unnumbered-frame major before run.0 item run.1 run.3.version run.3.content (unnumbered-run major before run.0 run.2))
+    (unnumbered-frame major before run.0 item run.1 run.3.0 run.3.1 (unnumbered-run major before run.0 run.2))

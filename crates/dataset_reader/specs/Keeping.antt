@@ -1,16 +1,18 @@
 -- What a reader keeps is what Records of pubsub_model says of all that came to it. Lists have the latest first.
-use Rattle.std.specs.Prelude.{◌≡◌, ℕ, ◌+◌, ◌-◌, ◌^◌, ◌≤◌, min, List, [], ◌∷◌, length, map, take, filter_map, Bool, false, not, ◌&&◌, nat_le, Option, Some, None, option_map, if◌then◌else◌, ⊤}
+use Rattle.std.specs.Prelude.{◌≡◌, ◌≢◌, ◌⊎◌, ℕ, ◌+◌, ◌-◌, ◌^◌, ◌<◌, min, List, [], ◌∷◌, length, map, take, filter_map, Bool, false, not, ◌&&◌, nat_le, Option, Some, None, IfSome, option_map, if◌then◌else◌, ⊤}
 use Rattle.seq_number.specs.Numbers.{wire, greatest, IsNear}
 use Rattle.pubsub_model.specs.declared.reading.Break.{Break}
 use Rattle.pubsub_model.specs.declared.reading.Why.{Why}
 use Rattle.pubsub_model.specs.declared.reading.Why.TheVariants.{Jump}
-use Rattle.pubsub_model.specs.Frames.{Frame, Whole, Change, Alive, carried}
+use Rattle.pubsub_model.specs.Frames.{Frame, IsFrame, carried}
 use Rattle.pubsub_model.specs.Records.{Item, Arrival, Came, Cut, place_in, since_cut, cut_reason, records, held_in, reason_in, breaks, unnumbered_row, is_nothing}
-use Rattle.frame_codec.specs.Messages as messages
-use Rattle.frame_codec.specs.Messages.{Content, Message}
+use Rattle.frame_codec.specs.Messages.{Message}
+use Rattle.frame_codec.specs.Carrying.{content_of}
 use Rattle.dataset_reader.specs.declared.took.Numbering.{Numbering}
+use Rattle.dataset_reader.specs.declared.took.Numbering.TheVariants as numberings
 use Rattle.dataset_reader.specs.Kept.{Kept, fresh, cut_kept}
 use Rattle.dataset_reader.specs.Cases.{frame_case}
+use Rattle.dataset_reader.specs.Answers.{IsChange}
 
 -- ---- what came
 
@@ -45,17 +47,6 @@ AreNearInEach (Came item ∷ before) = AreNear (Came item ∷ before) × AreNear
 
 -- ---- messages of frames
 
-abbrev pub content_of : Frame → Content
-content_of (Whole place row) = messages.Whole row
-content_of (Change place patch) = messages.Change patch
-content_of (Alive next) = messages.Alive
-
--- a keep-alive tells of a next place, which isn't the first
-abbrev pub HasPlace : Frame → Type 0
-HasPlace (Whole place row) = ⊤
-HasPlace (Change place patch) = ⊤
-HasPlace (Alive next) = 1 ≤ next
-
 -- a message of a data set with this major version, or with none
 abbrev pub IsOfMajor : ℕ → Option ℕ → Type 0
 IsOfMajor major None = ⊤
@@ -66,7 +57,22 @@ pub record IsMessageOf (major : ℕ) (frame : Frame) (message : Message) : Type 
   pub version : IsOfMajor major message.major
   pub number : message.number ≡ Some (carried frame)
   pub content : message.content ≡ content_of frame
-  pub place : HasPlace frame
+  pub place : IsFrame frame
+
+-- the message brings this frame to a reader with this numbering; with no numbering its number is nothing, and it may have none
+abbrev pub Brings : Numbering → ℕ → Frame → Message → Type 0
+Brings numberings.Message major frame message = IsMessageOf major frame message
+Brings numberings.Unnumbered major frame message = IsOfMajor major message.major × (message.content ≡ content_of frame)
+
+-- a message of another major version
+abbrev pub IsForeign : ℕ → Message → Type 0
+IsForeign major message = (got : ℕ) × (message.major ≡ Some got) × (got ≢ major)
+
+-- The message is no item for a reader with this numbering: it is of another major version; it has no number, where the reader goes by numbers; it is a delta
+-- frame, where the reader goes by none.
+abbrev pub IsNoItem : Numbering → ℕ → Message → Type 0
+IsNoItem numberings.Message major message = IsForeign major message ⊎ (message.number ≡ None)
+IsNoItem numberings.Unnumbered major message = IsForeign major message ⊎ IsChange message.content
 
 -- ---- what is kept
 
@@ -108,4 +114,35 @@ abbrev pub IsRun : Numbering → ℕ → List Arrival → Kept → Type 0
 IsRun numbering major [] kept = kept ≡ fresh
 IsRun numbering major (Cut why ∷ before) kept = (old : Kept) × IsRun numbering major before old × (kept ≡ cut_kept why old)
 IsRun numbering major (Came item ∷ before) kept =
-    (old : Kept) × (message : Message) × IsRun numbering major before old × IsMessageOf major item.frame message × (kept ≡ (frame_case numbering major old message item.stamp).0)
+    (old : Kept) × (message : Message) × IsRun numbering major before old × Brings numbering major item.frame message × (kept ≡ (frame_case numbering major old message item.stamp).0)
+
+-- what comes to a reader: a message with its stamp, or a cut
+pub data Event : Type 0 where
+  Framed : (message : Message) (stamp : Option ℕ) → Event
+  CutBy : Why → Event
+
+-- numbers of 16 bits
+abbrev pub AreShort : List Event → Type 0
+AreShort [] = ⊤
+AreShort (CutBy why ∷ before) = AreShort before
+AreShort (Framed message stamp ∷ before) = IfSome message.number (λ number. number < 2 ^ 16) × AreShort before
+
+-- what a new reader with this numbering, for a data set with this major version, keeps after all of this
+abbrev pub kept_after : Numbering → ℕ → List Event → Kept
+kept_after numbering major [] = fresh
+kept_after numbering major (CutBy why ∷ before) = cut_kept why (kept_after numbering major before)
+kept_after numbering major (Framed message stamp ∷ before) = (frame_case numbering major (kept_after numbering major before) message stamp).0
+
+-- what comes are these arrivals, and between them messages that are no items
+abbrev pub AreArrivals : Numbering → ℕ → List Event → List Arrival → Type 0
+AreArrivals numbering major [] arrivals = arrivals ≡ []
+AreArrivals numbering major (CutBy why ∷ before) arrivals = (earlier : List Arrival) × (arrivals ≡ Cut why ∷ earlier) × AreArrivals numbering major before earlier
+AreArrivals numbering major (Framed message stamp ∷ before) arrivals =
+    (IsNoItem numbering major message × AreArrivals numbering major before arrivals)
+    ⊎ ((item : Item) × (earlier : List Arrival) × (arrivals ≡ Came item ∷ earlier) × (item.stamp ≡ stamp)
+    × Brings numbering major item.frame message × AreArrivals numbering major before earlier)
+
+-- the breaks with the one of an answer, if it tells of one
+abbrev pub and_broken : Option Break → List Break → List Break
+and_broken None breaks = breaks
+and_broken (Some broke) breaks = broke ∷ breaks

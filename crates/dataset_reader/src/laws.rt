@@ -2,15 +2,49 @@
 //! message and a cut do to it are `frame_case` and `cut_kept`, as the contract of `Reader` says.
 ghost use Rattle.std.specs.Prelude.{◌≡◌, ℕ, List, [], ◌∷◌, Option};
 ghost use Rattle.pubsub_model.specs.declared.reading.Why.{Why as AnyWhy};
-ghost use Rattle.pubsub_model.specs.Records.{Item, Arrival, Came, Cut};
+ghost use Rattle.pubsub_model.specs.Records.{Item, Arrival, Came, Cut, breaks};
 ghost use Rattle.frame_codec.specs.Messages.{Message as AnyMessage};
 ghost use Rattle.dataset_reader.specs.declared.took.Numbering.{Numbering as AnyNumbering};
 ghost use Rattle.dataset_reader.specs.Kept.{Kept, fresh, cut_kept};
 ghost use Rattle.dataset_reader.specs.Cases.{frame_case};
 ghost use Rattle.dataset_reader.specs.Answers.{BeginsEmpty, Tells};
-ghost use Rattle.dataset_reader.specs.Keeping.{Keeps, KeepsUnnumbered, IsMessageOf, IsOfMajor, IsRun, AreNear, AreNearInEach, came_on, with_jumps, content_of};
+ghost use Rattle.frame_codec.specs.Carrying.{content_of};
+ghost use Rattle.dataset_reader.specs.Keeping.{Keeps, KeepsUnnumbered, IsMessageOf, IsOfMajor, IsNoItem, IsRun, Event, AreShort, AreArrivals, AreNear, AreNearInEach, kept_after, came_on, with_jumps, and_broken};
 
 use crate::took::Numbering;
+
+/// Over every list of frames and cuts a reader with numbering by message keeps what *Records* says of the arrivals among them,
+/// where their places are near in each stretch without a cut, a jump being one. A frame of another major version, and one without
+/// a number, is no arrival.
+pub fn each_list_keeps_records()
+    ensures { (major : ℕ) (events : List Event) (arrivals : List Arrival) → AreArrivals Numbering.Message major events arrivals → AreNearInEach (with_jumps arrivals)
+        → Keeps (with_jumps arrivals) (kept_after Numbering.Message major events) }
+{}
+
+/// Every list of frames with numbers of 16 bits, and of cuts, has its arrivals.
+pub fn each_list_has_arrivals()
+    ensures { (numbering : AnyNumbering) (major : ℕ) (events : List Event) → AreShort events → (arrivals : List Arrival) × AreArrivals numbering major events arrivals }
+{}
+
+/// Over every list of frames and cuts a reader with no numbering keeps the row of the last key frame since the cut.
+pub fn each_unnumbered_list_keeps_the_last_whole()
+    ensures { (major : ℕ) (events : List Event) (arrivals : List Arrival) → AreArrivals Numbering.Unnumbered major events arrivals
+        → KeepsUnnumbered arrivals (kept_after Numbering.Unnumbered major events) }
+{}
+
+/// What is no item changes nothing: by numbers a frame of another major version and one without a number, and with no numbering
+/// a frame of another major version and a delta frame.
+pub fn no_item_changes_nothing()
+    ensures { (numbering : AnyNumbering) (major : ℕ) (kept : Kept) (message : AnyMessage) (stamp : Option ℕ) → IsNoItem numbering major message
+        → (frame_case numbering major kept message stamp).0 ≡ kept }
+{}
+
+/// The break that an answer tells of is exactly the one that *Records* finds at the item, where places are near.
+pub fn answers_tell_each_break()
+    ensures { (major : ℕ) (arrivals : List Arrival) (kept : Kept) (item : Item) (message : AnyMessage) → IsMessageOf major item.frame message
+        → AreNear (came_on arrivals item) → Keeps arrivals kept
+        → breaks (came_on arrivals item) ≡ and_broken (frame_case Numbering.Message major kept message item.stamp).1.broke (breaks arrivals) }
+{}
 
 /// Where places are near in each stretch without a cut, a jump being one, a reader keeps what *Records* says of all that came.
 pub fn a_run_keeps_records()

@@ -1,13 +1,15 @@
 //! Arrivals with losses, repeats, old frames, numbers that wrap and cuts of every kind, with what a reader answers and holds after
 //! each, worked out by hand.
-ghost use Rattle.std.specs.Prelude.{◌≡◌, IfSome};
+ghost use Rattle.std.specs.Prelude.{◌≡◌, ◌<◌, IfSome, IfOk};
 ghost use Rattle.frame_codec.specs.Messages.{IsFrameOf, IsKindOf};
 ghost use Rattle.row_words.specs.Belonging.{Belongs};
 ghost use Rattle.dataset_reader.specs.Reader.{IsReaderOf};
 
+mod slow;
+
 use crate::{Numbering, Outcome, Reader, Took, Why};
 use dataset_meta::{Field, Meta, Name32};
-use frame_codec::{Frame, FrameKind};
+use frame_codec::{Frame, FrameKind, read_frame};
 use row_words::{Patch, Row};
 use std::alloc::Global;
 use std::process::Abort;
@@ -183,19 +185,6 @@ fn show(rt: &impl Abort, reader: &Reader, breaks: &[(u16, u16)]) {
 }
 
 #[test]
-fn a_delta_and_a_keep_alive_follow_a_key_frame(rt: HostRuntime) -> Result<(), Fail> {
-    let meta = meta_of(rt.alloc())?;
-    let steps: [Step; 3] = [
-        (Whole(0, 7), None, HELD, Some((0, 7))),
-        (Change(1, 8), None, HELD, Some((1, 8))),
-        (Alive(2), None, ALIVE, Some((1, 8))),
-    ];
-    let breaks: [(u16, u16); 0] = [];
-    play(&rt, &meta, &steps, 0, &breaks);
-    Ok(())
-}
-
-#[test]
 fn losses_repeats_and_old_frames(rt: HostRuntime) -> Result<(), Fail> {
     let meta = meta_of(rt.alloc())?;
     let steps: [Step; 20] = [
@@ -352,6 +341,43 @@ fn taken(rt: &impl Abort, meta: &Meta, reader: &mut Reader, frame: &Frame, outco
     assert_eq!(rt; reader.frame(meta, frame, Some(9)), want);
 }
 
+// The frame that bytes spell.
+fn spelled(meta: &Meta, bytes: &[u8]) -> Result<Frame, Fail>
+    ensures { IfOk result (λ frame. IsFrameOf meta.now.fields frame) }
+{
+    match read_frame(meta, bytes) {
+        Ok(frame) => Ok(frame),
+        Err(_) => Err(Fail::from("no frame")),
+    }
+}
+
+fn shows(rt: &impl Abort, meta: &Meta, reader: &Reader, number: u16, held: u32)
+    requires { IsReaderOf meta.now.fields reader.now }
+{
+    assert_eq!(rt; reader.number(), Some(number));
+    assert_eq!(rt; value(rt, meta, reader), Some(Value::UInt32(held)));
+}
+
+#[test]
+fn delta_then_alive(rt: HostRuntime) -> Result<(), Fail> {
+    let meta = meta_of(rt.alloc())?;
+    let mut reader = Reader::new(Numbering::Message);
+    let key = spelled(&meta, &[0x09, 0, 0, 1, 0, 7, 7, 0, 0, 0])?;
+    taken(&rt, &meta, &mut reader, &key, Outcome::Held);
+    shows(&rt, &meta, &reader, 0, 7);
+    let delta = spelled(&meta, &[0x89, 1, 1, 0, 1, 0, 0, 0, 7, 8, 0, 0, 0])?;
+    taken(&rt, &meta, &mut reader, &delta, Outcome::Held);
+    shows(&rt, &meta, &reader, 1, 8);
+    let alive = spelled(&meta, &[0x89, 3, 2, 0])?;
+    taken(&rt, &meta, &mut reader, &alive, Outcome::Alive);
+    shows(&rt, &meta, &reader, 1, 8);
+    // the keep-alive used up no number
+    let next = numbered(2, change(&rt, &meta, 9));
+    taken(&rt, &meta, &mut reader, &next, Outcome::Held);
+    shows(&rt, &meta, &reader, 2, 9);
+    Ok(())
+}
+
 #[test]
 fn another_major_version_and_no_number(rt: HostRuntime) -> Result<(), Fail> {
     let meta = meta_of(rt.alloc())?;
@@ -395,5 +421,279 @@ fn with_no_numbering(rt: HostRuntime) -> Result<(), Fail> {
     assert_eq!(rt; (reader.number(), reader.breaks()), (None, 0));
     reader.cut(Why::Timeout);
     assert_eq!(rt; (reader.row(), reader.why()), (None, Why::Timeout));
+    Ok(())
+}
+
+// Where arrivals go on from: a chance, and the greatest place and stamp since the last cut.
+#[derive(Clone, Copy)]
+struct Walk {
+    chance: u64,
+    place: Option<u32>,
+    stamp: Option<u32>,
+}
+
+// How far a place is above the greatest before it, and how far below: in turn, a loss, a repeat, old ones, and the farthest
+// ones that are near.
+const PLACES: [(u32, u32); 16] = [
+    (1, 0),
+    (1, 0),
+    (1, 0),
+    (1, 0),
+    (1, 0),
+    (1, 0),
+    (1, 0),
+    (1, 0),
+    (2, 0),
+    (5, 0),
+    (0, 0),
+    (0, 1),
+    (0, 2),
+    (0, 9),
+    (16384, 0),
+    (0, 49151),
+];
+
+// How far a stamp is above the greatest before it, and how far below; one of 16,384 above jumps.
+const STAMPS: [(u32, u32); 16] = [
+    (1, 0),
+    (1, 0),
+    (1, 0),
+    (1, 0),
+    (1, 0),
+    (1, 0),
+    (1, 0),
+    (2, 0),
+    (0, 0),
+    (0, 1),
+    (0, 7),
+    (0, 900),
+    (800, 0),
+    (16383, 0),
+    (16384, 0),
+    (50000, 0),
+];
+
+const REASONS: [Why; 16] = [
+    Why::Start,
+    Why::Gap,
+    Why::Timeout,
+    Why::NewToken,
+    Why::Jump,
+    Why::Restarted,
+    Why::Timeout,
+    Why::NewToken,
+    Why::Restarted,
+    Why::Timeout,
+    Why::NewToken,
+    Why::Restarted,
+    Why::Timeout,
+    Why::NewToken,
+    Why::Restarted,
+    Why::Gap,
+];
+
+fn draw(walk: &mut Walk) -> usize
+    ensures { result < 16 }
+{
+    walk.chance = walk
+        .chance
+        .wrapping_mul(6364136223846793005)
+        .wrapping_add(1442695040888963407);
+    (walk.chance >> 60) as usize
+}
+
+// Three of four items are stamped.
+fn next_stamp(walk: &mut Walk) -> Option<u32> {
+    if draw(walk) < 4 {
+        return None;
+    }
+    let (above, below) = STAMPS[draw(walk)];
+    let Some(high) = walk.stamp else {
+        walk.stamp = Some(1000);
+        return walk.stamp;
+    };
+    let stamp = high.saturating_add(above).saturating_sub(below);
+    if stamp.saturating_sub(high) >= 16384 {
+        walk.place = None;
+    }
+    walk.stamp = Some(stamp.max(high));
+    Some(stamp)
+}
+
+// The first place since a cut stands where numbers wrap.
+fn next_place(walk: &mut Walk) -> u32 {
+    let drawn = draw(walk);
+    let Some(greatest) = walk.place else {
+        let place = 65525 + drawn as u32;
+        walk.place = Some(place);
+        return place;
+    };
+    let (above, below) = PLACES[drawn];
+    let place = greatest.saturating_add(above).saturating_sub(below);
+    walk.place = Some(place.max(greatest));
+    place
+}
+
+fn next_item(walk: &mut Walk, value: u32) -> slow::Item {
+    let stamp = next_stamp(walk);
+    let place = next_place(walk);
+    let drawn = draw(walk);
+    if drawn < 2 {
+        return slow::Item {
+            stamp,
+            place: place.saturating_add(1),
+            value: None,
+            whole: false,
+        };
+    }
+    slow::Item {
+        stamp,
+        place,
+        value: Some(value),
+        whole: drawn < 6,
+    }
+}
+
+fn next_arrival(walk: &mut Walk, value: u32) -> slow::Arrival {
+    if draw(walk) > 0 {
+        return slow::Arrival {
+            came: Some(next_item(walk, value)),
+            cut: Why::Start,
+        };
+    }
+    walk.place = None;
+    walk.stamp = None;
+    slow::Arrival {
+        came: None,
+        cut: REASONS[draw(walk)],
+    }
+}
+
+// Near arrivals with losses, repeats, old items, keep-alives, jumps and cuts, the latest first.
+fn arrivals_of(alloc: Global, seed: u64, count: u32) -> Result<Vec<slow::Arrival>, Fail> {
+    let mut walk = Walk {
+        chance: seed,
+        place: None,
+        stamp: None,
+    };
+    let mut arrivals = Vec::new(alloc);
+    for value in 0..count {
+        arrivals.insert(0, next_arrival(&mut walk, value))?;
+    }
+    Ok(arrivals)
+}
+
+fn frame_of(rt: &impl Abort, meta: &Meta, item: &slow::Item) -> Frame
+    ensures { IsFrameOf meta.now.fields result }
+{
+    let kind = match item.value {
+        None => FrameKind::Alive,
+        Some(value) if item.whole => whole(rt, meta, value),
+        Some(value) => change(rt, meta, value),
+    };
+    numbered((item.place % 65536) as u16, kind)
+}
+
+fn arrive(rt: &impl Abort, meta: &Meta, reader: &mut Reader, arrival: &slow::Arrival)
+    requires { IsReaderOf meta.now.fields reader.old }
+    ensures { IsReaderOf meta.now.fields reader.new }
+{
+    let Some(item) = &arrival.came else {
+        reader.cut(arrival.cut);
+        return;
+    };
+    let frame = frame_of(rt, meta, item);
+    let _ = answer(rt, meta, reader, &frame, item.stamp);
+}
+
+fn same_row(
+    rt: &impl Abort,
+    alloc: Global,
+    meta: &Meta,
+    reader: &Reader,
+    all: &[slow::Arrival],
+) -> Result<(), Fail>
+    requires { IsReaderOf meta.now.fields reader.now }
+{
+    let Some(held) = slow::held_of(alloc, all)? else {
+        assert_eq!(rt; (reader.number(), reader.row()), (None, None));
+        assert_eq!(rt; reader.why(), slow::why(alloc, all)?);
+        return Ok(());
+    };
+    assert_eq!(rt; reader.number(), Some((held.place % 65536) as u16));
+    let want = held.value.map(|value| Value::UInt32(value));
+    assert_eq!(rt; value(rt, meta, reader), want);
+    Ok(())
+}
+
+fn same_breaks(
+    rt: &impl Abort,
+    alloc: Global,
+    reader: &Reader,
+    all: &[slow::Arrival],
+) -> Result<(), Fail> {
+    let breaks = slow::breaks(alloc, all)?;
+    assert_eq!(rt; reader.breaks(), breaks.len() as u64);
+    assert_eq!(rt; reader.recent().len(), breaks.len().min(8));
+    for (found, want) in reader.recent().iter().rev().zip(breaks.iter()) {
+        assert_eq!(rt; found, want);
+    }
+    Ok(())
+}
+
+fn compare(
+    rt: &impl Abort,
+    alloc: Global,
+    meta: &Meta,
+    arrivals: &[slow::Arrival],
+) -> Result<(), Fail> {
+    let _ = meta.fields();
+    let mut reader = Reader::new(Numbering::Message);
+    for at in (0..arrivals.len()).rev() {
+        arrive(rt, meta, &mut reader, &arrivals[at]);
+        let all = slow::with_jumps(alloc, &arrivals[at..])?;
+        same_row(rt, alloc, meta, &reader, &all)?;
+        same_breaks(rt, alloc, &reader, &all)?;
+    }
+    Ok(())
+}
+
+#[test]
+fn as_records_is_defined(rt: HostRuntime) -> Result<(), Fail> {
+    let alloc = rt.alloc();
+    let meta = meta_of(alloc)?;
+    for seed in 1u64..201 {
+        let arrivals = arrivals_of(alloc, seed, 40)?;
+        compare(&rt, alloc, &meta, &arrivals)?;
+    }
+    Ok(())
+}
+
+fn compare_unnumbered(
+    rt: &impl Abort,
+    alloc: Global,
+    meta: &Meta,
+    arrivals: &[slow::Arrival],
+) -> Result<(), Fail> {
+    let _ = meta.fields();
+    let mut reader = Reader::new(Numbering::Unnumbered);
+    for at in (0..arrivals.len()).rev() {
+        arrive(rt, meta, &mut reader, &arrivals[at]);
+        let held = slow::unnumbered(alloc, &arrivals[at..])?;
+        let want = held.map(|value| Value::UInt32(value));
+        assert_eq!(rt; value(rt, meta, &reader), want);
+        assert_eq!(rt; (reader.number(), reader.breaks()), (None, 0));
+    }
+    Ok(())
+}
+
+#[test]
+fn with_no_numbering_as_it_is_defined(rt: HostRuntime) -> Result<(), Fail> {
+    let alloc = rt.alloc();
+    let meta = meta_of(alloc)?;
+    for seed in 1u64..21 {
+        let arrivals = arrivals_of(alloc, seed, 40)?;
+        compare_unnumbered(&rt, alloc, &meta, &arrivals)?;
+    }
     Ok(())
 }

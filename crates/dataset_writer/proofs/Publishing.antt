@@ -1,12 +1,12 @@
 -- What the frames of a writer publish up to a turn is the row of that turn.
-use Rattle.std.proofs.Common.{◌≡◌, refl, sym, ap, ◌∙◌, subst, Bool, true, false, ◌&&◌, not, cond, List, [], ◌∷◌, ℕ, ◌-◌, Option, Some, None}
+use Rattle.std.proofs.Common.{◌≡◌, refl, sym, ap, ◌∙◌, subst, Bool, true, false, ◌&&◌, not, cond, List, [], ◌∷◌, ℕ, ◌-◌, Some, None}
 use Rattle.std.specs.Prelude.{nat_le, ◌==◌}
 use Rattle.ua_values.specs.declared.value.Value.{Value}
 use Rattle.dataset_meta.specs.declared.field.Field.{Field}
 use Rattle.dataset_meta.specs.Rows.{IsRow, patched, differs}
 use Rattle.dataset_meta.proofs.RowLaws.{patched-differs}
-use Rattle.pubsub_model.specs.Frames.{Frame, Whole, Change, Alive, published}
-use Rattle.pubsub_model.specs.Cadence.{Settings, Turn, Answered, Deed, Refreshed, Took, HasRowsOf, answer, change_answer, is_key_due, is_fresh, cadence, next_place, last_turn, is_data, is_any, frames_of}
+use Rattle.pubsub_model.specs.Frames.{Whole, Alive, published}
+use Rattle.pubsub_model.specs.Cadence.{Settings, Turn, Answered, Deed, Refreshed, Took, HasRowsOf, answer, change_answer, is_key_due, cadence, next_place, last_turn, is_data, is_any, frames_of}
 use Rattle.pubsub_model.proofs.CadenceLaws.{cadence-publishes}
 
 abbrev data_row : List Answered → List Value

@@ -1,9 +1,6 @@
 -- A turn, by its answer: a key frame, a delta frame, a keep-alive or nothing.
 use Rattle.std.proofs.Common.{◌≡◌, ◌≢◌, refl, sym, ap, ◌∙◌, subst, arith, ℕ, ◌+◌, ◌-◌, Bool, true, false, not, ◌&&◌, ◌||◌, cond, List, [], ◌∷◌, ◌++◌, Option, Some, None}
-use Rattle.std.specs.Prelude.{filter_map, reverse, count_by, nat_le, ◌==◌, option_map, slice_get}
-use Rattle.std.specs.Str.{bytes_eq}
-use Rattle.std.proofs.lemmas.Bool.{false≢true}
-use Rattle.std.proofs.lemmas.Slice.Eq.{bytes_eq-Decides}
+use Rattle.std.specs.Prelude.{filter_map, reverse, count_by, nat_le, ◌==◌, option_map}
 use Rattle.std.proofs.lemmas.Bool.Decides.{nat_tests}
 use Rattle.std.proofs.lemmas.List.{reverse-append}
 use Rattle.std.proofs.lemmas.List.Sums.{sum_by-cons}
@@ -21,13 +18,14 @@ use Rattle.frame_codec.specs.declared.frame.FrameKind.{FrameKind}
 use Rattle.frame_codec.specs.declared.frame.FrameKind.TheVariants as kinds
 use Rattle.frame_codec.specs.Messages.{Content, Message, Whole, Change, Alive, message_in, content_in}
 use Rattle.pubsub_model.specs.Frames as model
-use Rattle.pubsub_model.specs.Cadence.{Settings, Turn, Answered, Deed, Took, cadence, answer, quiet_answer, is_key_due, is_fresh, turns_since, last_turn, next_place, is_key, is_data, is_any, log_entry}
+use Rattle.pubsub_model.specs.Cadence.{Settings, Turn, Answered, Deed, cadence, answer, quiet_answer, is_key_due, is_fresh, turns_since, last_turn, next_place, is_key, is_data, is_any, log_entry}
 use Rattle.pubsub_model.proofs.CadenceLaws.{answer-same, answer-changed}
 use Rattle.dataset_writer.specs.declared.settings.WriterSettings.{WriterSettings}
 use Rattle.dataset_writer.specs.declared.turn.Turn.{Turn as Answer}
 use Rattle.dataset_writer.specs.declared.turn.Turn.TheVariants as turns
 use Rattle.dataset_writer.specs.declared.writer.Writer.{Writer}
-use Rattle.dataset_writer.specs.Sending.{model_settings, turn_at, version_if, message_of, message_sent}
+use Rattle.frame_codec.specs.Carrying.{version_if, message_of}
+use Rattle.dataset_writer.specs.Sending.{model_settings, turn_at, message_sent}
 use Rattle.dataset_writer.specs.Standing.{StandsAfter, IsWriter, Takes}
 
 abbrev answered : Turn → Option model.Frame → Answered
@@ -251,18 +249,3 @@ takes_nothing meta settings deeds old new row version now closing w test same wa
     on meta settings deeds turn None new turns.Quiet (still meta.fields settings deeds old turn false w test (ap (row_in meta.fields) same) wait)
     (quiet meta.fields settings turn before old new (now_fresh meta.fields settings deeds old closing w test) kept sent)
     refl
-
-not_true : (b : Bool) → not b ≡ true → b ≡ false
-not_true true e = absurd (cc)
-not_true false e = refl
-
-not_false : (b : Bool) → not b ≡ false → b ≡ true
-not_false true e = refl
-not_false false e = absurd (cc)
-
--- what the test of two rows' words says
-pub words_apart : (x y : List ℕ) → not (bytes_eq x y) ≡ true → x ≢ y
-words_apart x y e = λ same. false≢true (sym (not_true (bytes_eq x y) e) ∙ (bytes_eq-Decides x y).1 same)
-
-pub words_same : (x y : List ℕ) → not (bytes_eq x y) ≡ false → x ≡ y
-words_same x y e = (bytes_eq-Decides x y).0 (not_false (bytes_eq x y) e)

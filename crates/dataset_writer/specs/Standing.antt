@@ -1,5 +1,5 @@
 -- Where a writer stands after what it lived through. Lists have the latest first.
-use Rattle.std.specs.Prelude.{◌≡◌, ℕ, ◌-◌, Bool, false, List, ◌∷◌, reverse, filter_map, option_map}
+use Rattle.std.specs.Prelude.{◌≡◌, ◌-◌, Bool, false, List, ◌∷◌, reverse, filter_map, option_map}
 use Rattle.dataset_meta.specs.declared.field.Field.{Field}
 use Rattle.dataset_meta.specs.Metas.{MetaData}
 use Rattle.row_words.specs.Belonging.{row_in, Belongs}
@@ -8,7 +8,8 @@ use Rattle.pubsub_model.specs.Cadence as cadences
 use Rattle.dataset_writer.specs.declared.settings.WriterSettings.{WriterSettings}
 use Rattle.dataset_writer.specs.declared.turn.Turn.{Turn}
 use Rattle.dataset_writer.specs.declared.writer.Writer.{Writer}
-use Rattle.dataset_writer.specs.Sending.{model_settings, message_of, message_sent, latest_answer}
+use Rattle.frame_codec.specs.Carrying.{message_of}
+use Rattle.dataset_writer.specs.Sending.{model_settings, message_sent, latest_answer}
 
 -- where these answered turns leave a writer, fresh or not; it keeps the row of the last data frame while it isn't fresh
 pub record StandsAfter (fields : List Field) (settings : WriterSettings) (fresh : Bool) (answered : List Answered) (writer : Writer) : Type 0 where

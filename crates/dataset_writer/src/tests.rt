@@ -3,7 +3,9 @@ ghost use Rattle.std.specs.Prelude.{◌≡◌, IfOk};
 ghost use Rattle.row_words.specs.Belonging.{Belongs};
 ghost use Rattle.dataset_writer.specs.Standing.{HoldsRowOf};
 
+mod fields;
 mod slow;
+mod table;
 
 use crate::{Turn, Writer, WriterSettings};
 use dataset_meta::{Field, Meta, Name32};
@@ -345,6 +347,8 @@ fn compare(
         );
     }
     assert_eq!(rt; left, 0);
+    let log = slow::log_of(alloc, &answered)?;
+    assert!(rt; writer.log() == log.as_slice(), "another log");
     Ok(())
 }
 

@@ -1,12 +1,13 @@
 //! Writers of data sets.
-ghost use Rattle.std.specs.Prelude.{◌≡◌, ◌<◌, ◌≤◌, ◌+◌, ◌-◌, ◌^◌, ◌++◌, ◌∷◌, ◌||◌, ◌&&◌, ◌==◌, [], IfOk, List, Some, not, nat_le, vec_len, vec_capacity};
+ghost use Rattle.std.specs.Prelude.{◌≡◌, ◌≢◌, ◌<◌, ◌≤◌, ◌+◌, ◌-◌, ◌^◌, ◌++◌, ◌∷◌, ◌||◌, ◌&&◌, ◌==◌, [], true, false, IfOk, List, Some, not, nat_le, vec_len, vec_capacity};
 ghost use Rattle.dataset_meta.specs.declared.field.Field.{Field};
 ghost use Rattle.seq_number.specs.Numbers.{wire};
 ghost use Rattle.row_words.specs.Belonging.{Belongs};
 ghost use Rattle.pubsub_model.specs.Cadence.{Deed, Refreshed, log_of};
 ghost use Rattle.dataset_writer.specs.declared.settings.WriterSettings.{WriterSettings as SettingsValue};
 ghost use Rattle.dataset_meta.specs.Metas.{IsMeta};
-ghost use Rattle.dataset_writer.specs.Sending.{model_settings, version_if, turn_at, IsTurnOf};
+ghost use Rattle.frame_codec.specs.Carrying.{version_if};
+ghost use Rattle.dataset_writer.specs.Sending.{model_settings, turn_at, IsTurnOf};
 
 use crate::settings::WriterSettings;
 use crate::turn::Turn;
@@ -102,7 +103,7 @@ impl Writer {
             return Turn::Send(self.data_frame(meta, now, row, version, kind));
         }
         self.until_key -= 1;
-        if self.row.words != row.words {
+        if self.differs(meta, row) {
             let kind = FrameKind::Change(changed(meta, &self.row, row));
             return Turn::Send(self.data_frame(meta, now, row, version, kind));
         }
@@ -118,6 +119,21 @@ impl Writer {
         ensures { result ≡ (self.now.fresh || closing || self.now.until_key == 0) }
     {
         self.fresh || closing || self.until_key == 0
+    }
+
+    /// Whether the row differs from that of the last data frame. Behind the words of the meta both have zeros. Each word is
+    /// compared, with no branch, so that several are compared at a time.
+    fn differs(&self, meta: &Meta, row: &Row) -> bool
+        requires holds { HoldsRowOf meta.now.fields self.now }
+        requires row { Belongs meta.now.fields row.now.words }
+        ensures apart { result ≡ true → self.now.row.words ≢ row.now.words }
+        ensures same { result ≡ false → self.now.row.words ≡ row.now.words }
+    {
+        let mut differs = false;
+        for index in 0..meta.words() as usize {
+            differs |= self.row.words[index] != row.words[index];
+        }
+        differs
     }
 
     /// Whether a turn now, without a data frame, gets a keep-alive.

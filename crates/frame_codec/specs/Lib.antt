@@ -1,4 +1,5 @@
 pub mod Messages
+pub mod Carrying
 pub mod Spelling
 pub mod Fronts
 pub mod Contents

@@ -7,7 +7,7 @@ use Rattle.frame_codec.specs.declared.fault.FrameFault.{FrameFault}
 use Rattle.frame_codec.specs.Messages.{Message}
 use Rattle.frame_codec.specs.Spelling.{frame_bytes}
 use Rattle.frame_codec.specs.Reading.{message_at}
-use Rattle.dataset_writer.specs.Sending.{message_of}
+use Rattle.frame_codec.specs.Carrying.{message_of}
 use Rattle.pubsub_engine.specs.BuiltIn.{demo_fields, demo_meta, demo_settings}
 
 -- version 1 with PublisherId, GroupHeader and PayloadHeader; PublisherId 5; GroupFlags: WriterGroupId and SequenceNumber; WriterGroupId 1

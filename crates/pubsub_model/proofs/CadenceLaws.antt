@@ -1,8 +1,10 @@
 -- What a writer sends where every turn is answered by a key frame, what it sends of a change, and what its frames publish.
-use Rattle.std.proofs.Common.{◌≡◌, ◌≢◌, ◌⊎◌, inl, inr, refl, sym, ap, ◌∙◌, arith, ℕ, ◌+◌, ◌-◌, Bool, true, false, not, ◌&&◌, ◌||◌, cond, List, [], ◌∷◌, ◌++◌, length, Option, Some, None}
-use Rattle.std.specs.Prelude.{filter_map, count_by, nat_le, ◌==◌}
+use Rattle.std.proofs.Common.{◌≡◌, ◌≢◌, ◌<◌, ◌≤◌, ◌⊎◌, inl, inr, refl, sym, ap, ◌∙◌, arith, ℕ, ◌+◌, ◌-◌, Bool, true, false, not, ◌&&◌, ◌||◌, cond, List, [], ◌∷◌, ◌++◌, length, Option, Some, None}
+use Rattle.std.specs.Prelude.{All, filter_map, count_by, nat_le, ◌==◌}
+use Rattle.std.specs.List.{cons_option}
 use Rattle.std.proofs.lemmas.Bool.Decides.{nat_tests}
 use Rattle.std.proofs.lemmas.List.{reverse-append, length-reverse}
+use Rattle.std.proofs.lemmas.List.Elements.{All-nil, All-cons}
 use Rattle.std.proofs.lemmas.List.Sums.{sum_by-cons}
 use Rattle.ua_values.specs.declared.value.Value.{Value}
 use Rattle.dataset_meta.specs.declared.field.Field.{Field}
@@ -179,3 +181,51 @@ cadence-publishes fields s (Refreshed ∷ before) rows = cadence-publishes field
 cadence-publishes fields s (Took turn ∷ before) rows =
     publishes_on (cadence s before) turn _ (fits_answer fields s (is_fresh before) (cadence s before) turn (last_row_or_none fields s before rows.1) rows.0)
     (cadence-publishes fields s before rows.1)
+
+-- ---- keep-alives
+
+key_counts : (turn : Turn) (place : ℕ) (before : List Answered) → 1 ≤ count_by is_data (record { turn = turn; answer = Some (Whole place turn.row) } ∷ before)
+key_counts turn place before = omega (arith, counted_on turn (Some (Whole place turn.row)) before true refl)
+
+-- one more turn leaves the data frames before it
+counts_before : (turn : Turn) (a : Option Frame) (before : List Answered) → 1 ≤ count_by is_data before → 1 ≤ count_by is_data (record { turn = turn; answer = a } ∷ before)
+counts_before turn a before some = omega (arith, some, counted_on turn a before (is_data (record { turn = turn; answer = a })) refl)
+
+-- among the answers of some turns is a data frame: the first turn's
+some_data : (s : Settings) (turn : Turn) (before : List Deed) → 1 ≤ count_by is_data (cadence s (Took turn ∷ before))
+some_data s turn [] = key_counts turn (next_place s []) []
+some_data s turn (Refreshed ∷ before) = key_counts turn (next_place s (cadence s before)) (cadence s before)
+some_data s turn (Took last ∷ before) = counts_before turn _ (cadence s (Took last ∷ before)) (some_data s last before)
+
+alive_if : (due : Bool) (place next : ℕ) → cond due (Some (Alive place)) None ≡ Some (Alive next) → next ≡ place
+alive_if true place next e = cc
+alive_if false place next e = absurd (cc)
+
+-- a keep-alive tells of the next data frame's place
+alive_of : (s : Settings) (due : Bool) (before : List Answered) (turn : Turn) (patch : List (ℕ × Value)) (next : ℕ)
+    → cond due (Some (Whole (next_place s before) turn.row)) (change_answer s before turn patch) ≡ Some (Alive next) → next ≡ next_place s before
+alive_of s true before turn patch next e = absurd (cc)
+alive_of s false before turn (change ∷ patch) next e = absurd (cc)
+alive_of s false before turn [] next e =
+    alive_if (not (s.keep_alive == 0) && nat_le s.keep_alive (turn.moment - (last_turn is_any before).moment)) (next_place s before) next e
+
+-- the place that a keep-alive tells of is above the first
+pub alive-above : (s : Settings) (turn : Turn) (before : List Deed) (next : ℕ) → answer s (is_fresh before) (cadence s before) turn ≡ Some (Alive next) → s.first_number < next
+alive-above s turn [] next e = absurd (cc)
+alive-above s turn (Refreshed ∷ before) next e = absurd (cc)
+alive-above s turn (Took last ∷ before) next e =
+    let earlier = cadence s (Took last ∷ before) in
+    omega (arith, some_data s last before, alive_of s (is_key_due s false earlier turn) earlier turn (differs (last_turn is_data earlier).row turn.row) next e)
+
+all_on : (P : Frame → Type 0) (a : Option Frame) (rest : List Frame) → ((frame : Frame) → a ≡ Some frame → P frame) → All P rest → All P (cons_option a rest)
+all_on P None rest new all = all
+all_on P (Some frame) rest new all = All-cons P frame rest (new frame refl) all
+
+-- each keep-alive of a cadence tells of a place above the first
+pub all_alive-above : (s : Settings) (deeds : List Deed) → All (λ frame. (next : ℕ) → frame ≡ Alive next → s.first_number < next) (frames_of (cadence s deeds))
+all_alive-above s [] = All-nil (λ frame. (next : ℕ) → frame ≡ Alive next → s.first_number < next)
+all_alive-above s (Refreshed ∷ before) = all_alive-above s before
+all_alive-above s (Took turn ∷ before) =
+    let a = answer s (is_fresh before) (cadence s before) turn in
+    all_on (λ frame. (next : ℕ) → frame ≡ Alive next → s.first_number < next) a (frames_of (cadence s before))
+    (λ frame is next same. alive-above s turn before next (is ∙ ap (λ (f : Frame). Some f) same)) (all_alive-above s before)

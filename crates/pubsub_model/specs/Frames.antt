@@ -1,5 +1,5 @@
 -- Model frame, Published row: DataSetMessages, and the rows that they publish (OPC 10000-14, DataSetMessage). Lists have the latest first.
-use Rattle.std.specs.Prelude.{ℕ, ◌-◌, List, [], ◌∷◌, Bool, true, false}
+use Rattle.std.specs.Prelude.{ℕ, ◌-◌, ◌≤◌, ⊤, List, [], ◌∷◌, Bool, true, false}
 use Rattle.ua_values.specs.declared.value.Value.{Value}
 use Rattle.dataset_meta.specs.Rows.{patched}
 use Rattle.seq_number.specs.Numbers.{wire}
@@ -9,6 +9,12 @@ pub data Frame : Type 0 where
   Whole : (place : ℕ) (row : List Value) → Frame
   Change : (place : ℕ) (patch : List (ℕ × Value)) → Frame
   Alive : (next : ℕ) → Frame
+
+-- the place that a keep-alive tells of has one before it
+abbrev pub IsFrame : Frame → Type 0
+IsFrame (Whole place row) = ⊤
+IsFrame (Change place patch) = ⊤
+IsFrame (Alive next) = 1 ≤ next
 
 -- where a frame stands; an Alive stands, silent, at the place before the next one
 abbrev pub place_of : Frame → ℕ

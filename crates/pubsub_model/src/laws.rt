@@ -1,11 +1,11 @@
 //! Laws of the model's definitions, each the contract of a function that does nothing.
-ghost use Rattle.std.specs.Prelude.{◌≡◌, ◌≢◌, ◌++◌, ◌+◌, [], ◌∷◌, ℕ, List, All, Option, Some, None, length, reverse, replicate, slice_index_or, Bool, false, true, option_map};
+ghost use Rattle.std.specs.Prelude.{◌≡◌, ◌≢◌, ◌<◌, ◌++◌, ◌+◌, [], ◌∷◌, ℕ, List, All, Option, Some, None, length, reverse, replicate, slice_index_or, Bool, false, true, option_map};
 ghost use Rattle.ua_values.specs.declared.value.Value.{Value};
 ghost use Rattle.dataset_meta.specs.declared.field.Field.{Field};
 ghost use Rattle.dataset_meta.specs.Rows.{IsRow, opening_row, patched, differs};
 ghost use Rattle.pubsub_model.specs.History.{Written, IsHistory, ArePatches, IsLegal, row_of, times_of, patch_at, last_row, legal_rows, legal_history};
-ghost use Rattle.pubsub_model.specs.Frames.{Whole, Change, is_whole, published};
-ghost use Rattle.pubsub_model.specs.Cadence.{Settings, Turn, Answered, Deed, Took, HasRowsOf, answer, quiet_answer, is_key_due, cadence, next_place, is_data, last_turn, log_of, frames_of};
+ghost use Rattle.pubsub_model.specs.Frames.{Whole, Change, Alive, is_whole, published};
+ghost use Rattle.pubsub_model.specs.Cadence.{Settings, Turn, Answered, Deed, Took, HasRowsOf, answer, quiet_answer, is_key_due, is_fresh, cadence, next_place, is_data, last_turn, log_of, frames_of};
 ghost use Rattle.pubsub_model.specs.Records.{Item, Held, breaks_with, held_in, at};
 
 /// Where the rows of all turns are rows of the same fields, what a writer's frames publish is the row of its last turn with a data frame.
@@ -29,6 +29,12 @@ pub fn key_frames_alone()
     ensures each { (s : Settings) (fresh : Bool) (before : List Answered) (turn : Turn) → s.key_frame_count ≡ 1 → answer s fresh before turn ≡ Some (Whole (next_place s before) turn.row) }
     ensures log { (s : Settings) (turn : Turn) (before : List Deed) → s.key_frame_count ≡ 1
         → log_of s (Took turn ∷ before) ≡ log_of s before ++ (s.first_number + length (log_of s before), turn.version) ∷ [] }
+{}
+
+/// The first turn is answered by a key frame, so the place that a keep-alive tells of is never the first.
+pub fn keep_alives_follow_data_frames()
+    ensures latest { (s : Settings) (turn : Turn) (before : List Deed) (next : ℕ) → answer s (is_fresh before) (cadence s before) turn ≡ Some (Alive next) → s.first_number < next }
+    ensures each { (s : Settings) (deeds : List Deed) → All (λ frame. (next : ℕ) → frame ≡ Alive next → s.first_number < next) (frames_of (cadence s deeds)) }
 {}
 
 /// A key frame that is a record is held, and a delta frame that follows is laid into the row that is held.

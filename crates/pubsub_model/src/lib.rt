@@ -5,7 +5,8 @@ mod laws;
 mod reading;
 
 pub use laws::{
-    frames_publish_whole_rows, key_frames_alone, legal_rows_fit, one_thread_is_legal,
-    records_are_held, turns_change_only_what_differs, versions_of_a_legal_history,
+    frames_publish_whole_rows, keep_alives_follow_data_frames, key_frames_alone, legal_rows_fit,
+    one_thread_is_legal, records_are_held, turns_change_only_what_differs,
+    versions_of_a_legal_history,
 };
 pub use reading::{Break, Why};

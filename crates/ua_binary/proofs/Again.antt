@@ -1,5 +1,5 @@
 -- What was written is read again, whatever follows it.
-use Rattle.std.proofs.Common.{◌≡◌, ℕ, ◌≤◌, ◌<◌, ◌^◌, true, false, cond, List, ◌∷◌, ◌++◌, length, take, drop, Option, Some, None, Result, Ok, Err, ℤ, pos, ltb, refl, ap, subst, ◌∙◌, append_assoc, arith}
+use Rattle.std.proofs.Common.{◌≡◌, ℕ, ◌≤◌, ◌<◌, ◌^◌, true, false, cond, List, ◌∷◌, ◌++◌, length, get_or, take, drop, Option, Some, None, Result, Ok, Err, ℤ, pos, ltb, refl, sym, ap, subst, ◌∙◌, append_assoc, arith}
 use Rattle.std.specs.Prelude.{IfSome, FitsSigned, unwrap_or}
 use Rattle.std.specs.Int.{Width, w8, w16, w32, w64, byte_len, from_le_bytes, to_le_bytes, cast_signed, cast_unsigned}
 use Rattle.std.specs.Str.{IsUtf8}
@@ -14,6 +14,7 @@ use Rattle.ua_values.specs.declared.kind.Kind.TheVariants as kinds
 use Rattle.ua_values.specs.declared.value.Value.{Value}
 use Rattle.ua_values.specs.declared.value.Value.TheVariants.{Boolean, SByte, Byte, Int16, UInt16, Int32, UInt32, Int64, UInt64, Float, Double, String, DateTime, Guid, ByteString, StatusCode}
 use Rattle.ua_values.specs.Values.{kind_of, IsValue}
+use Rattle.ua_binary.specs.declared.data_value.Measured.{Measured}
 use Rattle.ua_binary.specs.declared.fault.ValueFault.{ValueFault}
 use Rattle.ua_binary.specs.declared.fault.ValueFault.TheVariants.{Short, BadLength}
 use Rattle.ua_binary.specs.Reading.{◌>>=◌, bytes_at, number_at}
@@ -115,3 +116,37 @@ data_value_again value None rest h range = rw (variant_again value rest h) refl
 data_value_again value (Some code) rest h range =
     let regrouped : (variant value ++ to_le_bytes w32 code) ++ rest ≡ variant value ++ (to_le_bytes w32 code ++ rest) = append_assoc (variant value) (to_le_bytes w32 code) rest in
     rw (regrouped, variant_again value (to_le_bytes w32 code ++ rest) h, u32_again Short code rest range) refl
+
+-- bytes that begin with one written value begin with no other
+pub same_variant : (one other : Value) (rest after : List ℕ) → IsValue one → IsValue other → variant one ++ rest ≡ variant other ++ after → (one ≡ other) × (rest ≡ after)
+same_variant one other rest after is_one is_other e =
+    let both : Path (Result (Value × List ℕ) ValueFault) (Ok (one, rest)) (Ok (other, after)) = sym (variant_again one rest is_one) ∙ ap variant_at e ∙ variant_again other after is_other in
+    let pair : Path (Value × List ℕ) (one, rest) (other, after) = cc in
+    (ap (λ (p : Value × List ℕ). p.0) pair, ap (λ (p : Value × List ℕ). p.1) pair)
+
+abbrev written : Value → Option ℕ → Measured
+written value status = record { value = Some value; status = unwrap_or status 0 }
+
+-- what both are read as
+same_parts : (one other : Value) (status code : Option ℕ) (rest after : List ℕ) → IsValue one → IsValue other → IfSome status (λ n. n < 2 ^ 32) → IfSome code (λ n. n < 2 ^ 32)
+    → data_value one status ++ rest ≡ data_value other code ++ after → (one ≡ other) × (unwrap_or status 0 ≡ unwrap_or code 0) × (rest ≡ after)
+same_parts one other status code rest after is_one is_other small_status small_code e =
+    let both : Path (Result (Measured × List ℕ) ValueFault) (Ok (written one status, rest)) (Ok (written other code, after)) = sym (data_value_again one status rest is_one small_status) ∙ ap data_value_at e ∙ data_value_again other code after is_other small_code in
+    let pair : Path (Measured × List ℕ) (written one status, rest) (written other code, after) = cc in
+    let value : Path (Option Value) (Some one) (Some other) = ap (λ (p : Measured × List ℕ). p.0.value) pair in
+    (cc, ap (λ (p : Measured × List ℕ). p.0.status) pair, ap (λ (p : Measured × List ℕ). p.1) pair)
+
+pub same_data_value : (one other : Value) (status code : Option ℕ) (rest after : List ℕ) → IsValue one → IsValue other → IfSome status (λ n. n < 2 ^ 32) → IfSome code (λ n. n < 2 ^ 32)
+    → data_value one status ++ rest ≡ data_value other code ++ after → (one ≡ other) × (status ≡ code) × (rest ≡ after)
+same_data_value one other None None rest after is_one is_other small_status small_code e =
+    let parts = same_parts one other None None rest after is_one is_other small_status small_code e in
+    (parts.0, refl, parts.2)
+same_data_value one other (Some status) (Some code) rest after is_one is_other small_status small_code e =
+    let parts = same_parts one other (Some status) (Some code) rest after is_one is_other small_status small_code e in
+    (parts.0, ap Some parts.1, parts.2)
+same_data_value one other None (Some code) rest after is_one is_other small_status small_code e =
+    let mask : Path ℕ 1 3 = ap (λ (bytes : List ℕ). get_or bytes 0 0) e in
+    absurd (omega arith)
+same_data_value one other (Some status) None rest after is_one is_other small_status small_code e =
+    let mask : Path ℕ 3 1 = ap (λ (bytes : List ℕ). get_or bytes 0 0) e in
+    absurd (omega arith)

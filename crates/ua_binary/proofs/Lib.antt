@@ -1,2 +1,4 @@
 pub mod Again
+pub mod Cutting
 pub mod Laying
+pub mod Ranges

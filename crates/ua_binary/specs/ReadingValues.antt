@@ -18,7 +18,7 @@ length_of (pos n) = if nat_lt 256 n then Err BadLength else Ok n
 length_of (negsuc zero) = Ok 0
 length_of (negsuc (suc n)) = Err BadLength
 
--- an Int32 length and that many bytes
+-- an Int32 length and that many bytes: a String (section 5.2.2.4) or a ByteString (section 5.2.2.7)
 unfoldable pub block_at : List ℕ → Result (List ℕ × List ℕ) ValueFault
 block_at bytes = do
   field ← number_at Short w32 bytes

@@ -6,7 +6,7 @@ use Rattle.ua_values.specs.declared.value.Value.TheVariants.{Boolean, SByte, Byt
 use Rattle.ua_values.specs.Values.{kind_of}
 use Rattle.ua_binary.specs.Types.{type_of}
 
--- an Int32 length and that many bytes
+-- an Int32 length and that many bytes: a String (section 5.2.2.4) or a ByteString (section 5.2.2.7)
 abbrev pub block : List ℕ → List ℕ
 block bytes = to_le_bytes w32 (length bytes) ++ bytes
 

@@ -6,7 +6,8 @@ ghost use Rattle.std.specs.Int.{w16, w32, w64};
 #[derive(Clone, Copy, Debug, PartialEq, Eq)]
 pub struct Short;
 
-/// Bytes, of which those from `at` on are still to be read. Numbers are little-endian (OPC 10000-6 section 5.2.2).
+/// Bytes, of which those from `at` on are still to be read. Numbers are little-endian
+/// (OPC 10000-6 section 5.2.2.2).
 #[derive(Clone, Copy, Debug, PartialEq, Eq)]
 pub struct Cursor<'a> {
     pub bytes: &'a [u8],

@@ -96,7 +96,8 @@ fn skip_part(cursor: &mut Cursor<'_>, mask: u8, bit: u8, len: usize) -> Result<(
     Ok(())
 }
 
-/// Reads past the times: Int64 each, with UInt16 picoseconds right behind each.
+/// Reads past the times: a DateTime (OPC 10000-6 section 5.2.2.5) of 8 bytes each, with UInt16 picoseconds right behind
+/// each.
 #[inline(always)]
 #[tactic(auto, unfolding(crate::specs::ReadingValues::times_past))]
 fn skip_times(cursor: &mut Cursor<'_>, mask: u8) -> Result<(), ValueFault>

@@ -6,7 +6,8 @@ ghost use Rattle.std.specs.Int.{w16, w32, w64, to_le_bytes};
 #[derive(Clone, Copy, Debug, PartialEq, Eq)]
 pub struct Room;
 
-/// Bytes, of which those from `at` on are still to be written. Numbers are little-endian (OPC 10000-6 section 5.2.2).
+/// Bytes, of which those from `at` on are still to be written. Numbers are little-endian
+/// (OPC 10000-6 section 5.2.2.2).
 #[derive(Debug, Drop)]
 pub struct Pen<'a> {
     pub bytes: &'a mut [u8],

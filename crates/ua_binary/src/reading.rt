@@ -18,7 +18,8 @@ fn read_kind(cursor: &mut Cursor<'_>) -> Result<Kind, ValueFault>
     kind_with_number(cursor.read_u8()?).ok_or(ValueFault::KindOut)
 }
 
-/// The bytes behind an Int32 length. The length -1 stands for null (OPC 10000-6 section 5.2.2.7), which is read as no bytes.
+/// The bytes behind an Int32 length, of a String (OPC 10000-6 section 5.2.2.4) or a ByteString (section 5.2.2.7). The
+/// length -1 stands for null, which is read as no bytes.
 #[inline(always)]
 #[tactic(auto, unfolding(crate::specs::ReadingValues::block_at))]
 fn read_block<'a>(cursor: &mut Cursor<'a>) -> Result<&'a [u8], ValueFault>

@@ -130,6 +130,80 @@ fn numbers(rt: HostRuntime) {
 }
 
 #[test]
+fn whole_numbers_at_their_limits(rt: HostRuntime) {
+    for (value, bytes) in [
+        (Value::Byte(0), [0x03, 0].as_slice()),
+        (Value::UInt16(0), [0x05, 0, 0].as_slice()),
+        (Value::UInt16(65_535), [0x05, 0xff, 0xff].as_slice()),
+        (
+            Value::Int32(2_147_483_647),
+            [0x06, 0xff, 0xff, 0xff, 0x7f].as_slice(),
+        ),
+        (Value::UInt32(0), [0x07, 0, 0, 0, 0].as_slice()),
+        (
+            Value::UInt32(4_294_967_295),
+            [0x07, 0xff, 0xff, 0xff, 0xff].as_slice(),
+        ),
+        (
+            Value::Int64(9_223_372_036_854_775_807),
+            [0x08, 0xff, 0xff, 0xff, 0xff, 0xff, 0xff, 0xff, 0x7f].as_slice(),
+        ),
+        (Value::UInt64(0), [0x09, 0, 0, 0, 0, 0, 0, 0, 0].as_slice()),
+        (
+            Value::UInt64(18_446_744_073_709_551_615),
+            [0x09, 0xff, 0xff, 0xff, 0xff, 0xff, 0xff, 0xff, 0xff].as_slice(),
+        ),
+        (Value::StatusCode(0), [0x13, 0, 0, 0, 0].as_slice()),
+        (
+            Value::StatusCode(0xffff_ffff),
+            [0x13, 0xff, 0xff, 0xff, 0xff].as_slice(),
+        ),
+    ] {
+        reads(&rt, bytes, &value);
+        writes(&rt, &value, bytes);
+    }
+}
+
+#[test]
+fn floats_and_times_at_their_limits(rt: HostRuntime) {
+    for (value, bytes) in [
+        // -0.0, infinity, and a quiet NaN with a payload
+        (Value::Float(0x8000_0000), [0x0a, 0, 0, 0, 0x80].as_slice()),
+        (
+            Value::Float(0x7f80_0000),
+            [0x0a, 0, 0, 0x80, 0x7f].as_slice(),
+        ),
+        (
+            Value::Float(0x7fc1_2345),
+            [0x0a, 0x45, 0x23, 0xc1, 0x7f].as_slice(),
+        ),
+        (
+            Value::Double(0x8000_0000_0000_0000),
+            [0x0b, 0, 0, 0, 0, 0, 0, 0, 0x80].as_slice(),
+        ),
+        (
+            Value::Double(0x7ff0_0000_0000_0000),
+            [0x0b, 0, 0, 0, 0, 0, 0, 0xf0, 0x7f].as_slice(),
+        ),
+        (
+            Value::Double(0x7ff8_0123_4567_89ab),
+            [0x0b, 0xab, 0x89, 0x67, 0x45, 0x23, 0x01, 0xf8, 0x7f].as_slice(),
+        ),
+        (
+            Value::DateTime(-9_223_372_036_854_775_808),
+            [0x0d, 0, 0, 0, 0, 0, 0, 0, 0x80].as_slice(),
+        ),
+        (
+            Value::DateTime(9_223_372_036_854_775_807),
+            [0x0d, 0xff, 0xff, 0xff, 0xff, 0xff, 0xff, 0xff, 0x7f].as_slice(),
+        ),
+    ] {
+        reads(&rt, bytes, &value);
+        writes(&rt, &value, bytes);
+    }
+}
+
+#[test]
 fn texts_and_blobs(rt: HostRuntime) {
     let mut longest = [b'x'; 261];
     longest[..5].copy_from_slice(&[0x0c, 0x00, 0x01, 0x00, 0x00]);
@@ -169,10 +243,12 @@ fn guids(rt: HostRuntime) {
         0x91, 0x2b, 0x96, 0x72, 0x75, 0xfa, 0xe6, 0x4a, 0x8d, 0x28, 0xb4, 0x04, 0xdc, 0x7d, 0xaf,
         0x63,
     ];
-    let mut bytes = [0x0e; 17];
-    bytes[1..].copy_from_slice(&guid);
-    reads(&rt, &bytes, &Value::Guid(guid));
-    writes(&rt, &Value::Guid(guid), &bytes);
+    for guid in [guid, [0; 16], [0xff; 16]] {
+        let mut bytes = [0x0e; 17];
+        bytes[1..].copy_from_slice(&guid);
+        reads(&rt, &bytes, &Value::Guid(guid));
+        writes(&rt, &Value::Guid(guid), &bytes);
+    }
 }
 
 #[test]

@@ -32,7 +32,7 @@ fn guid_len(guid: &[u8; 16]) -> usize
     guid.len()
 }
 
-/// An Int32 length and the bytes (OPC 10000-6 section 5.2.2.7).
+/// An Int32 length and the bytes: a String (OPC 10000-6 section 5.2.2.4) or a ByteString (section 5.2.2.7).
 #[inline(always)]
 fn put_block(pen: &mut Pen<'_>, bytes: &[u8])
     requires short { length bytes.now ≤ 256 }

@@ -1,9 +1,9 @@
 //! The cadence by its definition: a slow program with a function for each definition. Lists have the latest first.
-ghost use Rattle.std.specs.Prelude.{◌≡◌, ◌<◌, ◌≤◌, ◌+◌, ◌^◌, [], ◌∷◌, length, IfOk};
+ghost use Rattle.std.specs.Prelude.{◌≡◌, ◌<◌, ◌≤◌, ◌+◌, ◌^◌, [], ◌∷◌, length, reverse, filter_map, IfOk};
 ghost use Rattle.ua_values.specs.declared.value.Value.TheVariants.{UInt32};
 ghost use Rattle.dataset_meta.specs.Rows.{differs, cons_if};
 ghost use Rattle.pubsub_model.specs.Frames.{is_whole, is_silent};
-ghost use Rattle.pubsub_model.specs.Cadence.{is_key, is_data, is_any, turns_since, last_turn, next_place, is_key_due, quiet_answer, change_answer, answer, is_fresh, cadence};
+ghost use Rattle.pubsub_model.specs.Cadence.{is_key, is_data, is_any, turns_since, last_turn, next_place, is_key_due, quiet_answer, change_answer, answer, is_fresh, cadence, log_entry};
 ghost use Rattle.dataset_writer.specs.Sending.{model_settings};
 
 use crate::WriterSettings;
@@ -147,6 +147,16 @@ impl Answered {
     {
         self.turn.value()
     }
+
+    /// Place and version of a data frame.
+    fn logged(&self) -> Option<(u64, u64)>
+        ensures { result ≡ log_entry self.now }
+    {
+        match &self.answer {
+            Some(frame) if !frame.is_silent() => Some((frame.place, self.turn.version)),
+            _ => None,
+        }
+    }
 }
 
 fn turns_since_key(before: &[Answered]) -> u64
@@ -282,4 +292,18 @@ pub fn cadence(
     let turn = took.copied();
     answered.insert(0, Answered { turn, answer })?;
     Ok(answered)
+}
+
+/// The log of a writer that answered so.
+pub fn log_of(alloc: Global, answered: &[Answered]) -> Result<Vec<(u64, u64)>, AllocError>
+    ensures { IfOk result (λ log. log.items ≡ reverse (filter_map log_entry answered.now)) }
+{
+    let [last, earlier @ ..] = answered else {
+        return Ok(Vec::new(alloc));
+    };
+    let mut log = log_of(alloc, earlier)?;
+    if let Some(entry) = last.logged() {
+        log.push(entry)?;
+    }
+    Ok(log)
 }

@@ -1,7 +1,5 @@
-use Rattle.std.proofs.Common.{◌≡◌, ◌≢◌, refl, sym, ap, ◌∙◌, Bool, true, false, not, List, ℕ}
-use Rattle.std.specs.Str.{bytes_eq}
-use Rattle.std.proofs.lemmas.Slice.Eq.{bytes_eq-Decides}
-use Rattle.dataset_writer.proofs.Turning.{takes_whole, takes_change, takes_alive, takes_nothing, words_apart, words_same, none_of}
+use Rattle.std.proofs.Common.{refl, sym, ◌∙◌}
+use Rattle.dataset_writer.proofs.Turning.{takes_whole, takes_change, takes_alive, takes_nothing, none_of}
 use Rattle.dataset_writer.proofs.writer.Writer.turn.Goals as goal
 
 pub returns-then-is_key_due-clause-takes : goal.returns-then-is_key_due-clause-takes
@@ -10,22 +8,22 @@ returns-then-is_key_due-clause-takes c = λ settings deeds w.
     takes_whole c.args.meta.now settings deeds c.args.self.now _ c.args.row.now c.args.version c.args.now c.args.closing c.data_frame.result w (sym c.is_key_due.ensures ∙ c.if-is_key_due.true)
     (record { settings_stay = sent.others.0; fresh_ends = sent.others.2; sent_at_is = sent.sent_at; row_is = sent.row; next_is = sent.next; log_is = sent.log }) sent.others.3 sent.frame
 
-pub returns-then-ne-clause-takes : goal.returns-then-ne-clause-takes
-returns-then-ne-clause-takes c = λ settings deeds w.
-    let sent = c.data_frame-then-ne.ensures in
+pub returns-then-differs-clause-takes : goal.returns-then-differs-clause-takes
+returns-then-differs-clause-takes c = λ settings deeds w.
+    let sent = c.data_frame-then-differs.ensures in
     let test = sym c.is_key_due.ensures ∙ c.if-is_key_due.false in
-    takes_change c.args.meta.now settings deeds c.args.self.now _ c.args.row.now c.args.version c.args.now c.args.closing c.changed.result c.data_frame-then-ne.result w
-    c.requires.holds c.requires.row test (words_apart _ _ (sym c.ne.ensures ∙ c.if-ne.true)) c.changed.ensures.differ
+    takes_change c.args.meta.now settings deeds c.args.self.now _ c.args.row.now c.args.version c.args.now c.args.closing c.changed.result c.data_frame-then-differs.result w
+    c.requires.holds c.requires.row test (c.differs.ensures.apart c.if-differs.true) c.changed.ensures.differ
     (record { settings_stay = sent.others.0; fresh_ends = sent.others.2 ∙ none_of _ _ _ test; sent_at_is = sent.sent_at; row_is = sent.row; next_is = sent.next; log_is = sent.log }) sent.others.3 sent.frame
 
 pub returns-then-not-is_alive_due-clause-takes : goal.returns-then-not-is_alive_due-clause-takes
 returns-then-not-is_alive_due-clause-takes c = λ settings deeds w.
     takes_nothing c.args.meta.now settings deeds c.args.self.now _ c.args.row.now c.args.version c.args.now c.args.closing w (sym c.is_key_due.ensures ∙ c.if-is_key_due.false)
-    (words_same _ _ (sym c.ne.ensures ∙ c.if-ne.false)) (sym c.is_alive_due.ensures ∙ c.if-not-is_alive_due.true)
+    (c.differs.ensures.same c.if-differs.false) (sym c.is_alive_due.ensures ∙ c.if-not-is_alive_due.true)
     (record { settings_stay = refl; fresh_stays = refl; until_key_is = refl; row_stays = refl; next_stays = refl; log_stays = refl }) refl
 
 pub returns-clause-takes : goal.returns-clause-takes
 returns-clause-takes c = λ settings deeds w.
     takes_alive c.args.meta.now settings deeds c.args.self.now _ c.args.row.now c.args.version c.args.now c.args.closing c.frame.result w (sym c.is_key_due.ensures ∙ c.if-is_key_due.false)
-    (words_same _ _ (sym c.ne.ensures ∙ c.if-ne.false)) (sym c.is_alive_due.ensures ∙ c.if-not-is_alive_due.false)
+    (c.differs.ensures.same c.if-differs.false) (sym c.is_alive_due.ensures ∙ c.if-not-is_alive_due.false)
     (record { settings_stay = refl; fresh_stays = refl; until_key_is = refl; row_stays = refl; next_stays = refl; log_stays = refl }) refl c.frame.ensures
