@@ -1,26 +1,28 @@
 -- Scalars as Variants.
-use Rattle.std.proofs.Common.{◌≡◌, ℕ, zero, suc, ◌<◌, Bool, true, false, List, [], ◌∷◌, length, get_or, Option, Some, Result, Ok, Err, refl, ap, ◌∙◌, arith}
-use Rattle.std.specs.Prelude.{◌&&◌, ◌==◌, slice_get, if◌then◌else◌}
-use Rattle.std.proofs.lemmas.Bool.{eqb-true}
-use Rattle.std.specs.Int.{w8, w16, w32, w64, to_le_bytes}
+use Rattle.std.proofs.Common.{◌≡◌, ℕ, zero, suc, ◌^◌, ◌<◌, Bool, true, false, List, [], ◌∷◌, ◌++◌, ◌≤◌, length, take, drop, length-take-le, get_or, sym, Option, Some, Result, Ok, Err, refl, ap, ◌∙◌, arith}
+use Rattle.std.specs.Prelude.{◌&&◌, nat_lt, slice_get, slice_index, if◌then◌else◌}
+use Rattle.std.proofs.lemmas.Bool.{eqb-true, ltb-false}
+use Rattle.std.proofs.lemmas.List.{take-append-drop}
+use Rattle.std.specs.Int.{w8, w16, w32, w64, cast_signed, from_le_bytes, to_le_bytes}
 use Rattle.std.proofs.lemmas.Int.{of_z-to_z}
 use Rattle.ua_values.specs.declared.kind.Kind.{Kind}
 use Rattle.ua_values.specs.declared.kind.Kind.TheVariants as kinds
 use Rattle.ua_values.specs.declared.value.Value.{Value}
-use Rattle.ua_values.specs.Values.{kind_of}
+use Rattle.ua_values.specs.declared.value.Value.TheVariants as values
 use Rattle.ua_binary.specs.Spelling.{plain, variant}
 use Rattle.ua_binary.specs.Types.{type_of}
 use Rattle.ua_binary.specs.declared.cursor.Short.{Short as NoBytes}
 use Rattle.ua_binary.specs.declared.fault.ValueFault.{ValueFault}
-use Rattle.ua_binary.specs.Reading.{◌>>=◌, byte_at}
-use Rattle.ua_binary.specs.ReadingValues.{plain_at, variant_at}
-use Rattle.ua_binary.proofs.Again.{kind_again}
+use Rattle.ua_binary.specs.declared.fault.ValueFault.TheVariants.{Short}
+use Rattle.ua_binary.specs.Reading.{◌>>=◌, byte_at, bytes_at, number_at}
+use Rattle.ua_binary.specs.ReadingValues.{as_value, plain_at, variant_at}
+use Rattle.ua_binary.proofs.Again.{bytes_again, kind_again}
 use Rattle.dataset_meta.specs.declared.field.Field.{Field}
 use Rattle.row_words.specs.Words.{is_scalar, IsWordOf, scalar_in}
 use Rattle.row_words.proofs.ScalarLaws.{kind_of-scalar_in, boolean_word, FitsField-scalar_in}
 use Rattle.frame_codec.specs.declared.fault.FrameFault.{FrameFault}
 use Rattle.frame_codec.specs.declared.fault.FrameFault.TheVariants.{BadValue}
-use Rattle.frame_codec.specs.Spelling.{scalar_bytes}
+use Rattle.frame_codec.specs.Spelling.{scalar_bytes, has_four_bytes, has_eight_bytes}
 use Rattle.frame_codec.specs.Contents.{fault_of, in_frame, suited, field_at, is_number, is_own_scalar}
 use Rattle.frame_codec.proofs.ContentLaws.{suits-fits}
 
@@ -46,6 +48,71 @@ plain-scalar_in kinds.Guid word is = absurd is
 pub variant-scalar_in : (kind : Kind) (word : ℕ) → IsWordOf kind word → variant (scalar_in kind word) ≡ type_of kind ∷ scalar_bytes kind word
 variant-scalar_in kind word is =
     ap (λ (k : Kind). type_of k ∷ plain (scalar_in kind word)) (kind_of-scalar_in kind word) ∙ ap (λ (bytes : List ℕ). type_of kind ∷ bytes) (plain-scalar_in kind word is)
+
+-- what holds of each scalar of four bytes
+four_case : (P : Kind → Type 0) → P kinds.Int32 → P kinds.UInt32 → P kinds.Float → P kinds.StatusCode → (kind : Kind) → has_four_bytes kind ≡ true → P kind
+four_case P signed unsigned float code kinds.Int32 four = signed
+four_case P signed unsigned float code kinds.UInt32 four = unsigned
+four_case P signed unsigned float code kinds.Float four = float
+four_case P signed unsigned float code kinds.StatusCode four = code
+four_case P signed unsigned float code kinds.Boolean four = absurd (cc)
+four_case P signed unsigned float code kinds.SByte four = absurd (cc)
+four_case P signed unsigned float code kinds.Byte four = absurd (cc)
+four_case P signed unsigned float code kinds.Int16 four = absurd (cc)
+four_case P signed unsigned float code kinds.UInt16 four = absurd (cc)
+four_case P signed unsigned float code kinds.Int64 four = absurd (cc)
+four_case P signed unsigned float code kinds.UInt64 four = absurd (cc)
+four_case P signed unsigned float code kinds.Double four = absurd (cc)
+four_case P signed unsigned float code kinds.DateTime four = absurd (cc)
+four_case P signed unsigned float code kinds.String four = absurd (cc)
+four_case P signed unsigned float code kinds.ByteString four = absurd (cc)
+four_case P signed unsigned float code kinds.Guid four = absurd (cc)
+
+pub four_small : (kind : Kind) (word : ℕ) → has_four_bytes kind ≡ true → IsWordOf kind word → word < 2 ^ 32
+four_small kind word four = four_case (λ (k : Kind). IsWordOf k word → word < 2 ^ 32) (λ is. is) (λ is. is) (λ is. is) (λ is. is) kind four
+
+four_word : (kind : Kind) (word : ℕ) → has_four_bytes kind ≡ true → word < 2 ^ 32 → IsWordOf kind word
+four_word kind word four = four_case (λ (k : Kind). word < 2 ^ 32 → IsWordOf k word) (λ is. is) (λ is. is) (λ is. is) (λ is. is) kind four
+
+four_bytes : (kind : Kind) (word : ℕ) → has_four_bytes kind ≡ true → scalar_bytes kind word ≡ to_le_bytes w32 word
+four_bytes kind word four = four_case (λ (k : Kind). scalar_bytes k word ≡ to_le_bytes w32 word) refl refl refl refl kind four
+
+pub four-scalar_in : (kind : Kind) (word : ℕ) → has_four_bytes kind ≡ true → IsWordOf kind word → variant (scalar_in kind word) ≡ type_of kind ∷ to_le_bytes w32 word
+four-scalar_in kind word four is = variant-scalar_in kind word is ∙ ap (λ (bytes : List ℕ). type_of kind ∷ bytes) (four_bytes kind word four)
+
+four_plain : (kind : Kind) (word : ℕ) (bytes rest : List ℕ) → has_four_bytes kind ≡ true → number_at Short w32 bytes ≡ Ok (word, rest) → plain_at kind bytes ≡ Ok (scalar_in kind word, rest)
+four_plain kind word bytes rest four read =
+    four_case (λ (k : Kind). plain_at k bytes ≡ Ok (scalar_in k word, rest))
+    (ap (as_value (λ (n : ℕ). values.Int32 (cast_signed w32 n))) read)
+    (ap (as_value values.UInt32) read)
+    (ap (as_value values.Float) read)
+    (ap (as_value values.StatusCode) read)
+    kind four
+
+-- what holds of each scalar of eight bytes
+eight_case : (P : Kind → Type 0) → P kinds.Int64 → P kinds.UInt64 → P kinds.Double → P kinds.DateTime → (kind : Kind) → has_eight_bytes kind ≡ true → P kind
+eight_case P signed unsigned double time kinds.Int64 eight = signed
+eight_case P signed unsigned double time kinds.UInt64 eight = unsigned
+eight_case P signed unsigned double time kinds.Double eight = double
+eight_case P signed unsigned double time kinds.DateTime eight = time
+eight_case P signed unsigned double time kinds.Boolean eight = absurd (cc)
+eight_case P signed unsigned double time kinds.SByte eight = absurd (cc)
+eight_case P signed unsigned double time kinds.Byte eight = absurd (cc)
+eight_case P signed unsigned double time kinds.Int16 eight = absurd (cc)
+eight_case P signed unsigned double time kinds.UInt16 eight = absurd (cc)
+eight_case P signed unsigned double time kinds.Int32 eight = absurd (cc)
+eight_case P signed unsigned double time kinds.UInt32 eight = absurd (cc)
+eight_case P signed unsigned double time kinds.Float eight = absurd (cc)
+eight_case P signed unsigned double time kinds.StatusCode eight = absurd (cc)
+eight_case P signed unsigned double time kinds.String eight = absurd (cc)
+eight_case P signed unsigned double time kinds.ByteString eight = absurd (cc)
+eight_case P signed unsigned double time kinds.Guid eight = absurd (cc)
+
+eight_bytes : (kind : Kind) (word : ℕ) → has_eight_bytes kind ≡ true → scalar_bytes kind word ≡ to_le_bytes w64 word
+eight_bytes kind word eight = eight_case (λ (k : Kind). scalar_bytes k word ≡ to_le_bytes w64 word) refl refl refl refl kind eight
+
+pub eight-scalar_in : (kind : Kind) (word : ℕ) → has_eight_bytes kind ≡ true → IsWordOf kind word → variant (scalar_in kind word) ≡ type_of kind ∷ to_le_bytes w64 word
+eight-scalar_in kind word eight is = variant-scalar_in kind word is ∙ ap (λ (bytes : List ℕ). type_of kind ∷ bytes) (eight_bytes kind word eight)
 
 -- what is known where a scalar of a kind follows
 own_number : (kind : Kind) (bytes : List ℕ) → is_own_scalar kind bytes ≡ true → is_number (type_of kind) (slice_get bytes 0) ≡ true
@@ -80,13 +147,62 @@ unfolding field_at variant_at
 field_after_number field bytes rest is =
     ap (field_at 0 field) is ∙ ap (λ (r : Result (Kind × List ℕ) ValueFault). judged field (r >>= λ k. plain_at k.0 k.1)) (kind_again field.kind rest)
 
+typed_scalar_read : (field : Field) (word : ℕ) (bytes after rest : List ℕ) → bytes ≡ type_of field.kind ∷ after → IsWordOf field.kind word
+    → plain_at field.kind after ≡ Ok (scalar_in field.kind word, rest) → field_at 0 field bytes ≡ Ok (scalar_in field.kind word, rest)
+typed_scalar_read field word bytes after rest typed is read =
+    let value = scalar_in field.kind word in
+    field_after_number field bytes after typed
+    ∙ ap (judged field) read
+    ∙ ap (λ (b : Bool). if b then Ok (value, rest) else Err BadValue) (suits-fits field value (FitsField-scalar_in field word is).fits)
+
 pub own_scalar_read : (short : NoBytes) (field : Field) (byte word : ℕ) (bytes rest after : List ℕ) → is_own_scalar field.kind bytes ≡ true → byte_at short bytes ≡ Ok (byte, rest)
     → IsWordOf field.kind word → plain_at field.kind rest ≡ Ok (scalar_in field.kind word, after) → field_at 0 field bytes ≡ Ok (scalar_in field.kind word, after)
 own_scalar_read short field byte word bytes rest after own first is read =
-    let value = scalar_in field.kind word in
-    field_after_number field bytes rest (own_bytes short (type_of field.kind) byte bytes rest (own_number field.kind bytes own) first)
-    ∙ ap (judged field) read
-    ∙ ap (λ (b : Bool). if b then Ok (value, after) else Err BadValue) (suits-fits field value (FitsField-scalar_in field word is).fits)
+    typed_scalar_read field word bytes rest after (own_bytes short (type_of field.kind) byte bytes rest (own_number field.kind bytes own) first) is read
+
+-- a type byte and four more that are read at once
+bytes_are : (short : NoBytes) (n : ℕ) (bytes text rest : List ℕ) → bytes_at short n bytes ≡ Ok (text, rest) → (bytes ≡ text ++ rest) × (length text ≡ n)
+bytes_are short n bytes text rest read = by_length (nat_lt (length bytes) n) refl read
+  where
+    front_in : Result (List ℕ × List ℕ) NoBytes → List ℕ
+    front_in (Ok read) = read.0
+    front_in (Err short) = []
+
+    back_in : Result (List ℕ × List ℕ) NoBytes → List ℕ
+    back_in (Ok read) = read.1
+    back_in (Err short) = []
+
+    by_length : (b : Bool) → nat_lt (length bytes) n ≡ b → if◌then◌else◌ {A = Result (List ℕ × List ℕ) NoBytes} b (Err short) (Ok (take n bytes, drop n bytes)) ≡ Ok (text, rest)
+        → (bytes ≡ text ++ rest) × (length text ≡ n)
+    by_length true is read = absurd (cc)
+    by_length false is read =
+        let front : take n bytes ≡ text = ap front_in read in
+        let back : drop n bytes ≡ rest = ap back_in read in
+        let enough : n ≤ length bytes = ltb-false (length bytes) n is in
+        (sym (take-append-drop n bytes) ∙ ap (λ (t : List ℕ). t ++ drop n bytes) front ∙ ap (λ (r : List ℕ). text ++ r) back, ap length (sym front) ∙ length-take-le n bytes enough)
+
+four_behind : (field : Field) (five rest : List ℕ) (word : ℕ) → length five ≡ 5 → slice_index five 0 ≡ type_of field.kind → has_four_bytes field.kind ≡ true
+    → word ≡ from_le_bytes w32 (slice_index five 1 ∷ slice_index five 2 ∷ slice_index five 3 ∷ slice_index five 4 ∷ []) → IsWordOf field.kind word
+    → field_at 0 field (five ++ rest) ≡ Ok (scalar_in field.kind word, rest)
+four_behind field (number ∷ a ∷ b ∷ c ∷ d ∷ []) rest word long typed four spelled is =
+    let text = a ∷ b ∷ c ∷ d ∷ [] in
+    let read : number_at Short w32 (text ++ rest) ≡ Ok (word, rest) =
+    ap (λ (r : Result (List ℕ × List ℕ) ValueFault). r >>= λ n. Ok (from_le_bytes w32 n.0, n.1)) (bytes_again Short 4 text rest refl) ∙ ap (λ (n : ℕ). Ok (n, rest)) (sym spelled) in
+    typed_scalar_read field word (number ∷ text ++ rest) (text ++ rest) rest (ap (λ (n : ℕ). n ∷ text ++ rest) typed) is (four_plain field.kind word (text ++ rest) rest four read)
+four_behind field [] rest word long typed four spelled is = absurd (omega (arith, long))
+four_behind field (_ ∷ []) rest word long typed four spelled is = absurd (omega (arith, long))
+four_behind field (_ ∷ _ ∷ []) rest word long typed four spelled is = absurd (omega (arith, long))
+four_behind field (_ ∷ _ ∷ _ ∷ []) rest word long typed four spelled is = absurd (omega (arith, long))
+four_behind field (_ ∷ _ ∷ _ ∷ _ ∷ []) rest word long typed four spelled is = absurd (omega (arith, long))
+four_behind field (_ ∷ _ ∷ _ ∷ _ ∷ _ ∷ _ ∷ more) rest word long typed four spelled is = absurd (omega (arith, long))
+
+pub four_read : (short : NoBytes) (field : Field) (bytes five rest : List ℕ) (word : ℕ) → bytes_at short 5 bytes ≡ Ok (five, rest) → slice_index five 0 ≡ type_of field.kind → has_four_bytes field.kind ≡ true
+    → word ≡ from_le_bytes w32 (slice_index five 1 ∷ slice_index five 2 ∷ slice_index five 3 ∷ slice_index five 4 ∷ []) → word < 2 ^ 32
+    → IsWordOf field.kind word × (field_at 0 field bytes ≡ Ok (scalar_in field.kind word, rest))
+four_read short field bytes five rest word read typed four spelled small =
+    let is = four_word field.kind word four small in
+    let are = bytes_are short 5 bytes five rest read in
+    (is, ap (field_at 0 field) are.0 ∙ four_behind field five rest word are.1 typed four spelled is)
 
 pub own_scalar_refused : (short : NoBytes) (field : Field) (byte : ℕ) (bytes rest : List ℕ) (fault : ValueFault) → is_own_scalar field.kind bytes ≡ true → byte_at short bytes ≡ Ok (byte, rest)
     → plain_at field.kind rest ≡ Err fault → field_at 0 field bytes ≡ Err (fault_of fault)

@@ -32,12 +32,6 @@ message_at fields bytes = do
   content ← content_at front.0.kind front.0.encoding fields front.1
   if are_zero content.1 then Ok (message_with front.0 content.0) else Err Trailing
 
--- the message of this front, whose fields the bytes spell
-unfoldable pub message_behind : List Field → Front → List ℕ → Result Message FrameFault
-message_behind fields front bytes = do
-  content ← content_at front.kind front.encoding fields bytes
-  if are_zero content.1 then Ok (message_with front content.0) else Err Trailing
-
 -- A call's answer, and the bytes that are still to be read after it, are what reading gives: here a scalar, of which the call answers the word.
 abbrev pub GivesWord : {F : Type 0} → Kind → Result ℕ F → List ℕ → Result (Value × List ℕ) F → Type 0
 GivesWord kind (Ok word) rest read = IsWordOf kind word × (read ≡ Ok (scalar_in kind word, rest))
@@ -72,7 +66,17 @@ abbrev pub GivesKind : List Field → Result FrameKind FrameFault → List ℕ �
 GivesKind fields (Ok kind) rest read = IsKindOf fields kind × (read ≡ Ok (content_in fields kind, rest))
 GivesKind fields (Err fault) rest read = read ≡ Err fault
 
+-- the same of content that stands in place of other
+abbrev pub GivesContent : List Field → Result (Unit {0}) FrameFault → FrameKind → List ℕ → Result (Content × List ℕ) FrameFault → Type 0
+GivesContent fields (Ok done) kind rest read = IsKindOf fields kind × (read ≡ Ok (content_in fields kind, rest))
+GivesContent fields (Err fault) kind rest read = read ≡ Err fault
+
 -- the frame that is read is one of these fields, and stands for the message
 abbrev pub GivesFrame : List Field → Result Frame FrameFault → Result Message FrameFault → Type 0
 GivesFrame fields (Ok frame) read = IsFrameOf fields frame × (read ≡ Ok (message_in fields frame))
 GivesFrame fields (Err fault) read = read ≡ Err fault
+
+-- the same of a frame that stands in place of another
+abbrev pub GivesMessage : List Field → Result (Unit {0}) FrameFault → Frame → Result Message FrameFault → Type 0
+GivesMessage fields (Ok done) frame read = IsFrameOf fields frame × (read ≡ Ok (message_in fields frame))
+GivesMessage fields (Err fault) frame read = read ≡ Err fault

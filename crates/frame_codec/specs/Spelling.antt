@@ -74,3 +74,19 @@ scalar_bytes kinds.StatusCode word = to_le_bytes w32 word
 scalar_bytes kinds.String word = []
 scalar_bytes kinds.ByteString word = []
 scalar_bytes kinds.Guid word = []
+
+-- the scalars of which scalar_bytes has four bytes
+abbrev pub has_four_bytes : Kind → Bool
+has_four_bytes kinds.Int32 = true
+has_four_bytes kinds.UInt32 = true
+has_four_bytes kinds.Float = true
+has_four_bytes kinds.StatusCode = true
+has_four_bytes _ = false
+
+-- and those of which it has eight
+abbrev pub has_eight_bytes : Kind → Bool
+has_eight_bytes kinds.Int64 = true
+has_eight_bytes kinds.UInt64 = true
+has_eight_bytes kinds.Double = true
+has_eight_bytes kinds.DateTime = true
+has_eight_bytes _ = false

@@ -7,13 +7,15 @@ ghost use Rattle.ua_binary.specs.Reading.{Gives, KeepsBytes, rest_of};
 ghost use Rattle.row_words.specs.Belonging.{Belongs, row_in};
 ghost use Rattle.row_words.specs.Patches.{IsPatchOf, patch_in};
 ghost use Rattle.frame_codec.specs.Contents.{value_at, field_at, row_at, whole_at, change_at, changes_at, patch_at, content_at};
-ghost use Rattle.frame_codec.specs.Reading.{SetsRead, GivesField, GivesRow, GivesChange, GivesPatch, GivesKind};
+ghost use Rattle.frame_codec.specs.Messages.{IsKindOf};
+ghost use Rattle.frame_codec.specs.Reading.{SetsRead, GivesField, GivesRow, GivesChange, GivesPatch, GivesKind, GivesContent};
 
 use crate::fault::FrameFault;
 use crate::flags::{DELTA, KEY, VARIANT};
 use crate::frame::FrameKind;
 use crate::front::Front;
-use crate::scalar::{is_own_scalar, read_own_scalar};
+use crate::length::field_count;
+use crate::scalar::{is_own_scalar, read_own_four, read_own_scalar};
 use dataset_meta::{Field, Meta};
 use row_words::{Patch, Row};
 use ua_binary::{Cursor, read_data_value, read_variant};
@@ -94,7 +96,7 @@ fn read_lent_into(
 /// Reads a value that fits its field, and sets it in the row. Of a scalar of the field's own kind no more than its word is
 /// copied.
 #[inline(always)]
-fn read_into(
+fn read_scalar_into(
     cursor: &mut Cursor<'_>,
     meta: &Meta,
     index: u8,
@@ -116,6 +118,31 @@ fn read_into(
     read_lent_into(cursor, meta, index, encoding, row)
 }
 
+/// The same. A scalar of four bytes, the most common, is judged first and at once.
+#[inline(always)]
+fn read_into(
+    cursor: &mut Cursor<'_>,
+    meta: &Meta,
+    index: u8,
+    encoding: u8,
+    row: &mut Row,
+) -> Result<(), FrameFault>
+    requires cursor { cursor.old.at ≤ length cursor.old.bytes.now }
+    requires row { Belongs meta.now.fields row.old.words }
+    requires index { index < length meta.now.fields }
+    ensures answer { HoldsAt (λ field. GivesField meta.now.fields index row.old result row.new (rest_of cursor.new) (field_at encoding field (rest_of cursor.old))) meta.now.fields index }
+    ensures kept { KeepsBytes cursor.old cursor.new }
+{
+    let field = &meta.fields()[usize::from(index)];
+    if encoding == VARIANT {
+        if let Some(word) = read_own_four(cursor, field) {
+            row.set_word(meta, index, word);
+            return Ok(());
+        }
+    }
+    read_scalar_into(cursor, meta, index, encoding, row)
+}
+
 /// Reads a value for each field into the row, whatever it was.
 #[inline(always)]
 fn read_values(
@@ -129,8 +156,8 @@ fn read_values(
     ensures answer { GivesRow meta.now.fields result row.new (rest_of cursor.new) (row_at encoding meta.now.fields (rest_of cursor.old)) }
     ensures kept { KeepsBytes cursor.old cursor.new }
 {
-    for index in 0..meta.fields().len() {
-        read_into(cursor, meta, index as u8, encoding, row)?;
+    for index in 0..field_count(meta) {
+        read_into(cursor, meta, index, encoding, row)?;
     }
     Ok(())
 }
@@ -157,7 +184,7 @@ fn read_row(
 /// The fields of a key frame: their count, and each.
 #[inline(always)]
 #[tactic(auto, unfolding(crate::specs::Contents::whole_at))]
-pub(crate) fn read_whole(
+fn read_whole(
     cursor: &mut Cursor<'_>,
     meta: &Meta,
     encoding: u8,
@@ -234,7 +261,7 @@ fn read_patch(cursor: &mut Cursor<'_>, meta: &Meta, encoding: u8) -> Result<Patc
 /// All that stands behind the front.
 #[inline(always)]
 #[tactic(auto, unfolding(crate::specs::Contents::content_at))]
-pub(crate) fn read_content(
+fn read_content(
     cursor: &mut Cursor<'_>,
     meta: &Meta,
     front: &Front,
@@ -252,5 +279,41 @@ pub(crate) fn read_content(
         }
         DELTA => Ok(FrameKind::Change(read_patch(cursor, meta, front.encoding)?)),
         _ => Ok(FrameKind::Alive),
+    }
+}
+
+/// The same in place of other content.
+#[inline(never)]
+fn replace_content(
+    cursor: &mut Cursor<'_>,
+    meta: &Meta,
+    front: &Front,
+    kind: &mut FrameKind,
+) -> Result<(), FrameFault>
+    requires { cursor.old.at ≤ length cursor.old.bytes.now }
+    ensures answer { GivesContent meta.now.fields result kind.new (rest_of cursor.new) (content_at front.now.kind front.now.encoding meta.now.fields (rest_of cursor.old)) }
+    ensures kept { KeepsBytes cursor.old cursor.new }
+{
+    *kind = read_content(cursor, meta, front)?;
+    Ok(())
+}
+
+/// The same in place of content of the same fields. The row of a key frame is filled where it stands.
+#[inline(always)]
+#[tactic(auto, unfolding(crate::specs::Contents::content_at))]
+pub(crate) fn read_content_into(
+    cursor: &mut Cursor<'_>,
+    meta: &Meta,
+    front: &Front,
+    kind: &mut FrameKind,
+) -> Result<(), FrameFault>
+    requires cursor { cursor.old.at ≤ length cursor.old.bytes.now }
+    requires kind { IsKindOf meta.now.fields kind.old }
+    ensures answer { GivesContent meta.now.fields result kind.new (rest_of cursor.new) (content_at front.now.kind front.now.encoding meta.now.fields (rest_of cursor.old)) }
+    ensures kept { KeepsBytes cursor.old cursor.new }
+{
+    match kind {
+        FrameKind::Whole(row) if front.kind == KEY => read_whole(cursor, meta, front.encoding, row),
+        _ => replace_content(cursor, meta, front, kind),
     }
 }

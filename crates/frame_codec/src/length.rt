@@ -15,6 +15,14 @@ use ua_binary::variant_len;
 /// The most bytes that a written frame has.
 pub const MAX_LEN: usize = 2048;
 
+/// How many fields there are. A loop up to a `u8` has an index that fits one, as the calls of a row take it.
+#[inline(always)]
+pub(crate) fn field_count(meta: &Meta) -> u8
+    ensures { result ≡ length meta.now.fields }
+{
+    meta.fields().len() as u8
+}
+
 #[inline(always)]
 fn len_if(present: bool, len: usize) -> usize
     ensures { result ≡ (if present then len else 0) }
@@ -93,6 +101,7 @@ fn content_len(meta: &Meta, kind: &FrameKind) -> usize
 }
 
 /// How many bytes a frame takes, its fields Variants.
+#[inline(never)]
 pub(crate) fn frame_len(meta: &Meta, frame: &Frame) -> usize
     requires { IsFrameOf meta.now.fields frame.now }
     ensures { result ≡ length (frame_bytes (message_in meta.now.fields frame.now)) }

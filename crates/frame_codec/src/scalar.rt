@@ -1,9 +1,11 @@
 //! Scalars, read as words.
-ghost use Rattle.std.specs.Prelude.{◌≡◌, ◌≤◌, true, length};
+ghost use Rattle.std.specs.Prelude.{◌≡◌, ◌≤◌, true, length, Ok, IfSome};
+ghost use Rattle.std.specs.Option.{IfNone};
 ghost use Rattle.ua_binary.specs.Reading.{KeepsBytes, rest_of};
 ghost use Rattle.ua_binary.specs.ReadingValues.{plain_at};
-ghost use Rattle.row_words.specs.Words.{is_scalar as is_scalar_kind};
+ghost use Rattle.row_words.specs.Words.{is_scalar as is_scalar_kind, IsWordOf, scalar_in};
 ghost use Rattle.frame_codec.specs.Contents.{field_at, is_number, is_own_scalar};
+ghost use Rattle.frame_codec.specs.Spelling.{has_four_bytes, has_eight_bytes};
 ghost use Rattle.frame_codec.specs.Reading.{GivesWord};
 
 use crate::fault::FrameFault;
@@ -61,4 +63,47 @@ pub(crate) fn read_own_scalar(cursor: &mut Cursor<'_>, field: &Field) -> Result<
 {
     cursor.read_u8()?;
     Ok(read_word(cursor, field.kind)?)
+}
+
+/// Whether a value of this kind is a scalar of four bytes.
+#[inline(always)]
+pub(crate) fn has_four_bytes(kind: Kind) -> bool
+    ensures { result ≡ has_four_bytes kind }
+{
+    match kind {
+        Kind::Int32 | Kind::UInt32 | Kind::Float | Kind::StatusCode => true,
+        _ => false,
+    }
+}
+
+/// Whether a value of this kind is a scalar of eight bytes.
+#[inline(always)]
+pub(crate) fn has_eight_bytes(kind: Kind) -> bool
+    ensures { result ≡ has_eight_bytes kind }
+{
+    match kind {
+        Kind::Int64 | Kind::UInt64 | Kind::Double | Kind::DateTime => true,
+        _ => false,
+    }
+}
+
+/// The word of a Variant of the field's own kind, where it is one of four bytes and follows whole; else nothing is read. It
+/// judges the bytes at once, so that a loop over fields stays short.
+#[inline(always)]
+pub(crate) fn read_own_four(cursor: &mut Cursor<'_>, field: &Field) -> Option<u64>
+    requires { cursor.old.at ≤ length cursor.old.bytes.now }
+    ensures read { IfSome result (λ word. IsWordOf field.now.kind word × (field_at 0 field.now (rest_of cursor.old) ≡ Ok (scalar_in field.now.kind word, rest_of cursor.new))) }
+    ensures not_read { IfNone result (cursor.new ≡ cursor.old) }
+    ensures kept { KeepsBytes cursor.old cursor.new }
+{
+    let mut ahead = *cursor;
+    let Ok(bytes) = ahead.read_array::<5>() else {
+        return None;
+    };
+    if bytes[0] != number_of(field.kind) || !has_four_bytes(field.kind) {
+        return None;
+    }
+    *cursor = ahead;
+    let word = u32::from_le_bytes([bytes[1], bytes[2], bytes[3], bytes[4]]);
+    Some(u64::from(word))
 }

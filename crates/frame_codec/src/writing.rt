@@ -1,5 +1,5 @@
 //! Writing frames.
-ghost use Rattle.std.specs.Prelude.{◌≡◌, ◌+◌, ◌<◌, ◌≤◌, ℕ, List, Option, Some, ◌++◌, length, slice_get, OnOk, IsTrue, ◌↔◌};
+ghost use Rattle.std.specs.Prelude.{◌≡◌, ◌+◌, ◌<◌, ◌≤◌, ℕ, List, Option, Some, ◌++◌, true, length, slice_get, OnOk, IsTrue, ◌↔◌};
 ghost use Rattle.std.specs.Int.{w16, w32, to_le_bytes};
 ghost use Rattle.ua_values.specs.declared.value.Value.{Value as AnyValue};
 ghost use Rattle.ua_binary.specs.Spelling.{variant};
@@ -9,11 +9,12 @@ ghost use Rattle.row_words.specs.Words.{IsWordOf, scalar_in};
 ghost use Rattle.row_words.specs.Belonging.{Belongs, row_in};
 ghost use Rattle.row_words.specs.Patches.{IsPatchOf, patch_in};
 ghost use Rattle.frame_codec.specs.Messages.{IsKindOf, IsFrameOf, content_in, message_in};
-ghost use Rattle.frame_codec.specs.Spelling.{flag, flags1, flags2, optional, front_bytes, values_bytes, changes_bytes, content_bytes, frame_bytes, scalar_bytes};
+ghost use Rattle.frame_codec.specs.Spelling.{flag, flags1, flags2, optional, front_bytes, values_bytes, changes_bytes, content_bytes, frame_bytes, scalar_bytes, has_four_bytes, has_eight_bytes};
 
 use crate::flags::{DELTA, FLAGS2, KEEP_ALIVE, MAJOR, MINOR, NUMBER, RAW_DATA, VALID, VARIANT};
 use crate::frame::{Frame, FrameKind};
-use crate::length::{MAX_LEN, frame_len, front_len, is_marked};
+use crate::length::{MAX_LEN, field_count, frame_len, front_len, is_marked};
+use crate::scalar::{has_eight_bytes, has_four_bytes};
 use dataset_meta::Meta;
 use row_words::{Patch, Row, is_scalar};
 use ua_binary::{Pen, Room, number_of, put_variant};
@@ -119,9 +120,33 @@ fn put_scalar(pen: &mut Pen<'_>, kind: Kind, word: u64)
     put_word(pen, kind, word);
 }
 
+/// Writes the scalar of four bytes with this word as a Variant.
+#[inline(always)]
+fn put_four(pen: &mut Pen<'_>, kind: Kind, word: u64)
+    requires four { has_four_bytes kind ≡ true }
+    requires word { IsWordOf kind word }
+    requires room { pen.old.at + length (variant (scalar_in kind word)) ≤ length pen.old.bytes.now }
+    ensures { Puts pen.old pen.new (variant (scalar_in kind word)) }
+{
+    pen.put_u8(number_of(kind));
+    pen.put_u32(word as u32);
+}
+
+/// Writes the scalar of eight bytes with this word as a Variant.
+#[inline(always)]
+fn put_eight(pen: &mut Pen<'_>, kind: Kind, word: u64)
+    requires eight { has_eight_bytes kind ≡ true }
+    requires word { IsWordOf kind word }
+    requires room { pen.old.at + length (variant (scalar_in kind word)) ≤ length pen.old.bytes.now }
+    ensures { Puts pen.old pen.new (variant (scalar_in kind word)) }
+{
+    pen.put_u8(number_of(kind));
+    pen.put_u64(word);
+}
+
 /// Writes the value of the field at this index as a Variant. It is a function of its own for the room that a value takes.
 #[inline(never)]
-fn put_any(pen: &mut Pen<'_>, meta: &Meta, row: &Row, index: u8)
+fn put_value(pen: &mut Pen<'_>, meta: &Meta, row: &Row, index: u8)
     requires belongs { Belongs meta.now.fields row.now.words }
     requires index { index < length meta.now.fields }
     requires room { (value : AnyValue) → slice_get (row_in meta.now.fields row.now.words) index ≡ Some value → pen.old.at + length (variant value) ≤ length pen.old.bytes.now }
@@ -130,9 +155,9 @@ fn put_any(pen: &mut Pen<'_>, meta: &Meta, row: &Row, index: u8)
     put_variant(pen, &row.field(meta, index));
 }
 
-/// Writes the value of the field at this index as a Variant. Of a scalar no more than its word is copied.
-#[inline(always)]
-fn put_field(pen: &mut Pen<'_>, meta: &Meta, row: &Row, index: u8)
+/// The same. Of a scalar no more than its word is copied.
+#[inline(never)]
+fn put_any(pen: &mut Pen<'_>, meta: &Meta, row: &Row, index: u8)
     requires belongs { Belongs meta.now.fields row.now.words }
     requires index { index < length meta.now.fields }
     requires room { (value : AnyValue) → slice_get (row_in meta.now.fields row.now.words) index ≡ Some value → pen.old.at + length (variant value) ≤ length pen.old.bytes.now }
@@ -141,6 +166,25 @@ fn put_field(pen: &mut Pen<'_>, meta: &Meta, row: &Row, index: u8)
     let field = &meta.fields()[usize::from(index)];
     if is_scalar(field.kind) {
         put_scalar(pen, field.kind, row.word(meta, index));
+    } else {
+        put_value(pen, meta, row, index);
+    }
+}
+
+/// The same. A scalar of four bytes or of eight is written in place, and every other value by a call, so that a loop over
+/// fields stays short.
+#[inline(always)]
+fn put_field(pen: &mut Pen<'_>, meta: &Meta, row: &Row, index: u8)
+    requires belongs { Belongs meta.now.fields row.now.words }
+    requires index { index < length meta.now.fields }
+    requires room { (value : AnyValue) → slice_get (row_in meta.now.fields row.now.words) index ≡ Some value → pen.old.at + length (variant value) ≤ length pen.old.bytes.now }
+    ensures { (value : AnyValue) → slice_get (row_in meta.now.fields row.now.words) index ≡ Some value → Puts pen.old pen.new (variant value) }
+{
+    let field = &meta.fields()[usize::from(index)];
+    if has_four_bytes(field.kind) {
+        put_four(pen, field.kind, row.word(meta, index));
+    } else if has_eight_bytes(field.kind) {
+        put_eight(pen, field.kind, row.word(meta, index));
     } else {
         let mut lent = Pen {
             bytes: &mut *pen.bytes,
@@ -158,8 +202,8 @@ fn put_values(pen: &mut Pen<'_>, meta: &Meta, row: &Row)
     requires room { pen.old.at + length (values_bytes (row_in meta.now.fields row.now.words)) ≤ length pen.old.bytes.now }
     ensures { Puts pen.old pen.new (values_bytes (row_in meta.now.fields row.now.words)) }
 {
-    for index in 0..meta.fields().len() {
-        put_field(pen, meta, row, index as u8);
+    for index in 0..field_count(meta) {
+        put_field(pen, meta, row, index);
     }
 }
 
@@ -190,6 +234,7 @@ fn put_change(pen: &mut Pen<'_>, meta: &Meta, row: &Row, index: u8)
 }
 
 /// Writes each marked field with its index.
+#[inline(never)]
 fn put_patch(pen: &mut Pen<'_>, meta: &Meta, patch: &Patch)
     requires of { IsPatchOf meta.now.fields patch.now }
     requires room { pen.old.at + length (changes_bytes (patch_in meta.now.fields patch.now)) ≤ length pen.old.bytes.now }

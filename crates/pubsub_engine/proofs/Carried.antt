@@ -14,7 +14,7 @@ use Rattle.dataset_reader.specs.Kept.{Kept}
 use Rattle.dataset_reader.specs.Cases.{frame_case}
 use Rattle.dataset_reader.specs.Reader.{numbering_of, kept_by, after_frame}
 use Rattle.pubsub_engine.specs.BuiltIn.{demo_fields, demo_meta}
-use Rattle.pubsub_engine.specs.declared.receiving.Receiving.{Receiving}
+use Rattle.pubsub_engine.specs.declared.subscriber.Subscriber.{Subscriber}
 use Rattle.pubsub_engine.specs.Datagram.{has_header, message_read, message_carried}
 use Rattle.pubsub_engine.specs.Reading.{kept_of, is_held}
 use Rattle.pubsub_engine.specs.Counts.{is_taken}
@@ -46,7 +46,7 @@ count_taken : (datagram : List ℕ) (carried : Option Message) → message_carri
 count_taken datagram carried e = rw e (omega arith)
 
 -- what a datagram that carries nothing does
-pub takes_none : (datagram : List ℕ) (old new : Receiving) → message_carried datagram ≡ None → new.received ≡ min (old.received + 1) (2 ^ 64 - 1) → new.taken ≡ old.taken → new.broken ≡ old.broken → new.long ≡ old.long
+pub takes_none : (datagram : List ℕ) (old new : Subscriber) → message_carried datagram ≡ None → new.received ≡ min (old.received + 1) (2 ^ 64 - 1) → new.taken ≡ old.taken → new.broken ≡ old.broken → new.long ≡ old.long
     → ((before : List Message) → HasRead before old → HasRead before new) → Takes (Got datagram ∷ []) old new
 takes_none datagram old new carried received taken broken long read = record {
   read = λ before h. rw carried (read before h);
@@ -57,7 +57,7 @@ takes_none datagram old new carried received taken broken long read = record {
 }
 
 -- what a datagram that carries a message does
-pub takes_message : (datagram : List ℕ) (message : Message) (old new : Receiving) → message_carried datagram ≡ Some message → new.received ≡ min (old.received + 1) (2 ^ 64 - 1) → new.taken ≡ min (old.taken + 1) (2 ^ 64 - 1)
+pub takes_message : (datagram : List ℕ) (message : Message) (old new : Subscriber) → message_carried datagram ≡ Some message → new.received ≡ min (old.received + 1) (2 ^ 64 - 1) → new.taken ≡ min (old.taken + 1) (2 ^ 64 - 1)
     → new.broken ≡ old.broken → new.long ≡ old.long → ((before : List Message) → HasRead before old → HasRead (message ∷ before) new) → Takes (Got datagram ∷ []) old new
 takes_message datagram message old new carried received taken broken long read = record {
   read = λ before h. rw carried (read before h);
@@ -68,7 +68,7 @@ takes_message datagram message old new carried received taken broken long read =
 }
 
 -- one step of the reader
-pub reads_step : (meta : MetaData) (frame : Frame) (old new : Receiving) (before : List Message) → meta ≡ demo_meta → numbering_of old.reader ≡ numberings.Message
+pub reads_step : (meta : MetaData) (frame : Frame) (old new : Subscriber) (before : List Message) → meta ≡ demo_meta → numbering_of old.reader ≡ numberings.Message
     → kept_by meta.fields new.reader ≡ (after_frame meta old.reader frame None).0 → new.ready ≡ (is_held (after_frame meta old.reader frame None).1.outcome || old.ready)
     → HasRead before old → HasRead (message_in demo_fields frame ∷ before) new
 reads_step meta frame old new before same numbered kept ready h =

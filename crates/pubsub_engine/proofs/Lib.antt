@@ -9,4 +9,5 @@ pub mod Authors
 pub mod Showing
 pub mod DivisionLaws
 pub mod Published
+mod NearArrivals
 mod Rows

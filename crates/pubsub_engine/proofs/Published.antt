@@ -6,7 +6,7 @@ use Rattle.std.specs.Option.{option_or}
 use Rattle.std.specs.List.{cons_option}
 use Rattle.std.proofs.lemmas.Bool.Decides.{nat_tests}
 use Rattle.std.proofs.lemmas.List.{append-nil, reverse-append}
-use Rattle.std.proofs.lemmas.List.Elements.{All-nil, All-cons, All-head, All-tail, All-append, All-push, All-weaker, All-contains, Contains-append_left}
+use Rattle.std.proofs.lemmas.List.Elements.{All-nil, All-cons, All-head, All-tail, All-append, All-push, All-weaker, All-contains, Contains-append_left, Contains-append_right, Contains-push}
 use Rattle.std.proofs.lemmas.List.Folds.{find-append}
 use Rattle.seq_number.specs.Numbers.{wire, place_from, greatest, IsNear}
 use Rattle.ua_base.specs.Journal.{Entry, Sent, SendFailed, Got, Empty, Long, ReceiveFailed, IsHonest}
@@ -27,10 +27,10 @@ use Rattle.dataset_reader.specs.Kept.{Kept}
 use Rattle.dataset_reader.specs.Keeping.{Keeps, IsRun as IsReading, AreNearInEach, jumps, came_on, with_jumps}
 use Rattle.pubsub_engine.specs.BuiltIn.{demo_fields}
 use Rattle.pubsub_engine.specs.Samples.{Sample}
-use Rattle.pubsub_engine.specs.Datagram.{datagram, message_read, has_header, message_carried}
+use Rattle.pubsub_engine.specs.Datagram.{datagram, message_read, has_header, message_carried, brought_by}
 use Rattle.pubsub_engine.specs.Steps.{Step, Tick, Pump, moment_of, IsPump, send_entry, send_entries}
-use Rattle.pubsub_engine.specs.Publishing.{built_in, Deed, Ticked, turns_in, writer_past, made_in, turn_at, datagrams_with, datagrams_of, deeds, sampled_in, sends_of, log_at, journal, IsRun}
-use Rattle.pubsub_engine.specs.Reading.{brought_by, messages_in, messages_at, kept_of, kept_at, HeldRow, held_by, arrival_of, arrivals_in, arrivals}
+use Rattle.pubsub_engine.specs.Publishing.{built_in, Deed, Ticked, turns_in, writer_past, made_in, turn_at, datagrams_with, datagrams_of, deeds, sampled_in, sends_of, frames_at, log_at, journal, IsRun}
+use Rattle.pubsub_engine.specs.Reading.{messages_in, messages_at, kept_of, kept_at, HeldRow, held_by, arrival_of, arrivals_in, arrivals}
 use Rattle.pubsub_engine.specs.Closing.{version_of, version_at}
 use Rattle.pubsub_engine.specs.Holding.{HasSample, SampleRows, IsPublished}
 use Rattle.pubsub_engine.proofs.Turning.{has_turn}
@@ -83,6 +83,29 @@ log_case true steps ms closing sample done e =
     let place : 0 + length (log_at steps) ≡ length (log_at steps) = omega arith in
     rw e (key ∙ ap (λ (n : ℕ). log_at steps ++ (n, (sampled_in sample).version) ∷ []) place)
 log_case false steps ms closing sample done e = rw e (sym (append-nil (log_at steps)))
+
+-- at a tick: the frames as they were, or with the key frame of its turn
+frames_on : Bool → List (ℕ × ℕ) → List Value → List Frame → List Frame
+frames_on b log row frames = cond b (Whole (length log) row ∷ frames) frames
+
+frames_case : (b : Bool) (steps : List Step) (ms : ℕ) (closing : Bool) (sample : List Sample) (done : List Bool) → has_turn steps (moment_of steps + ms) closing ≡ b
+    → frames_at (Tick ms closing sample done ∷ steps) ≡ frames_on b (log_at steps) (sampled_in sample).row (frames_at steps)
+unfolding frames_on
+frames_case true steps ms closing sample done e =
+    let past = writer_past (deeds steps) in
+    let key = answer-key built_in (is_fresh past) (cadence built_in past) (turn_at (moment_of steps + ms) closing sample) refl in
+    let place : next_place built_in (cadence built_in past) ≡ length (log_at steps) = omega (arith, length-log_of built_in past) in
+    rw e (rw key (ap (λ (n : ℕ). Whole n (sampled_in sample).row ∷ frames_at steps) place))
+frames_case false steps ms closing sample done e = rw e refl
+
+still_framed : (b : Bool) (log : List (ℕ × ℕ)) (row : List Value) (frames : List Frame) (frame : Frame) → Contains frames frame → Contains (frames_on b log row frames) frame
+unfolding frames_on
+still_framed true log row frames frame there = Contains-append_right (Whole (length log) row ∷ []) frames frame there
+still_framed false log row frames frame there = there
+
+framed_now : (log : List (ℕ × ℕ)) (row : List Value) (frames : List Frame) → Contains (frames_on true log row frames) (Whole (length log) row)
+unfolding frames_on
+framed_now log row frames = Contains-append_left (Whole (length log) row ∷ []) frames (Whole (length log) row) (Contains-push [] (Whole (length log) row))
 
 -- each place is below the length
 abbrev AreBelow : ℕ → List (ℕ × ℕ) → Type 0
@@ -151,12 +174,13 @@ record SentOf (steps : List Step) (bytes : List ℕ) : Type 0 where
   early : number < length (log_at steps)
   values : IsRow demo_fields sample.row
   spelled : bytes ≡ datagram sequence (key_message number sample.row)
+  framed : Contains (frames_at steps) (Whole number sample.row)
   sampled : HasSample steps sample
   logged : version_of (log_at steps) number ≡ Some sample.version
 
 sent_pump : (entries : List Entry) (steps : List Step) (bytes : List ℕ) → SentOf steps bytes → SentOf (Pump entries ∷ steps) bytes
 sent_pump entries steps bytes s =
-    record { sequence = s.sequence; number = s.number; sample = s.sample; small = s.small; early = s.early; values = s.values; spelled = s.spelled; sampled = s.sampled; logged = s.logged }
+    record { sequence = s.sequence; number = s.number; sample = s.sample; small = s.small; early = s.early; values = s.values; spelled = s.spelled; framed = s.framed; sampled = s.sampled; logged = s.logged }
 
 sent_tick : (ms : ℕ) (closing : Bool) (sample : List Sample) (done : List Bool) (steps : List Step) (bytes : List ℕ) → SentOf steps bytes → SentOf (Tick ms closing sample done ∷ steps) bytes
 sent_tick ms closing sample done steps bytes s = record {
@@ -169,6 +193,9 @@ sent_tick ms closing sample done steps bytes s = record {
       omega (arith, s.early, longer b (log_at steps) (sampled_in sample).version, ap length (log_case b steps ms closing sample done refl));
   values = s.values;
   spelled = s.spelled;
+  framed =
+      let b = has_turn steps (moment_of steps + ms) closing in
+      subst (λ (l : List Frame). Contains l (Whole s.number s.sample.row)) (sym (frames_case b steps ms closing sample done refl)) (still_framed b (log_at steps) (sampled_in sample).row (frames_at steps) (Whole s.number s.sample.row) s.framed);
   sampled = inr s.sampled;
   logged =
       let b = has_turn steps (moment_of steps + ms) closing in
@@ -238,6 +265,7 @@ turn_sent steps ms closing sample done v few turns = record {
   early = omega (arith, ap length (log_case true steps ms closing sample done turns), length_on (log_at steps) (sampled_in sample).version);
   values = v;
   spelled = refl;
+  framed = subst (λ (l : List Frame). Contains l (Whole (length (log_at steps)) (sampled_in sample).row)) (sym (frames_case true steps ms closing sample done turns)) (framed_now (log_at steps) (sampled_in sample).row (frames_at steps));
   sampled = inl refl;
   logged = ap (λ (l : List (ℕ × ℕ)). version_of l (length (log_at steps))) (log_case true steps ms closing sample done turns) ∙ logged_turn (log_at steps) (sampled_in sample).version few (places_below steps);
 }
@@ -313,11 +341,12 @@ record MessageOf (steps : List Step) (message : Message) : Type 0 where
   small : number < 2 ^ 16
   early : number < length (log_at steps)
   is : message ≡ key_message number sample.row
+  framed : Contains (frames_at steps) (Whole number sample.row)
   sampled : HasSample steps sample
   logged : version_of (log_at steps) number ≡ Some sample.version
 
 message_for : (steps : List Step) (bytes : List ℕ) (s : SentOf steps bytes) → MessageOf steps (key_message s.number s.sample.row)
-message_for steps bytes s = record { number = s.number; sample = s.sample; small = s.small; early = s.early; is = refl; sampled = s.sampled; logged = s.logged }
+message_for steps bytes s = record { number = s.number; sample = s.sample; small = s.small; early = s.early; is = refl; framed = s.framed; sampled = s.sampled; logged = s.logged }
 
 brought : (steps : List Step) (x : Entry) (rest : List Message) → GotEntry steps x → All (MessageOf steps) rest → All (MessageOf steps) (cons_option (brought_by x) rest)
 brought steps (Sent bytes) rest h all = all
@@ -344,6 +373,7 @@ record ItemOf (steps : List Step) (item : Item) : Type 0 where
   early : number < length (log_at steps)
   is : item.frame ≡ Whole number sample.row
   unstamped : item.stamp ≡ None
+  framed : Contains (frames_at steps) (Whole number sample.row)
   sampled : HasSample steps sample
   logged : version_of (log_at steps) number ≡ Some sample.version
 
@@ -360,7 +390,7 @@ arrival_is moment number row small =
     let place : place_from 0 number ≡ number = omega arith in ap (λ (p : ℕ). Some (Came (item_with moment p row))) place
 
 item_for : (steps : List Step) (moment : ℕ) (message : Message) (m : MessageOf steps message) → ItemOf steps (item_with moment m.number m.sample.row)
-item_for steps moment message m = record { number = m.number; sample = m.sample; early = m.early; is = refl; unstamped = refl; sampled = m.sampled; logged = m.logged }
+item_for steps moment message m = record { number = m.number; sample = m.sample; early = m.early; is = refl; unstamped = refl; framed = m.framed; sampled = m.sampled; logged = m.logged }
 
 arrival_for : (steps : List Step) (moment : ℕ) (message : Message) (m : MessageOf steps message) → arrival_of moment message ≡ Some (Came (item_with moment m.number m.sample.row))
 arrival_for steps moment message m = ap (arrival_of moment) m.is ∙ arrival_is moment m.number m.sample.row m.small
@@ -461,6 +491,15 @@ keeps_records law steps run v few honest =
     subst (λ (l : List Arrival). Keeps l (kept_at steps)) same
     (law 1 (arrivals steps) (kept_at steps) r.run (subst AreNearInEach (sym same) (near_each steps (arrivals steps) r.items few)))
 
+-- each item is of a frame of the writer
+item_framed : (steps : List Step) (item : Item) → ItemOf steps item → Contains (frames_at steps) item.frame
+item_framed steps item i = subst (Contains (frames_at steps)) (sym i.is) i.framed
+
+pub came_framed : (steps : List Step) → IsRun steps → SampleRows steps → length (log_at steps) ≤ 16384 → IsHonest (journal steps) → All (λ item. Contains (frames_at steps) item.frame) (since_cut (arrivals steps))
+came_framed steps run v few honest =
+    All-weaker (ItemOf steps) (λ item. Contains (frames_at steps) item.frame) (item_framed steps) (since_cut (arrivals steps))
+    (items_of steps (arrivals steps) (came_all steps run v few honest).items)
+
 -- ---- what is held
 
 chosen : (steps : List Step) (b : Bool) (item : Item) (rest : List Item) → ItemOf steps item → All (ItemOf steps) rest → All (ItemOf steps) (cons_if b item rest)
@@ -485,6 +524,9 @@ held_of steps held kept (item ∷ rest) all few row number e =
     let early = i.early in
     let wired : wire i.number ≡ i.number = omega (arith, early, few) in
     record {
+      place = i.number;
+      number_is = sym (ap (λ (h : HeldRow). h.number) is) ∙ number_is;
+      frame = subst (λ (r : List Value). Contains (frames_at steps) (Whole i.number r)) (ap (λ (h : HeldRow). h.row) is) i.framed;
       sample = i.sample;
       sampled = i.sampled;
       row_is = sym (ap (λ (h : HeldRow). h.row) is);

@@ -10,7 +10,7 @@ use Rattle.pubsub_engine.specs.BuiltIn.{demo_fields}
 use Rattle.pubsub_engine.specs.declared.closed.State.{State}
 use Rattle.pubsub_engine.specs.declared.closed.State.TheVariants.{Paused, Operational, Error, PreOperational}
 use Rattle.pubsub_engine.specs.declared.closed.LinkEnd.{LinkEnd}
-use Rattle.pubsub_engine.specs.declared.receiving.Receiving.{Receiving}
+use Rattle.pubsub_engine.specs.declared.subscriber.Subscriber.{Subscriber}
 use Rattle.pubsub_engine.specs.Steps.{Step}
 use Rattle.pubsub_engine.specs.Publishing.{log_at}
 use Rattle.pubsub_engine.specs.Reading.{held_by}
@@ -60,7 +60,7 @@ shows_row log kept why row number version e n v =
     ∙ ap (λ (k : Option ℕ). Holds (record { number = k; row = row }) (version_at log k)) n
     ∙ ap (λ (r : Option (List Value)). holding log (option_map (λ x. record { number = kept.number; row = x }) r) why) e
 
-pub shown_is : (steps : List Step) (threads all : List ℕ) (log : List (ℕ × ℕ)) (sent failed : ℕ) (is_failing : Bool) (r : Receiving) (limit : ℕ) (group writer reader : State) (held : Holding) (broke : ℕ) (recent : List Break)
+pub shown_is : (steps : List Step) (threads all : List ℕ) (log : List (ℕ × ℕ)) (sent failed : ℕ) (is_failing : Bool) (r : Subscriber) (limit : ℕ) (group writer reader : State) (held : Holding) (broke : ℕ) (recent : List Break)
     → log ≡ log_at steps → held ≡ holding log (held_by (kept_by demo_fields r.reader)) (kept_by demo_fields r.reader).why → broke ≡ (kept_by demo_fields r.reader).breaks → recent ≡ reverse (kept_by demo_fields r.reader).recent
     → threads ≡ all → HasSent steps sent failed is_failing → HasReceived steps r limit
     → sent < 2 ^ 64 → failed < 2 ^ 64 → r.taken < 2 ^ 64 → r.received < 2 ^ 64 → r.broken < 2 ^ 64 → r.long < 2 ^ 64 → limit < 2 ^ 64

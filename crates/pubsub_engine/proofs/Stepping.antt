@@ -1,11 +1,11 @@
--- One step more: what a tick does to the receiving side, and a pump to both sides.
+-- One step more: what a tick does to the subscriber side, and a pump to both sides.
 use Rattle.std.proofs.Common.{◌≡◌, refl, sym, ap, ◌∙◌, subst, arith, ℕ, ◌+◌, ◌-◌, ◌^◌, min, Bool, true, false, cond, List, ◌∷◌, ◌++◌, Option, Some}
 use Rattle.std.specs.Prelude.{count_by, ◌==◌, IsTrue}
 use Rattle.std.proofs.lemmas.Bool.Decides.{nat_tests}
 use Rattle.ua_base.specs.Journal.{Entry, Wire, Tells}
 use Rattle.dataset_writer.specs.declared.writer.Writer.{Writer}
 use Rattle.pubsub_engine.specs.Samples.{Sample}
-use Rattle.pubsub_engine.specs.declared.receiving.Receiving.{Receiving}
+use Rattle.pubsub_engine.specs.declared.subscriber.Subscriber.{Subscriber}
 use Rattle.pubsub_engine.specs.Steps.{Step, Tick, Pump, IsPump, send_entries}
 use Rattle.pubsub_engine.specs.Publishing.{sends_of, journal}
 use Rattle.pubsub_engine.specs.Reading.{messages_at}
@@ -29,7 +29,7 @@ pub tells_pump : (steps : List Step) (entries : List Entry) (before after : Opti
 tells_pump steps entries before after run told = tells_more steps (Pump entries) before after entries refl run told
 
 -- a tick leaves what was received
-pub received_tick : (steps : List Step) (ms : ℕ) (closing : Bool) (sample : List Sample) (done : List Bool) (r : Receiving) (limit : ℕ) → HasReceived steps r limit → HasReceived (Tick ms closing sample done ∷ steps) r limit
+pub received_tick : (steps : List Step) (ms : ℕ) (closing : Bool) (sample : List Sample) (done : List Bool) (r : Subscriber) (limit : ℕ) → HasReceived steps r limit → HasReceived (Tick ms closing sample done ∷ steps) r limit
 received_tick steps ms closing sample done r limit h =
     let sends = sends_of (Tick ms closing sample done ∷ steps) in
     let more : (p : Entry → Bool) → count_by p (journal steps ++ send_entries sends done) ≡ count_by p (journal steps) + count_by p (send_entries sends done) = λ p. count-append p (journal steps) (send_entries sends done) in
@@ -69,7 +69,7 @@ limit_pump limit limit' n false steps entries is to from before after =
     not_full true e = let full : n ≡ 65536 = grind (arith, nat_tests, e, is) in let wrong : false ≡ true = from full in absurd (cc)
     not_full false e = e
 
-pub received_pump : (steps : List Step) (entries : List Entry) (old new : Receiving) (limit limit' : ℕ) → Takes entries old new → counted limit' ≡ counted (limits (Pump entries ∷ steps)) → HasReceived steps old limit → HasReceived (Pump entries ∷ steps) new limit'
+pub received_pump : (steps : List Step) (entries : List Entry) (old new : Subscriber) (limit limit' : ℕ) → Takes entries old new → counted limit' ≡ counted (limits (Pump entries ∷ steps)) → HasReceived steps old limit → HasReceived (Pump entries ∷ steps) new limit'
 received_pump steps entries old new limit limit' t limited h = record {
   read = t.read (messages_at steps) h.read;
   taken = omega (arith, h.taken, t.taken, count-append is_taken (journal steps) entries);

@@ -1,19 +1,14 @@
 -- The counts of a session: they are those of its journal, and stand at the last value of a u64.
 use Rattle.std.specs.Prelude.{ℕ, ◌+◌, ◌-◌, ◌^◌, min, List, [], ◌∷◌, count_by, Bool, true, false, ◌||◌, ◌==◌, is_some, if◌then◌else◌}
-use Rattle.ua_base.specs.Journal.{Entry, Sent, SendFailed, Got, Empty, Long, ReceiveFailed}
-use Rattle.pubsub_engine.specs.Datagram.{message_carried}
+use Rattle.ua_base.specs.Journal.{Entry, Sent, SendFailed, Got, Empty, Long, ReceiveFailed, sent_datagram, received_datagram}
+use Rattle.pubsub_engine.specs.Datagram.{brought_by}
 use Rattle.pubsub_engine.specs.Steps.{Step, Tick, Pump}
 
 abbrev pub counted : ℕ → ℕ
 counted n = min n (2 ^ 64 - 1)
 
 abbrev pub is_sent : Entry → Bool
-is_sent (Sent bytes) = true
-is_sent SendFailed = false
-is_sent (Got bytes) = false
-is_sent Empty = false
-is_sent (Long size) = false
-is_sent ReceiveFailed = false
+is_sent entry = is_some (sent_datagram entry)
 
 abbrev pub is_send_failed : Entry → Bool
 is_send_failed (Sent bytes) = false
@@ -24,12 +19,7 @@ is_send_failed (Long size) = false
 is_send_failed ReceiveFailed = false
 
 abbrev pub is_got : Entry → Bool
-is_got (Sent bytes) = false
-is_got SendFailed = false
-is_got (Got bytes) = true
-is_got Empty = false
-is_got (Long size) = false
-is_got ReceiveFailed = false
+is_got entry = is_some (received_datagram entry)
 
 abbrev pub is_long : Entry → Bool
 is_long (Sent bytes) = false
@@ -49,12 +39,7 @@ is_broken ReceiveFailed = true
 
 -- a datagram that the read group takes: it carries a message of the reader's writer
 abbrev pub is_taken : Entry → Bool
-is_taken (Sent bytes) = false
-is_taken SendFailed = false
-is_taken (Got bytes) = is_some (message_carried bytes)
-is_taken Empty = false
-is_taken (Long size) = false
-is_taken ReceiveFailed = false
+is_taken entry = is_some (brought_by entry)
 
 -- a datagram that a pump took off the link
 abbrev pub is_datagram : Entry → Bool

@@ -1,7 +1,8 @@
 -- The datagram of a DataSetMessage: the NetworkMessage header of the built-in configuration, and the message (OPC 10000-14, UADP NetworkMessage).
-use Rattle.std.specs.Prelude.{ℕ, List, [], ◌∷◌, ◌++◌, length, take, drop, Option, Some, None, Result, Ok, Err, Bool, ◌&&◌, nat_le, if◌then◌else◌}
+use Rattle.std.specs.Prelude.{ℕ, List, [], ◌∷◌, ◌++◌, length, take, drop, Option, Some, None, option_and_then, Result, Ok, Err, Bool, ◌&&◌, nat_le, if◌then◌else◌}
 use Rattle.std.specs.Str.{bytes_eq}
 use Rattle.std.specs.Int.{w16, to_le_bytes}
+use Rattle.ua_base.specs.Journal.{Entry, received_datagram}
 use Rattle.pubsub_model.specs.Frames.{Frame}
 use Rattle.frame_codec.specs.declared.fault.FrameFault.{FrameFault}
 use Rattle.frame_codec.specs.Messages.{Message}
@@ -41,3 +42,7 @@ message_read (Err fault) = None
 -- the message that a datagram carries
 unfoldable pub message_carried : List ℕ → Option Message
 message_carried bytes = if has_header bytes then message_read (message_at demo_fields (drop 10 bytes)) else None
+
+-- the message that a journal's entry brings to the reader
+abbrev pub brought_by : Entry → Option Message
+brought_by entry = option_and_then message_carried (received_datagram entry)

@@ -1,11 +1,11 @@
 -- Session run, the publisher: the turns of the writer group with their datagrams, and the journal of the whole session. Lists have the latest first, but for datagrams and entries.
-use Rattle.std.specs.Prelude.{◌≡◌, ⊤, ℕ, ◌+◌, ◌-◌, List, [], ◌∷◌, ◌++◌, length, sum_by, filter_map, Bool, false, ◌||◌, nat_le, not, fold, Option, Some, None, slice_index_or, if◌then◌else◌}
+use Rattle.std.specs.Prelude.{◌≡◌, ⊤, ℕ, ◌+◌, ◌-◌, List, [], ◌∷◌, ◌++◌, length, sum_by, filter_map, Bool, false, ◌||◌, nat_le, not, reverse, Option, Some, None, slice_index_or, if◌then◌else◌}
 use Rattle.std.specs.Option.{option_map_or}
 use Rattle.seq_number.specs.Numbers.{wire}
 use Rattle.ua_base.specs.Journal.{Entry}
 use Rattle.dataset_meta.specs.Rows.{opening_row, cons_if}
 use Rattle.pubsub_model.specs.Frames.{Frame}
-use Rattle.pubsub_model.specs.Cadence.{Settings, Turn, Deed as WriterDeed, Took, cadence, log_of}
+use Rattle.pubsub_model.specs.Cadence.{Settings, Turn, Deed as WriterDeed, Took, cadence, log_of, frames_of}
 use Rattle.dataset_writer.specs.Sending.{model_settings, latest_answer}
 use Rattle.pubsub_engine.specs.BuiltIn.{demo_fields, demo_settings}
 use Rattle.pubsub_engine.specs.Samples.{Sample}
@@ -95,6 +95,10 @@ last_sends (Turned turn ∷ before) = last_sends before ++ turn.made
 abbrev pub sends_of : List Step → List (List ℕ)
 sends_of steps = last_sends (deeds steps)
 
+-- the frames that the writer's turns were answered by
+abbrev pub frames_at : List Step → List Frame
+frames_at steps = frames_of (cadence built_in (writer_past (deeds steps)))
+
 -- the place and version of each data frame
 abbrev pub log_at : List Step → List (ℕ × ℕ)
 log_at steps = log_of built_in (writer_past (deeds steps))
@@ -111,6 +115,11 @@ IsRun [] = ⊤
 IsRun (Pump entries ∷ before) = IsPump 65536 entries × IsRun before
 IsRun (Tick ms closing sample done ∷ before) = (length done ≡ length (sends_of (Tick ms closing sample done ∷ before))) × IsRun before
 
--- the last send of the last tick failed
+-- of these sends, the latest first, the latest wasn't done
+abbrev pub latest_failed : List (List ℕ × Bool) → Bool
+latest_failed [] = false
+latest_failed (send ∷ before) = not send.1
+
+-- the last of these sends wasn't done
 abbrev pub last_failed : List (List ℕ × Bool) → Bool
-last_failed sends = fold (λ failed send. not send.1) false sends
+last_failed sends = latest_failed (reverse sends)

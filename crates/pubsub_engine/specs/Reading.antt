@@ -2,7 +2,7 @@
 -- frames that these messages stand for. Lists have the latest first.
 use Rattle.std.specs.Prelude.{ℕ, ◌+◌, List, [], ◌∷◌, ◌++◌, reverse, filter_map, Bool, true, false, ◌||◌, ◌==◌, Option, Some, None, option_map, if◌then◌else◌}
 use Rattle.seq_number.specs.Numbers.{place_from}
-use Rattle.ua_base.specs.Journal.{Entry, Sent, SendFailed, Got, Empty, Long, ReceiveFailed}
+use Rattle.ua_base.specs.Journal.{Entry}
 use Rattle.ua_values.specs.declared.value.Value.{Value}
 use Rattle.pubsub_model.specs.Frames.{Frame, Whole, Change, Alive}
 use Rattle.pubsub_model.specs.Records.{Arrival, Came, at}
@@ -15,20 +15,11 @@ use Rattle.dataset_reader.specs.declared.took.Took.{Took}
 use Rattle.dataset_reader.specs.Kept.{Kept, fresh}
 use Rattle.dataset_reader.specs.Cases.{frame_case}
 use Rattle.pubsub_engine.specs.BuiltIn.{demo_meta}
-use Rattle.pubsub_engine.specs.Datagram.{message_carried}
+use Rattle.pubsub_engine.specs.Datagram.{brought_by}
 use Rattle.pubsub_engine.specs.Steps.{Step, Tick, Pump, moment_of}
 use Rattle.pubsub_engine.specs.Publishing.{built_in}
 
 -- ---- the plain reading
-
--- what a journal's entry brings to the reader
-abbrev pub brought_by : Entry → Option Message
-brought_by (Got bytes) = message_carried bytes
-brought_by (Sent bytes) = None
-brought_by SendFailed = None
-brought_by Empty = None
-brought_by (Long size) = None
-brought_by ReceiveFailed = None
 
 abbrev pub messages_in : List Entry → List Message
 messages_in entries = reverse (filter_map brought_by entries)
@@ -74,7 +65,8 @@ held_by kept = option_map (λ row. record { number = kept.number; row = row }) k
 
 -- ---- Arrivals
 
--- the frame with this number: it stands for a place from the writer's first number on, and that of a keep-alive, which tells the next place, for one behind it
+-- the frame of a message with this number: the places of data frames count from the writer's first number on, and the next place, which a keep-alive tells,
+-- from the one behind it
 abbrev pub frame_at : ℕ → Content → Frame
 frame_at number (messages.Whole row) = Whole (place_from built_in.first_number number) row
 frame_at number (messages.Change patch) = Change (place_from built_in.first_number number) patch

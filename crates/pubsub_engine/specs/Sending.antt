@@ -32,7 +32,7 @@ pub record Publishes (past : List Deed) (turn : Turn) (writer : Writer) (sequenc
   pub sent_is : SendsAnswer (latest_answer (cadence built_in (Took turn ∷ past))) sequence sequence' sent sent' failed failed' failing' before after
 
 -- nothing was sent: the moment of the last turn, the sequence number and the counts are as they were
-pub record Keeps (last sequence sent failed last' sequence' sent' failed' : ℕ) : Type 0 where
+pub record SentNothing (last sequence sent failed last' sequence' sent' failed' : ℕ) : Type 0 where
   pub last_is : last' ≡ last
   pub sequence_is : sequence' ≡ sequence
   pub sent_is : sent' ≡ sent

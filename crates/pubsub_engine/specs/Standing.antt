@@ -8,7 +8,7 @@ use Rattle.dataset_writer.specs.Standing.{IsWriter}
 use Rattle.dataset_reader.specs.Reader.{kept_by}
 use Rattle.pubsub_engine.specs.BuiltIn.{demo_fields, demo_settings}
 use Rattle.pubsub_engine.specs.Samples.{Sample}
-use Rattle.pubsub_engine.specs.declared.receiving.Receiving.{Receiving}
+use Rattle.pubsub_engine.specs.declared.subscriber.Subscriber.{Subscriber}
 use Rattle.pubsub_engine.specs.declared.session.Session.{Session}
 use Rattle.pubsub_engine.specs.Steps.{Step, Tick, moment_of, send_entries}
 use Rattle.pubsub_engine.specs.Publishing.{deeds, turns_in, writer_past, made_in, last_moment, sends_of, journal, IsRun}
@@ -37,18 +37,18 @@ pub record Ticks (steps : List Step) (ms : ℕ) (closing : Bool) (sample : List 
   pub has_sent : HasSent (Tick ms closing sample done ∷ steps) sent failed is_failing
   pub told : Tells before after (λ x y. y.journal ≡ x.journal ++ send_entries (sends_of (Tick ms closing sample done ∷ steps)) done)
 
--- what the receiving side keeps of these messages
-pub record HasRead (messages : List Message) (receiving : Receiving) : Type 0 where
-  pub kept : kept_by demo_fields receiving.reader ≡ kept_of messages
-  pub ready : receiving.ready ≡ was_held messages
+-- what the subscriber keeps of these messages
+pub record HasRead (messages : List Message) (subscriber : Subscriber) : Type 0 where
+  pub kept : kept_by demo_fields subscriber.reader ≡ kept_of messages
+  pub ready : subscriber.ready ≡ was_held messages
 
 -- the receiving side after these steps
-pub record HasReceived (steps : List Step) (receiving : Receiving) (limit : ℕ) : Type 0 where
-  pub read : HasRead (messages_at steps) receiving
-  pub taken : counted receiving.taken ≡ counted (count_by is_taken (journal steps))
-  pub received : counted receiving.received ≡ counted (count_by is_got (journal steps))
-  pub broken : counted receiving.broken ≡ counted (count_by is_broken (journal steps))
-  pub long : counted receiving.long ≡ counted (count_by is_long (journal steps))
+pub record HasReceived (steps : List Step) (subscriber : Subscriber) (limit : ℕ) : Type 0 where
+  pub read : HasRead (messages_at steps) subscriber
+  pub taken : counted subscriber.taken ≡ counted (count_by is_taken (journal steps))
+  pub received : counted subscriber.received ≡ counted (count_by is_got (journal steps))
+  pub broken : counted subscriber.broken ≡ counted (count_by is_broken (journal steps))
+  pub long : counted subscriber.long ≡ counted (count_by is_long (journal steps))
   pub limit_is : counted limit ≡ counted (limits steps)
 
 -- what the link tells is the journal of these steps
@@ -61,4 +61,4 @@ pub record Stands (steps : List Step) (told : Option Wire) (session : Session) :
   pub entries : TellsRun steps told
   pub publisher : IsPublisher steps session.publisher.moment session.publisher.last session.publisher.writer session.publisher.sequence
   pub sent : HasSent steps session.publisher.sent session.publisher.failed session.publisher.failing
-  pub receiving : HasReceived steps session.receiving session.limit
+  pub subscriber : HasReceived steps session.subscriber session.limit

@@ -13,7 +13,7 @@ ghost use Rattle.pubsub_engine.specs.Authored.{answers_of, IsAuthored, filled, f
 use crate::closed::{
     Closed, GroupEnd, HeldEnd, LinkEnd, ReadGroupEnd, ReaderEnd, State, WriterEnd,
 };
-use crate::{Done, Receiving, Session};
+use crate::{Done, Session, Subscriber};
 use arrayvec::ArrayVec;
 use dataset_reader::Reader;
 use pubsub_model::Break;
@@ -109,13 +109,13 @@ fn reader_state(ready: bool) -> State
     }
 }
 
-fn reader_end(receiving: &Receiving, log: &[(u64, u64)]) -> ReaderEnd
-    ensures { let kept = kept_by demo_fields receiving.now.reader in (holding_of result.held result.why ≡ holding log.now (held_by kept) kept.why) × (result.breaks ≡ kept.breaks) × (result.recent.items ≡ reverse kept.recent)
-        × (result.state ≡ (if receiving.now.ready then State.Operational else State.PreOperational)) }
+fn reader_end(subscriber: &Subscriber, log: &[(u64, u64)]) -> ReaderEnd
+    ensures { let kept = kept_by demo_fields subscriber.now.reader in (holding_of result.held result.why ≡ holding log.now (held_by kept) kept.why) × (result.breaks ≡ kept.breaks) × (result.recent.items ≡ reverse kept.recent)
+        × (result.state ≡ (if subscriber.now.ready then State.Operational else State.PreOperational)) }
 {
-    let reader = &receiving.reader;
+    let reader = &subscriber.reader;
     ReaderEnd {
-        state: reader_state(receiving.ready),
+        state: reader_state(subscriber.ready),
         held: held_end(reader, log),
         why: reader.why(),
         breaks: reader.breaks(),
@@ -151,9 +151,9 @@ impl Session {
     {
         let threads = authors(alloc, dones, self.sampled.version)?;
         let publisher = self.publisher;
-        let receiving = self.receiving;
+        let subscriber = self.subscriber;
         let log = copied(alloc, publisher.writer.log())?;
-        let reader = reader_end(&receiving, &log);
+        let reader = reader_end(&subscriber, &log);
         let (group, writer) = states(publisher.failing);
         Ok(Closed {
             meta: self.meta,
@@ -165,15 +165,15 @@ impl Session {
             writer: WriterEnd { state: writer, log },
             read_group: ReadGroupEnd {
                 state: State::Operational,
-                taken: receiving.taken,
+                taken: subscriber.taken,
             },
             reader,
             link: LinkEnd {
                 sent: publisher.sent,
                 failed: publisher.failed,
-                received: receiving.received,
-                broken: receiving.broken,
-                long: receiving.long,
+                received: subscriber.received,
+                broken: subscriber.broken,
+                long: subscriber.long,
                 limit: self.limit,
             },
         })

@@ -59,9 +59,9 @@ pub struct Publisher {
 }
 
 impl Publisher {
-    ghost use Rattle.pubsub_engine.specs.Publishing.{writer_turn};
+    ghost use Rattle.pubsub_engine.specs.Publishing.{interval, writer_turn};
     ghost use Rattle.pubsub_engine.specs.Standing.{IsPublisher, HasSent, Ticks};
-    ghost use Rattle.pubsub_engine.specs.Sending.{Sends, SendsAnswer, Publishes, Keeps};
+    ghost use Rattle.pubsub_engine.specs.Sending.{Sends, SendsAnswer, Publishes, SentNothing};
 
     /// A publisher before its first tick, with room for so many ticks and the closing one.
     pub fn new(alloc: Global, ticks: u32) -> Result<Publisher, NoMemory>
@@ -102,7 +102,7 @@ impl Publisher {
             → Ticks steps ms closing (sample_of sampled.now ∷ []) self.new.moment self.new.last self.new.writer self.new.sequence self.new.sent self.new.failed self.new.failing (L.told link.old) (L.told link.new) }
         ensures left { result ≡ Ticked.Done → self.new.left + 1 ≡ self.old.left }
         ensures memory { result ≡ Ticked.Memory → IsTrue (L.takes_memory link.old) }
-        ensures kept { result ≡ Ticked.Memory → (self.new.moment ≡ self.old.moment + ms) × Keeps self.old.last self.old.sequence self.old.sent self.old.failed self.new.last self.new.sequence self.new.sent self.new.failed }
+        ensures kept { result ≡ Ticked.Memory → (self.new.moment ≡ self.old.moment + ms) × SentNothing self.old.last self.old.sequence self.old.sent self.old.failed self.new.last self.new.sequence self.new.sent self.new.failed }
         ensures open { L.is_open link.new ≡ L.is_open link.old }
         ensures memory_stays { L.takes_memory link.new ≡ L.takes_memory link.old }
         ensures untold { result ≡ Ticked.Memory → Tells (L.told link.old) (L.told link.new) (λ before after. after.journal ≡ before.journal) }
@@ -118,7 +118,7 @@ impl Publisher {
 
     /// Whether the group has its turn now: at the closing tick, and where the interval has passed since the last turn.
     fn has_turn(&self, closing: bool) -> bool
-        ensures { result ≡ (closing || nat_le 100 (self.now.moment - self.now.last)) }
+        ensures { result ≡ (closing || nat_le interval (self.now.moment - self.now.last)) }
     {
         closing || self.moment - self.last >= INTERVAL
     }
@@ -139,7 +139,7 @@ impl Publisher {
             → Publishes past (writer_turn self.old.moment closing (sample_of sampled.now)) self.new.writer self.old.sequence self.new.sequence self.old.sent self.new.sent self.old.failed self.new.failed self.new.failing (L.told link.old) (L.told link.new) }
         ensures moments { result ≡ Ticked.Done → (self.new.moment ≡ self.old.moment) × (self.new.last ≡ (if closing then self.old.last else self.old.moment)) × (self.new.left ≡ self.old.left) }
         ensures memory { result ≡ Ticked.Memory → IsTrue (L.takes_memory link.old) }
-        ensures kept { result ≡ Ticked.Memory → (self.new.moment ≡ self.old.moment) × Keeps self.old.last self.old.sequence self.old.sent self.old.failed self.new.last self.new.sequence self.new.sent self.new.failed }
+        ensures kept { result ≡ Ticked.Memory → (self.new.moment ≡ self.old.moment) × SentNothing self.old.last self.old.sequence self.old.sent self.old.failed self.new.last self.new.sequence self.new.sent self.new.failed }
         ensures open { L.is_open link.new ≡ L.is_open link.old }
         ensures memory_stays { L.takes_memory link.new ≡ L.takes_memory link.old }
         ensures untold { result ≡ Ticked.Memory → Tells (L.told link.old) (L.told link.new) (λ before after. after.journal ≡ before.journal) }

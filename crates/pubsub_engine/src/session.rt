@@ -8,7 +8,7 @@ ghost use Rattle.pubsub_engine.specs.Steps.{Step, Tick, Pump};
 ghost use Rattle.pubsub_engine.specs.Counts.{is_datagram};
 
 use crate::built_in::opening;
-use crate::{Plain, Publisher, Receiving, Sampled, built_in_meta};
+use crate::{Plain, Publisher, Sampled, Subscriber, built_in_meta};
 use dataset_meta::Meta;
 use std::alloc::Global;
 use ua_base::{Link, NoMemory, Pumped, Ticked};
@@ -16,13 +16,13 @@ use ua_base::{Link, NoMemory, Pumped, Ticked};
 /// The longest datagram that a session receives.
 const BUFFER_LEN: usize = 65_536;
 
-/// The data set, what the last sample saw, the publishing side, the receiving side, and the pumps that ended at their limit.
+/// The data set, what the last sample saw, the publisher, the subscriber, and the pumps that ended at their limit.
 #[derive(Drop)]
 pub struct Session {
     pub meta: Meta,
     pub sampled: Sampled,
     pub publisher: Publisher,
-    pub receiving: Receiving,
+    pub subscriber: Subscriber,
     pub limit: u64,
     buffer: Vec<u8>,
     ghost built_in: { meta ≡ demo_meta },
@@ -31,7 +31,7 @@ pub struct Session {
 
 impl Session {
     ghost use Rattle.pubsub_engine.specs.Standing.{Stands};
-    ghost use Rattle.pubsub_engine.specs.Sending.{Keeps};
+    ghost use Rattle.pubsub_engine.specs.Sending.{SentNothing};
 
     /// A session before its first tick. All its memory is taken here: it has room for so many ticks and the closing one.
     pub fn open(alloc: Global, ticks: u32) -> Result<Session, NoMemory>
@@ -47,7 +47,7 @@ impl Session {
                 row: opening(),
             },
             publisher: Publisher::new(alloc, ticks)?,
-            receiving: Receiving::new(),
+            subscriber: Subscriber::new(),
             limit: 0,
             buffer,
         })
@@ -76,9 +76,9 @@ impl Session {
 
         // After want of memory the moment has risen and the writer has had its turn, and nothing was sent.
         ensures kept { result ≡ Ticked.Memory → (self.new.publisher.moment ≡ self.old.publisher.moment + ms)
-            × Keeps self.old.publisher.last self.old.publisher.sequence self.old.publisher.sent self.old.publisher.failed
+            × SentNothing self.old.publisher.last self.old.publisher.sequence self.old.publisher.sent self.old.publisher.failed
             self.new.publisher.last self.new.publisher.sequence self.new.publisher.sent self.new.publisher.failed }
-        ensures receiving { (self.new.receiving ≡ self.old.receiving) × (self.new.limit ≡ self.old.limit) }
+        ensures subscriber { (self.new.subscriber ≡ self.old.subscriber) × (self.new.limit ≡ self.old.limit) }
         ensures open { L.is_open link.new ≡ L.is_open link.old }
         ensures memory_stays { L.takes_memory link.new ≡ L.takes_memory link.old }
         ensures untold { result ≡ Ticked.Memory → Tells (L.told link.old) (L.told link.new) (λ before after. after.journal ≡ before.journal) }
@@ -98,7 +98,7 @@ impl Session {
         ensures open { L.is_open link.new ≡ L.is_open link.old }
         ensures memory_stays { L.takes_memory link.new ≡ L.takes_memory link.old }
     {
-        let pumped = self.receiving.pump(link, &self.meta, &mut self.buffer);
+        let pumped = self.subscriber.pump(link, &self.meta, &mut self.buffer);
         if pumped.limit {
             self.limit = self.limit.saturating_add(1);
         }

@@ -5,7 +5,7 @@ use Rattle.std.specs.Prelude.{ℕ, ◌+◌, ◌-◌, ◌%◌, ◌<◌, ◌≤◌
 abbrev pub wire : ℕ → ℕ
 wire place = place % 65536
 
--- less than a quarter of the numbers ahead
+-- 1 to 16,384 numbers ahead
 abbrev pub newer : ℕ → ℕ → Bool
 newer r l = nat_lt ((65535 + r - l) % 65536) 16384
 

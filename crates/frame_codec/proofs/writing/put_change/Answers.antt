@@ -1,4 +1,4 @@
-use Rattle.std.proofs.Common.{◌≤◌, ◌+◌, ◌++◌, length, subst, ℕ, arith}
+use Rattle.std.proofs.Common.{◌++◌, subst, ℕ, arith}
 use Rattle.std.specs.Int.{w16, to_le_bytes}
 use Rattle.ua_binary.specs.Spelling.{variant}
 use Rattle.ua_binary.specs.Writing.{Puts}

@@ -13,6 +13,6 @@ returns-clause-stands g c = λ is steps s.
         entries = tells_tick steps c.args.ms c.args.closing sample t.done _ _ s.entries t.told;
         publisher = t.publisher;
         sent = t.has_sent;
-        receiving = received_tick steps c.args.ms c.args.closing sample t.done c.args.self.now.receiving c.args.self.now.limit s.receiving;
+        subscriber = received_tick steps c.args.ms c.args.closing sample t.done c.args.self.now.subscriber c.args.self.now.limit s.subscriber;
       },
     )

@@ -1,6 +1,6 @@
 use Rattle.std.proofs.Common.{refl}
 use Rattle.pubsub_engine.specs.BuiltIn.{demo_fields}
-use Rattle.pubsub_engine.proofs.receiving.Receiving.new.Goals as goal
+use Rattle.pubsub_engine.proofs.subscriber.Subscriber.new.Goals as goal
 
 pub invariant_of-result : goal.invariant_of-result
 invariant_of-result c = record { numbered = c.new.ensures.numbering; belongs = c.new.ensures.reader demo_fields }

@@ -1,6 +1,6 @@
 use Rattle.std.proofs.Common.{◌≡◌, ◌<◌, refl, arith, ◌∙◌}
 use Rattle.pubsub_engine.proofs.Entries.{so_more, so_ended, so_full, within_limit}
-use Rattle.pubsub_engine.proofs.receiving.Receiving.pump.Goals as goal
+use Rattle.pubsub_engine.proofs.subscriber.Subscriber.pump.Goals as goal
 
 pub returns-then-not-receive-clause-entries : goal.returns-then-not-receive-clause-entries
 returns-then-not-receive-clause-entries g c =

@@ -5,8 +5,8 @@ use Rattle.frame_codec.specs.Messages.{message_in}
 use Rattle.pubsub_engine.specs.BuiltIn.{demo_fields}
 use Rattle.pubsub_engine.specs.Reading.{is_held}
 use Rattle.pubsub_engine.proofs.Carried.{carried_none, carried_some, takes_none, takes_message, reads_step, demo_read}
-use Rattle.pubsub_engine.proofs.receiving.Receiving.accept.Goals as goal
-use Rattle.pubsub_engine.proofs.receiving.Receiving.accept.Goals.{then-is_held, else-is_held}
+use Rattle.pubsub_engine.proofs.subscriber.Subscriber.accept.Goals as goal
+use Rattle.pubsub_engine.proofs.subscriber.Subscriber.accept.Goals.{then-is_held, else-is_held}
 
 pub returns-in_default : goal.returns-in_default
 returns-in_default c =

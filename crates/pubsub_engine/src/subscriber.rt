@@ -19,7 +19,7 @@ const PUMP_LIMIT: u32 = 65_536;
 
 /// The reader, and the counts of what came.
 #[derive(Drop)]
-pub struct Receiving {
+pub struct Subscriber {
     pub reader: Reader,
     /// Whether a message was ever answered Held.
     pub ready: bool,
@@ -35,16 +35,16 @@ pub struct Receiving {
     ghost belongs: { IsReaderOf demo_fields reader },
 }
 
-impl Receiving {
+impl Subscriber {
     ghost use Rattle.pubsub_engine.specs.Taking.{Takes, TakesOne, IsReceive};
     ghost use Rattle.pubsub_engine.specs.Standing.{HasRead};
 
     /// Nothing has come.
-    pub fn new() -> Receiving
+    pub fn new() -> Subscriber
         ensures read { HasRead [] result }
         ensures counts { (result.taken ≡ 0) × (result.received ≡ 0) × (result.broken ≡ 0) × (result.long ≡ 0) }
     {
-        Receiving {
+        Subscriber {
             reader: Reader::new(Numbering::Message),
             ready: false,
             taken: 0,

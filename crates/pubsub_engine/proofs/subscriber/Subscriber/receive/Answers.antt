@@ -2,7 +2,7 @@ use Rattle.std.proofs.Common.{refl, arith}
 use Rattle.ua_base.specs.Journal.{Long}
 use Rattle.ua_base.proofs.Told.{Tells-weaker}
 use Rattle.pubsub_engine.proofs.Entries.{Takes-long}
-use Rattle.pubsub_engine.proofs.receiving.Receiving.receive.Goals as goal
+use Rattle.pubsub_engine.proofs.subscriber.Subscriber.receive.Goals as goal
 
 pub returns-in-Long-clause-entry : goal.returns-in-Long-clause-entry
 returns-in-Long-clause-entry g c = (

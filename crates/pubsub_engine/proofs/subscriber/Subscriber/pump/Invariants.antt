@@ -1,6 +1,6 @@
 use Rattle.std.proofs.Common.{◌≡◌}
 use Rattle.pubsub_engine.proofs.Entries.{SoFar}
-use Rattle.pubsub_engine.proofs.receiving.Receiving.pump.Given as goal
+use Rattle.pubsub_engine.proofs.subscriber.Subscriber.pump.Given as goal
 
 abbrev pub invariant-loop-taken : goal.invariant-loop-taken
 invariant-loop-taken g l = record {
