@@ -14,7 +14,7 @@ use Rattle.dataset_meta.proofs.RowLaws.{patched-differs}
 use Rattle.row_words.specs.declared.patch.Patch.{Patch}
 use Rattle.row_words.specs.Belonging.{row_in, spelled_row, Belongs}
 use Rattle.row_words.specs.Patches.{patch_in, patched_words}
-use Rattle.key_delta.proofs.Marks.{past_case}
+use Rattle.row_words.proofs.PatchLaws.{past_case}
 
 -- two tests that hold of the same things
 test_case : (words values : Bool) → (words ≡ true → values ≡ true) → (values ≡ true → words ≡ true) → words ≡ values

@@ -1,3 +1,2 @@
 pub mod FieldWords
-pub mod Marks
 pub mod Differences

@@ -18,9 +18,6 @@ pub fn changed(meta: &Meta, old: &Row, new: &Row) -> Patch
 {
     let fields = meta.fields();
     let mut patch = Patch::empty();
-    if old.words == new.words {
-        return patch;
-    }
     for index in 0..fields.len() {
         if differs_at(meta, index as u8, old, new) {
             mark(meta, index as u8, new, &mut patch);

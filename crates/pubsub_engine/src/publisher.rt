@@ -105,6 +105,7 @@ impl Publisher {
         ensures kept { result ≡ Ticked.Memory → (self.new.moment ≡ self.old.moment + ms) × SentNothing self.old.last self.old.sequence self.old.sent self.old.failed self.new.last self.new.sequence self.new.sent self.new.failed }
         ensures open { L.is_open link.new ≡ L.is_open link.old }
         ensures memory_stays { L.takes_memory link.new ≡ L.takes_memory link.old }
+        ensures faults { L.faults link.old ≤ L.faults link.new }
         ensures untold { result ≡ Ticked.Memory → Tells (L.told link.old) (L.told link.new) (λ before after. after.journal ≡ before.journal) }
     {
         self.left -= 1;
@@ -142,6 +143,7 @@ impl Publisher {
         ensures kept { result ≡ Ticked.Memory → (self.new.moment ≡ self.old.moment) × SentNothing self.old.last self.old.sequence self.old.sent self.old.failed self.new.last self.new.sequence self.new.sent self.new.failed }
         ensures open { L.is_open link.new ≡ L.is_open link.old }
         ensures memory_stays { L.takes_memory link.new ≡ L.takes_memory link.old }
+        ensures faults { L.faults link.old ≤ L.faults link.new }
         ensures untold { result ≡ Ticked.Memory → Tells (L.told link.old) (L.told link.new) (λ before after. after.journal ≡ before.journal) }
     {
         let turn = self
@@ -167,6 +169,7 @@ impl Publisher {
         ensures kept { result ≡ Ticked.Memory → (self.new.sequence ≡ self.old.sequence) × (self.new.sent ≡ self.old.sent) × (self.new.failed ≡ self.old.failed) }
         ensures open { L.is_open link.new ≡ L.is_open link.old }
         ensures memory_stays { L.takes_memory link.new ≡ L.takes_memory link.old }
+        ensures faults { L.faults link.old ≤ L.faults link.new }
         ensures untold { result ≡ Ticked.Memory → Tells (L.told link.old) (L.told link.new) (λ before after. after.journal ≡ before.journal) }
     {
         let _sequence = self.sequence;
@@ -188,6 +191,7 @@ impl Publisher {
         ensures kept { result ≡ Ticked.Memory → (self.new.sequence ≡ self.old.sequence) × (self.new.sent ≡ self.old.sent) × (self.new.failed ≡ self.old.failed) }
         ensures open { L.is_open link.new ≡ L.is_open link.old }
         ensures memory_stays { L.takes_memory link.new ≡ L.takes_memory link.old }
+        ensures faults { L.faults link.old ≤ L.faults link.new }
         ensures untold { result ≡ Ticked.Memory → Tells (L.told link.old) (L.told link.new) (λ before after. after.journal ≡ before.journal) }
     {
         let len = write_datagram(&mut self.buffer, meta, self.sequence, frame);
@@ -208,6 +212,7 @@ impl Publisher {
         ensures kept { result ≡ Ticked.Memory → (self.new.sent ≡ self.old.sent) × (self.new.failed ≡ self.old.failed) }
         ensures open { L.is_open link.new ≡ L.is_open link.old }
         ensures memory_stays { L.takes_memory link.new ≡ L.takes_memory link.old }
+        ensures faults { L.faults link.old ≤ L.faults link.new }
         ensures untold { result ≡ Ticked.Memory → Tells (L.told link.old) (L.told link.new) (λ before after. after.journal ≡ before.journal) }
     {
         match link.send(&self.buffer[..len]) {

@@ -81,6 +81,7 @@ impl Session {
         ensures subscriber { (self.new.subscriber ≡ self.old.subscriber) × (self.new.limit ≡ self.old.limit) }
         ensures open { L.is_open link.new ≡ L.is_open link.old }
         ensures memory_stays { L.takes_memory link.new ≡ L.takes_memory link.old }
+        ensures faults { L.faults link.old ≤ L.faults link.new }
         ensures untold { result ≡ Ticked.Memory → Tells (L.told link.old) (L.told link.new) (λ before after. after.journal ≡ before.journal) }
     {
         self.publisher
@@ -97,6 +98,7 @@ impl Session {
         ensures left { self.new.publisher.left ≡ self.old.publisher.left }
         ensures open { L.is_open link.new ≡ L.is_open link.old }
         ensures memory_stays { L.takes_memory link.new ≡ L.takes_memory link.old }
+        ensures faults { L.faults link.old ≤ L.faults link.new }
     {
         let pumped = self.subscriber.pump(link, &self.meta, &mut self.buffer);
         if pumped.limit {

@@ -1,5 +1,5 @@
 //! The receiving side: datagrams from the link to the reader.
-ghost use Rattle.std.specs.Prelude.{◌≡◌, ◌++◌, ◌∷◌, ◌↔◌, [], List, IsTrue, length, count_by};
+ghost use Rattle.std.specs.Prelude.{◌≡◌, ◌≤◌, ◌++◌, ◌∷◌, ◌↔◌, [], List, IsTrue, length, count_by};
 ghost use Rattle.ua_base.specs.Journal.{Tells, Entry};
 ghost use Rattle.dataset_reader.specs.declared.took.Numbering.{Numbering as AnyNumbering};
 ghost use Rattle.dataset_reader.specs.Reader.{numbering_of, IsReaderOf};
@@ -80,6 +80,7 @@ impl Subscriber {
             × Tells (L.told link.old) (L.told link.new) (λ before after. after.journal ≡ before.journal ++ entry ∷ []) }
         ensures open { L.is_open link.new ≡ L.is_open link.old }
         ensures memory_stays { L.takes_memory link.new ≡ L.takes_memory link.old }
+        ensures faults { L.faults link.old ≤ L.faults link.new }
     {
         match link.receive(buffer) {
             Received::Datagram(len) => {
@@ -108,6 +109,7 @@ impl Subscriber {
             × Tells (L.told link.old) (L.told link.new) (λ before after. after.journal ≡ before.journal ++ entries) }
         ensures open { L.is_open link.new ≡ L.is_open link.old }
         ensures memory_stays { L.takes_memory link.new ≡ L.takes_memory link.old }
+        ensures faults { L.faults link.old ≤ L.faults link.new }
     {
         for taken in 0..PUMP_LIMIT {
             if !self.receive(link, meta, buffer) {

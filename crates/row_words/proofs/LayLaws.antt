@@ -1,56 +1,93 @@
--- A patch laid into a row, one field after another.
-use Rattle.std.proofs.Common.{◌≡◌, ◌≢◌, ℕ, ◌+◌, ◌/◌, ◌^◌, ◌<◌, ◌≤◌, Bool, true, false, List, [], length, take, sym, ap, ◌∙◌, arith, Some}
+-- A patch laid into a row, one marked field after another.
+use Rattle.std.proofs.Common.{◌≡◌, ◌≢◌, ℕ, zero, suc, ◌+◌, ◌*◌, ◌%◌, ◌^◌, ◌<◌, ◌≤◌, List, [], ◌∷◌, length, sym, ap, ◌∙◌, arith, Some, inl, inr}
 use Rattle.std.specs.Prelude.{◌==◌, slice_set, slice_get, bit_and}
-use Rattle.std.specs.Int.{bit_at}
-use Rattle.std.proofs.lemmas.Bool.Decides.{nat_tests}
-use Rattle.std.proofs.lemmas.Nat.Bits.{shr_and_one}
-use Rattle.std.proofs.lemmas.List.{take_all}
+use Rattle.std.specs.Int.{bit_at, bit_not, trailing_zeros, w64}
+use Rattle.std.proofs.lemmas.Bool.{cases_eq, cases_lt}
+use Rattle.std.proofs.lemmas.Nat.{and_le_l}
+use Rattle.std.proofs.lemmas.Nat.Bits.{bit_at-trailing_zeros, bit_at_clear_same, bit_at_clear_other, bit_at_above}
 use Rattle.ua_values.specs.declared.value.Value.{Value}
 use Rattle.dataset_meta.specs.declared.field.Field.{Field}
 use Rattle.dataset_meta.specs.Rows.{cons_if, patched}
-use Rattle.dataset_meta.proofs.RowLaws.{length_row}
 use Rattle.row_words.specs.declared.patch.Patch.{Patch}
 use Rattle.row_words.specs.Belonging.{row_in, spelled_row, Belongs}
 use Rattle.row_words.specs.Patches.{marked_from, patch_in, IsPatchOf, patched_words}
 use Rattle.row_words.proofs.FieldLaws.{some_value}
-use Rattle.row_words.proofs.PatchLaws.{laid_more}
+use Rattle.row_words.proofs.PatchLaws.{marked_same, none_marked}
 
-is_marked : (mask i : ℕ) → bit_and (mask / 2 ^ i) 1 ≡ 1 → (bit_at mask i == 1) ≡ true
-is_marked mask i test = let bit : bit_at mask i ≡ 1 = sym (shr_and_one mask i) ∙ test in grind (arith, nat_tests)
+-- the mask without its lowest mark
+abbrev pub later : ℕ → ℕ
+later left = bit_and left (bit_not w64 (1 * 2 ^ trailing_zeros w64 left % 2 ^ 64))
 
-is_not_marked : (mask i : ℕ) → bit_and (mask / 2 ^ i) 1 ≢ 1 → (bit_at mask i == 1) ≡ false
-is_not_marked mask i test = let bit : bit_at mask i ≢ 1 = λ e. test (shr_and_one mask i ∙ e) in grind (arith, nat_tests)
+-- the lowest mark is that of a field, and the others stay
+pub record Lowest (left count : ℕ) : Type 0 where
+  pub within : trailing_zeros w64 left < count
+  pub here : bit_at left (trailing_zeros w64 left) ≡ 1
+  pub before : (i : ℕ) → i < trailing_zeros w64 left → bit_at left i ≡ 0
+  pub gone : bit_at (later left) (trailing_zeros w64 left) ≡ 0
+  pub others : (j : ℕ) → j ≢ trailing_zeros w64 left → bit_at (later left) j ≡ bit_at left j
+  pub fewer : later left < left
 
--- the row with the marked of the first fields laid in
-abbrev pub laid_upto : List Field → Patch → List ℕ → ℕ → List Value
-laid_upto fields patch words count = patched (row_in fields words) (marked_from 0 patch.mask (take count (row_in fields patch.row.words)))
+pub lowest : (left count : ℕ) → left ≢ 0 → left < 2 ^ 64 → left < 2 ^ count → Lowest left count
+lowest left count some fits marks =
+    let first = bit_at-trailing_zeros w64 left (omega arith) fits in
+    let gone = bit_at_clear_same w64 left (trailing_zeros w64 left) first.0 in
+    let below : later left ≤ left = and_le_l left (bit_not w64 (1 * 2 ^ trailing_zeros w64 left % 2 ^ 64)) in
+    record {
+      within = elim (cases_lt (trailing_zeros w64 left) count) [
+        | inl inside ↦ inside
+        | inr outside ↦ absurd (omega (arith, first.1, bit_at_above left count (trailing_zeros w64 left) marks (omega arith)))
+      ];
+      here = first.1;
+      before = first.2;
+      gone = gone;
+      others = λ j ne. elim (cases_lt j 64) [
+        | inl low ↦ bit_at_clear_other w64 left (trailing_zeros w64 left) first.0 j low ne
+        | inr high ↦ bit_at_above (later left) 64 j (omega arith) (omega arith) ∙ sym (bit_at_above left 64 j fits (omega arith))
+      ];
+      fewer = elim (cases_eq (later left) left) [
+        | inl same ↦ absurd (omega (arith, gone, first.1, ap (λ (n : ℕ). bit_at n (trailing_zeros w64 left)) same))
+        | inr other ↦ omega arith
+      ];
+    }
 
-many_values : (fields : List Field) (patch : Patch) (i : ℕ) → IsPatchOf fields patch → i < length fields → i < length (row_in fields patch.row.words)
-many_values fields patch i of within = omega (arith, length_row fields (row_in fields patch.row.words) of.belongs.row)
+-- the first of what is marked, and the rest
+marked_first : (row : List Value) (from k at mask other : ℕ) (value : Value) → at ≡ from + k → slice_get row k ≡ Some value → bit_at mask at ≡ 1 → bit_at other at ≡ 0
+    → ((j : ℕ) → j < at → bit_at mask j ≡ 0) → ((j : ℕ) → j ≢ at → bit_at other j ≡ bit_at mask j) → marked_from from mask row ≡ (at, value) ∷ marked_from from other row
+marked_first [] from k at mask other value is here set gone before same = absurd cc
+marked_first (v ∷ row) from zero at mask other value is here set gone before same =
+    let here_at : at ≡ from = omega arith in
+    let v_is : v ≡ value = cc in
+    ap (λ (bit : ℕ). cons_if (bit == 1) (from, v) (marked_from (from + 1) mask row)) (sym (ap (bit_at mask) here_at) ∙ set)
+    ∙ ap (λ (rest : List (ℕ × Value)). (from, v) ∷ rest) (sym (marked_same row (from + 1) mask other (λ j after. let ne : j ≢ at = omega arith in same j ne)))
+    ∙ ap (λ (bit : ℕ). (from, v) ∷ cons_if (bit == 1) (from, v) (marked_from (from + 1) other row)) (sym (sym (ap (bit_at other) here_at) ∙ gone))
+    ∙ ap (λ (i : ℕ). (i, v) ∷ marked_from from other (v ∷ row)) (sym here_at)
+    ∙ ap (λ (x : Value). (at, x) ∷ marked_from from other (v ∷ row)) v_is
+marked_first (v ∷ row) from (suc k) at mask other value is here set gone before same =
+    let ne : from ≢ at = omega arith in
+    let unmarked = before from (omega arith) in
+    ap (λ (bit : ℕ). cons_if (bit == 1) (from, v) (marked_from (from + 1) mask row)) unmarked
+    ∙ marked_first row (from + 1) k at mask other value (omega arith) here set gone before same
+    ∙ ap (λ (bit : ℕ). (at, value) ∷ cons_if (bit == 1) (from, v) (marked_from (from + 1) other row)) (sym (same from ne ∙ unmarked))
 
-pub laid_marked : (fields : List Field) (patch : Patch) (before now after : List ℕ) (i : ℕ) → IsPatchOf fields patch → i < length fields → row_in fields now ≡ laid_upto fields patch before i
-    → bit_and (patch.mask / 2 ^ i) 1 ≡ 1 → ((value : Value) → slice_get (row_in fields patch.row.words) i ≡ Some value → row_in fields after ≡ slice_set (row_in fields now) i value)
-    → row_in fields after ≡ laid_upto fields patch before (i + 1)
-laid_marked fields patch before now after i of within so_far test copied =
-    let some = some_value fields patch.row.words i of.belongs within in
-    copied some.0 some.1 ∙ ap (λ (row : List Value). slice_set row i some.0) so_far
-    ∙ sym (laid_more (row_in fields before) (row_in fields patch.row.words) patch.mask i some.0 some.1 (many_values fields patch i of within)
-    ∙ ap (λ (b : Bool). patched (laid_upto fields patch before i) (cons_if b (i, some.0) [])) (is_marked patch.mask i test))
+-- one field more is laid in
+pub laid_more : (fields : List Field) (patch : Patch) (left : ℕ) (now after : List ℕ) → IsPatchOf fields patch → Lowest left (length fields)
+    → ((value : Value) → slice_get (row_in fields patch.row.words) (trailing_zeros w64 left) ≡ Some value → row_in fields after ≡ slice_set (row_in fields now) (trailing_zeros w64 left) value)
+    → patched (row_in fields after) (marked_from 0 (later left) (row_in fields patch.row.words)) ≡ patched (row_in fields now) (marked_from 0 left (row_in fields patch.row.words))
+laid_more fields patch left now after of first copied =
+    let some = some_value fields patch.row.words (trailing_zeros w64 left) of.belongs first.within in
+    ap (λ (row : List Value). patched row (marked_from 0 (later left) (row_in fields patch.row.words))) (copied some.0 some.1)
+    ∙ ap (patched (row_in fields now))
+    (sym (marked_first (row_in fields patch.row.words) 0 (trailing_zeros w64 left) (trailing_zeros w64 left) left (later left) some.0 (omega arith) some.1 first.here first.gone first.before first.others))
 
-pub laid_unmarked : (fields : List Field) (patch : Patch) (before now : List ℕ) (i : ℕ) → IsPatchOf fields patch → i < length fields → row_in fields now ≡ laid_upto fields patch before i
-    → bit_and (patch.mask / 2 ^ i) 1 ≢ 1 → row_in fields now ≡ laid_upto fields patch before (i + 1)
-laid_unmarked fields patch before now i of within so_far test =
-    let some = some_value fields patch.row.words i of.belongs within in
-    so_far
-    ∙ sym (laid_more (row_in fields before) (row_in fields patch.row.words) patch.mask i some.0 some.1 (many_values fields patch i of within)
-    ∙ ap (λ (b : Bool). patched (laid_upto fields patch before i) (cons_if b (i, some.0) [])) (is_not_marked patch.mask i test))
-
-pub laid_all : (fields : List Field) (patch : Patch) (before now : List ℕ) (i : ℕ) → IsPatchOf fields patch → length fields ≤ i → row_in fields now ≡ laid_upto fields patch before i
+-- nothing is left to be laid in
+pub laid_all : (fields : List Field) (patch : Patch) (before now : List ℕ) (left : ℕ) → left ≡ 0
+    → patched (row_in fields now) (marked_from 0 left (row_in fields patch.row.words)) ≡ patched (row_in fields before) (marked_from 0 patch.mask (row_in fields patch.row.words))
     → row_in fields now ≡ patched (row_in fields before) (patch_in fields patch)
 unfolding patch_in
-laid_all fields patch before now i of whole so_far =
-    so_far ∙ ap (λ (values : List Value). patched (row_in fields before) (marked_from 0 patch.mask values))
-    (take_all i (row_in fields patch.row.words) (omega (arith, length_row fields (row_in fields patch.row.words) of.belongs.row)))
+laid_all fields patch before now left none so_far =
+    sym (ap (λ (mask : ℕ). patched (row_in fields now) (marked_from 0 mask (row_in fields patch.row.words))) none
+    ∙ ap (patched (row_in fields now)) (none_marked (row_in fields patch.row.words) 0))
+    ∙ so_far
 
 pub words_laid : (fields : List Field) (patch : Patch) (before now : List ℕ) → Belongs fields now → row_in fields now ≡ patched (row_in fields before) (patch_in fields patch)
     → now ≡ patched_words fields patch before

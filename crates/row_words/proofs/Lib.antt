@@ -4,7 +4,7 @@ mod RowLaws
 mod Loops
 pub mod FieldLaws
 mod OpeningLaws
-mod PatchLaws
+pub mod PatchLaws
 mod ShapeLaws
 mod LayLaws
 pub mod ScalarLaws

@@ -1,16 +1,16 @@
 -- Patches: the marked values, one value more, and a row with them laid in.
-use Rattle.std.proofs.Common.{◌≡◌, ◌≢◌, ℕ, zero, suc, ◌+◌, ◌*◌, ◌/◌, ◌%◌, ◌^◌, ◌<◌, ◌≤◌, Bool, true, false, List, [], ◌∷◌, ◌++◌, length, take, refl, sym, ap, ◌∙◌, subst, arith, nat_lt, Some, append_assoc, length-take-le}
-use Rattle.std.specs.Prelude.{◌==◌, slice_set, slice_get, bit_or, bit_and}
+use Rattle.std.proofs.Common.{◌≡◌, ◌≢◌, ℕ, zero, suc, ◌+◌, ◌*◌, ◌%◌, ◌^◌, ◌<◌, ◌≤◌, Bool, true, false, List, [], ◌∷◌, ◌++◌, length, refl, sym, ap, ◌∙◌, subst, arith, nat_lt, Some, append_assoc}
+use Rattle.std.specs.Prelude.{◌==◌, slice_set, slice_get, bit_or}
 use Rattle.std.specs.Int.{bit_at, w64}
 use Rattle.std.proofs.lemmas.Bool.Decides.{nat_tests}
 use Rattle.std.proofs.lemmas.Nat.{or_lt, one_shl, pow_pos, pow_below}
-use Rattle.std.proofs.lemmas.Nat.Bits.{bit_at-zero, bit_at_set_same, bit_at_set_other, shr_and_one}
-use Rattle.std.proofs.lemmas.List.{take_more, get_or-map, length_push}
-use Rattle.std.proofs.lemmas.Option.{slice_get-get_or, get_or_from_slice_get}
+use Rattle.std.proofs.lemmas.Nat.Bits.{bit_at-zero, bit_at_set_same, bit_at_set_other}
+use Rattle.std.proofs.lemmas.List.{get_or-map, length_push}
+use Rattle.std.proofs.lemmas.Option.{slice_get-get_or}
 use Rattle.ua_values.specs.declared.value.Value.{Value}
 use Rattle.ua_values.specs.Values.{opening}
 use Rattle.dataset_meta.specs.declared.field.Field.{Field}
-use Rattle.dataset_meta.specs.Rows.{IsRow, IsPatch, IsPatchFrom, cons_if, put_in, patched, opening_row}
+use Rattle.dataset_meta.specs.Rows.{IsRow, IsPatch, IsPatchFrom, cons_if, put_in, opening_row}
 use Rattle.dataset_meta.proofs.RowLaws.{length_row, fits_if, slice_get-set_other}
 use Rattle.row_words.specs.declared.row.Row.{Row}
 use Rattle.row_words.specs.declared.patch.Patch.{Patch}
@@ -41,13 +41,13 @@ here_case true v rest from value step =
 here_case false v rest from value step = step
 
 -- behind one that stands before it
-past_case : (b : Bool) (v : Value) (rest : List (ℕ × Value)) (from index : ℕ) (value : Value) → from < index
+pub past_case : (b : Bool) (v : Value) (rest : List (ℕ × Value)) (from index : ℕ) (value : Value) → from < index
     → put_in (cons_if b (from, v) rest) index value ≡ cons_if b (from, v) (put_in rest index value)
 past_case true v rest from index value before = let later : nat_lt from index ≡ true = grind (arith, nat_tests) in rw later refl
 past_case false v rest from index value before = refl
 
 -- masks with the same bits mark the same
-marked_same : (row : List Value) (from mask other : ℕ) → ((j : ℕ) → from ≤ j → bit_at other j ≡ bit_at mask j) → marked_from from other row ≡ marked_from from mask row
+pub marked_same : (row : List Value) (from mask other : ℕ) → ((j : ℕ) → from ≤ j → bit_at other j ≡ bit_at mask j) → marked_from from other row ≡ marked_from from mask row
 marked_same [] from mask other same = refl
 marked_same (v ∷ row) from mask other same =
     ap (λ (bit : ℕ). cons_if (bit == 1) (from, v) (marked_from (from + 1) other row)) (same from (omega arith))
@@ -96,7 +96,8 @@ put_is fields patch index value row small of within belongs set =
           (omega (arith, length_row fields (row_in fields patch.row.words) of.belongs.row)) (omega arith) here others;
     }
 
-none_marked : (row : List Value) (from : ℕ) → marked_from from 0 row ≡ []
+-- an empty mask marks none
+pub none_marked : (row : List Value) (from : ℕ) → marked_from from 0 row ≡ []
 none_marked [] from = refl
 none_marked (v ∷ row) from =
     ap (λ (bit : ℕ). cons_if (bit == 1) (from, v) (marked_from (from + 1) 0 row)) (bit_at-zero from) ∙ none_marked row (from + 1)
@@ -115,36 +116,6 @@ IsPatchOf-none fields row belongs zeros = record {
       ∙ slice_get-get_or (opening_row fields) k (opening d.kind) (omega (arith, length_row fields (row_in fields row.words) belongs.row, ap length zeros))
       ∙ ap Some (get_or-map (λ (f : Field). opening f.kind) fields k d (opening d.kind) within);
 }
-
-cons_if-append : {X : Type 0} (b : Bool) (x : X) (xs ys : List X) → cons_if b x xs ++ ys ≡ cons_if b x (xs ++ ys)
-cons_if-append true x xs ys = refl
-cons_if-append false x xs ys = refl
-
-marked_push : (row : List Value) (from at mask : ℕ) (value : Value) → at ≡ from + length row → marked_from from mask (row ++ value ∷ []) ≡ marked_from from mask row ++ cons_if (bit_at mask at == 1) (at, value) []
-marked_push [] from at mask value is =
-    let here : from ≡ at = omega arith in ap (λ (i : ℕ). cons_if (bit_at mask i == 1) (i, value) []) here
-marked_push (v ∷ row) from at mask value is =
-    ap (λ (rest : List (ℕ × Value)). cons_if (bit_at mask from == 1) (from, v) rest) (marked_push row (from + 1) at mask value (omega arith))
-    ∙ sym (cons_if-append (bit_at mask from == 1) (from, v) (marked_from (from + 1) mask row) (cons_if (bit_at mask at == 1) (at, value) []))
-
-patched-append : (row : List Value) (front back : List (ℕ × Value)) → patched row (front ++ back) ≡ patched (patched row front) back
-patched-append row [] back = refl
-patched-append row (change ∷ front) back = patched-append (slice_set row change.0 change.1) front back
-
--- one field more is laid in
-pub laid_more : (base over : List Value) (mask i : ℕ) (value : Value) → slice_get over i ≡ Some value → i < length over
-    → patched base (marked_from 0 mask (take (i + 1) over)) ≡ patched (patched base (marked_from 0 mask (take i over))) (cons_if (bit_at mask i == 1) (i, value) [])
-laid_more base over mask i value here within =
-    let next : take (i + 1) over ≡ take i over ++ value ∷ [] =
-    take_more over i value within ∙ ap (λ (v : Value). take i over ++ v ∷ []) (get_or_from_slice_get over i value value here) in
-    let count : i ≡ 0 + length (take i over) = omega (arith, length-take-le i over (omega arith)) in
-    ap (λ (values : List Value). patched base (marked_from 0 mask values)) next
-    ∙ ap (patched base) (marked_push (take i over) 0 i mask value count)
-    ∙ patched-append base (marked_from 0 mask (take i over)) (cons_if (bit_at mask i == 1) (i, value) [])
-
--- what the test of a bit says
-pub marked_test : (mask i : ℕ) (b : Bool) → (bit_and (mask / 2 ^ i) 1 == 1) ≡ b → (bit_at mask i == 1) ≡ b
-marked_test mask i b e = ap (λ (n : ℕ). n == 1) (sym (shr_and_one mask i)) ∙ e
 
 -- marked fields are a patch
 marked_fits : (fields front : List Field) (row : List Value) (mask : ℕ) → IsRow fields row → IsPatchFrom (length front) (front ++ fields) (marked_from (length front) mask row)

@@ -1,5 +1,5 @@
 -- Scalars, whose values take one word.
-use Rattle.std.proofs.Common.{◌≡◌, ◌≢◌, ℕ, zero, suc, ◌+◌, ◌-◌, ◌^◌, ◌<◌, ◌≤◌, true, List, [], ◌∷◌, length, take, drop, get_or, set, refl, sym, ap, ◌∙◌, subst, arith, Some}
+use Rattle.std.proofs.Common.{◌≡◌, ◌≢◌, ℕ, zero, suc, ◌+◌, ◌-◌, ◌^◌, ◌<◌, true, List, [], ◌∷◌, length, take, drop, get_or, set, refl, sym, ap, ◌∙◌, subst, arith, Some}
 use Rattle.std.specs.Prelude.{slice_index, slice_get, slice_set, ◌==◌, if◌then◌else◌, FitsSigned}
 use Rattle.std.specs.Int.{w8, w16, w32, w64, cast_signed}
 use Rattle.std.specs.List.{HoldsAt}
@@ -8,14 +8,12 @@ use Rattle.std.proofs.lemmas.List.{get_or-take, get_or-drop}
 use borrow.Rule.Slice.PartMut.{put_mid}
 use Rattle.ua_values.specs.declared.kind.Kind.{Kind}
 use Rattle.ua_values.specs.declared.kind.Kind.TheVariants as kinds
-use Rattle.ua_values.specs.declared.value.Value.{Value}
-use Rattle.ua_values.specs.declared.value.Value.TheVariants as values
 use Rattle.ua_values.specs.Values.{kind_of, size_of, IsValue}
 use Rattle.dataset_meta.specs.declared.field.Field.{Field}
 use Rattle.dataset_meta.specs.Fields.{width, width_of}
 use Rattle.dataset_meta.specs.Metas.{start_of, IsMeta}
 use Rattle.dataset_meta.specs.Rows.{FitsField}
-use Rattle.row_words.specs.Words.{is_scalar, IsWordOf, scalar_in, scalar_word, spelled_value, value_in, Spells}
+use Rattle.row_words.specs.Words.{is_scalar, IsWordOf, scalar_in, spelled_value, value_in, Spells}
 use Rattle.row_words.specs.Belonging.{row_in, Belongs}
 use Rattle.row_words.proofs.ValueLaws.{word_of_scalar}
 use Rattle.row_words.proofs.FieldLaws.{ReadsAs, read_part, Wrote, field_written, ends_within}

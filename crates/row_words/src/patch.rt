@@ -54,10 +54,11 @@ impl Patch {
         ensures patched { row_in meta.now.fields row.new.words ≡ patched (row_in meta.now.fields row.old.words) (patch_in meta.now.fields self.now) }
         ensures words { row.new.words ≡ patched_words meta.now.fields self.now row.old.words }
     {
-        for index in 0..meta.fields().len() {
-            if self.mask >> index & 1 == 1 {
-                copy_field(meta, index as u8, &self.row, row);
-            }
+        let mut left = self.mask;
+        while left != 0 {
+            let index = left.trailing_zeros();
+            copy_field(meta, index as u8, &self.row, row);
+            left &= !(1 << index);
         }
     }
 }

@@ -49,6 +49,7 @@ impl Player {
         ensures open { L.is_open link.new ≡ L.is_open link.old }
         ensures memory { OnErr result (IsTrue (L.takes_memory link.old)) }
         ensures memory_stays { L.takes_memory link.new ≡ L.takes_memory link.old }
+        ensures faults { L.faults link.old ≤ L.faults link.new }
     {
         self.session.sample(&self.application.plain);
         match self.session.tick(ms as u64, closing, link) {
@@ -69,6 +70,7 @@ impl Player {
         ensures open { L.is_open link.new ≡ L.is_open link.old }
         ensures memory { OnErr result (IsTrue (L.takes_memory link.old)) }
         ensures memory_stays { L.takes_memory link.new ≡ L.takes_memory link.old }
+        ensures faults { L.faults link.old ≤ L.faults link.new }
     {
         match *line {
             Line::Write { thread, value } => {
@@ -89,6 +91,7 @@ impl Player {
         ensures open { L.is_open link.new ≡ L.is_open link.old }
         ensures memory { OnErr result (IsTrue (L.takes_memory link.old)) }
         ensures memory_stays { L.takes_memory link.new ≡ L.takes_memory link.old }
+        ensures faults { L.faults link.old ≤ L.faults link.new }
     {
         for line in lines {
             self.play_line(line, link)?;
@@ -102,6 +105,7 @@ impl Player {
         requires room { CanPlay [] self }
         ensures report { IfOk result (λ text. (lines : List LineValue) → HasPlayed (reverse lines) (L.told link.old) self → IsReport lines (L.told link.new) (string_bytes text)) }
         ensures memory_stays { L.takes_memory link.new ≡ L.takes_memory link.old }
+        ensures faults { L.faults link.old ≤ L.faults link.new }
     {
         self.tick(0, true, link)?;
         let closed = self.session.close(alloc, &self.application.dones)?;

@@ -60,6 +60,12 @@ pub fn top<R: Threads + Wait + Sync, F: Folder, A: Link, B: Link, G: Gate, K: Si
     ensures told { TellsAs result (script_of words.now) (E.written err.old) (E.written err.new) (E.faults err.old) (E.faults err.new) }
     ensures wire { wire.new ≡ wire.old }
     ensures memory_stays { A.takes_memory lab.new ≡ A.takes_memory lab.old }
+
+    // No count of faults falls.
+    ensures folder_faults { F.faults folder.old ≤ F.faults folder.new }
+    ensures link_faults { A.faults lab.old ≤ A.faults lab.new }
+    ensures out_faults { K.faults out.old ≤ K.faults out.new }
+    ensures err_faults { E.faults err.old ≤ E.faults err.new }
 {
     // Playing uses one link, and neither threads nor the gate.
     let _ = rt;

@@ -1,21 +1,12 @@
-use Rattle.std.proofs.Common.{ℕ, ◌<◌, List, length, sym, ap, ◌∙◌, arith}
-use Rattle.std.proofs.lemmas.Slice.Eq.{bytes_eq-Decides}
+use Rattle.std.proofs.Common.{ℕ, ◌<◌, List, length, ap, ◌∙◌, arith}
 use Rattle.dataset_meta.proofs.RowLaws.{length_row}
 use Rattle.ua_values.specs.declared.value.Value.{Value}
 use Rattle.dataset_meta.specs.Rows.{put_in}
 use Rattle.row_words.specs.Belonging.{row_in}
 use Rattle.key_delta.proofs.FieldWords.{some_at}
-use Rattle.key_delta.proofs.Differences.{differs-same, upto_more, put_more, upto_all}
+use Rattle.key_delta.proofs.Differences.{upto_more, put_more, upto_all}
 use Rattle.key_delta.proofs.changes.changed.Goals as goal
 use Rattle.key_delta.proofs.changes.changed.Goals.{then-differs_at, else-differs_at}
-
-pub returns-then-eq-clause-of : goal.returns-then-eq-clause-of
-returns-then-eq-clause-of c = c.empty-patch.ensures.of c.args.meta.now.fields c.fields-fields.ensures.meta
-
-pub returns-then-eq-clause-differ : goal.returns-then-eq-clause-differ
-returns-then-eq-clause-differ c =
-    c.empty-patch.ensures.empty c.args.meta.now.fields
-    ∙ sym (differs-same _ _ (ap (row_in c.args.meta.now.fields) ((bytes_eq-Decides c.args.old.now.words c.args.new.now.words).0 (sym c.eq.ensures ∙ c.if-eq.true))))
 
 pub loop-index-init : goal.loop-index-init
 loop-index-init c = record {

@@ -4,7 +4,7 @@ use Rattle.std.specs.Prelude.{slice_get}
 use Rattle.ua_values.specs.declared.value.Value.{Value}
 use Rattle.row_words.specs.Belonging.{row_in}
 use Rattle.key_delta.proofs.FieldWords.{copied, value_at, Copied}
-use Rattle.key_delta.proofs.Marks.{put_is}
+use Rattle.row_words.proofs.PatchLaws.{put_is}
 use Rattle.key_delta.proofs.changes.mark.Goals as goal
 
 row_is : (c : goal.After-patch-1) (value : Value) → slice_get (row_in c.args.meta.now.fields c.args.row.now.words) c.args.index ≡ Some value

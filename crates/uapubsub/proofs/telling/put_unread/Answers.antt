@@ -7,10 +7,10 @@ use Rattle.uapubsub.proofs.telling.put_unread.Goals as goal
 abbrev front : List ℕ
 front = codes "cannot read "
 
-pub returns-then-put : goal.returns-then-put
+pub returns-then-put-clause-told : goal.returns-then-put-clause-told
 unfolding text_of
-returns-then-put g c = then_put _ _ _ _ _ _ _ front (c.args.file.now ++ line_feed) c.if-put.ensures c.put_line.ensures
+returns-then-put-clause-told g c = then_put _ _ _ _ _ _ _ front (c.args.file.now ++ line_feed) c.if-put.ensures.told c.put_line.ensures.told
 
-pub returns-else-put : goal.returns-else-put
+pub returns-else-put-clause-told : goal.returns-else-put-clause-told
 unfolding text_of
-returns-else-put g c = rw c.if-put.false (cut_short _ _ _ _ front (c.args.file.now ++ line_feed) c.if-put.ensures)
+returns-else-put-clause-told g c = rw c.if-put.false (cut_short _ _ _ _ front (c.args.file.now ++ line_feed) c.if-put.ensures.told)

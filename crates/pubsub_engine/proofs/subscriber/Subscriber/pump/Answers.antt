@@ -13,6 +13,7 @@ loop-taken-preserved g c = record {
   run = so_more c.loop-taken.taken c.args.self.now c.loop-taken.self c.receive.new.self _ _ _ c.loop-taken.invariant.run c.if-not-receive.ensures.entry;
   stays = c.receive.ensures.open ∙ c.loop-taken.invariant.stays;
   memory = c.receive.ensures.memory_stays ∙ c.loop-taken.invariant.memory;
+  later = omega (arith, c.receive.ensures.faults, c.loop-taken.invariant.later);
 }
 
 pub returns-clause-entries : goal.returns-clause-entries

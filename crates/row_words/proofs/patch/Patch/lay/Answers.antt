@@ -1,32 +1,28 @@
-use Rattle.row_words.proofs.LayLaws.{laid_marked, laid_unmarked, laid_all, words_laid}
+use Rattle.std.proofs.Common.{length, rules, ◌∙◌, arith}
+use Rattle.row_words.proofs.LayLaws.{lowest, laid_more, laid_all, words_laid}
 use Rattle.row_words.proofs.patch.Patch.lay.Goals as goal
-use Rattle.row_words.proofs.patch.Patch.lay.Goals.{then-self-index-eq1, else-self-index-eq1}
 
-pub loop-index-preserved : goal.loop-index-preserved
-loop-index-preserved c =
+pub copy_field-requires-clause-index : goal.copy_field-requires-clause-index
+copy_field-requires-clause-index c = (lowest c.loop-left.left (length c.args.meta.now.fields) c.loop-left-test.true (search rules) c.loop-left.invariant.marks).within
+
+pub loop-left-smaller : goal.loop-left-smaller
+loop-left-smaller c = (lowest c.loop-left.left (length c.args.meta.now.fields) c.loop-left-test.true (search rules) c.loop-left.invariant.marks).fewer
+
+pub loop-left-preserved : goal.loop-left-preserved
+loop-left-preserved c =
     let fields = c.args.meta.now.fields in
-    let within = rw c.fields-index-end.ensures.fields at c.loop-index-test.true in
-    elim c.if-self-index-eq1.branch [
-      | then-self-index-eq1 w ↦ record {
-        belongs = rw w.row-is w.copy_field.ensures.belongs;
-        laid = rw w.row-is
-            (laid_marked fields c.args.self.now c.args.row.now.words c.loop-index.row.words w.copy_field.new.to.words c.loop-index.index c.requires.of within c.loop-index.invariant.laid
-            w.if-self-index-eq1.true w.copy_field.ensures.copied);
-      }
-      | else-self-index-eq1 w ↦ record {
-        belongs = rw w.row-is c.loop-index.invariant.belongs;
-        laid = rw w.row-is
-            (laid_unmarked fields c.args.self.now c.args.row.now.words c.loop-index.row.words c.loop-index.index c.requires.of within c.loop-index.invariant.laid w.if-self-index-eq1.false);
-      }
-    ]
+    let first = lowest c.loop-left.left (length fields) c.loop-left-test.true (search rules) c.loop-left.invariant.marks in
+    record {
+      marks = omega (arith, first.fewer, c.loop-left.invariant.marks);
+      belongs = c.copy_field.ensures.belongs;
+      laid = laid_more fields c.args.self.now c.loop-left.left c.loop-left.row.words c.copy_field.new.to.words c.requires.of first c.copy_field.ensures.copied ∙ c.loop-left.invariant.laid;
+    }
 
 pub returns-clause-patched : goal.returns-clause-patched
 returns-clause-patched c =
-    let all = rw c.fields-index-end.ensures.fields at c.loop-index-test.false in
-    laid_all c.args.meta.now.fields c.args.self.now c.args.row.now.words c.loop-index.row.words c.loop-index.index c.requires.of all c.loop-index.invariant.laid
+    laid_all c.args.meta.now.fields c.args.self.now c.args.row.now.words c.loop-left.row.words c.loop-left.left c.loop-left-test.false c.loop-left.invariant.laid
 
 pub returns-clause-words : goal.returns-clause-words
 returns-clause-words c =
-    let all = rw c.fields-index-end.ensures.fields at c.loop-index-test.false in
-    words_laid c.args.meta.now.fields c.args.self.now c.args.row.now.words c.loop-index.row.words c.loop-index.invariant.belongs
-    (laid_all c.args.meta.now.fields c.args.self.now c.args.row.now.words c.loop-index.row.words c.loop-index.index c.requires.of all c.loop-index.invariant.laid)
+    words_laid c.args.meta.now.fields c.args.self.now c.args.row.now.words c.loop-left.row.words c.loop-left.invariant.belongs
+    (laid_all c.args.meta.now.fields c.args.self.now c.args.row.now.words c.loop-left.row.words c.loop-left.left c.loop-left-test.false c.loop-left.invariant.laid)

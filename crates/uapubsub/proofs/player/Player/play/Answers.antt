@@ -1,4 +1,4 @@
-use Rattle.std.proofs.Common.{List, ◌+◌, take, drop, sym, subst, ◌∙◌}
+use Rattle.std.proofs.Common.{arith, List, ◌+◌, take, drop, sym, subst, ◌∙◌}
 use Rattle.std.specs.Prelude.{reverse}
 use Rattle.std.proofs.lemmas.List.{take_all}
 use Rattle.uapubsub.specs.declared.script.Line.{Line}
@@ -20,6 +20,7 @@ loop-line-preserved g c =
       room = c.in_ok-play_line.ensures.room (drop (i + 1) lines) (subst (λ (ls : List Line). CanPlay ls c.loop-line.self) (drop-next lines i _ c.loop-line-test.true) c.loop-line.invariant.room);
       is_open = c.in_ok-play_line.ensures.open ∙ c.loop-line.invariant.is_open;
       memory = c.in_ok-play_line.ensures.memory_stays ∙ c.loop-line.invariant.memory;
+      later = omega (arith, c.in_ok-play_line.ensures.faults, c.loop-line.invariant.later);
     }
 
 pub returns-clause-played : goal.returns-clause-played

@@ -1,4 +1,4 @@
-use Rattle.std.proofs.Common.{◌≡◌, [], take, drop}
+use Rattle.std.proofs.Common.{◌≡◌, ◌≤◌, [], take, drop}
 use Rattle.std.specs.Prelude.{reverse}
 use Rattle.uapubsub.specs.Player.{HasPlayed, CanPlay}
 use Rattle.uapubsub.proofs.player.Player.play.Given as goal
@@ -9,4 +9,5 @@ invariant-loop-line g l = record {
   room : CanPlay (drop l.line-index l.lines) l.self;
   is_open : g.L.Link.is_open l.link ≡ g.L.Link.is_open l.fn.link;
   memory : g.L.Link.takes_memory l.link ≡ g.L.Link.takes_memory l.fn.link;
+  later : g.L.Link.faults l.fn.link ≤ g.L.Link.faults l.link;
 }
