@@ -1,9 +1,9 @@
 -- Scalars as Variants.
-use Rattle.std.proofs.Common.{◌≡◌, ℕ, zero, suc, ◌^◌, ◌<◌, Bool, true, false, List, [], ◌∷◌, ◌++◌, ◌≤◌, length, take, drop, length-take-le, get_or, sym, Option, Some, Result, Ok, Err, refl, ap, ◌∙◌, arith}
+use Rattle.std.proofs.Common.{◌≡◌, ℕ, zero, suc, ◌-◌, ◌^◌, ◌<◌, Bool, true, false, List, [], ◌∷◌, ◌++◌, ◌≤◌, length, take, drop, length-take-le, get_or, sym, Option, Some, Result, Ok, Err, refl, ap, ◌∙◌, arith}
 use Rattle.std.specs.Prelude.{◌&&◌, nat_lt, slice_get, slice_index, if◌then◌else◌}
 use Rattle.std.proofs.lemmas.Bool.{eqb-true, ltb-false}
 use Rattle.std.proofs.lemmas.List.{take-append-drop}
-use Rattle.std.specs.Int.{w8, w16, w32, w64, cast_signed, from_le_bytes, to_le_bytes}
+use Rattle.std.specs.Int.{Width, w8, w16, w32, w64, byte_len, byte_worth, sum_through, cast_signed, from_le_bytes, to_le_bytes}
 use Rattle.std.proofs.lemmas.Int.{of_z-to_z}
 use Rattle.ua_values.specs.declared.kind.Kind.{Kind}
 use Rattle.ua_values.specs.declared.kind.Kind.TheVariants as kinds
@@ -114,6 +114,18 @@ eight_bytes kind word eight = eight_case (λ (k : Kind). scalar_bytes k word ≡
 pub eight-scalar_in : (kind : Kind) (word : ℕ) → has_eight_bytes kind ≡ true → IsWordOf kind word → variant (scalar_in kind word) ≡ type_of kind ∷ to_le_bytes w64 word
 eight-scalar_in kind word eight is = variant-scalar_in kind word is ∙ ap (λ (bytes : List ℕ). type_of kind ∷ bytes) (eight_bytes kind word eight)
 
+eight_word : (kind : Kind) (word : ℕ) → has_eight_bytes kind ≡ true → word < 2 ^ 64 → IsWordOf kind word
+eight_word kind word eight = eight_case (λ (k : Kind). word < 2 ^ 64 → IsWordOf k word) (λ is. is) (λ is. is) (λ is. is) (λ is. is) kind eight
+
+eight_plain : (kind : Kind) (word : ℕ) (bytes rest : List ℕ) → has_eight_bytes kind ≡ true → number_at Short w64 bytes ≡ Ok (word, rest) → plain_at kind bytes ≡ Ok (scalar_in kind word, rest)
+eight_plain kind word bytes rest eight read =
+    eight_case (λ (k : Kind). plain_at k bytes ≡ Ok (scalar_in k word, rest))
+    (ap (as_value (λ (n : ℕ). values.Int64 (cast_signed w64 n))) read)
+    (ap (as_value values.UInt64) read)
+    (ap (as_value values.Double) read)
+    (ap (as_value (λ (n : ℕ). values.DateTime (cast_signed w64 n))) read)
+    kind eight
+
 -- what is known where a scalar of a kind follows
 own_number : (kind : Kind) (bytes : List ℕ) → is_own_scalar kind bytes ≡ true → is_number (type_of kind) (slice_get bytes 0) ≡ true
 own_number kind bytes own = second (is_scalar kind) (is_number (type_of kind) (slice_get bytes 0)) own
@@ -160,7 +172,7 @@ pub own_scalar_read : (short : NoBytes) (field : Field) (byte word : ℕ) (bytes
 own_scalar_read short field byte word bytes rest after own first is read =
     typed_scalar_read field word bytes rest after (own_bytes short (type_of field.kind) byte bytes rest (own_number field.kind bytes own) first) is read
 
--- a type byte and four more that are read at once
+-- a type byte and the bytes of a number that are read at once
 bytes_are : (short : NoBytes) (n : ℕ) (bytes text rest : List ℕ) → bytes_at short n bytes ≡ Ok (text, rest) → (bytes ≡ text ++ rest) × (length text ≡ n)
 bytes_are short n bytes text rest read = by_length (nat_lt (length bytes) n) refl read
   where
@@ -181,28 +193,35 @@ bytes_are short n bytes text rest read = by_length (nat_lt (length bytes) n) ref
         let enough : n ≤ length bytes = ltb-false (length bytes) n is in
         (sym (take-append-drop n bytes) ∙ ap (λ (t : List ℕ). t ++ drop n bytes) front ∙ ap (λ (r : List ℕ). text ++ r) back, ap length (sym front) ∙ length-take-le n bytes enough)
 
-four_behind : (field : Field) (five rest : List ℕ) (word : ℕ) → length five ≡ 5 → slice_index five 0 ≡ type_of field.kind → has_four_bytes field.kind ≡ true
-    → word ≡ from_le_bytes w32 (slice_index five 1 ∷ slice_index five 2 ∷ slice_index five 3 ∷ slice_index five 4 ∷ []) → IsWordOf field.kind word
-    → field_at 0 field (five ++ rest) ≡ Ok (scalar_in field.kind word, rest)
-four_behind field (number ∷ a ∷ b ∷ c ∷ d ∷ []) rest word long typed four spelled is =
-    let text = a ∷ b ∷ c ∷ d ∷ [] in
-    let read : number_at Short w32 (text ++ rest) ≡ Ok (word, rest) =
-    ap (λ (r : Result (List ℕ × List ℕ) ValueFault). r >>= λ n. Ok (from_le_bytes w32 n.0, n.1)) (bytes_again Short 4 text rest refl) ∙ ap (λ (n : ℕ). Ok (n, rest)) (sym spelled) in
-    typed_scalar_read field word (number ∷ text ++ rest) (text ++ rest) rest (ap (λ (n : ℕ). n ∷ text ++ rest) typed) is (four_plain field.kind word (text ++ rest) rest four read)
-four_behind field [] rest word long typed four spelled is = absurd (omega (arith, long))
-four_behind field (_ ∷ []) rest word long typed four spelled is = absurd (omega (arith, long))
-four_behind field (_ ∷ _ ∷ []) rest word long typed four spelled is = absurd (omega (arith, long))
-four_behind field (_ ∷ _ ∷ _ ∷ []) rest word long typed four spelled is = absurd (omega (arith, long))
-four_behind field (_ ∷ _ ∷ _ ∷ _ ∷ []) rest word long typed four spelled is = absurd (omega (arith, long))
-four_behind field (_ ∷ _ ∷ _ ∷ _ ∷ _ ∷ _ ∷ more) rest word long typed four spelled is = absurd (omega (arith, long))
+-- the number behind the type byte
+abbrev behind : Width → List ℕ → ℕ
+behind w text = sum_through (λ i. byte_worth i (slice_index text (suc i))) (byte_len w - 1)
+
+number_behind : (w : Width) (field : Field) (text rest : List ℕ) (word : ℕ) → length text ≡ suc (byte_len w) → slice_index text 0 ≡ type_of field.kind → IsWordOf field.kind word → word ≡ behind w text
+    → ((after : List ℕ) → number_at Short w after ≡ Ok (word, rest) → plain_at field.kind after ≡ Ok (scalar_in field.kind word, rest)) → field_at 0 field (text ++ rest) ≡ Ok (scalar_in field.kind word, rest)
+number_behind w field [] rest word long typed is spelled plainly = absurd (omega (arith, long))
+number_behind w field (number ∷ text) rest word long typed is spelled plainly =
+    let read : number_at Short w (text ++ rest) ≡ Ok (word, rest) =
+    ap (λ (r : Result (List ℕ × List ℕ) ValueFault). r >>= λ n. Ok (from_le_bytes w n.0, n.1)) (bytes_again Short (byte_len w) text rest (omega (arith, long))) ∙ ap (λ (n : ℕ). Ok (n, rest)) (sym spelled) in
+    typed_scalar_read field word (number ∷ text ++ rest) (text ++ rest) rest (ap (λ (n : ℕ). n ∷ text ++ rest) typed) is (plainly (text ++ rest) read)
+
+number_read : (short : NoBytes) (w : Width) (field : Field) (bytes text rest : List ℕ) (word : ℕ) → bytes_at short (suc (byte_len w)) bytes ≡ Ok (text, rest) → slice_index text 0 ≡ type_of field.kind → IsWordOf field.kind word → word ≡ behind w text
+    → ((after : List ℕ) → number_at Short w after ≡ Ok (word, rest) → plain_at field.kind after ≡ Ok (scalar_in field.kind word, rest)) → field_at 0 field bytes ≡ Ok (scalar_in field.kind word, rest)
+number_read short w field bytes text rest word read typed is spelled plainly =
+    let are = bytes_are short (suc (byte_len w)) bytes text rest read in
+    ap (field_at 0 field) are.0 ∙ number_behind w field text rest word are.1 typed is spelled plainly
 
 pub four_read : (short : NoBytes) (field : Field) (bytes five rest : List ℕ) (word : ℕ) → bytes_at short 5 bytes ≡ Ok (five, rest) → slice_index five 0 ≡ type_of field.kind → has_four_bytes field.kind ≡ true
-    → word ≡ from_le_bytes w32 (slice_index five 1 ∷ slice_index five 2 ∷ slice_index five 3 ∷ slice_index five 4 ∷ []) → word < 2 ^ 32
-    → IsWordOf field.kind word × (field_at 0 field bytes ≡ Ok (scalar_in field.kind word, rest))
+    → word ≡ behind w32 five → word < 2 ^ 32 → IsWordOf field.kind word × (field_at 0 field bytes ≡ Ok (scalar_in field.kind word, rest))
 four_read short field bytes five rest word read typed four spelled small =
     let is = four_word field.kind word four small in
-    let are = bytes_are short 5 bytes five rest read in
-    (is, ap (field_at 0 field) are.0 ∙ four_behind field five rest word are.1 typed four spelled is)
+    (is, number_read short w32 field bytes five rest word read typed is spelled (λ after. four_plain field.kind word after rest four))
+
+pub eight_read : (short : NoBytes) (field : Field) (bytes nine rest : List ℕ) (word : ℕ) → bytes_at short 9 bytes ≡ Ok (nine, rest) → slice_index nine 0 ≡ type_of field.kind → has_eight_bytes field.kind ≡ true
+    → word ≡ behind w64 nine → word < 2 ^ 64 → IsWordOf field.kind word × (field_at 0 field bytes ≡ Ok (scalar_in field.kind word, rest))
+eight_read short field bytes nine rest word read typed eight spelled small =
+    let is = eight_word field.kind word eight small in
+    (is, number_read short w64 field bytes nine rest word read typed is spelled (λ after. eight_plain field.kind word after rest eight))
 
 pub own_scalar_refused : (short : NoBytes) (field : Field) (byte : ℕ) (bytes rest : List ℕ) (fault : ValueFault) → is_own_scalar field.kind bytes ≡ true → byte_at short bytes ≡ Ok (byte, rest)
     → plain_at field.kind rest ≡ Err fault → field_at 0 field bytes ≡ Err (fault_of fault)

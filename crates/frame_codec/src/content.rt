@@ -15,7 +15,7 @@ use crate::flags::{DELTA, KEY, VARIANT};
 use crate::frame::FrameKind;
 use crate::front::Front;
 use crate::length::field_count;
-use crate::scalar::{is_own_scalar, read_own_four, read_own_scalar};
+use crate::scalar::{is_own_scalar, read_own_number, read_own_scalar};
 use dataset_meta::{Field, Meta};
 use row_words::{Patch, Row};
 use ua_binary::{Cursor, read_data_value, read_variant};
@@ -118,7 +118,7 @@ fn read_scalar_into(
     read_lent_into(cursor, meta, index, encoding, row)
 }
 
-/// The same. A scalar of four bytes, the most common, is judged first and at once.
+/// The same. A scalar of four or eight bytes is judged first and at once.
 #[inline(always)]
 fn read_into(
     cursor: &mut Cursor<'_>,
@@ -135,7 +135,7 @@ fn read_into(
 {
     let field = &meta.fields()[usize::from(index)];
     if encoding == VARIANT {
-        if let Some(word) = read_own_four(cursor, field) {
+        if let Some(word) = read_own_number(cursor, field) {
             row.set_word(meta, index, word);
             return Ok(());
         }

@@ -90,7 +90,7 @@ pub(crate) fn has_eight_bytes(kind: Kind) -> bool
 /// The word of a Variant of the field's own kind, where it is one of four bytes and follows whole; else nothing is read. It
 /// judges the bytes at once, so that a loop over fields stays short.
 #[inline(always)]
-pub(crate) fn read_own_four(cursor: &mut Cursor<'_>, field: &Field) -> Option<u64>
+fn read_own_four(cursor: &mut Cursor<'_>, field: &Field) -> Option<u64>
     requires { cursor.old.at ≤ length cursor.old.bytes.now }
     ensures read { IfSome result (λ word. IsWordOf field.now.kind word × (field_at 0 field.now (rest_of cursor.old) ≡ Ok (scalar_in field.now.kind word, rest_of cursor.new))) }
     ensures not_read { IfNone result (cursor.new ≡ cursor.old) }
@@ -106,4 +106,39 @@ pub(crate) fn read_own_four(cursor: &mut Cursor<'_>, field: &Field) -> Option<u6
     *cursor = ahead;
     let word = u32::from_le_bytes([bytes[1], bytes[2], bytes[3], bytes[4]]);
     Some(u64::from(word))
+}
+
+/// The same of one of eight bytes.
+#[inline(always)]
+fn read_own_eight(cursor: &mut Cursor<'_>, field: &Field) -> Option<u64>
+    requires { cursor.old.at ≤ length cursor.old.bytes.now }
+    ensures read { IfSome result (λ word. IsWordOf field.now.kind word × (field_at 0 field.now (rest_of cursor.old) ≡ Ok (scalar_in field.now.kind word, rest_of cursor.new))) }
+    ensures not_read { IfNone result (cursor.new ≡ cursor.old) }
+    ensures kept { KeepsBytes cursor.old cursor.new }
+{
+    let mut ahead = *cursor;
+    let Ok(bytes) = ahead.read_array::<9>() else {
+        return None;
+    };
+    if bytes[0] != number_of(field.kind) || !has_eight_bytes(field.kind) {
+        return None;
+    }
+    *cursor = ahead;
+    Some(u64::from_le_bytes([
+        bytes[1], bytes[2], bytes[3], bytes[4], bytes[5], bytes[6], bytes[7], bytes[8],
+    ]))
+}
+
+/// The same of one of four bytes, the most common, or of eight.
+#[inline(always)]
+pub(crate) fn read_own_number(cursor: &mut Cursor<'_>, field: &Field) -> Option<u64>
+    requires { cursor.old.at ≤ length cursor.old.bytes.now }
+    ensures read { IfSome result (λ word. IsWordOf field.now.kind word × (field_at 0 field.now (rest_of cursor.old) ≡ Ok (scalar_in field.now.kind word, rest_of cursor.new))) }
+    ensures not_read { IfNone result (cursor.new ≡ cursor.old) }
+    ensures kept { KeepsBytes cursor.old cursor.new }
+{
+    match read_own_four(cursor, field) {
+        None => read_own_eight(cursor, field),
+        word => word,
+    }
 }
