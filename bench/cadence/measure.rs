@@ -258,11 +258,37 @@ const FIELDS: u8 = 20;
 const ROUNDS: usize = 300;
 const TURNS: u32 = 10_000;
 
-fn keep_least(least: &mut f64, start: Instant) {
-    let each = start.elapsed().as_secs_f64() * 1e9 / f64::from(TURNS);
-    if each < *least {
-        *least = each;
+/// The least time of a call on each side, in nanoseconds.
+struct Least {
+    ours: f64,
+    by_hand: f64,
+}
+
+impl Least {
+    fn new() -> Least {
+        Least { ours: f64::MAX, by_hand: f64::MAX }
     }
+
+    /// Times both sides once; they have to give the same.
+    fn compare(&mut self, ours: impl Fn() -> u64, by_hand: impl Fn() -> u64) -> u64 {
+        let result = keep_least(&mut self.ours, ours);
+        assert_eq!(result, keep_least(&mut self.by_hand, by_hand), "the two sides differ");
+        result
+    }
+}
+
+impl std::fmt::Display for Least {
+    fn fmt(&self, out: &mut std::fmt::Formatter<'_>) -> std::fmt::Result {
+        let Least { ours, by_hand } = self;
+        write!(out, "{ours:5.1} ns, by hand {by_hand:5.1} ns, ratio {:.2}", by_hand / ours)
+    }
+}
+
+fn keep_least(least: &mut f64, calls: impl Fn() -> u64) -> u64 {
+    let start = Instant::now();
+    let result = calls();
+    *least = least.min(start.elapsed().as_secs_f64() * 1e9 / f64::from(TURNS));
+    result
 }
 
 fn meta() -> plain::Meta {
@@ -311,25 +337,13 @@ fn held(meta: &plain::Meta, row: &plain::Row) -> u64 {
 
 fn main() {
     let (meta, row) = (meta(), row());
-    let [mut our_quiet, mut their_quiet, mut our_held, mut their_held] = [f64::MAX; 4];
+    let [mut quiet_least, mut held_least] = [Least::new(), Least::new()];
     for _ in 0..ROUNDS {
-        let start = Instant::now();
-        let ours = unsafe { bench_quiet(FIELDS, TURNS) };
-        keep_least(&mut our_quiet, start);
-        let start = Instant::now();
-        let theirs = quiet(&meta, &row);
-        keep_least(&mut their_quiet, start);
-        assert_eq!(ours, theirs, "the turns differ");
-        assert_eq!(ours, u64::from(TURNS) - 1, "a turn wasn't quiet");
-        let start = Instant::now();
-        let ours = unsafe { bench_held(FIELDS, TURNS) };
-        keep_least(&mut our_held, start);
-        let start = Instant::now();
-        let theirs = held(&meta, &row);
-        keep_least(&mut their_held, start);
-        assert_eq!(ours, theirs, "the frames differ");
-        assert_eq!(ours, u64::from(TURNS) + 7, "a delta frame wasn't held");
+        let turns = quiet_least.compare(|| unsafe { bench_quiet(FIELDS, TURNS) }, || quiet(&meta, &row));
+        assert_eq!(turns, u64::from(TURNS) - 1, "a turn wasn't quiet");
+        let frames = held_least.compare(|| unsafe { bench_held(FIELDS, TURNS) }, || held(&meta, &row));
+        assert_eq!(frames, u64::from(TURNS) + 7, "a delta frame wasn't held");
     }
-    println!("{FIELDS} fields, quiet turn:  {our_quiet:5.1} ns, by hand {their_quiet:5.1} ns, ratio {:.2}", their_quiet / our_quiet);
-    println!("{FIELDS} fields, delta frame: {our_held:5.1} ns, by hand {their_held:5.1} ns, ratio {:.2}", their_held / our_held);
+    println!("{FIELDS} fields, quiet turn:  {quiet_least}");
+    println!("{FIELDS} fields, delta frame: {held_least}");
 }
