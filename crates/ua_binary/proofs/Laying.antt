@@ -25,13 +25,12 @@ laid-laid bytes at x y within =
 pub Puts-then : (a b c : Pen) (x y : List ℕ) → Puts a b x → Puts b c y → Puts a c (x ++ y)
 Puts-then a b c x y first second =
     let same : length b.bytes.now ≡ length a.bytes.now = first.same_length in
-    let room : a.at ≤ length a.bytes.now = omega (arith, first.fits) in
+    let room : a.at ≤ length a.bytes.now = a.within in
     let both : c.bytes.now ≡ laid a.bytes.now a.at (x ++ y) =
     second.written ∙ ap (λ (bytes : List ℕ). laid bytes b.at y) first.written ∙ ap (λ n. laid (laid a.bytes.now a.at x) n y) first.moved ∙ laid-laid a.bytes.now a.at x y room in
     record {
-      fits = omega (arith, length-append x y, first.moved, second.fits, same);
       written = both;
       moved = omega (arith, length-append x y, first.moved, second.moved);
-      same_bytes = second.same_bytes ∙ first.same_bytes;
+      same_loan = second.same_loan ∙ first.same_loan;
       same_length = second.same_length ∙ first.same_length;
     }

@@ -1,4 +1,1 @@
-pub mod Again
-pub mod Cutting
 pub mod Laying
-pub mod Ranges

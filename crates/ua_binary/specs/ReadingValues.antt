@@ -1,5 +1,5 @@
 -- How values are read (OPC 10000-6 sections 5.2.2.1 to 5.2.2.17): a value and the bytes after it, or the first fault from left to right.
-use Rattle.std.specs.Prelude.{ℕ, zero, suc, ℤ, pos, negsuc, Bool, not, ◌==◌, nat_lt, List, Option, Some, None, Result, Ok, Err, if◌then◌else◌, bit_and}
+use Rattle.std.specs.Prelude.{ℕ, zero, suc, ℤ, pos, negsuc, Bool, not, ◌==◌, nat_lt, List, Option, Some, None, unwrap_or, Result, Ok, Err, if◌then◌else◌, bit_and}
 use Rattle.std.specs.Int.{w16, w32, w64, w8, cast_signed}
 use Rattle.std.specs.Str.{is_utf8}
 use Rattle.ua_values.specs.declared.kind.Kind.{Kind}
@@ -9,7 +9,7 @@ use Rattle.ua_values.specs.declared.value.Value.TheVariants.{Boolean, SByte, Byt
 use Rattle.ua_binary.specs.declared.fault.ValueFault.{ValueFault}
 use Rattle.ua_binary.specs.declared.fault.ValueFault.TheVariants.{Short, KindOut, BadUtf8, BadLength}
 use Rattle.ua_binary.specs.declared.data_value.Measured.{Measured}
-use Rattle.ua_binary.specs.Reading.{◌>>=◌, byte_at, bytes_at, number_at}
+use Rattle.ua_binary.specs.Reading.{◌>>=◌, skipped, part_at, byte_at, bytes_at, number_at}
 use Rattle.ua_binary.specs.Types.{kind_with}
 
 -- a length field: -1 is the null text or blob, which is empty here
@@ -72,33 +72,21 @@ variant_at bytes = do
 abbrev pub has : ℕ → ℕ → Bool
 has mask bit = not (bit_and mask bit == 0)
 
--- the value of a DataValue, where the mask has its bit
-unfoldable pub value_part : ℕ → List ℕ → Result (Option Value × List ℕ) ValueFault
-value_part mask bytes = if has mask 0x01 then (variant_at bytes >>= λ value. Ok (Some value.0, value.1)) else Ok (None, bytes)
-
--- its status, where the mask has its bit, else Good
-unfoldable pub status_part : ℕ → List ℕ → Result (ℕ × List ℕ) ValueFault
-status_part mask bytes = if has mask 0x02 then number_at Short w32 bytes else Ok (0, bytes)
-
--- a part that is read past, where the mask has its bit
-abbrev pub part_past : ℕ → ℕ → ℕ → List ℕ → Result (List ℕ) ValueFault
-part_past mask bit len bytes = if has mask bit then (bytes_at Short len bytes >>= λ part. Ok part.1) else Ok bytes
-
--- the source time, its picoseconds, the server time, its picoseconds
-unfoldable pub times_past : ℕ → List ℕ → Result (List ℕ) ValueFault
+-- the source time, its picoseconds, the server time, its picoseconds: DateTimes of 8 bytes and UInt16s
+unfoldable pub times_past : ℕ → List ℕ → Result (Unit {0} × List ℕ) ValueFault
 times_past mask bytes = do
-  source ← part_past mask 0x04 8 bytes
-  source_picoseconds ← part_past mask 0x10 2 source
-  server ← part_past mask 0x08 8 source_picoseconds
-  part_past mask 0x20 2 server
+  source ← skipped (part_at (has mask 0x04) (bytes_at Short 8)) bytes
+  source_picoseconds ← skipped (part_at (has mask 0x10) (bytes_at Short 2)) source.1
+  server ← skipped (part_at (has mask 0x08) (bytes_at Short 8)) source_picoseconds.1
+  skipped (part_at (has mask 0x20) (bytes_at Short 2)) server.1
 
 -- the parts that the mask tells of
 unfoldable pub parts_at : ℕ → List ℕ → Result (Measured × List ℕ) ValueFault
 parts_at mask bytes = do
-  value ← value_part mask bytes
-  status ← status_part mask value.1
-  rest ← times_past mask status.1
-  Ok (record { value = value.0; status = status.0 }, rest)
+  value ← part_at (has mask 0x01) variant_at bytes
+  status ← part_at (has mask 0x02) (number_at Short w32) value.1
+  times ← times_past mask status.1
+  Ok (record { value = value.0; status = unwrap_or status.0 0 }, times.1)
 
 -- a mask byte and its parts; a mask with bit 6 or 7 is no DataValue's
 unfoldable pub data_value_at : List ℕ → Result (Measured × List ℕ) ValueFault

@@ -7,20 +7,17 @@ use Rattle.ua_binary.specs.declared.pen.Pen.{Pen}
 abbrev pub laid : List ℕ → ℕ → List ℕ → List ℕ
 laid bytes at text = take at bytes ++ text ++ drop (at + length text) bytes
 
--- the text stands at the pen's place, every other byte is as it was, and the pen's place, in the same bytes, is behind the text
+-- The text stands at the pen's place, every other byte is as it was, and the pen, over the same bytes in memory, is behind the text.
 pub record Puts (old new : Pen) (text : List ℕ) : Type 0 where
-  pub fits : old.at + length text ≤ length old.bytes.now
   pub written : new.bytes.now ≡ laid old.bytes.now old.at text
   pub moved : new.at ≡ old.at + length text
-  pub same_bytes : new.bytes.ghost_name ≡ old.bytes.ghost_name
+  pub same_loan : new.bytes.ghost_name ≡ old.bytes.ghost_name
   pub same_length : length new.bytes.now ≡ length old.bytes.now
 
 -- there is no room for the text, and nothing is written
 pub record Refuses (old new : Pen) (text : List ℕ) : Type 0 where
   pub no_room : length old.bytes.now < old.at + length text
-  pub same : new.bytes.now ≡ old.bytes.now
-  pub stays : new.at ≡ old.at
-  pub same_bytes : new.bytes.ghost_name ≡ old.bytes.ghost_name
+  pub stays : new ≡ old
 
 -- Room is answered exactly where the text is longer than what is left, and then nothing is written.
 abbrev pub Writes : {A : Type 0} → Result A Room → Pen → Pen → List ℕ → Type 0

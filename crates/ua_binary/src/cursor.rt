@@ -1,5 +1,5 @@
 //! Bytes that are read from left to right.
-ghost use Rattle.std.specs.Prelude.{◌≡◌, ◌≤◌, length, slice_get, OnErr};
+ghost use Rattle.std.specs.Prelude.{◌≡◌, ◌≤◌, length, slice_get};
 ghost use Rattle.std.specs.Int.{w16, w32, w64};
 
 /// Fewer bytes are left than are asked for.
@@ -12,15 +12,16 @@ pub struct Short;
 pub struct Cursor<'a> {
     pub bytes: &'a [u8],
     pub at: usize,
+    pub ghost within: { at ≤ length bytes.now },
 }
 
+/// A read that is refused leaves the cursor.
 impl<'a> Cursor<'a> {
-    ghost use Rattle.ua_binary.specs.Reading.{Gives, GivesBytes, KeepsBytes, rest_of, byte_at, number_at, bytes_at};
+    ghost use Rattle.ua_binary.specs.Reading.{Reads, lent, short, rest_of, byte_at, number_at, bytes_at};
 
     /// The byte that is read next, if one is left.
     #[inline(always)]
     pub fn peek(&self) -> Option<u8>
-        requires { self.now.at ≤ length self.now.bytes.now }
         ensures { result ≡ slice_get (rest_of self.now) 0 }
     {
         if self.bytes.len() == self.at {
@@ -31,10 +32,7 @@ impl<'a> Cursor<'a> {
 
     #[inline(always)]
     pub fn read_u8(&mut self) -> Result<u8, Short>
-        requires { self.old.at ≤ length self.old.bytes.now }
-        ensures answer { Gives result (rest_of self.new) (byte_at (record {}) (rest_of self.old)) }
-        ensures kept { KeepsBytes self.old self.new }
-        ensures refused { OnErr result (self.new ≡ self.old) }
+        ensures { Reads result self.old self.new (byte_at short) }
     {
         if self.bytes.len() == self.at {
             return Err(Short);
@@ -46,10 +44,7 @@ impl<'a> Cursor<'a> {
 
     #[inline(always)]
     pub fn read_array<const N: usize>(&mut self) -> Result<[u8; N], Short>
-        requires { self.old.at ≤ length self.old.bytes.now }
-        ensures answer { Gives result (rest_of self.new) (bytes_at (record {}) N (rest_of self.old)) }
-        ensures kept { KeepsBytes self.old self.new }
-        ensures refused { OnErr result (self.new ≡ self.old) }
+        ensures { Reads result self.old self.new (bytes_at short N) }
     {
         let Some((array, _)) = self.bytes[self.at..].split_first_chunk() else {
             return Err(Short);
@@ -60,30 +55,21 @@ impl<'a> Cursor<'a> {
 
     #[inline(always)]
     pub fn read_u16(&mut self) -> Result<u16, Short>
-        requires { self.old.at ≤ length self.old.bytes.now }
-        ensures answer { Gives result (rest_of self.new) (number_at (record {}) w16 (rest_of self.old)) }
-        ensures kept { KeepsBytes self.old self.new }
-        ensures refused { OnErr result (self.new ≡ self.old) }
+        ensures { Reads result self.old self.new (number_at short w16) }
     {
         Ok(u16::from_le_bytes(self.read_array()?))
     }
 
     #[inline(always)]
     pub fn read_u32(&mut self) -> Result<u32, Short>
-        requires { self.old.at ≤ length self.old.bytes.now }
-        ensures answer { Gives result (rest_of self.new) (number_at (record {}) w32 (rest_of self.old)) }
-        ensures kept { KeepsBytes self.old self.new }
-        ensures refused { OnErr result (self.new ≡ self.old) }
+        ensures { Reads result self.old self.new (number_at short w32) }
     {
         Ok(u32::from_le_bytes(self.read_array()?))
     }
 
     #[inline(always)]
     pub fn read_u64(&mut self) -> Result<u64, Short>
-        requires { self.old.at ≤ length self.old.bytes.now }
-        ensures answer { Gives result (rest_of self.new) (number_at (record {}) w64 (rest_of self.old)) }
-        ensures kept { KeepsBytes self.old self.new }
-        ensures refused { OnErr result (self.new ≡ self.old) }
+        ensures { Reads result self.old self.new (number_at short w64) }
     {
         Ok(u64::from_le_bytes(self.read_array()?))
     }
@@ -91,10 +77,7 @@ impl<'a> Cursor<'a> {
     /// The next `len` bytes.
     #[inline(always)]
     pub fn read_bytes(&mut self, len: usize) -> Result<&'a [u8], Short>
-        requires { self.old.at ≤ length self.old.bytes.now }
-        ensures answer { GivesBytes result (rest_of self.new) (bytes_at (record {}) len (rest_of self.old)) }
-        ensures kept { KeepsBytes self.old self.new }
-        ensures refused { OnErr result (self.new ≡ self.old) }
+        ensures { Reads (lent result) self.old self.new (bytes_at short len) }
     {
         let rest = &self.bytes[self.at..];
         if rest.len() < len {

@@ -1,7 +1,7 @@
 //! DataValues: values with what is known of their measuring (OPC 10000-6 section 5.2.2.17).
-ghost use Rattle.std.specs.Prelude.{◌≡◌, ◌≤◌, length, OnErr};
-ghost use Rattle.ua_binary.specs.Reading.{Gives, GivesRest, KeepsBytes, rest_of};
-ghost use Rattle.ua_binary.specs.ReadingValues.{value_part, status_part, part_past, times_past, parts_at, data_value_at};
+ghost use Rattle.std.specs.Int.{w32};
+ghost use Rattle.ua_binary.specs.Reading.{Reads, ReadsAhead, bytes_at, number_at, part_at, skipped};
+ghost use Rattle.ua_binary.specs.ReadingValues.{has, variant_at, times_past, parts_at, data_value_at};
 ghost use Rattle.ua_binary.specs.Spelling.{data_value};
 ghost use Rattle.ua_binary.specs.Writing.{Writes};
 
@@ -37,7 +37,6 @@ pub struct Measured {
 
 /// Writes a DataValue with the value and, where one is given, the status.
 pub fn write_data_value(pen: &mut Pen<'_>, value: &Value, status: Option<u32>) -> Result<(), Room>
-    requires { pen.old.at ≤ length pen.old.bytes.now }
     ensures { Writes result pen.old pen.new (data_value value.now status) }
 {
     let Some(status) = status else {
@@ -58,11 +57,8 @@ pub fn write_data_value(pen: &mut Pen<'_>, value: &Value, status: Option<u32>) -
 }
 
 #[inline(always)]
-#[tactic(auto, unfolding(crate::specs::ReadingValues::value_part))]
 fn read_value_part(cursor: &mut Cursor<'_>, mask: u8) -> Result<Option<Value>, ValueFault>
-    requires { cursor.old.at ≤ length cursor.old.bytes.now }
-    ensures answer { Gives result (rest_of cursor.new) (value_part mask (rest_of cursor.old)) }
-    ensures kept { KeepsBytes cursor.old cursor.new }
+    ensures { ReadsAhead result cursor.old cursor.new (part_at (has mask 0x01) variant_at) }
 {
     if mask & VALUE == 0 {
         return Ok(None);
@@ -71,24 +67,19 @@ fn read_value_part(cursor: &mut Cursor<'_>, mask: u8) -> Result<Option<Value>, V
 }
 
 #[inline(always)]
-#[tactic(auto, unfolding(crate::specs::ReadingValues::status_part))]
-fn read_status_part(cursor: &mut Cursor<'_>, mask: u8) -> Result<u32, ValueFault>
-    requires { cursor.old.at ≤ length cursor.old.bytes.now }
-    ensures answer { Gives result (rest_of cursor.new) (status_part mask (rest_of cursor.old)) }
-    ensures kept { KeepsBytes cursor.old cursor.new }
+fn read_status_part(cursor: &mut Cursor<'_>, mask: u8) -> Result<Option<u32>, ValueFault>
+    ensures { ReadsAhead result cursor.old cursor.new (part_at (has mask 0x02) (number_at ValueFault.Short w32)) }
 {
     if mask & STATUS == 0 {
-        return Ok(0);
+        return Ok(None);
     }
-    Ok(cursor.read_u32()?)
+    Ok(Some(cursor.read_u32()?))
 }
 
 /// Reads past the part with this bit.
 #[inline(always)]
 fn skip_part(cursor: &mut Cursor<'_>, mask: u8, bit: u8, len: usize) -> Result<(), ValueFault>
-    requires { cursor.old.at ≤ length cursor.old.bytes.now }
-    ensures answer { GivesRest result (rest_of cursor.new) (part_past mask bit len (rest_of cursor.old)) }
-    ensures kept { KeepsBytes cursor.old cursor.new }
+    ensures { ReadsAhead result cursor.old cursor.new (skipped (part_at (has mask bit) (bytes_at ValueFault.Short len))) }
 {
     if mask & bit != 0 {
         cursor.read_bytes(len)?;
@@ -101,9 +92,7 @@ fn skip_part(cursor: &mut Cursor<'_>, mask: u8, bit: u8, len: usize) -> Result<(
 #[inline(always)]
 #[tactic(auto, unfolding(crate::specs::ReadingValues::times_past))]
 fn skip_times(cursor: &mut Cursor<'_>, mask: u8) -> Result<(), ValueFault>
-    requires { cursor.old.at ≤ length cursor.old.bytes.now }
-    ensures answer { GivesRest result (rest_of cursor.new) (times_past mask (rest_of cursor.old)) }
-    ensures kept { KeepsBytes cursor.old cursor.new }
+    ensures { ReadsAhead result cursor.old cursor.new (times_past mask) }
 {
     skip_part(cursor, mask, SOURCE_TIME, 8)?;
     skip_part(cursor, mask, SOURCE_PICOSECONDS, 2)?;
@@ -114,12 +103,10 @@ fn skip_times(cursor: &mut Cursor<'_>, mask: u8) -> Result<(), ValueFault>
 #[inline(always)]
 #[tactic(auto, unfolding(crate::specs::ReadingValues::parts_at))]
 fn read_parts(cursor: &mut Cursor<'_>, mask: u8) -> Result<Measured, ValueFault>
-    requires { cursor.old.at ≤ length cursor.old.bytes.now }
-    ensures answer { Gives result (rest_of cursor.new) (parts_at mask (rest_of cursor.old)) }
-    ensures kept { KeepsBytes cursor.old cursor.new }
+    ensures { ReadsAhead result cursor.old cursor.new (parts_at mask) }
 {
     let value = read_value_part(cursor, mask)?;
-    let status = read_status_part(cursor, mask)?;
+    let status = read_status_part(cursor, mask)?.unwrap_or(0);
     skip_times(cursor, mask)?;
     Ok(Measured { value, status })
 }
@@ -127,9 +114,7 @@ fn read_parts(cursor: &mut Cursor<'_>, mask: u8) -> Result<Measured, ValueFault>
 #[inline(always)]
 #[tactic(auto, unfolding(crate::specs::ReadingValues::data_value_at))]
 fn read_masked(cursor: &mut Cursor<'_>) -> Result<Measured, ValueFault>
-    requires { cursor.old.at ≤ length cursor.old.bytes.now }
-    ensures answer { Gives result (rest_of cursor.new) (data_value_at (rest_of cursor.old)) }
-    ensures kept { KeepsBytes cursor.old cursor.new }
+    ensures { ReadsAhead result cursor.old cursor.new data_value_at }
 {
     let mask = cursor.read_u8()?;
     if mask & RESERVED != 0 {
@@ -141,15 +126,10 @@ fn read_masked(cursor: &mut Cursor<'_>) -> Result<Measured, ValueFault>
 /// A DataValue. Its times are read past. A refusal leaves the cursor.
 #[inline(always)]
 pub fn read_data_value(cursor: &mut Cursor<'_>) -> Result<Measured, ValueFault>
-    requires { cursor.old.at ≤ length cursor.old.bytes.now }
-    ensures answer { Gives result (rest_of cursor.new) (data_value_at (rest_of cursor.old)) }
-    ensures kept { KeepsBytes cursor.old cursor.new }
-    ensures refused { OnErr result (cursor.new ≡ cursor.old) }
+    ensures { Reads result cursor.old cursor.new data_value_at }
 {
-    let start = cursor.at;
-    let read = read_masked(cursor);
-    if read.is_err() {
-        cursor.at = start;
-    }
-    read
+    let mut ahead = *cursor;
+    let measured = read_masked(&mut ahead)?;
+    *cursor = ahead;
+    Ok(measured)
 }

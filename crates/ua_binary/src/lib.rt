@@ -4,7 +4,6 @@
 mod cursor;
 mod data_value;
 mod fault;
-mod laws;
 mod pen;
 mod reading;
 #[cfg(test)]
@@ -15,11 +14,6 @@ mod writing;
 pub use cursor::{Cursor, Short};
 pub use data_value::{Measured, read_data_value, write_data_value};
 pub use fault::ValueFault;
-pub use laws::{
-    bytes_are_of_one_data_value, bytes_are_of_one_variant, fewer_bytes_are_short,
-    read_data_values_are_values, read_variants_are_values, written_data_values_are_read,
-    written_variants_are_read,
-};
 pub use pen::{Pen, Room};
 pub use reading::read_variant;
 pub use types::number_of;

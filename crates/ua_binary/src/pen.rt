@@ -12,6 +12,7 @@ pub struct Room;
 pub struct Pen<'a> {
     pub bytes: &'a mut [u8],
     pub at: usize,
+    pub ghost within: { at ≤ length bytes.now },
 }
 
 /// The calls `put_` are for bytes that there is room for, and test nothing.
@@ -21,7 +22,6 @@ impl Pen<'_> {
     /// How many bytes may still be written.
     #[inline(always)]
     pub fn room(&self) -> usize
-        requires { self.now.at ≤ length self.now.bytes.now }
         ensures { self.now.at + result ≡ length self.now.bytes.now }
     {
         self.bytes.len() - self.at
@@ -72,7 +72,6 @@ impl Pen<'_> {
     /// Writes all of these bytes.
     #[inline(always)]
     pub fn write_bytes(&mut self, text: &[u8]) -> Result<(), Room>
-        requires { self.old.at ≤ length self.old.bytes.now }
         ensures { Writes result self.old self.new text.now }
     {
         if self.room() < text.len() {
@@ -84,7 +83,6 @@ impl Pen<'_> {
 
     #[inline(always)]
     pub fn write_u8(&mut self, byte: u8) -> Result<(), Room>
-        requires { self.old.at ≤ length self.old.bytes.now }
         ensures { Writes result self.old self.new (byte ∷ []) }
     {
         self.write_bytes(&[byte])
@@ -92,7 +90,6 @@ impl Pen<'_> {
 
     #[inline(always)]
     pub fn write_u16(&mut self, number: u16) -> Result<(), Room>
-        requires { self.old.at ≤ length self.old.bytes.now }
         ensures { Writes result self.old self.new (to_le_bytes w16 number) }
     {
         self.write_bytes(&number.to_le_bytes())
@@ -100,7 +97,6 @@ impl Pen<'_> {
 
     #[inline(always)]
     pub fn write_u32(&mut self, number: u32) -> Result<(), Room>
-        requires { self.old.at ≤ length self.old.bytes.now }
         ensures { Writes result self.old self.new (to_le_bytes w32 number) }
     {
         self.write_bytes(&number.to_le_bytes())
@@ -108,7 +104,6 @@ impl Pen<'_> {
 
     #[inline(always)]
     pub fn write_u64(&mut self, number: u64) -> Result<(), Room>
-        requires { self.old.at ≤ length self.old.bytes.now }
         ensures { Writes result self.old self.new (to_le_bytes w64 number) }
     {
         self.write_bytes(&number.to_le_bytes())

@@ -1,6 +1,6 @@
 //! Reading Variants.
-ghost use Rattle.std.specs.Prelude.{◌≡◌, ◌≤◌, length, IfOk, OnErr};
-ghost use Rattle.ua_binary.specs.Reading.{Gives, GivesBytes, KeepsBytes, rest_of};
+ghost use Rattle.std.specs.Prelude.{◌≤◌, length, IfOk};
+ghost use Rattle.ua_binary.specs.Reading.{Reads, ReadsAhead, lent};
 ghost use Rattle.ua_binary.specs.ReadingValues.{block_at, text_at, plain_at, kind_at, variant_at};
 
 use crate::cursor::Cursor;
@@ -11,9 +11,7 @@ use ua_values::{Blob, Kind, Text, TextFault, Value};
 #[inline(always)]
 #[tactic(auto, unfolding(crate::specs::ReadingValues::kind_at))]
 fn read_kind(cursor: &mut Cursor<'_>) -> Result<Kind, ValueFault>
-    requires { cursor.old.at ≤ length cursor.old.bytes.now }
-    ensures answer { Gives result (rest_of cursor.new) (kind_at (rest_of cursor.old)) }
-    ensures kept { KeepsBytes cursor.old cursor.new }
+    ensures { ReadsAhead result cursor.old cursor.new kind_at }
 {
     kind_with_number(cursor.read_u8()?).ok_or(ValueFault::KindOut)
 }
@@ -23,10 +21,8 @@ fn read_kind(cursor: &mut Cursor<'_>) -> Result<Kind, ValueFault>
 #[inline(always)]
 #[tactic(auto, unfolding(crate::specs::ReadingValues::block_at))]
 fn read_block<'a>(cursor: &mut Cursor<'a>) -> Result<&'a [u8], ValueFault>
-    requires { cursor.old.at ≤ length cursor.old.bytes.now }
-    ensures answer { GivesBytes result (rest_of cursor.new) (block_at (rest_of cursor.old)) }
+    ensures answer { ReadsAhead (lent result) cursor.old cursor.new block_at }
     ensures short { IfOk result (λ block. length block.now ≤ 256) }
-    ensures kept { KeepsBytes cursor.old cursor.new }
 {
     let len = match cursor.read_u32()?.cast_signed() {
         -1 => 0,
@@ -38,9 +34,7 @@ fn read_block<'a>(cursor: &mut Cursor<'a>) -> Result<&'a [u8], ValueFault>
 
 #[tactic(auto, unfolding(crate::specs::ReadingValues::text_at))]
 fn read_text(cursor: &mut Cursor<'_>) -> Result<Text, ValueFault>
-    requires { cursor.old.at ≤ length cursor.old.bytes.now }
-    ensures answer { Gives result (rest_of cursor.new) (text_at (rest_of cursor.old)) }
-    ensures kept { KeepsBytes cursor.old cursor.new }
+    ensures { ReadsAhead result cursor.old cursor.new text_at }
 {
     match Text::from_bytes(read_block(cursor)?) {
         Ok(text) => Ok(text),
@@ -51,9 +45,7 @@ fn read_text(cursor: &mut Cursor<'_>) -> Result<Text, ValueFault>
 }
 
 fn read_blob(cursor: &mut Cursor<'_>) -> Result<Blob, ValueFault>
-    requires { cursor.old.at ≤ length cursor.old.bytes.now }
-    ensures answer { Gives result (rest_of cursor.new) (block_at (rest_of cursor.old)) }
-    ensures kept { KeepsBytes cursor.old cursor.new }
+    ensures { ReadsAhead result cursor.old cursor.new block_at }
 {
     match Blob::from_bytes(read_block(cursor)?) {
         Ok(blob) => Ok(blob),
@@ -64,9 +56,7 @@ fn read_blob(cursor: &mut Cursor<'_>) -> Result<Blob, ValueFault>
 
 #[inline(always)]
 fn read_plain(cursor: &mut Cursor<'_>, kind: Kind) -> Result<Value, ValueFault>
-    requires { cursor.old.at ≤ length cursor.old.bytes.now }
-    ensures answer { Gives result (rest_of cursor.new) (plain_at kind (rest_of cursor.old)) }
-    ensures kept { KeepsBytes cursor.old cursor.new }
+    ensures { ReadsAhead result cursor.old cursor.new (plain_at kind) }
 {
     Ok(match kind {
         Kind::Boolean => Value::Boolean(cursor.read_u8()? != 0),
@@ -92,9 +82,7 @@ fn read_plain(cursor: &mut Cursor<'_>, kind: Kind) -> Result<Value, ValueFault>
 #[inline(always)]
 #[tactic(auto, unfolding(crate::specs::ReadingValues::variant_at))]
 pub fn read_typed(cursor: &mut Cursor<'_>) -> Result<Value, ValueFault>
-    requires { cursor.old.at ≤ length cursor.old.bytes.now }
-    ensures answer { Gives result (rest_of cursor.new) (variant_at (rest_of cursor.old)) }
-    ensures kept { KeepsBytes cursor.old cursor.new }
+    ensures { ReadsAhead result cursor.old cursor.new variant_at }
 {
     let kind = read_kind(cursor)?;
     read_plain(cursor, kind)
@@ -103,15 +91,10 @@ pub fn read_typed(cursor: &mut Cursor<'_>) -> Result<Value, ValueFault>
 /// A Variant (OPC 10000-6 section 5.2.2.16): a type byte and a value of that kind. A refusal leaves the cursor.
 #[inline(always)]
 pub fn read_variant(cursor: &mut Cursor<'_>) -> Result<Value, ValueFault>
-    requires { cursor.old.at ≤ length cursor.old.bytes.now }
-    ensures answer { Gives result (rest_of cursor.new) (variant_at (rest_of cursor.old)) }
-    ensures kept { KeepsBytes cursor.old cursor.new }
-    ensures refused { OnErr result (cursor.new ≡ cursor.old) }
+    ensures { Reads result cursor.old cursor.new variant_at }
 {
-    let start = cursor.at;
-    let read = read_typed(cursor);
-    if read.is_err() {
-        cursor.at = start;
-    }
-    read
+    let mut ahead = *cursor;
+    let value = read_typed(&mut ahead)?;
+    *cursor = ahead;
+    Ok(value)
 }

@@ -81,7 +81,6 @@ pub fn put_variant(pen: &mut Pen<'_>, value: &Value)
 /// Writes a Variant (OPC 10000-6 section 5.2.2.16).
 #[inline(always)]
 pub fn write_variant(pen: &mut Pen<'_>, value: &Value) -> Result<(), Room>
-    requires { pen.old.at ≤ length pen.old.bytes.now }
     ensures { Writes result pen.old pen.new (variant value.now) }
 {
     if pen.room() < variant_len(value) {

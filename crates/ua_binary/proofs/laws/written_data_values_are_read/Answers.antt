@@ -1,5 +1,0 @@
-use Rattle.ua_binary.proofs.Again.{data_value_again}
-use Rattle.ua_binary.proofs.laws.written_data_values_are_read.Goals as goal
-
-pub returns : goal.returns
-returns c = data_value_again
