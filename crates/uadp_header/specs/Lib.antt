@@ -1,0 +1,5 @@
+pub mod Formats
+pub mod Headers
+pub mod Layout
+pub mod Spelling
+pub mod Reading
