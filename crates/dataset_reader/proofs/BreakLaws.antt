@@ -2,7 +2,7 @@
 use Rattle.std.proofs.Common.{◌≡◌, refl, sym, ap, ◌∙◌, ℕ, ◌+◌, ◌<◌, ◌≤◌, Bool, true, false, not, List, [], ◌∷◌, ◌++◌, arith, Option, Some, None, subst}
 use Rattle.std.specs.Prelude.{nat_lt}
 use Rattle.std.proofs.lemmas.Bool.Decides.{nat_tests}
-use Rattle.seq_number.specs.Numbers.{wire, newer}
+use Rattle.seq_number.specs.Numbers.{number_of_place, newer}
 use Rattle.seq_number.proofs.NumberLaws.{newer-near}
 use Rattle.pubsub_model.specs.declared.reading.Break.{Break}
 use Rattle.pubsub_model.specs.declared.reading.Why.TheVariants.{Jump}
@@ -15,48 +15,48 @@ use Rattle.dataset_reader.specs.declared.took.Took.{Took}
 use Rattle.dataset_reader.specs.Kept.{Kept}
 use Rattle.dataset_reader.specs.Cases.{placed_case, following_case, breaks_run, is_jump, stamped, numbered_case, frame_case}
 use Rattle.frame_codec.specs.Carrying.{content_of}
-use Rattle.dataset_reader.specs.Keeping.{stamps, jumps, came_on, AreNear, IsMessageOf, Keeps, last_wire, and_broken}
-use Rattle.dataset_reader.proofs.KeepingLaws.{next-wire, same_break, IsNearTo, near_items, new_breaks}
+use Rattle.dataset_reader.specs.Keeping.{stamps, jumps, came_on, AreNear, IsMessageOf, Keeps, last_number, and_broken}
+use Rattle.dataset_reader.proofs.KeepingLaws.{next-number, same_break, IsNearTo, near_items, new_breaks}
 use Rattle.dataset_reader.proofs.RunLaws.{came_if, stamped_if, kept_jump, list_jump, place_at-carried, major_of}
 
 -- what a frame is answered by a reader with this last number
 abbrev placed_took : Kept → Frame → Option ℕ → Took
-placed_took k frame last = (placed_case k (content_of frame) (carried frame) (wire (place_of frame)) last).1
+placed_took k frame last = (placed_case k (content_of frame) (carried frame) (number_of_place (place_of frame)) last).1
 
 -- by numbers and by places a frame breaks alike
 same_run : (frame : Frame) (l : Item) (m : ℕ) (s : Option ℕ) → place_in l < place_of frame → place_of frame ≤ place_in l + 16384
-    → breaks_run (content_of frame) (carried frame) (wire (place_in l)) ≡ breaks_with l (at m s frame)
-same_run (Whole place row) l m s above near = ap not (next-wire place (place_in l) above near)
-same_run (Change place patch) l m s above near = ap not (next-wire place (place_in l) above near)
+    → breaks_run (content_of frame) (carried frame) (number_of_place (place_in l)) ≡ breaks_with l (at m s frame)
+same_run (Whole place row) l m s above near = ap not (next-number_of_place place (place_in l) above near)
+same_run (Change place patch) l m s above near = ap not (next-number_of_place place (place_in l) above near)
 same_run (Alive next) l m s above near = refl
 
 following_broke : (t : Bool) (k : Kept) (frame : Frame) (l : Item) (m : ℕ) (s : Option ℕ) (all : List Break) → breaks_with l (at m s frame) ≡ t
-    → and_broken (following_case k (content_of frame) (carried frame) (wire (place_of frame)) (wire (place_in l)) t).1.broke all ≡ break_between l (at m s frame) ++ all
+    → and_broken (following_case k (content_of frame) (carried frame) (number_of_place (place_of frame)) (number_of_place (place_in l)) t).1.broke all ≡ break_between l (at m s frame) ++ all
 following_broke true k frame l m s all e = rw e (ap (λ (b : Break). b ∷ all) (same_break (place_in l) (carried frame)))
 following_broke false k frame l m s all e = rw e refl
 
-by_run : (t : Bool) (k : Kept) (frame : Frame) (l : Item) (m : ℕ) (s : Option ℕ) (all : List Break) → breaks_run (content_of frame) (carried frame) (wire (place_in l)) ≡ t
-    → breaks_run (content_of frame) (carried frame) (wire (place_in l)) ≡ breaks_with l (at m s frame)
-    → and_broken (following_case k (content_of frame) (carried frame) (wire (place_of frame)) (wire (place_in l)) (breaks_run (content_of frame) (carried frame) (wire (place_in l)))).1.broke all
+by_run : (t : Bool) (k : Kept) (frame : Frame) (l : Item) (m : ℕ) (s : Option ℕ) (all : List Break) → breaks_run (content_of frame) (carried frame) (number_of_place (place_in l)) ≡ t
+    → breaks_run (content_of frame) (carried frame) (number_of_place (place_in l)) ≡ breaks_with l (at m s frame)
+    → and_broken (following_case k (content_of frame) (carried frame) (number_of_place (place_of frame)) (number_of_place (place_in l)) (breaks_run (content_of frame) (carried frame) (number_of_place (place_in l)))).1.broke all
     ≡ break_between l (at m s frame) ++ all
 by_run t k frame l m s all e same =
-    subst (λ (b : Bool). and_broken (following_case k (content_of frame) (carried frame) (wire (place_of frame)) (wire (place_in l)) b).1.broke all ≡ break_between l (at m s frame) ++ all)
+    subst (λ (b : Bool). and_broken (following_case k (content_of frame) (carried frame) (number_of_place (place_of frame)) (number_of_place (place_in l)) b).1.broke all ≡ break_between l (at m s frame) ++ all)
     (sym e) (following_broke t k frame l m s all (sym same ∙ e))
 
-newer_broke : (b : Bool) (k : Kept) (frame : Frame) (l : Item) (rs : List Item) (m : ℕ) (s : Option ℕ) (all : List Break) → newer (wire (place_of frame)) (wire (place_in l)) ≡ b
-    → (b ≡ true → breaks_run (content_of frame) (carried frame) (wire (place_in l)) ≡ breaks_with l (at m s frame))
-    → and_broken (placed_took k frame (Some (wire (place_in l)))).broke all ≡ new_breaks b (l ∷ rs) (at m s frame) ++ all
+newer_broke : (b : Bool) (k : Kept) (frame : Frame) (l : Item) (rs : List Item) (m : ℕ) (s : Option ℕ) (all : List Break) → newer (number_of_place (place_of frame)) (number_of_place (place_in l)) ≡ b
+    → (b ≡ true → breaks_run (content_of frame) (carried frame) (number_of_place (place_in l)) ≡ breaks_with l (at m s frame))
+    → and_broken (placed_took k frame (Some (number_of_place (place_in l)))).broke all ≡ new_breaks b (l ∷ rs) (at m s frame) ++ all
 newer_broke false k frame l rs m s all e same = rw (e, and_broken) refl
-newer_broke true k frame l rs m s all e same = rw (e, and_broken) (by_run (breaks_run (content_of frame) (carried frame) (wire (place_in l))) k frame l m s all refl (same refl))
+newer_broke true k frame l rs m s all e same = rw (e, and_broken) (by_run (breaks_run (content_of frame) (carried frame) (number_of_place (place_in l))) k frame l m s all refl (same refl))
 
 next_broke : (rs : List Item) (k : Kept) (m : ℕ) (s : Option ℕ) (frame : Frame) (all : List Break) → IsNearTo rs (place_of frame)
-    → and_broken (placed_took k frame (last_wire rs)).broke all ≡ new_breaks (above_last rs (place_of frame)) rs (at m s frame) ++ all
+    → and_broken (placed_took k frame (last_number rs)).broke all ≡ new_breaks (above_last rs (place_of frame)) rs (at m s frame) ++ all
 next_broke [] k m s frame all near = refl
 next_broke (l ∷ rs) k m s frame all near =
     newer_broke (nat_lt (place_in l) (place_of frame)) k frame l rs m s all (newer-near (place_of frame) (place_in l) near.0 near.1)
     (λ e. let above : place_in l < place_of frame = grind (arith, nat_tests, e) in same_run frame l m s above near.0)
 
-came_broke : (arrivals : List Arrival) (k : Kept) (m : ℕ) (s : Option ℕ) (frame : Frame) → AreNear (Came (at m s frame) ∷ arrivals) → k.last ≡ last_wire (records (since_cut arrivals))
+came_broke : (arrivals : List Arrival) (k : Kept) (m : ℕ) (s : Option ℕ) (frame : Frame) → AreNear (Came (at m s frame) ∷ arrivals) → k.last ≡ last_number (records (since_cut arrivals))
     → breaks (Came (at m s frame) ∷ arrivals) ≡ and_broken (placed_took k frame k.last).broke (breaks arrivals)
 came_broke arrivals k m s frame near is =
     let rs = records (since_cut arrivals) in

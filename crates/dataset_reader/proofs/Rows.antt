@@ -3,7 +3,7 @@
 use Rattle.std.proofs.Common.{◌≡◌, refl, ℕ, ◌⊎◌, inl, inr, List, [], ◌∷◌, Option, Some, None}
 use Rattle.ua_values.specs.declared.value.Value.{Value}
 use Rattle.ua_values.specs.declared.value.Value.TheVariants.{UInt32}
-use Rattle.seq_number.specs.Numbers.{wire}
+use Rattle.seq_number.specs.Numbers.{number_of_place}
 use Rattle.pubsub_model.specs.declared.reading.Break.{Break}
 use Rattle.pubsub_model.specs.declared.reading.Why.{Why}
 use Rattle.pubsub_model.specs.declared.reading.Why.TheVariants.{Start, Gap, Timeout, NewToken, Jump, Restarted}
@@ -38,7 +38,7 @@ waits reason = inr reason
 
 abbrev viewed : Option Held → Why → View
 viewed None reason = inr reason
-viewed (Some h) reason = inl (wire h.place, h.row)
+viewed (Some h) reason = inl (number_of_place h.place, h.row)
 
 abbrev view : List Arrival → View
 view arrivals = viewed (held arrivals) (why arrivals)

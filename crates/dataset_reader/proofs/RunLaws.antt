@@ -3,8 +3,8 @@ use Rattle.std.proofs.Common.{◌≡◌, refl, sym, ap, ◌∙◌, arith, ℕ, �
 use Rattle.std.specs.Prelude.{nat_le, ◌==◌, max, if◌then◌else◌, unwrap_or}
 use Rattle.std.proofs.lemmas.Bool.Decides.{nat_tests}
 use Rattle.ua_values.specs.declared.value.Value.{Value}
-use Rattle.seq_number.specs.Numbers.{wire, newer, greatest}
-use Rattle.seq_number.proofs.NumberLaws.{wire-before}
+use Rattle.seq_number.specs.Numbers.{number_of_place, newer, greatest}
+use Rattle.seq_number.proofs.NumberLaws.{number-before}
 use Rattle.pubsub_model.specs.declared.reading.Why.{Why}
 use Rattle.pubsub_model.specs.declared.reading.Why.TheVariants.{Jump}
 use Rattle.pubsub_model.specs.Frames.{Frame, IsFrame, Whole, Change, Alive, place_of, carried}
@@ -78,7 +78,7 @@ abbrev placed_on : Kept → Frame → Kept
 placed_on k frame = placed k frame k.last
 
 placed_on-stamp : (k : Kept) (frame : Frame) → (placed_on k frame).stamp ≡ k.stamp
-placed_on-stamp k frame = placed-stamp k (content_of frame) (carried frame) (wire (place_of frame)) k.last
+placed_on-stamp k frame = placed-stamp k (content_of frame) (carried frame) (number_of_place (place_of frame)) k.last
 
 abbrev Over : List Arrival → Kept → Type 0
 Over arrivals k = KeepsOver (records (since_cut arrivals)) (cut_reason arrivals) (breaks arrivals) k
@@ -119,10 +119,10 @@ keeps-placed arrivals k m (Some n) frame near h =
 -- ---- a message of a frame
 
 -- where a frame stands by its number
-pub place_at-carried : (frame : Frame) → IsFrame frame → place_at (content_of frame) (carried frame) ≡ wire (place_of frame)
+pub place_at-carried : (frame : Frame) → IsFrame frame → place_at (content_of frame) (carried frame) ≡ number_of_place (place_of frame)
 place_at-carried (Whole place row) has = refl
 place_at-carried (Change place patch) has = refl
-place_at-carried (Alive next) has = wire-before next has
+place_at-carried (Alive next) has = number-before next has
 
 -- a message of this major version or of none
 pub major_of : (numbering : Numbering) (major : ℕ) (k : Kept) (message : Message) (stamp carries : Option ℕ) → IsOfMajor major carries

@@ -1,6 +1,6 @@
 -- What a reader keeps is what Records of pubsub_model says of all that came to it. Lists have the latest first.
 use Rattle.std.specs.Prelude.{◌≡◌, ◌≢◌, ◌⊎◌, ℕ, ◌+◌, ◌-◌, ◌^◌, ◌<◌, min, List, [], ◌∷◌, length, map, take, filter_map, Bool, false, not, ◌&&◌, nat_le, Option, Some, None, IfSome, option_map, if◌then◌else◌, ⊤}
-use Rattle.seq_number.specs.Numbers.{wire, greatest, IsNear}
+use Rattle.seq_number.specs.Numbers.{number_of_place, greatest, IsNear}
 use Rattle.pubsub_model.specs.declared.reading.Break.{Break}
 use Rattle.pubsub_model.specs.declared.reading.Why.{Why}
 use Rattle.pubsub_model.specs.declared.reading.Why.TheVariants.{Jump}
@@ -77,14 +77,14 @@ IsNoItem numberings.Unnumbered major message = IsForeign major message ⊎ IsCha
 -- ---- what is kept
 
 -- the number at which the last of these records stands
-abbrev pub last_wire : List Item → Option ℕ
-last_wire [] = None
-last_wire (last ∷ before) = Some (wire (place_in last))
+abbrev pub last_number : List Item → Option ℕ
+last_number [] = None
+last_number (last ∷ before) = Some (number_of_place (place_in last))
 
 -- these records since a cut of this reason, and these breaks in all
 pub record KeepsOver (rs : List Item) (reason : Why) (all : List Break) (kept : Kept) : Type 0 where
-  pub last : kept.last ≡ last_wire rs
-  pub number : kept.number ≡ option_map (λ h. wire h.place) (held_in rs)
+  pub last : kept.last ≡ last_number rs
+  pub number : kept.number ≡ option_map (λ h. number_of_place h.place) (held_in rs)
   pub row : kept.row ≡ option_map (λ h. h.row) (held_in rs)
   pub why : held_in rs ≡ None → kept.why ≡ reason_in rs reason
   pub count : kept.breaks ≡ min (length all) (2 ^ 64 - 1)

@@ -8,7 +8,7 @@ use Rattle.ua_values.specs.declared.value.Value.{Value}
 use Rattle.dataset_meta.specs.declared.field.Field.{Field}
 use Rattle.dataset_meta.specs.Metas.{MetaData}
 use Rattle.dataset_meta.specs.Rows.{IsRow, differs}
-use Rattle.seq_number.specs.Numbers.{wire}
+use Rattle.seq_number.specs.Numbers.{number_of_place}
 use Rattle.row_words.specs.declared.row.Row.{Row}
 use Rattle.row_words.specs.declared.patch.Patch.{Patch}
 use Rattle.row_words.specs.Belonging.{row_in, spelled_row, Belongs}
@@ -155,10 +155,10 @@ on meta settings deeds turn a after sends e stands message =
 
 -- the frame that a writer makes of what stands for a content
 abbrev frame_with : MetaData → Writer → FrameKind → Frame
-frame_with meta writer kind = record { number = Some (wire writer.next.place); kind = kind; major = version_if writer.settings.versions meta.major; minor = version_if writer.settings.versions meta.minor }
+frame_with meta writer kind = record { number = Some (number_of_place writer.next.place); kind = kind; major = version_if writer.settings.versions meta.major; minor = version_if writer.settings.versions meta.minor }
 
 message_with : MetaData → WriterSettings → ℕ → Content → Message
-message_with meta settings place content = record { number = Some (wire place); major = version_if settings.versions meta.major; minor = version_if settings.versions meta.minor; content = content }
+message_with meta settings place content = record { number = Some (number_of_place place); major = version_if settings.versions meta.major; minor = version_if settings.versions meta.minor; content = content }
 
 -- its message is that of the next frame of the writer
 message_is : (meta : MetaData) (settings : WriterSettings) (fresh : Bool) (before : List Answered) (writer : Writer) (frame : Frame) (kind : FrameKind) (content : Content) → StandsAfter meta.fields settings fresh before writer

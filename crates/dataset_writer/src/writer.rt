@@ -1,7 +1,7 @@
 //! Writers of data sets.
 ghost use Rattle.std.specs.Prelude.{◌≡◌, ◌≢◌, ◌<◌, ◌≤◌, ◌+◌, ◌-◌, ◌^◌, ◌++◌, ◌∷◌, ◌||◌, ◌&&◌, ◌==◌, [], true, false, IfOk, List, Some, not, nat_le, vec_len, vec_capacity};
 ghost use Rattle.dataset_meta.specs.declared.field.Field.{Field};
-ghost use Rattle.seq_number.specs.Numbers.{wire};
+ghost use Rattle.seq_number.specs.Numbers.{number_of_place};
 ghost use Rattle.row_words.specs.Belonging.{Belongs};
 ghost use Rattle.pubsub_model.specs.Cadence.{Deed, Refreshed, log_of};
 ghost use Rattle.dataset_writer.specs.declared.settings.WriterSettings.{WriterSettings as SettingsValue};
@@ -146,7 +146,7 @@ impl Writer {
 
     /// The frame of this kind with the next number.
     fn frame(&self, meta: &Meta, kind: FrameKind) -> Frame
-        ensures { result ≡ record { number = Some (wire self.now.next.place); kind = kind; major = version_if self.now.settings.versions meta.now.major; minor = version_if self.now.settings.versions meta.now.minor } }
+        ensures { result ≡ record { number = Some (number_of_place self.now.next.place); kind = kind; major = version_if self.now.settings.versions meta.now.major; minor = version_if self.now.settings.versions meta.now.minor } }
     {
         Frame {
             number: Some(self.next.wire()),
@@ -173,7 +173,7 @@ impl Writer {
     ) -> Frame
         requires room { vec_len self.old.log + self.old.left < vec_capacity self.old.log }
         requires few { self.old.next.place + self.old.left + 1 < 2 ^ 63 }
-        ensures frame { result ≡ record { number = Some (wire self.old.next.place); kind = kind; major = version_if self.old.settings.versions meta.now.major; minor = version_if self.old.settings.versions meta.now.minor } }
+        ensures frame { result ≡ record { number = Some (number_of_place self.old.next.place); kind = kind; major = version_if self.old.settings.versions meta.now.major; minor = version_if self.old.settings.versions meta.now.minor } }
         ensures next { self.new.next.place ≡ self.old.next.place + 1 }
         ensures log { self.new.log.items ≡ self.old.log.items ++ (self.old.next.place, version) ∷ [] }
         ensures row { self.new.row ≡ row.now }

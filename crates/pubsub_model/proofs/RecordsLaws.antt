@@ -3,7 +3,7 @@ use Rattle.std.proofs.Common.{◌≡◌, refl, sym, ap, ◌∙◌, arith, ℕ, B
 use Rattle.std.specs.Prelude.{nat_lt, option_map, max}
 use Rattle.std.specs.List.{list_all, list_any}
 use Rattle.std.proofs.lemmas.Bool.Decides.{nat_tests}
-use Rattle.ua_values.specs.declared.value.Value.{Value}
+use Rattle.dataset_meta.specs.DataValues.{DataValue}
 use Rattle.dataset_meta.specs.Rows.{patched, cons_if}
 use Rattle.seq_number.specs.Numbers.{greatest}
 use Rattle.pubsub_model.specs.Frames.{Whole, Change, Alive, published, is_whole}
@@ -32,11 +32,11 @@ above_all-last [] n = refl
 above_all-last (item ∷ before) n = above_step (is_record before item) item before (records before) n (above_all-last before) refl
 
 -- a Whole record is held
-pub held-whole : (m : ℕ) (s : Option ℕ) (place : ℕ) (row : List Value) (rs : List Item) → held_in (at m s (Whole place row) ∷ rs) ≡ Some (record { place = place; row = row })
+pub held-whole : (m : ℕ) (s : Option ℕ) (place : ℕ) (row : List DataValue) (rs : List Item) → held_in (at m s (Whole place row) ∷ rs) ≡ Some (record { place = place; row = row })
 held-whole m s place row rs = refl
 
 -- nothing is held by a first record that is no Whole
-pub held-first_change : (m : ℕ) (s : Option ℕ) (place : ℕ) (patch : List (ℕ × Value)) → held_in (at m s (Change place patch) ∷ []) ≡ None
+pub held-first_change : (m : ℕ) (s : Option ℕ) (place : ℕ) (patch : List (ℕ × DataValue)) → held_in (at m s (Change place patch) ∷ []) ≡ None
 held-first_change m s place patch = refl
 
 pub held-first_alive : (m : ℕ) (s : Option ℕ) (next : ℕ) → held_in (at m s (Alive next) ∷ []) ≡ None
@@ -56,10 +56,10 @@ cond_map : (c : Bool) (f : Held → Held) (h : Held) → cond c (Some (f h)) Non
 cond_map true f h = refl
 cond_map false f h = refl
 
-abbrev pub laid : ℕ → List (ℕ × Value) → Held → Held
+abbrev pub laid : ℕ → List (ℕ × DataValue) → Held → Held
 laid place patch h = record { place = place; row = patched h.row patch }
 
-change_on : (w : Bool) (m : ℕ) (s : Option ℕ) (place : ℕ) (patch : List (ℕ × Value)) (last : Item) (t : List Item) → breaks_with last (at m s (Change place patch)) ≡ false
+change_on : (w : Bool) (m : ℕ) (s : Option ℕ) (place : ℕ) (patch : List (ℕ × DataValue)) (last : Item) (t : List Item) → breaks_with last (at m s (Change place patch)) ≡ false
     → cond (w && is_nothing (breaks_of (at m s (Change place patch) ∷ last ∷ t))) (last_with (at m s (Change place patch) ∷ last ∷ t)) None
     ≡ option_map (laid place patch) (cond (w && is_nothing (breaks_of (last ∷ t))) (last_with (last ∷ t)) None)
 change_on w m s place patch last t unbroken =
@@ -73,7 +73,7 @@ break_on : (w : Bool) (x last : Item) (t : List Item) → breaks_with last x ≡
 break_on w x last t broken = rw broken (rw (and_false w) refl)
 
 -- a Change that follows is laid into the row that is held
-pub held-change : (m : ℕ) (s : Option ℕ) (place : ℕ) (patch : List (ℕ × Value)) (last : Item) (rs : List Item) → breaks_with last (at m s (Change place patch)) ≡ false
+pub held-change : (m : ℕ) (s : Option ℕ) (place : ℕ) (patch : List (ℕ × DataValue)) (last : Item) (rs : List Item) → breaks_with last (at m s (Change place patch)) ≡ false
     → held_in (at m s (Change place patch) ∷ last ∷ rs) ≡ option_map (λ h. record { place = place; row = patched h.row patch }) (held_in (last ∷ rs))
 held-change m s place patch last rs unbroken =
     let w = list_any (λ (item : Item). is_whole item.frame) (last ∷ rs) in

@@ -2,10 +2,10 @@
 use Rattle.std.specs.Prelude.{ℕ, ◌+◌, ◌-◌, List, [], ◌∷◌, reverse, filter_map, count_by, Bool, true, false, not, ◌&&◌, ◌||◌, nat_le, ◌==◌, Option, Some, None, is_some, option_map, find, if◌then◌else◌, ⊤}
 use Rattle.std.specs.Option.{option_map_or}
 use Rattle.std.specs.List.{position_or_len}
-use Rattle.ua_values.specs.declared.value.Value.{Value}
-use Rattle.dataset_meta.specs.declared.field.Field.{Field}
+use Rattle.dataset_meta.specs.DataValues.{DataValue}
+use Rattle.dataset_meta.specs.Metas.{MetaData}
 use Rattle.dataset_meta.specs.Rows.{IsRow, differs}
-use Rattle.pubsub_model.specs.Frames.{Frame, Whole, Change, Alive, is_whole, is_silent, place_of}
+use Rattle.pubsub_model.specs.Frames.{PlacedFrame, Whole, Change, Alive, is_whole, is_silent, place_of}
 
 -- a writer's first message number, KeyFrameCount and KeepAliveTime
 pub record Settings : Type 0 where
@@ -13,28 +13,28 @@ pub record Settings : Type 0 where
   pub key_frame_count : ℕ
   pub keep_alive : ℕ
 
--- a publishing cycle: its moment, the sampled row with its version, and whether it is the closing one
-pub record Turn : Type 0 where
+-- a turn of a writer: its moment, the sampled row with its version, and whether it is the closing one
+pub record WriterTurn : Type 0 where
   pub moment : ℕ
-  pub row : List Value
+  pub row : List DataValue
   pub version : ℕ
   pub closing : Bool
 
 -- what a writer lives through: a refresh, and a turn
-pub data Deed : Type 0 where
-  Refreshed : Deed
-  Took : Turn → Deed
+pub data WriterDeed : Type 0 where
+  Refreshed : WriterDeed
+  HadTurn : WriterTurn → WriterDeed
 
--- each turn's row is a row of these fields
-abbrev pub HasRowsOf : List Field → List Deed → Type 0
-HasRowsOf fields [] = ⊤
-HasRowsOf fields (Refreshed ∷ before) = HasRowsOf fields before
-HasRowsOf fields (Took turn ∷ before) = IsRow fields turn.row × HasRowsOf fields before
+-- The turns' rows are rows of one meta from one refresh to the next, and since the last refresh of this one: a data set may grow at a refresh.
+abbrev pub HasRowsOf : MetaData → List WriterDeed → Type 0
+HasRowsOf meta [] = ⊤
+HasRowsOf meta (Refreshed ∷ before) = (earlier : MetaData) × HasRowsOf earlier before
+HasRowsOf meta (HadTurn turn ∷ before) = IsRow meta turn.row × HasRowsOf meta before
 
 -- a turn with its answer
 pub record Answered : Type 0 where
-  pub turn : Turn
-  pub answer : Option Frame
+  pub turn : WriterTurn
+  pub answer : Option PlacedFrame
 
 -- answered by a key frame
 abbrev pub is_key : Answered → Bool
@@ -53,12 +53,12 @@ abbrev pub turns_since : (Answered → Bool) → List Answered → ℕ
 turns_since test before = position_or_len test before + 1
 
 -- the turn, or one with no row where there is none
-abbrev pub turn_of : Option Answered → Turn
+abbrev pub turn_of : Option Answered → WriterTurn
 turn_of None = record { moment = 0; row = []; version = 0; closing = false }
 turn_of (Some a) = a.turn
 
 -- the last turn that passed the test
-abbrev pub last_turn : (Answered → Bool) → List Answered → Turn
+abbrev pub last_turn : (Answered → Bool) → List Answered → WriterTurn
 last_turn test before = turn_of (find test before)
 
 -- the place of the next data frame
@@ -66,38 +66,38 @@ abbrev pub next_place : Settings → List Answered → ℕ
 next_place s before = s.first_number + count_by is_data before
 
 -- a keep-alive that is due, else nothing
-abbrev pub quiet_answer : Settings → List Answered → Turn → Option Frame
+abbrev pub quiet_answer : Settings → List Answered → WriterTurn → Option PlacedFrame
 quiet_answer s before turn =
     if not (s.keep_alive == 0) && nat_le s.keep_alive (turn.moment - (last_turn is_any before).moment)
     then Some (Alive (next_place s before)) else None
 
 -- the delta frame of a patch, and the quiet answer where nothing changes
-abbrev pub change_answer : Settings → List Answered → Turn → List (ℕ × Value) → Option Frame
+abbrev pub change_answer : Settings → List Answered → WriterTurn → List (ℕ × DataValue) → Option PlacedFrame
 change_answer s before turn [] = quiet_answer s before turn
 change_answer s before turn (change ∷ patch) = Some (Change (next_place s before) (change ∷ patch))
 
 -- a key frame is due at a fresh turn, at the closing one, and where the last one is at least KeyFrameCount turns ago
-abbrev pub is_key_due : Settings → Bool → List Answered → Turn → Bool
+abbrev pub is_key_due : Settings → Bool → List Answered → WriterTurn → Bool
 is_key_due s fresh before turn = fresh || turn.closing || nat_le s.key_frame_count (turns_since is_key before)
 
 -- the answer of a turn, the first case that holds: a key frame, what differs from the row of the last data frame, a keep-alive, nothing
-abbrev pub answer : Settings → Bool → List Answered → Turn → Option Frame
+abbrev pub answer : Settings → Bool → List Answered → WriterTurn → Option PlacedFrame
 answer s fresh before turn =
     if is_key_due s fresh before turn
     then Some (Whole (next_place s before) turn.row)
     else change_answer s before turn (differs (last_turn is_data before).row turn.row)
 
 -- a turn is fresh where it is the first, or a refresh came since the turn before
-abbrev pub is_fresh : List Deed → Bool
+abbrev pub is_fresh : List WriterDeed → Bool
 is_fresh [] = true
 is_fresh (Refreshed ∷ before) = true
-is_fresh (Took turn ∷ before) = false
+is_fresh (HadTurn turn ∷ before) = false
 
 -- the turns with their answers
-abbrev pub cadence : Settings → List Deed → List Answered
+abbrev pub cadence : Settings → List WriterDeed → List Answered
 cadence s [] = []
 cadence s (Refreshed ∷ before) = cadence s before
-cadence s (Took turn ∷ before) =
+cadence s (HadTurn turn ∷ before) =
     let earlier = cadence s before in
     record { turn = turn; answer = answer s (is_fresh before) earlier turn } ∷ earlier
 
@@ -106,9 +106,9 @@ abbrev pub log_entry : Answered → Option (ℕ × ℕ)
 log_entry a = if is_data a then option_map (λ frame. (place_of frame, a.turn.version)) a.answer else None
 
 -- place and version of each data frame, in order
-abbrev pub log_of : Settings → List Deed → List (ℕ × ℕ)
+abbrev pub log_of : Settings → List WriterDeed → List (ℕ × ℕ)
 log_of s deeds = reverse (filter_map log_entry (cadence s deeds))
 
 -- the frames that a writer sent
-abbrev pub frames_of : List Answered → List Frame
+abbrev pub frames_of : List Answered → List PlacedFrame
 frames_of answered = filter_map (λ a. a.answer) answered

@@ -1,22 +1,22 @@
 -- Records: records, breaks and what a reader holds, from all that came to it (OPC 10000-14, DataSetReader). Lists have the latest first.
 use Rattle.std.specs.Prelude.{ℕ, ◌+◌, List, [], ◌∷◌, ◌++◌, map, find, Bool, true, false, not, ◌&&◌, ◌||◌, nat_lt, ◌==◌, Option, Some, None, if◌then◌else◌}
 use Rattle.std.specs.List.{list_any, list_all}
-use Rattle.ua_values.specs.declared.value.Value.{Value}
+use Rattle.dataset_meta.specs.DataValues.{DataValue}
 use Rattle.pubsub_model.specs.declared.reading.Break.{Break}
 use Rattle.pubsub_model.specs.declared.reading.Why.{Why}
 use Rattle.pubsub_model.specs.declared.reading.Why.TheVariants.{Start, Gap}
 use Rattle.dataset_meta.specs.Rows.{cons_if}
-use Rattle.seq_number.specs.Numbers.{wire}
-use Rattle.pubsub_model.specs.Frames.{Frame, place_of, carried, is_whole, is_silent, published}
+use Rattle.seq_number.specs.Numbers.{number_of_place}
+use Rattle.pubsub_model.specs.Frames.{PlacedFrame, place_of, carried, is_whole, is_silent, published}
 
 -- a frame that came to a reader, when, and with which nonce number
 pub record Item : Type 0 where
   pub moment : ℕ
   pub stamp : Option ℕ
-  pub frame : Frame
+  pub frame : PlacedFrame
 
 -- a frame that came at this moment, with this nonce number
-abbrev pub at : ℕ → Option ℕ → Frame → Item
+abbrev pub at : ℕ → Option ℕ → PlacedFrame → Item
 at moment stamp frame = record { moment = moment; stamp = stamp; frame = frame }
 
 -- what came to a reader, and what cut its run
@@ -27,7 +27,7 @@ pub data Arrival : Type 0 where
 -- what a reader holds: a row, and the place of the last frame that it was made of
 pub record Held : Type 0 where
   pub place : ℕ
-  pub row : List Value
+  pub row : List DataValue
 
 -- where an item's frame stands
 abbrev pub place_in : Item → ℕ
@@ -61,7 +61,7 @@ breaks_with last item = is_silent item.frame || not (place_in item == place_in l
 -- the break of a record with the record before it, if it breaks: the number that was due, and the one that came
 abbrev pub break_between : Item → Item → List Break
 break_between last item =
-    cons_if (breaks_with last item) (record { expected = wire (place_in last + 1); got = carried item.frame }) []
+    cons_if (breaks_with last item) (record { expected = number_of_place (place_in last + 1); got = carried item.frame }) []
 
 -- the breaks of these records
 abbrev pub breaks_of : List Item → List Break
@@ -116,13 +116,13 @@ breaks (Came item ∷ before) =
     (if is_record earlier item then break_with (records earlier) item else []) ++ breaks before
 
 -- the row that an item publishes alone
-abbrev pub row_of : Option Item → Option (List Value)
-row_of None = None
-row_of (Some item) = Some (published (item.frame ∷ []))
+abbrev pub row_alone : Option Item → Option (List DataValue)
+row_alone None = None
+row_alone (Some item) = Some (published (item.frame ∷ []))
 
 -- what a reader holds, with numbering `none`: the row of the last Whole since the cut
-abbrev pub unnumbered_row : List Arrival → Option (List Value)
-unnumbered_row arrivals = row_of (find (λ item. is_whole item.frame) (since_cut arrivals))
+abbrev pub unnumbered_row : List Arrival → Option (List DataValue)
+unnumbered_row arrivals = row_alone (find (λ item. is_whole item.frame) (since_cut arrivals))
 
 -- a record or an Alive: what counts for the receive timeout
 abbrev pub counts : Bool → List Item → Item → Bool

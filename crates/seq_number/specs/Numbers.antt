@@ -2,8 +2,8 @@
 use Rattle.std.specs.Prelude.{ℕ, ◌+◌, ◌-◌, ◌%◌, ◌<◌, ◌≤◌, max, List, [], ◌∷◌, Bool, nat_lt, ⊤}
 
 -- the 16 bits that a frame carries of its place
-abbrev pub wire : ℕ → ℕ
-wire place = place % 65536
+abbrev pub number_of_place : ℕ → ℕ
+number_of_place place = place % 65536
 
 -- 1 to 16,384 numbers ahead
 abbrev pub newer : ℕ → ℕ → Bool
@@ -22,4 +22,4 @@ IsNear (place ∷ last ∷ before) =
 
 -- the place with this number, of a writer whose first place is `first` and who has sent fewer than 65,536
 abbrev pub place_from : ℕ → ℕ → ℕ
-place_from first number = first + (65536 + number - wire first) % 65536
+place_from first number = first + (65536 + number - number_of_place first) % 65536

@@ -1,6 +1,6 @@
 //! Numbers of 16 bits, and places that they are the ends of.
 ghost use Rattle.std.specs.Prelude.{◌≡◌, ◌+◌, ◌<◌, ◌^◌};
-ghost use Rattle.seq_number.specs.Numbers.{newer, wire};
+ghost use Rattle.seq_number.specs.Numbers.{newer, number_of_place};
 
 /// Whether the number `r` is newer than `l`: 1 to 16,384 ahead of it, in a circle of 65,536 numbers (OPC 10000-14, the
 /// sequence number of a DataSetMessage).
@@ -20,7 +20,7 @@ pub struct Count {
 impl Count {
     /// The number that the message at this place carries.
     pub fn wire(&self) -> u16
-        ensures { result ≡ wire self.now.place }
+        ensures { result ≡ number_of_place self.now.place }
     {
         (self.place % 65536) as u16
     }

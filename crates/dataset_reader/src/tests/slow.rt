@@ -4,7 +4,7 @@ ghost use Rattle.std.specs.Prelude.{◌≡◌, ◌+◌, ◌<◌, ◌^◌, [], �
 ghost use Rattle.std.specs.List.{list_any};
 ghost use Rattle.std.specs.Option.{option_map_or};
 ghost use Rattle.ua_values.specs.declared.value.Value.TheVariants.{UInt32};
-ghost use Rattle.seq_number.specs.Numbers.{wire, greatest};
+ghost use Rattle.seq_number.specs.Numbers.{number_of_place, greatest};
 ghost use Rattle.pubsub_model.specs.Frames.{is_whole, is_silent, carried, published};
 ghost use Rattle.pubsub_model.specs.Records.{Came, Cut, place_in, since_cut, cut_reason, is_record, records, breaks_with, breaks_of, from_whole, is_nothing, last_with, held_in, held, why, break_with, breaks, row_of, unnumbered_row};
 ghost use Rattle.dataset_reader.specs.Keeping.{stamps, jumps, with_jumps};
@@ -203,7 +203,7 @@ fn breaks_with(last: &Item, item: &Item) -> bool
 }
 
 fn break_of(last: &Item, item: &Item) -> Break
-    ensures { result ≡ record { expected = wire (place_in last.now + 1); got = carried item.now.frame } }
+    ensures { result ≡ record { expected = number_of_place (place_in last.now + 1); got = carried item.now.frame } }
 {
     Break {
         expected: ((last.place_in() + 1) % 65536) as u16,

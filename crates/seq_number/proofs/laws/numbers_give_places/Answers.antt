@@ -1,5 +1,5 @@
-use Rattle.seq_number.proofs.NumberLaws.{place_from-wire}
+use Rattle.seq_number.proofs.NumberLaws.{place_from-number}
 use Rattle.seq_number.proofs.laws.numbers_give_places.Goals as goal
 
 pub returns : goal.returns
-returns c = place_from-wire
+returns c = place_from-number

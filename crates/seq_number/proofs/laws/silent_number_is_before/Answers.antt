@@ -1,5 +1,5 @@
-use Rattle.seq_number.proofs.NumberLaws.{wire-before}
+use Rattle.seq_number.proofs.NumberLaws.{number-before}
 use Rattle.seq_number.proofs.laws.silent_number_is_before.Goals as goal
 
 pub returns : goal.returns
-returns c = wire-before
+returns c = number-before
