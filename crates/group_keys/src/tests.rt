@@ -1,4 +1,4 @@
-use crate::{KeySet, Ring, RingFault};
+use crate::{KeySet, Ring};
 use arrayvec::ArrayVec;
 use std::process::Abort;
 
@@ -20,95 +20,6 @@ fn sets(rt: &impl Abort, rows: &[(u32, u64, usize)]) -> ArrayVec<KeySet, 16> {
         });
     }
     sets
-}
-
-#[test]
-fn refuses_by_the_first_fault(rt: HostRuntime) {
-    let cases: [(bool, &[(u32, u64, usize)], RingFault); 14] = [
-        (false, &[], RingFault::NoKey),
-        (true, &[], RingFault::NoKey),
-        // Tokens that stand still or fall, moments that stand still or fall.
-        (
-            false,
-            &[(7, 0, 16), (7, 10, 16)],
-            RingFault::NotRising { index: 1 },
-        ),
-        (
-            false,
-            &[(1, 0, 16), (2, 10, 16), (1, 20, 16)],
-            RingFault::NotRising { index: 2 },
-        ),
-        (
-            false,
-            &[(1, 0, 16), (2, 0, 16)],
-            RingFault::NotRising { index: 1 },
-        ),
-        (
-            false,
-            &[(1, 0, 16), (2, 10, 16), (3, 20, 16), (4, 19, 16)],
-            RingFault::NotRising { index: 3 },
-        ),
-        (
-            false,
-            &[(1, 0, 16), (0, 10, 16), (0, 5, 16)],
-            RingFault::NotRising { index: 1 },
-        ),
-        (false, &[(1, 1, 16)], RingFault::FirstLate),
-        (true, &[(1, 0, 16)], RingFault::BadLength { index: 0 }),
-        (
-            false,
-            &[(1, 0, 16), (2, 1, 32)],
-            RingFault::BadLength { index: 1 },
-        ),
-        (
-            true,
-            &[(1, 0, 32), (2, 1, 32), (3, 2, 31)],
-            RingFault::BadLength { index: 2 },
-        ),
-        // Two faults: the earlier kind is given, and of one kind the first index.
-        (
-            false,
-            &[(1, 5, 15), (2, 6, 16), (2, 7, 16)],
-            RingFault::NotRising { index: 2 },
-        ),
-        (false, &[(1, 5, 15), (2, 6, 16)], RingFault::FirstLate),
-        (
-            false,
-            &[(1, 0, 16), (2, 6, 0), (3, 7, 0)],
-            RingFault::BadLength { index: 1 },
-        ),
-    ];
-    for (i, (long, rows, fault)) in cases.iter().enumerate() {
-        match Ring::new(*long, sets(&rt, rows)) {
-            Ok(_) => assert!(rt; false, "row {i}"),
-            Err(got) => assert_eq!(rt; got, *fault, "row {i}"),
-        }
-    }
-}
-
-#[test]
-fn names_each_index(rt: HostRuntime) {
-    for at in 0..16u8 {
-        let mut rows = [(0, 0, 32); 16];
-        for (i, row) in rows.iter_mut().enumerate() {
-            row.0 = 100 + i as u32;
-            row.1 = 1000 * i as u64;
-        }
-        let index = at as usize;
-        if at > 0 {
-            let mut equal_token = rows;
-            equal_token[index].0 = rows[index - 1].0;
-            let mut equal_moment = rows;
-            equal_moment[index].1 = rows[index - 1].1;
-            for rows in [equal_token, equal_moment] {
-                let ring = Ring::new(true, sets(&rt, &rows));
-                assert!(rt; matches!(&ring, Err(RingFault::NotRising { index }) if *index == at));
-            }
-        }
-        rows[index].2 = 16;
-        let ring = Ring::new(true, sets(&rt, &rows));
-        assert!(rt; matches!(&ring, Err(RingFault::BadLength { index }) if *index == at));
-    }
 }
 
 #[test]

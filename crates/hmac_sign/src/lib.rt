@@ -2,7 +2,9 @@
 #![tactic(auto)]
 
 mod hmac;
+mod laws;
 #[cfg(test)]
 mod tests;
 
-pub use hmac::{matches, sign};
+pub use hmac::{SigningKey, matches, sign};
+pub use laws::a_signature_has_32_bytes;
