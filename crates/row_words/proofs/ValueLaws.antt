@@ -14,8 +14,8 @@ use Rattle.ua_values.specs.declared.value.Value.TheVariants as values
 use Rattle.ua_values.specs.Values.{kind_of, size_of, opening, IsValue}
 use Rattle.ua_values.specs.Texts.{IsText, text_of}
 use Rattle.ua_values.specs.Blobs.{blob_of}
-use Rattle.dataset_meta.specs.Fields.{width}
-use Rattle.row_words.specs.Words.{is_scalar, scalar_word, packed, unpacked, word_count, spelled_value, bytes_in, value_in, IsWordOf, HasBytes}
+use Rattle.dataset_meta.specs.Fields.{width, words_for}
+use Rattle.row_words.specs.Words.{is_scalar, scalar_word, packed, unpacked, spelled_value, bytes_in, value_in, IsWordOf, HasBytes}
 use Rattle.row_words.proofs.DigitLaws.{length-grouped, digits_in-grouped, grouped-nil}
 
 pub length-packed : (count : ℕ) (bytes : List ℕ) → length (packed count bytes) ≡ count
@@ -33,7 +33,7 @@ bytes_back count bytes all few =
     ap (take (length bytes)) (unpacked-packed count bytes all few) ∙ take_at bytes (replicate (8 * count - length bytes) 0) (length bytes) refl
 
 -- a cap's words have room for as many bytes
-room_for : (size cap : ℕ) → size ≤ cap → size ≤ 8 * word_count cap
+room_for : (size cap : ℕ) → size ≤ cap → size ≤ 8 * words_for cap
 room_for size cap within = omega arith
 
 guid_back : (bytes : List ℕ) → length bytes ≡ 16 → All (λ byte. byte < 256) bytes → unpacked (packed 2 bytes) ≡ bytes
@@ -42,8 +42,8 @@ guid_back bytes long all =
     unpacked-packed 2 bytes all (omega (arith, long)) ∙ ap (λ (n : ℕ). bytes ++ replicate n 0) none ∙ append-nil bytes
 
 pub length-spelled_value : (cap : ℕ) (value : Value) → length (spelled_value cap value) ≡ width (kind_of value) cap
-length-spelled_value cap (values.String text) = omega (arith, length-packed (word_count cap) text)
-length-spelled_value cap (values.ByteString bytes) = omega (arith, length-packed (word_count cap) bytes)
+length-spelled_value cap (values.String text) = omega (arith, length-packed (words_for cap) text)
+length-spelled_value cap (values.ByteString bytes) = omega (arith, length-packed (words_for cap) bytes)
 length-spelled_value cap (values.Guid bytes) = length-packed 2 bytes
 length-spelled_value cap _ = refl
 
@@ -56,8 +56,8 @@ value_in-spelled_value cap (values.Int16 n) is within = ap values.Int16 (to_z-of
 value_in-spelled_value cap (values.Int32 n) is within = ap values.Int32 (to_z-of_z w32 n is)
 value_in-spelled_value cap (values.Int64 n) is within = ap values.Int64 (to_z-of_z w64 n is)
 value_in-spelled_value cap (values.DateTime n) is within = ap values.DateTime (to_z-of_z w64 n is)
-value_in-spelled_value cap (values.String text) is within = ap values.String (bytes_back (word_count cap) text is.short.in_range (room_for (length text) cap within))
-value_in-spelled_value cap (values.ByteString bytes) is within = ap values.ByteString (bytes_back (word_count cap) bytes is.in_range (room_for (length bytes) cap within))
+value_in-spelled_value cap (values.String text) is within = ap values.String (bytes_back (words_for cap) text is.short.in_range (room_for (length text) cap within))
+value_in-spelled_value cap (values.ByteString bytes) is within = ap values.ByteString (bytes_back (words_for cap) bytes is.in_range (room_for (length bytes) cap within))
 value_in-spelled_value cap (values.Guid bytes) is within = ap values.Guid (guid_back bytes is.0 is.1)
 value_in-spelled_value cap _ is within = refl
 
@@ -96,18 +96,18 @@ word_of_scalar cap (values.Double n) is s b g = is
 word_of_scalar cap (values.StatusCode n) is s b g = is
 
 -- a length that fits the cap, and as many words as the cap has
-has_bytes : (size cap : ℕ) (bytes : List ℕ) → size ≤ cap → cap ≤ 256 → HasBytes (size ∷ packed (word_count cap) bytes)
+has_bytes : (size cap : ℕ) (bytes : List ℕ) → size ≤ cap → cap ≤ 256 → HasBytes (size ∷ packed (words_for cap) bytes)
 has_bytes size cap bytes within small = record {
   some = omega arith;
-  few = omega (arith, length-packed (word_count cap) bytes);
-  within = omega (arith, length-packed (word_count cap) bytes, room_for size cap within);
+  few = omega (arith, length-packed (words_for cap) bytes);
+  within = omega (arith, length-packed (words_for cap) bytes, room_for size cap within);
 }
 
 pub text_spelled : (cap : ℕ) (value : Value) → cap ≤ 256 → IsValue value → size_of value ≤ cap → kind_of value ≡ kinds.String
     → HasBytes (spelled_value cap value) × IsText (bytes_in (spelled_value cap value))
 text_spelled cap (values.String text) small is within kind = (
   has_bytes (length text) cap text within small,
-  subst IsText (sym (bytes_back (word_count cap) text is.short.in_range (room_for (length text) cap within))) is,
+  subst IsText (sym (bytes_back (words_for cap) text is.short.in_range (room_for (length text) cap within))) is,
 )
 text_spelled cap _ small is within kind = absurd (cc)
 
@@ -128,8 +128,8 @@ one_more n = omega arith
 -- what stands before the first write is zero
 pub spelled_value-opening : (cap : ℕ) (kind : Kind) → spelled_value cap (opening kind) ≡ replicate (width kind cap) 0
 unfolding packed
-spelled_value-opening cap kinds.String = ap (λ (words : List ℕ). 0 ∷ words) (packed-nil (word_count cap)) ∙ ap (λ (n : ℕ). replicate n 0) (one_more (word_count cap))
-spelled_value-opening cap kinds.ByteString = ap (λ (words : List ℕ). 0 ∷ words) (packed-nil (word_count cap)) ∙ ap (λ (n : ℕ). replicate n 0) (one_more (word_count cap))
+spelled_value-opening cap kinds.String = ap (λ (words : List ℕ). 0 ∷ words) (packed-nil (words_for cap)) ∙ ap (λ (n : ℕ). replicate n 0) (one_more (words_for cap))
+spelled_value-opening cap kinds.ByteString = ap (λ (words : List ℕ). 0 ∷ words) (packed-nil (words_for cap)) ∙ ap (λ (n : ℕ). replicate n 0) (one_more (words_for cap))
 spelled_value-opening cap _ = refl
 
 pub scalar_value : (value : Value) → ((x : List ℕ) → value ≢ values.String x) → ((x : List ℕ) → value ≢ values.ByteString x) → ((x : List ℕ) → value ≢ values.Guid x)

@@ -7,6 +7,7 @@ use Rattle.ua_values.specs.declared.kind.Kind.TheVariants as kinds
 use Rattle.ua_values.specs.declared.value.Value.{Value}
 use Rattle.ua_values.specs.declared.value.Value.TheVariants as values
 use Rattle.ua_values.specs.Values.{Fits, IsValue}
+use Rattle.dataset_meta.specs.Fields.{words_for}
 use Rattle.row_words.specs.Digits.{digits_of, grouped}
 
 -- all but texts, blobs and Guids take one word
@@ -41,14 +42,10 @@ packed count bytes = grouped 256 8 count bytes
 unfoldable pub unpacked : List ℕ → List ℕ
 unpacked words = flat_map (digits_of 256 8) words
 
--- the words for the bytes of a text or a blob
-abbrev pub word_count : ℕ → ℕ
-word_count cap = (cap + 7) / 8
-
 -- the words of a value in a field of this cap: a text or a blob has its length first
 abbrev pub spelled_value : ℕ → Value → List ℕ
-spelled_value cap (values.String text) = length text ∷ packed (word_count cap) text
-spelled_value cap (values.ByteString bytes) = length bytes ∷ packed (word_count cap) bytes
+spelled_value cap (values.String text) = length text ∷ packed (words_for cap) text
+spelled_value cap (values.ByteString bytes) = length bytes ∷ packed (words_for cap) bytes
 spelled_value cap (values.Guid bytes) = packed 2 bytes
 spelled_value cap value = scalar_word value ∷ []
 

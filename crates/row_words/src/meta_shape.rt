@@ -9,46 +9,46 @@ use dataset_meta::{Field, Meta};
 use ua_values::Kind;
 
 /// What of a meta decides which words are its rows: 16 bits for each field, the first lowest. Bit 0 is set where the field is
-/// there, bits 1 to 4 are its kind in the order of `Kind`, bits 5 to 13 its cap.
+/// there, bits 1 to 4 are its kind in the order of `Kind`, bits 5 to 13 its cap, and bit 14 is set where the meta has quality.
 pub fn shape(meta: &Meta) -> [u64; 16]
-    ensures { result ≡ shape_of meta.now.fields }
+    ensures { result ≡ shape_of meta.now }
 {
     let mut words = [0; 16];
-    write_codes(&mut words, meta.fields());
+    write_codes(&mut words, meta.quality(), meta.fields());
     words
 }
 
 // Four fields to a word.
-fn write_codes(words: &mut [u64], fields: &[Field])
+fn write_codes(words: &mut [u64], quality: bool, fields: &[Field])
     requires { AreCapped fields.now }
-    ensures { words.new ≡ grouped 65536 4 (length words.old) (map code_of fields.now) }
+    ensures { words.new ≡ grouped 65536 4 (length words.old) (map (code_of quality) fields.now) }
 {
     let mut rest = fields;
     for word in words.iter_mut() {
         let (front, back) = rest.split_at(rest.len().min(4));
-        *word = codes_of(front);
+        *word = codes_of(quality, front);
         rest = back;
     }
 }
 
-fn codes_of(fields: &[Field]) -> u64
+fn codes_of(quality: bool, fields: &[Field]) -> u64
     requires few { length fields.now ≤ 4 }
     requires capped { AreCapped fields.now }
-    ensures codes { result ≡ number_of 65536 (map code_of fields.now) }
+    ensures codes { result ≡ number_of 65536 (map (code_of quality) fields.now) }
     ensures small { result < 65536 ^ length fields.now }
 {
     match fields {
         [] => 0,
-        [first, rest @ ..] => code_of(first) + 65536 * codes_of(rest),
+        [first, rest @ ..] => code_of(quality, first) + 65536 * codes_of(quality, rest),
     }
 }
 
-fn code_of(field: &Field) -> u64
+fn code_of(quality: bool, field: &Field) -> u64
     requires { has_cap field.now ≡ true }
-    ensures code { result ≡ code_of field.now }
+    ensures code { result ≡ code_of quality field.now }
     ensures small { result < 65536 }
 {
-    1 + 2 * number_of_kind(field.kind) + 32 * u64::from(field.cap)
+    1 + 2 * number_of_kind(field.kind) + 32 * u64::from(field.cap) + if quality { 16384 } else { 0 }
 }
 
 fn number_of_kind(kind: Kind) -> u64

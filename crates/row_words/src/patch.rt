@@ -1,20 +1,21 @@
 //! Patches in words.
-ghost use Rattle.std.specs.Prelude.{◌≡◌, ◌<◌, ℕ, List, [], Some, length, slice_get, slice_set};
+ghost use Rattle.std.specs.Prelude.{◌≡◌, ◌<◌, List, [], length};
 ghost use Rattle.std.specs.List.{HoldsAt};
-ghost use Rattle.ua_values.specs.declared.value.Value.{Value as AnyValue};
 ghost use Rattle.ua_values.specs.Values.{Fits};
 ghost use Rattle.dataset_meta.specs.declared.field.Field.{Field};
-ghost use Rattle.dataset_meta.specs.Metas.{IsMeta};
+ghost use Rattle.dataset_meta.specs.DataValues.{IsStatus};
+ghost use Rattle.dataset_meta.specs.Metas.{IsMeta, MetaData};
 ghost use Rattle.dataset_meta.specs.Rows.{patched, put_in};
 ghost use Rattle.row_words.specs.Belonging.{Belongs, row_in};
 ghost use Rattle.row_words.specs.Patches.{IsPatchOf, patch_in, patched_words};
 
+use crate::copying::copy_field;
 use crate::row::Row;
 use dataset_meta::Meta;
 use ua_values::Value;
 
 /// Changes of a row. It stands, for a meta, for the fields whose bits of `mask` are set, the first field's lowest, with the
-/// values that they have in `row`. The words of a field that isn't marked are zero.
+/// values and the statuses that they have in `row`. The words of a field that isn't marked are zero, and so is its status.
 #[derive(Clone, Copy, Debug, PartialEq, Eq)]
 pub struct Patch {
     pub mask: u64,
@@ -24,7 +25,7 @@ pub struct Patch {
 impl Patch {
     /// No change, whatever the meta.
     pub fn empty() -> Patch
-        ensures of { (fields : List Field) → IsMeta fields → IsPatchOf fields result }
+        ensures of { (meta : MetaData) → IsMeta meta.fields → IsPatchOf meta result }
         ensures empty { (fields : List Field) → patch_in fields result ≡ [] }
     {
         Patch {
@@ -33,25 +34,43 @@ impl Patch {
         }
     }
 
-    /// Marks the field at this index, with this value.
-    pub fn put(&mut self, meta: &Meta, index: u8, value: &Value)
-        requires of { IsPatchOf meta.now.fields self.old }
+    /// Marks the field at this index, with this value and this status.
+    pub fn put(&mut self, meta: &Meta, index: u8, value: &Value, status: u32)
+        requires of { IsPatchOf meta.now self.old }
         requires index { index < length meta.now.fields }
         requires fits { HoldsAt (λ field. Fits value.now field.kind field.cap) meta.now.fields index }
-        ensures of { IsPatchOf meta.now.fields self.new }
-        ensures put { patch_in meta.now.fields self.new ≡ put_in (patch_in meta.now.fields self.old) index value.now }
+        requires status { IsStatus meta.now.quality status }
+        ensures of { IsPatchOf meta.now self.new }
+        ensures put { patch_in meta.now.fields self.new
+            ≡ put_in (patch_in meta.now.fields self.old) index (record { value = value.now; status = status }) }
     {
         prove!(usize::from(index) < meta.fields().len());
         self.row.set(meta, index, value);
+        self.row.set_status(meta, index, status);
         self.mask |= 1 << index;
     }
 
-    /// Gives each marked field of the row the value that the patch has there, and leaves the others.
+    /// Marks the field at this index, with the value and the status that it has in a row.
+    pub fn mark(&mut self, meta: &Meta, index: u8, row: &Row)
+        requires of { IsPatchOf meta.now self.old }
+        requires belongs { Belongs meta.now row.now.words }
+        requires index { index < length meta.now.fields }
+        ensures of { IsPatchOf meta.now self.new }
+        ensures put { HoldsAt (λ x. patch_in meta.now.fields self.new ≡ put_in (patch_in meta.now.fields self.old) index x)
+            (row_in meta.now.fields row.now.words) index }
+    {
+        prove!(usize::from(index) < meta.fields().len());
+        copy_field(meta, index, row, &mut self.row);
+        self.mask |= 1 << index;
+    }
+
+    /// Gives each marked field of the row the value and the status that the patch has there, and leaves the others.
     pub fn lay(&self, meta: &Meta, row: &mut Row)
-        requires of { IsPatchOf meta.now.fields self.now }
-        requires belongs { Belongs meta.now.fields row.old.words }
-        ensures belongs { Belongs meta.now.fields row.new.words }
-        ensures patched { row_in meta.now.fields row.new.words ≡ patched (row_in meta.now.fields row.old.words) (patch_in meta.now.fields self.now) }
+        requires of { IsPatchOf meta.now self.now }
+        requires belongs { Belongs meta.now row.old.words }
+        ensures belongs { Belongs meta.now row.new.words }
+        ensures patched { row_in meta.now.fields row.new.words
+            ≡ patched (row_in meta.now.fields row.old.words) (patch_in meta.now.fields self.now) }
         ensures words { row.new.words ≡ patched_words meta.now.fields self.now row.old.words }
     {
         let mut left = self.mask;
@@ -61,17 +80,4 @@ impl Patch {
             left &= !(1 << index);
         }
     }
-}
-
-fn copy_field(meta: &Meta, index: u8, from: &Row, to: &mut Row)
-    requires from { Belongs meta.now.fields from.now.words }
-    requires to { Belongs meta.now.fields to.old.words }
-    requires index { index < length meta.now.fields }
-    ensures belongs { Belongs meta.now.fields to.new.words }
-    ensures copied { (value : AnyValue) → slice_get (row_in meta.now.fields from.now.words) index ≡ Some value
-        → row_in meta.now.fields to.new.words ≡ slice_set (row_in meta.now.fields to.old.words) index value }
-{
-    let start = usize::from(meta.start(index));
-    let end = start + meta.fields()[usize::from(index)].words() as usize;
-    to.words[start..end].copy_from_slice(&from.words[start..end]);
 }
