@@ -1,0 +1,40 @@
+//! The calls by their names, and what is kept from line to line.
+use crate::fault::RowFault;
+use crate::row::Row;
+use crate::timers::TimerRows;
+use crate::{metas, values};
+use std::alloc::Global;
+
+/// What is kept from line to line: the machines that the calls speak of.
+#[derive(Drop)]
+pub struct Bench {
+    alloc: Global,
+    timer: TimerRows,
+}
+
+/// What a call prints, where it answers anything.
+pub type Answer = Result<Option<String>, RowFault>;
+
+impl Bench {
+    pub fn new(alloc: Global) -> Bench {
+        Bench {
+            alloc,
+            timer: TimerRows::new(),
+        }
+    }
+
+    pub fn answer(&mut self, row: &mut Row) -> Answer {
+        let alloc = self.alloc;
+        match row.word()? {
+            "read_variant" => values::read_variant(alloc, row),
+            "read_data_value" => values::read_data_value_row(alloc, row),
+            "name" => metas::name(alloc, row),
+            "meta" => metas::meta(alloc, row),
+            "timer" => self.timer.limit(row),
+            "seen" => self.timer.seen(row),
+            "clear" => self.timer.clear(),
+            "due" => self.timer.due(alloc, row),
+            _ => Err(RowFault::Call),
+        }
+    }
+}

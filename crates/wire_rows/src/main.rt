@@ -1,0 +1,33 @@
+//! Cases of the crates of the wire, one a line: a call and its arguments. Each line is printed again, with what the call
+//! answers behind ` -> `. Lines that begin with `#`, and empty ones, are printed as they are.
+#![tactic(auto)]
+
+mod bench;
+mod fault;
+mod metas;
+mod row;
+mod shown;
+mod timers;
+mod values;
+
+use bench::Bench;
+use row::Row;
+use std::io;
+
+fn main(rt: HostRuntime) -> io::Result<()> {
+    let mut bench = Bench::new(rt.alloc());
+    for line in rt.lines(rt.alloc()) {
+        let line = line?;
+        let text = line.as_str();
+        if text.is_empty() || text.starts_with('#') {
+            println!(rt; "{text}")?;
+            continue;
+        }
+        match bench.answer(&mut Row::new(text)) {
+            Ok(Some(answer)) => println!(rt; "{text} -> {answer}")?,
+            Ok(None) => println!(rt; "{text}")?,
+            Err(fault) => println!(rt; "{text} -> not a row: {fault:?}")?,
+        }
+    }
+    Ok(())
+}

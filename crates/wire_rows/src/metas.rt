@@ -1,0 +1,75 @@
+//! Rows of `dataset_meta`.
+use crate::bench::Answer;
+use crate::fault::RowFault;
+use crate::row::Row;
+use dataset_meta::{Field, Meta, MetaFault, Name32};
+use std::alloc::Global;
+use ua_values::Kind;
+
+/// `name BYTES`: whether the bytes are a name of a data set or a field
+pub fn name(alloc: Global, row: &mut Row) -> Answer {
+    let bytes = row.optional().unwrap_or("").as_bytes();
+    let answer = match Name32::new(bytes) {
+        Some(_) => "is a name",
+        None => "is no name",
+    };
+    Ok(Some(format!(in alloc; "{answer}")?))
+}
+
+/// `meta FIELD ..`, a field as NAME:KIND or NAME:KIND:CAP: the words of a row, or the fault
+pub fn meta(alloc: Global, row: &mut Row) -> Answer {
+    let mut fields = Vec::new(alloc);
+    for word in row.words() {
+        fields.push(field_of(word)?)?;
+    }
+    let answer = match new_meta(fields, 1, 0, false)? {
+        Ok(meta) => format!(in alloc; "{} words", meta.words())?,
+        Err(fault) => format!(in alloc; "{fault:?}")?,
+    };
+    Ok(Some(answer))
+}
+
+fn new_meta(
+    fields: Vec<Field>,
+    major: u32,
+    minor: u32,
+    quality: bool,
+) -> Result<Result<Meta, MetaFault>, RowFault> {
+    let name = Name32::new(b"demo").ok_or(RowFault::Condition)?;
+    Ok(Meta::new(name, fields, major, minor, quality))
+}
+
+fn field_of(word: &str) -> Result<Field, RowFault> {
+    let (name, rest) = word.split_once(':').ok_or(RowFault::Missing)?;
+    let (kind, cap) = match rest.split_once(':') {
+        Some((kind, cap)) => (kind, cap.parse::<u16>().map_err(|_| RowFault::Number)?),
+        None => (rest, 0),
+    };
+    Ok(Field {
+        name: Name32::new(name.as_bytes()).ok_or(RowFault::Condition)?,
+        kind: kind_of(kind)?,
+        cap,
+    })
+}
+
+fn kind_of(word: &str) -> Result<Kind, RowFault> {
+    Ok(match word {
+        "Boolean" => Kind::Boolean,
+        "SByte" => Kind::SByte,
+        "Byte" => Kind::Byte,
+        "Int16" => Kind::Int16,
+        "UInt16" => Kind::UInt16,
+        "Int32" => Kind::Int32,
+        "UInt32" => Kind::UInt32,
+        "Int64" => Kind::Int64,
+        "UInt64" => Kind::UInt64,
+        "Float" => Kind::Float,
+        "Double" => Kind::Double,
+        "String" => Kind::String,
+        "DateTime" => Kind::DateTime,
+        "Guid" => Kind::Guid,
+        "ByteString" => Kind::ByteString,
+        "StatusCode" => Kind::StatusCode,
+        _ => return Err(RowFault::Missing),
+    })
+}
