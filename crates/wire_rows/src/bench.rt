@@ -27,9 +27,13 @@ impl Bench {
         let alloc = self.alloc;
         match row.word()? {
             "read_variant" => values::read_variant(alloc, row),
-            "read_data_value" => values::read_data_value_row(alloc, row),
+            "read_data_value" => values::read_data_value(alloc, row),
             "name" => metas::name(alloc, row),
             "meta" => metas::meta(alloc, row),
+            "told" => metas::told(alloc, row),
+            "text" => values::text(alloc, row),
+            "blob" => values::blob(alloc, row),
+            "fits" => values::fits(alloc, row),
             "timer" => self.timer.limit(row),
             "seen" => self.timer.seen(row),
             "clear" => self.timer.clear(),

@@ -4,6 +4,7 @@ use crate::fault::RowFault;
 use crate::row::Row;
 use dataset_meta::{Field, Meta, MetaFault, Name32};
 use std::alloc::Global;
+use std::fmt::{self, Write};
 use ua_values::Kind;
 
 /// `name BYTES`: whether the bytes are a name of a data set or a field
@@ -18,15 +19,53 @@ pub fn name(alloc: Global, row: &mut Row) -> Answer {
 
 /// `meta FIELD ..`, a field as NAME:KIND or NAME:KIND:CAP: the words of a row, or the fault
 pub fn meta(alloc: Global, row: &mut Row) -> Answer {
-    let mut fields = Vec::new(alloc);
-    for word in row.words() {
-        fields.push(field_of(word)?)?;
-    }
-    let answer = match new_meta(fields, 1, 0, false)? {
+    let answer = match new_meta(fields_of(alloc, row)?, 1, 0, false)? {
         Ok(meta) => format!(in alloc; "{} words", meta.words())?,
         Err(fault) => format!(in alloc; "{fault:?}")?,
     };
     Ok(Some(answer))
+}
+
+/// `told MAJOR MINOR QUALITY FIELD ..`: what the meta tells
+pub fn told(alloc: Global, row: &mut Row) -> Answer {
+    let (major, minor) = (row.u32()?, row.u32()?);
+    let quality = row.word()? == "true";
+    let Ok(meta) = new_meta(fields_of(alloc, row)?, major, minor, quality)? else {
+        return Err(RowFault::Condition);
+    };
+    let mut told = format!(in alloc; "{} {} {}:", meta.major(), meta.minor(), meta.quality())?;
+    for (index, field) in meta.fields().iter().enumerate() {
+        let at = meta.start(index as u8);
+        write!(told, " {}@{at}+{}", Letters(&field.name), field.words())?;
+    }
+    write!(
+        told,
+        ", {} words of values, {} in all",
+        meta.value_words(),
+        meta.words()
+    )?;
+    Ok(Some(told))
+}
+
+/// A name as text.
+#[derive(Clone, Copy)]
+struct Letters<'a>(&'a Name32);
+
+impl fmt::Display for Letters<'_> {
+    fn fmt<W: fmt::Write>(&self, f: &mut fmt::Formatter<W>) -> fmt::Result {
+        for byte in self.0.as_bytes() {
+            f.write_char(char::from(*byte))?;
+        }
+        Ok(())
+    }
+}
+
+fn fields_of(alloc: Global, row: &mut Row) -> Result<Vec<Field>, RowFault> {
+    let mut fields = Vec::new(alloc);
+    for word in row.words() {
+        fields.push(field_of(word)?)?;
+    }
+    Ok(fields)
 }
 
 fn new_meta(
@@ -52,7 +91,8 @@ fn field_of(word: &str) -> Result<Field, RowFault> {
     })
 }
 
-fn kind_of(word: &str) -> Result<Kind, RowFault> {
+/// The kind of this name.
+pub fn kind_of(word: &str) -> Result<Kind, RowFault> {
     Ok(match word {
         "Boolean" => Kind::Boolean,
         "SByte" => Kind::SByte,

@@ -50,18 +50,30 @@ impl<'a> Row<'a> {
         self.word()?.parse::<u16>().map_err(|_| RowFault::Number)
     }
 
-    /// The rest of the line, hexadecimal digits with spaces between them.
+    /// The rest of the line as bytes: words of hexadecimal digits, of which `00*7` stands for seven bytes 0, and `-` for none.
     pub fn bytes(&mut self, alloc: Global) -> Result<Vec<u8>, RowFault> {
-        let mut digits = Vec::new(alloc);
-        for byte in self.rest.bytes() {
-            if byte != b' ' {
-                digits.push(byte)?;
-            }
+        let mut bytes = Vec::new(alloc);
+        for word in self.words() {
+            push_word(alloc, &mut bytes, word)?;
         }
         self.rest = "";
-        match hex::decode(alloc, digits) {
-            Ok(bytes) => Ok(bytes),
-            Err(_) => Err(RowFault::Hex),
-        }
+        Ok(bytes)
     }
+}
+
+fn push_word(alloc: Global, bytes: &mut Vec<u8>, word: &str) -> Result<(), RowFault> {
+    if word == "-" {
+        return Ok(());
+    }
+    let (digits, times) = match word.split_once('*') {
+        Some((digits, times)) => (digits, times.parse::<u32>().map_err(|_| RowFault::Number)?),
+        None => (word, 1),
+    };
+    let Ok(piece) = hex::decode(alloc, digits) else {
+        return Err(RowFault::Hex);
+    };
+    for _ in 0..times {
+        bytes.extend_from_slice(&piece)?;
+    }
+    Ok(())
 }
