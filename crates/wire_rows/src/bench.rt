@@ -2,7 +2,7 @@
 use crate::fault::RowFault;
 use crate::row::Row;
 use crate::timers::TimerRows;
-use crate::{metas, values};
+use crate::{metas, security, values};
 use std::alloc::Global;
 
 /// What is kept from line to line: the machines that the calls speak of.
@@ -34,6 +34,12 @@ impl Bench {
             "text" => values::text(alloc, row),
             "blob" => values::blob(alloc, row),
             "fits" => values::fits(alloc, row),
+            "block128" => security::block128(alloc, row),
+            "block256" => security::block256(alloc, row),
+            "stream128" => security::stream128(alloc, row),
+            "stream256" => security::stream256(alloc, row),
+            "hmac" => security::hmac(alloc, row),
+            "ring" => security::ring(alloc, row),
             "timer" => self.timer.limit(row),
             "seen" => self.timer.seen(row),
             "clear" => self.timer.clear(),

@@ -6,6 +6,7 @@ mod bench;
 mod fault;
 mod metas;
 mod row;
+mod security;
 mod shown;
 mod timers;
 mod values;

@@ -50,6 +50,22 @@ impl<'a> Row<'a> {
         self.word()?.parse::<u16>().map_err(|_| RowFault::Number)
     }
 
+    /// The next word, which has the digits of so many bytes.
+    pub fn array<const N: usize>(&mut self) -> Result<[u8; N], RowFault> {
+        let mut bytes = [0; N];
+        match hex::decode_to_slice(self.word()?, &mut bytes) {
+            Ok(()) => Ok(bytes),
+            Err(_) => Err(RowFault::Hex),
+        }
+    }
+
+    /// The next word as bytes.
+    pub fn piece(&mut self, alloc: Global) -> Result<Vec<u8>, RowFault> {
+        let mut bytes = Vec::new(alloc);
+        push_word(alloc, &mut bytes, self.word()?)?;
+        Ok(bytes)
+    }
+
     /// The rest of the line as bytes: words of hexadecimal digits, of which `00*7` stands for seven bytes 0, and `-` for none.
     pub fn bytes(&mut self, alloc: Global) -> Result<Vec<u8>, RowFault> {
         let mut bytes = Vec::new(alloc);
