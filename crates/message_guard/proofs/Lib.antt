@@ -1,0 +1,4 @@
+pub mod Lists
+pub mod Accepting
+pub mod Judging
+pub mod Sets
