@@ -28,6 +28,11 @@ impl Bench {
         match row.word()? {
             "read_variant" => values::read_variant(alloc, row),
             "read_data_value" => values::read_data_value(alloc, row),
+            "prefixes_of_variant" => values::prefixes_of_variant(alloc, row),
+            "prefixes_of_data_value" => values::prefixes_of_data_value(alloc, row),
+            "kinds" => values::kinds(alloc),
+            "write_variant" => values::write_variant(alloc, row),
+            "write_data_value" => values::write_data_value(alloc, row),
             "name" => metas::name(alloc, row),
             "meta" => metas::meta(alloc, row),
             "told" => metas::told(alloc, row),

@@ -5,6 +5,7 @@
 mod bench;
 mod fault;
 mod metas;
+mod parsed;
 mod row;
 mod security;
 mod shown;

@@ -1,11 +1,11 @@
 //! Rows of `dataset_meta`.
 use crate::bench::Answer;
 use crate::fault::RowFault;
+use crate::parsed::kind_of;
 use crate::row::Row;
 use dataset_meta::{Field, Meta, MetaFault, Name32};
 use std::alloc::Global;
 use std::fmt::{self, Write};
-use ua_values::Kind;
 
 /// `name BYTES`: whether the bytes are a name of a data set or a field
 pub fn name(alloc: Global, row: &mut Row) -> Answer {
@@ -88,28 +88,5 @@ fn field_of(word: &str) -> Result<Field, RowFault> {
         name: Name32::new(name.as_bytes()).ok_or(RowFault::Condition)?,
         kind: kind_of(kind)?,
         cap,
-    })
-}
-
-/// The kind of this name.
-pub fn kind_of(word: &str) -> Result<Kind, RowFault> {
-    Ok(match word {
-        "Boolean" => Kind::Boolean,
-        "SByte" => Kind::SByte,
-        "Byte" => Kind::Byte,
-        "Int16" => Kind::Int16,
-        "UInt16" => Kind::UInt16,
-        "Int32" => Kind::Int32,
-        "UInt32" => Kind::UInt32,
-        "Int64" => Kind::Int64,
-        "UInt64" => Kind::UInt64,
-        "Float" => Kind::Float,
-        "Double" => Kind::Double,
-        "String" => Kind::String,
-        "DateTime" => Kind::DateTime,
-        "Guid" => Kind::Guid,
-        "ByteString" => Kind::ByteString,
-        "StatusCode" => Kind::StatusCode,
-        _ => return Err(RowFault::Missing),
     })
 }

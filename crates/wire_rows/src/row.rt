@@ -50,6 +50,31 @@ impl<'a> Row<'a> {
         self.word()?.parse::<u16>().map_err(|_| RowFault::Number)
     }
 
+    /// The next word, `0x` and up to eight hexadecimal digits.
+    pub fn hex32(&mut self) -> Result<u32, RowFault> {
+        match u32::try_from(hex_number(self.word()?)?) {
+            Ok(number) => Ok(number),
+            Err(_) => Err(RowFault::Number),
+        }
+    }
+
+    /// The next word, `0x` and up to sixteen hexadecimal digits.
+    pub fn hex64(&mut self) -> Result<u64, RowFault> {
+        hex_number(self.word()?)
+    }
+
+    /// The next word, `none`, or `0x` and up to eight hexadecimal digits.
+    pub fn optional_hex(&mut self) -> Result<Option<u32>, RowFault> {
+        let word = self.word()?;
+        if word == "none" {
+            return Ok(None);
+        }
+        match u32::try_from(hex_number(word)?) {
+            Ok(number) => Ok(Some(number)),
+            Err(_) => Err(RowFault::Number),
+        }
+    }
+
     /// The next word, which has the digits of so many bytes.
     pub fn array<const N: usize>(&mut self) -> Result<[u8; N], RowFault> {
         let mut bytes = [0; N];
@@ -74,6 +99,16 @@ impl<'a> Row<'a> {
         }
         self.rest = "";
         Ok(bytes)
+    }
+}
+
+fn hex_number(word: &str) -> Result<u64, RowFault> {
+    let Some(digits) = word.strip_prefix("0x") else {
+        return Err(RowFault::Number);
+    };
+    match u64::from_str_radix(digits, 16) {
+        Ok(number) => Ok(number),
+        Err(_) => Err(RowFault::Number),
     }
 }
 

@@ -29,9 +29,9 @@ impl fmt::Display for Shown<'_> {
             Value::String(text) => write!(f, "String {}", Hex(text.as_bytes())),
             Value::ByteString(blob) => write!(f, "ByteString {}", Hex(blob.as_bytes())),
             Value::Guid(bytes) => write!(f, "Guid {}", Hex(bytes)),
-            Value::Float(bits) => write!(f, "Float {bits:08x}"),
-            Value::Double(bits) => write!(f, "Double {bits:016x}"),
-            Value::StatusCode(code) => write!(f, "StatusCode {code:08x}"),
+            Value::Float(bits) => write!(f, "Float 0x{bits:08x}"),
+            Value::Double(bits) => write!(f, "Double 0x{bits:016x}"),
+            Value::StatusCode(code) => write!(f, "StatusCode 0x{code:08x}"),
             other => write!(f, "{}", Number(other)),
         }
     }
