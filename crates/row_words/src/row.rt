@@ -88,6 +88,7 @@ impl Row {
         ensures set { row_in meta.now.fields self.new.words
             ≡ with_status (row_in meta.now.fields self.old.words) index status }
     {
+        prove!(usize::from(index) < meta.fields().len());
         let place = status_place(meta, index);
         self.words[place] = with_status(self.words[place], index, status);
     }
@@ -128,15 +129,13 @@ impl Row {
         ensures row { row_in short.now.fields result.words ≡ row_cut short.now (row_in full.now.fields self.now.words) }
         ensures words { result.words ≡ cut_words short.now full.now self.now.words }
     {
+        prove!(full.fields().len() <= 64);
+        let count = short.fields().len();
+        let start = short.value_words() as usize;
         let mut row = Row::opening();
-        let values = short.value_words() as usize;
-        row.words[..values].copy_from_slice(&self.words[..values]);
-        let statuses = full.value_words() as usize;
-        cut_statuses(
-            &mut row.words[values..],
-            &self.words[statuses..],
-            short.fields().len(),
-        );
+        let (values, statuses) = row.words.split_at_mut(start);
+        values.copy_from_slice(&self.words[..start]);
+        cut_statuses(statuses, &self.words[full.value_words() as usize..], count);
         row
     }
 }
