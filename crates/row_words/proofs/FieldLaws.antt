@@ -155,7 +155,7 @@ status_read meta words index place status belongs within at is =
     ap (λ (ws : List ℕ). get_or ws place 0) all ∙ get_or_behind (spelled_values meta.fields row) (behind meta.fields row) (index / 2) place (omega (arith, at, long)) in
     let one = half_read (status_words meta.fields) (index / 2) (index % 2) (statuses row) _ (small_statuses meta.quality meta.fields row belongs.row) (omega arith) (omega (arith, count)) (omega (arith, count)) in
     λ d. sym (is ∙ ap (λ (w : ℕ). slice_index (digits_of (2 ^ 32) 2 w) (index % 2)) word ∙ one ∙ ap (λ (k : ℕ). get_or (statuses row) k 0) (halves index)
-        ∙ get_statuses row index d (omega (arith, length_row meta.quality meta.fields row belongs.row)))
+    ∙ get_statuses row index d (omega (arith, length_row meta.quality meta.fields row belongs.row)))
   where
     get_or_behind : (front back : List ℕ) (k at : ℕ) → at ≡ length front + k → get_or (front ++ back) at 0 ≡ get_or back k 0
     get_or_behind [] back k at e = let same : at ≡ k = omega (arith, e) in ap (λ (n : ℕ). get_or back n 0) same

@@ -50,9 +50,9 @@ copied_good meta from to after index of_from of_to within none copied =
     let s = stands meta from index of_from within in
     let good : s.x.status ≡ 0 = good_at meta.fields (row_in meta.fields from) index s.x (subst (λ (quality : Bool). IsRowOf quality meta.fields (row_in meta.fields from)) none of_from.row) within (s.here s.x) in
     λ d. copied d ∙ ap (λ (x : DataValue). with_value (row_in meta.fields to) index x.value) (s.here d)
-        ∙ set_good meta (row_in meta.fields to) index s.x.value of_to.row none
-        ∙ ap (λ (n : ℕ). slice_set (row_in meta.fields to) index (record { value = s.x.value; status = n })) (sym good)
-        ∙ ap (slice_set (row_in meta.fields to) index) (sym (s.here d))
+    ∙ set_good meta (row_in meta.fields to) index s.x.value of_to.row none
+    ∙ ap (λ (n : ℕ). slice_set (row_in meta.fields to) index (record { value = s.x.value; status = n })) (sym good)
+    ∙ ap (slice_set (row_in meta.fields to) index) (sym (s.here d))
 
 pub copied_both : (meta : MetaData) (from to mid after : List ℕ) (index status : ℕ) → Belongs meta from → index < length meta.fields → HasStatus (row_in meta.fields from) index status
     → HoldsAt (λ x. row_in meta.fields mid ≡ with_value (row_in meta.fields to) index x.value) (row_in meta.fields from) index
@@ -61,7 +61,7 @@ pub copied_both : (meta : MetaData) (from to mid after : List ℕ) (index status
 copied_both meta from to mid after index status of_from within has copied set =
     let s = stands meta from index of_from within in
     λ d. set ∙ ap (λ (row : List DataValue). with_status row index status) (copied d)
-        ∙ ap (λ (x : DataValue). with_status (with_value (row_in meta.fields to) index x.value) index status) (s.here d)
-        ∙ both_set (row_in meta.fields to) index s.x.value status
-        ∙ ap (λ (n : ℕ). slice_set (row_in meta.fields to) index (record { value = s.x.value; status = n })) (sym (has s.x) ∙ ap (λ (x : DataValue). x.status) (s.here s.x))
-        ∙ ap (slice_set (row_in meta.fields to) index) (sym (s.here d))
+    ∙ ap (λ (x : DataValue). with_status (with_value (row_in meta.fields to) index x.value) index status) (s.here d)
+    ∙ both_set (row_in meta.fields to) index s.x.value status
+    ∙ ap (λ (n : ℕ). slice_set (row_in meta.fields to) index (record { value = s.x.value; status = n })) (sym (has s.x) ∙ ap (λ (x : DataValue). x.status) (s.here s.x))
+    ∙ ap (slice_set (row_in meta.fields to) index) (sym (s.here d))
