@@ -1,19 +1,17 @@
 -- Lengths with their bytes, and texts, are read as exactly what spells them.
-use Rattle.std.proofs.Common.{◌≡◌, ℕ, zero, suc, ◌+◌, ◌<◌, ◌≤◌, ◌^◌, ◌⊎◌, inl, inr, Bool, true, false, cond, List, [], ◌∷◌, ◌++◌, length, Result, Ok, Err, ℤ, pos, negsuc, refl, sym, ap, subst, ◌∙◌, append-nil, arith}
+use Rattle.std.proofs.Common.{◌≡◌, ℕ, zero, suc, ◌<◌, ◌≤◌, ◌^◌, ◌⊎◌, inl, inr, Bool, true, false, cond, List, [], ◌∷◌, ◌++◌, length, Result, Ok, Err, ℤ, pos, negsuc, refl, sym, ap, subst, ◌∙◌, append-nil, arith}
 use Rattle.std.specs.Prelude.{nat_lt, if◌then◌else◌}
 use Rattle.std.specs.Int.{w32, to_le_bytes, cast_signed, cast_unsigned}
 use Rattle.std.specs.Str.{is_utf8, IsUtf8}
 use Rattle.std.proofs.lemmas.Bool.{le-ltb, ltb-false}
 use Rattle.std.proofs.lemmas.Int.{ints, to_z_pos, of_z-to_z}
-use Rattle.std.proofs.lemmas.Str.{IsUtf8-from_is_utf8, is_utf8-from_IsUtf8, IsUtf8-nil}
+use Rattle.std.proofs.lemmas.Str.{IsUtf8-from_is_utf8, is_utf8-from_IsUtf8}
 use Rattle.ua_values.specs.Room.{IsShort}
-use Rattle.ua_values.specs.Texts.{IsText}
 use Rattle.ua_binary.specs.declared.fault.ValueFault.{ValueFault}
 use Rattle.ua_binary.specs.declared.fault.ValueFault.TheVariants.{Short, BadUtf8, BadLength}
 use Rattle.ua_binary.specs.Reading.{◌>>=◌, bytes_at, number_at}
 use Rattle.ua_binary.specs.ReadingValues.{length_of, block_at, text_at}
 use Rattle.ua_binary.specs.Spelling.{block}
-use Rattle.ua_binary.specs.Wire.{AreBytes, IsPart}
 use Rattle.ua_binary.proofs.Grammar.{IsGrammar, Joined, then_grammar, alone, Done, done_grammar, refused_grammar, same_grammar}
 use Rattle.ua_binary.proofs.Parts.{IsPartOf, bytes_grammar, IsNumber, number_grammar, coded32}
 

@@ -1,5 +1,5 @@
 -- DataValues are read as exactly what spells them.
-use Rattle.std.proofs.Common.{◌≡◌, ℕ, ◌+◌, ◌<◌, ◌≤◌, ◌^◌, Bool, true, false, List, [], ◌∷◌, ◌++◌, length, Option, Some, None, Result, Ok, Err, refl, sym, ap, subst, ◌∙◌, append_assoc, append-nil, arith}
+use Rattle.std.proofs.Common.{◌≡◌, ℕ, ◌<◌, ◌^◌, Bool, true, false, List, [], ◌∷◌, ◌++◌, Option, Some, None, Result, Ok, Err, refl, sym, ap, subst, ◌∙◌, append_assoc, append-nil}
 use Rattle.std.specs.Prelude.{is_some, unwrap_or, IfSome, if◌then◌else◌}
 use Rattle.std.specs.Int.{w32, to_le_bytes}
 use Rattle.ua_values.specs.declared.value.Value.{Value}
@@ -8,9 +8,9 @@ use Rattle.ua_binary.specs.declared.fault.ValueFault.{ValueFault}
 use Rattle.ua_binary.specs.declared.fault.ValueFault.TheVariants.{Short, KindOut}
 use Rattle.ua_binary.specs.Reading.{◌>>=◌, byte_at, bytes_at, number_at, part_at, skipped}
 use Rattle.ua_binary.specs.ReadingValues.{has, variant_at, times_past, parts_at, data_value_at}
-use Rattle.ua_binary.specs.Wire.{AreBytes, IsPart, optional, flag, WireValue, IsWireValue, variant_as, WireDataValue, IsWireDataValue, mask_of, data_value_as, value_in, measured_of}
+use Rattle.ua_binary.specs.Wire.{IsPart, optional, WireValue, IsWireValue, variant_as, WireDataValue, IsWireDataValue, mask_of, data_value_as, value_in, measured_of}
 use Rattle.ua_binary.proofs.Grammar.{IsGrammar, Joined, then_grammar, Done, done_grammar, refused_grammar, same_grammar, Optional, PartSpells, part_grammar, Skips, skipped_grammar}
-use Rattle.ua_binary.proofs.Masks.{IsMask, mask_with, mask-told, flags-mask}
+use Rattle.ua_binary.proofs.Masks.{mask-told, flags-mask}
 use Rattle.ua_binary.proofs.Parts.{IsByte, byte_grammar, IsPartOf, bytes_grammar, IsNumber, number_grammar, coded32}
 use Rattle.ua_binary.proofs.Values.{SpellsVariant, variant_grammar}
 
@@ -152,11 +152,11 @@ join measured text j =
       is_wire = record { value = value.is_wire; status = status.0; source_time = source.0; source_picoseconds = source_picoseconds.0; server_time = server.0; server_picoseconds = server_picoseconds.0 };
       meaning = ap (λ (v : Option Value). found v after.first) value.meaning ∙ sym last.spells.0;
       spelled = assemble (mask_of (record { value = value.wire; status = after.first; source_time = times.spells_first.found; source_picoseconds = later.spells_first.found; server_time = servers.spells_first.found; server_picoseconds = servers.spells.found }))
-      text j.front j.back (optional variant_as value.wire) parts.back (optional (to_le_bytes w32) after.first) after.back last.front last.back (optional (λ p. p) times.spells_first.found) times.back (optional (λ p. p) later.spells_first.found) later.back
-      (optional (λ p. p) servers.spells_first.found) (optional (λ p. p) servers.spells.found)
-      j.split (j.spells_first.1 ∙ ap (λ (mask : ℕ). mask ∷ []) is_mask) (parts.split ∙ ap (λ (l : List ℕ). l ++ parts.back) value.spelled) (after.split ∙ ap (λ (l : List ℕ). l ++ after.back) status.1) last.split last.spells.1
-      (times.split ∙ ap (λ (l : List ℕ). l ++ times.back) source.1) (later.split ∙ ap (λ (l : List ℕ). l ++ later.back) source_picoseconds.1)
-      (servers.split ∙ ap (λ (l : List ℕ). l ++ servers.back) server.1 ∙ ap (λ (l : List ℕ). optional (λ p. p) servers.spells_first.found ++ l) server_picoseconds.1);
+          text j.front j.back (optional variant_as value.wire) parts.back (optional (to_le_bytes w32) after.first) after.back last.front last.back (optional (λ p. p) times.spells_first.found) times.back (optional (λ p. p) later.spells_first.found) later.back
+          (optional (λ p. p) servers.spells_first.found) (optional (λ p. p) servers.spells.found)
+          j.split (j.spells_first.1 ∙ ap (λ (mask : ℕ). mask ∷ []) is_mask) (parts.split ∙ ap (λ (l : List ℕ). l ++ parts.back) value.spelled) (after.split ∙ ap (λ (l : List ℕ). l ++ after.back) status.1) last.split last.spells.1
+          (times.split ∙ ap (λ (l : List ℕ). l ++ times.back) source.1) (later.split ∙ ap (λ (l : List ℕ). l ++ later.back) source_picoseconds.1)
+          (servers.split ∙ ap (λ (l : List ℕ). l ++ servers.back) server.1 ∙ ap (λ (l : List ℕ). optional (λ p. p) servers.spells_first.found ++ l) server_picoseconds.1);
     }
 
 apart : (wire : WireDataValue) → IsWireDataValue wire → Joined ℕ Measured IsByte Masked (measured_of wire) (data_value_as wire)

@@ -1,9 +1,9 @@
 -- Which bytes have which fault.
-use Rattle.std.proofs.Common.{◌≡◌, ◌≢◌, ℕ, zero, suc, ◌+◌, ◌<◌, ◌≤◌, ◌^◌, ◌⊎◌, inl, inr, Bool, true, false, List, [], ◌∷◌, ◌++◌, length, take, drop, Option, Some, None, Result, Ok, Err, ℤ, pos, negsuc, refl, sym, ap, subst, ◌∙◌, append_assoc, arith}
+use Rattle.std.proofs.Common.{◌≡◌, ◌≢◌, ℕ, zero, suc, ◌<◌, ◌≤◌, ◌^◌, ◌⊎◌, inl, inr, Bool, true, false, List, [], ◌∷◌, ◌++◌, length, take, drop, Option, Some, None, Result, Ok, Err, ℤ, pos, negsuc, refl, sym, ap, subst, ◌∙◌, append_assoc, arith}
 use Rattle.std.specs.Prelude.{nat_lt, if◌then◌else◌, ◌<ℤ◌, FitsSigned, unwrap_or, ⊤}
-use Rattle.std.specs.Int.{Width, w8, w16, w32, w64, byte_len, from_le_bytes, to_le_bytes, cast_signed, cast_unsigned}
-use Rattle.std.specs.Str.{is_utf8, IsUtf8}
-use Rattle.std.proofs.lemmas.Bool.{ltb-true, ltb-false, lt-ltb}
+use Rattle.std.specs.Int.{Width, w16, w32, w64, byte_len, from_le_bytes, to_le_bytes, cast_signed, cast_unsigned}
+use Rattle.std.specs.Str.{is_utf8}
+use Rattle.std.proofs.lemmas.Bool.{ltb-true, lt-ltb}
 use Rattle.std.proofs.lemmas.Int.{ints, of_z-to_z, to_z-of_z}
 use Rattle.std.proofs.lemmas.Str.{is_utf8-from_IsUtf8, IsUtf8-from_is_utf8, IsUtf8-nil}
 use Rattle.ua_values.specs.declared.kind.Kind.{Kind}
@@ -157,13 +157,16 @@ block-fault rest fault e = by_field (fault-then (ℕ × List ℕ) (List ℕ × L
     by_length field read (inr is) = inl (only-short-bytes is.0 field.1 fault is.2)
     by_length field read (inl is) =
         let bad = length-fault (cast_signed w32 field.0) fault is in
-        inr (bad.0, λ all. let one = (number_grammar ValueFault Short w32 32 coded32).back rest field.1 field.0 all read in record {
-          len = cast_signed w32 field.0;
-          field = signed32 field.0 one.spells.0;
-          bad = bad.1;
-          after = field.1;
-          split = one.split ∙ ap (λ (l : List ℕ). l ++ field.1) (one.spells.1 ∙ ap (to_le_bytes w32) (sym (of_z-to_z w32 field.0 one.spells.0)));
-        })
+        inr (
+          bad.0,
+          λ all. let one = (number_grammar ValueFault Short w32 32 coded32).back rest field.1 field.0 all read in record {
+            len = cast_signed w32 field.0;
+            field = signed32 field.0 one.spells.0;
+            bad = bad.1;
+            after = field.1;
+            split = one.split ∙ ap (λ (l : List ℕ). l ++ field.1) (one.spells.1 ∙ ap (to_le_bytes w32) (sym (of_z-to_z w32 field.0 one.spells.0)));
+          },
+        )
 
     by_field : (number_at Short w32 rest ≡ Err fault) ⊎ ((field : ℕ × List ℕ) × (number_at Short w32 rest ≡ Ok field) × (counted_at field ≡ Err fault)) → (fault ≡ Short) ⊎ ((fault ≡ BadLength) × (AreBytes rest → BadField rest))
     by_field (inl is) = inl (only-short-number w32 rest fault is)

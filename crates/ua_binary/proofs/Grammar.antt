@@ -1,6 +1,6 @@
 -- Readings that take from left to right exactly what spells their answer.
-use Rattle.std.proofs.Common.{◌≡◌, ℕ, zero, suc, ◌+◌, ◌-◌, ◌<◌, ◌≤◌, Bool, true, false, List, [], ◌∷◌, ◌++◌, length, take, drop, Option, Some, None, Result, Ok, Err, refl, sym, ap, subst, ◌∙◌, append_assoc, append-nil, arith}
-use Rattle.std.specs.Prelude.{nat_lt, if◌then◌else◌, is_some}
+use Rattle.std.proofs.Common.{◌≡◌, ℕ, ◌+◌, ◌-◌, ◌<◌, ◌≤◌, Bool, true, false, List, [], ◌++◌, length, take, drop, Option, Some, None, Result, Ok, Err, refl, sym, ap, subst, ◌∙◌, append_assoc, append-nil, arith}
+use Rattle.std.specs.Prelude.{nat_lt, is_some}
 use Rattle.std.proofs.lemmas.Bool.{ltb-true, ltb-false}
 use Rattle.std.proofs.lemmas.List.{length-append, take-append-le}
 use Rattle.std.proofs.lemmas.List.Elements.{All-drop}
@@ -38,7 +38,7 @@ pub then_grammar : (A B F : Type 0) (short : F) (S : A → List ℕ → Type 0) 
     → IsGrammar A F short S read → ((a : A) (text : List ℕ) → S a text → IsGrammar B F short (T a) (more a)) → IsGrammar B F short (Joined A B S T) (λ bytes. read bytes >>= λ x. more x.0 x.1)
 then_grammar A B F short S T read more first second = record {
   again = λ b text rest j. ap (λ (l : List ℕ). read (l ++ rest) >>= step) j.split ∙ ap (λ (l : List ℕ). read l >>= step) (append_assoc j.front j.back rest)
-  ∙ ap (λ (r : Result (A × List ℕ) F). r >>= step) (first.again j.first j.front (j.back ++ rest) j.spells_first) ∙ (second j.first j.front j.spells_first).again b j.back rest j.spells;
+      ∙ ap (λ (r : Result (A × List ℕ) F). r >>= step) (first.again j.first j.front (j.back ++ rest) j.spells_first) ∙ (second j.first j.front j.spells_first).again b j.back rest j.spells;
   back = λ bytes rest b all e. by_first bytes rest b all e (read bytes) refl;
   fewer = λ b text n j below. subst (λ (l : List ℕ). (read (take n l) >>= step) ≡ Err short) (sym j.split) (by_place b n j (subst (λ (l : List ℕ). n < length l) j.split below) (nat_lt n (length j.front)) refl);
 }

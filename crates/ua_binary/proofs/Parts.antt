@@ -1,5 +1,5 @@
 -- Bytes and numbers are read as exactly what spells them.
-use Rattle.std.proofs.Common.{◌≡◌, ℕ, zero, suc, ◌+◌, ◌/◌, ◌<◌, ◌≤◌, ◌^◌, Bool, true, false, List, [], ◌∷◌, ◌++◌, length, take, drop, get_or, Option, Some, None, Result, Ok, Err, refl, sym, ap, subst, ◌∙◌, arith}
+use Rattle.std.proofs.Common.{◌≡◌, ℕ, zero, suc, ◌/◌, ◌<◌, ◌^◌, Bool, true, false, List, [], ◌∷◌, ◌++◌, length, take, drop, get_or, Result, Ok, Err, refl, sym, ap, subst, ◌∙◌, arith}
 use Rattle.std.specs.Prelude.{nat_lt, if◌then◌else◌}
 use Rattle.std.specs.Int.{Width, w16, w32, w64, byte_len, from_le_bytes, to_le_bytes, bytes_low_first, byte_at as byte_of}
 use Rattle.std.proofs.lemmas.Bool.{ltb-true, ltb-false, lt-ltb, le-ltb}
@@ -7,7 +7,7 @@ use Rattle.std.proofs.lemmas.List.{length-append, length-take-le, take-append-dr
 use Rattle.std.proofs.lemmas.List.Elements.{All-head, All-cons, All-take}
 use Rattle.std.proofs.lemmas.Nat.{mod_below, le_bytes_2, le_bytes_4, le_bytes_8, from_le_bytes-to_le_bytes_2, from_le_bytes-to_le_bytes_4, from_le_bytes-to_le_bytes_8}
 use Rattle.std.proofs.Math.Seq.{take-append_seam, drop-append_seam}
-use Rattle.ua_binary.specs.Reading.{◌>>=◌, byte_at, bytes_at, number_at}
+use Rattle.ua_binary.specs.Reading.{byte_at, bytes_at, number_at}
 use Rattle.ua_binary.specs.Wire.{AreBytes, IsPart}
 use Rattle.ua_binary.proofs.Grammar.{Spelled, IsGrammar, Joined, then_grammar, alone, Done, done_grammar, same_grammar}
 
@@ -99,9 +99,10 @@ number_grammar F short w bits code =
   where
     there : (n : ℕ) (text : List ℕ) → Joined (List ℕ) ℕ (IsPartOf (byte_len w)) (λ part. Done (from_le_bytes w part)) n text → IsNumber w bits n text
     there n text j =
-        let is : from_le_bytes w j.first ≡ n = sym j.spells.0 in
-        (subst (λ (k : ℕ). k < 2 ^ bits) is (code.below j.first j.spells_first.0),
-        sym (alone j.front j.back text j.split j.spells.1) ∙ j.spells_first.1 ∙ sym (code.bytes j.first j.spells_first.0) ∙ ap (to_le_bytes w) is)
+        let is : from_le_bytes w j.first ≡ n = sym j.spells.0 in (
+          subst (λ (k : ℕ). k < 2 ^ bits) is (code.below j.first j.spells_first.0),
+          sym (alone j.front j.back text j.split j.spells.1) ∙ j.spells_first.1 ∙ sym (code.bytes j.first j.spells_first.0) ∙ ap (to_le_bytes w) is,
+        )
 
     here : (n : ℕ) (text : List ℕ) → IsNumber w bits n text → Joined (List ℕ) ℕ (IsPartOf (byte_len w)) (λ part. Done (from_le_bytes w part)) n text
     here n text is = record {

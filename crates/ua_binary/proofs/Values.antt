@@ -1,5 +1,5 @@
 -- Variants are read as exactly what spells them.
-use Rattle.std.proofs.Common.{◌≡◌, ℕ, zero, suc, ◌+◌, ◌<◌, ◌≤◌, ◌^◌, ◌==◌, ◌⊎◌, inl, inr, Bool, true, false, cond, List, [], ◌∷◌, ◌++◌, length, take, Option, Some, None, Result, Ok, Err, ℤ, refl, sym, ap, subst, ◌∙◌, arith}
+use Rattle.std.proofs.Common.{◌≡◌, ℕ, zero, suc, ◌<◌, ◌^◌, ◌==◌, ◌⊎◌, inl, inr, Bool, true, false, cond, List, [], ◌∷◌, ◌++◌, length, take, Option, Some, None, Result, Ok, Err, ℤ, refl, sym, ap, subst, ◌∙◌, arith}
 use Rattle.std.specs.Prelude.{FitsSigned, find, not}
 use Rattle.std.specs.Int.{Width, w8, w16, w32, w64, to_le_bytes, cast_signed, cast_unsigned}
 use Rattle.std.proofs.lemmas.Bool.{eqb-true}
@@ -9,7 +9,6 @@ use Rattle.ua_values.specs.declared.kind.Kind.{Kind}
 use Rattle.ua_values.specs.declared.kind.Kind.TheVariants as kinds
 use Rattle.ua_values.specs.declared.value.Value.{Value}
 use Rattle.ua_values.specs.declared.value.Value.TheVariants.{Boolean, SByte, Byte, Int16, UInt16, Int32, UInt32, Int64, UInt64, Float, Double, String, DateTime, Guid, ByteString, StatusCode}
-use Rattle.ua_values.specs.Texts.{IsText}
 use Rattle.ua_values.specs.Values.{kind_of, IsValue}
 use Rattle.ua_binary.specs.declared.fault.ValueFault.{ValueFault}
 use Rattle.ua_binary.specs.declared.fault.ValueFault.TheVariants.{Short, KindOut}
@@ -274,7 +273,7 @@ variant_grammar =
       is_wire = j.spells.is_wire;
       meaning = refl;
       spelled = j.split ∙ ap (λ (l : List ℕ). l ++ j.back) j.spells_first ∙ ap (λ (l : List ℕ). type_of j.first ∷ l) j.spells.spelled
-      ∙ ap (λ (k : Kind). type_of k ∷ plain_as j.spells.form value) (sym j.spells.same_kind);
+          ∙ ap (λ (k : Kind). type_of k ∷ plain_as j.spells.form value) (sym j.spells.same_kind);
     }
 
     split : (value : Value) (text : List ℕ) → SpellsVariant value text → Joined Kind Value SpellsKind SpellsPlain value text
