@@ -1,5 +1,5 @@
 -- Acceptance: the pairs of token and number that a receiver accepted, the latest first, and which it accepts next.
-use Rattle.std.specs.Prelude.{ℕ, List, [], ◌∷◌, map, filter, Bool, false, not, ◌&&◌, ◌==◌, nat_lt, is_some}
+use Rattle.std.specs.Prelude.{◌≡◌, ℕ, List, [], ◌∷◌, map, filter, Bool, true, false, not, ◌&&◌, ◌==◌, nat_lt, is_some}
 use Rattle.replay_window.specs.Taken.{greatest, is_taken, is_too_old}
 use Rattle.message_guard.specs.declared.keys.TokenKeys.{TokenKeys}
 use Rattle.message_guard.specs.Protection.{keys_with}
@@ -26,3 +26,8 @@ is_acceptable keys accepted token number =
 abbrev pub raises : Accepted → ℕ → Bool
 raises [] token = false
 raises (pair ∷ before) token = nat_lt (highest (pair ∷ before)) token
+
+-- each pair was acceptable when it was accepted
+abbrev pub AreAcceptable : List TokenKeys → Accepted → Type 0
+AreAcceptable keys [] = Unit {0}
+AreAcceptable keys (pair ∷ before) = (is_acceptable keys before pair.0 pair.1 ≡ true) × AreAcceptable keys before

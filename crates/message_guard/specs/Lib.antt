@@ -4,3 +4,4 @@ pub mod Acceptance
 pub mod Opening
 pub mod Senders
 pub mod Guards
+pub mod Opened

@@ -4,12 +4,17 @@
 
 mod guard;
 mod keys;
+mod laws;
 mod mode;
 mod open_fault;
 mod pass;
 mod sender;
 
 pub use guard::Guard;
+pub use laws::{
+    a_passed_datagram_is_signed_and_acceptable, a_protected_datagram_is_opened,
+    no_pair_is_accepted_twice, no_token_and_number_come_twice,
+};
 pub use mode::Mode;
 pub use open_fault::OpenFault;
 pub use pass::Pass1;

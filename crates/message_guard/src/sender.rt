@@ -4,9 +4,10 @@ ghost use mathlib.Core.Option.{none};
 ghost use Rattle.group_keys.specs.Faults.{IsAccepted};
 ghost use Rattle.group_keys.specs.KeySets.{current};
 ghost use Rattle.group_keys.specs.Ring.{key_sets};
-ghost use Rattle.message_guard.specs.Modes.{is_secured, encrypts};
-ghost use Rattle.message_guard.specs.Protection.{keys_in, protected, message_nonce};
-ghost use Rattle.message_guard.specs.Senders.{SenderState, turned, advanced, numbers_left};
+ghost use Rattle.uadp_header.specs.Headers.{security_in};
+ghost use Rattle.message_guard.specs.Modes.{is_secured};
+ghost use Rattle.message_guard.specs.Protection.{keys_in, payload_of};
+ghost use Rattle.message_guard.specs.Senders.{SenderState, turned, advanced, front_value, sent, numbers_left};
 
 use crate::Mode;
 use crate::keys::{TokenKeys, message_nonce};
@@ -99,12 +100,7 @@ impl Sender {
         requires room { self.old.used < 4294967295 }
         requires secured { IsTrue (is_secured mode) }
         ensures* after { sem 𝓛 (follows_so the_row the_row self.entry.ghost_name none (λ _ _. ⊤) (λ s. s ≡ advanced self.old)) }
-        ensures signed { result.signed ≡ true }
-        ensures encrypted { result.encrypted ≡ encrypts mode }
-        ensures no_footer { result.footer ≡ false }
-        ensures no_reset { result.reset ≡ false }
-        ensures token { result.token ≡ self.old.keys.token }
-        ensures nonce { result.nonce.now ≡ message_nonce self.old.random (self.old.used + 1) }
+        ensures front { security_in result ≡ front_value mode (advanced self.old) }
     {
         self.used += 1;
         self.nonce = message_nonce(&self.random, self.used);
@@ -123,9 +119,8 @@ impl Sender {
     pub fn protect(&self, mode: Mode, datagram: &mut [u8], payload: usize)
         requires room { payload + 32 ≤ length datagram.old }
         requires secured { IsTrue (is_secured mode) }
-        ensures { let s = self.now in let nonce = message_nonce s.random s.used in
-            datagram.new ≡ protected mode s.keys nonce s.first_block
-            (take payload datagram.old) (slice_range datagram.old payload (length datagram.old - 32)) }
+        ensures { datagram.new ≡ sent mode self.now (take payload datagram.old)
+            (payload_of datagram.old payload) }
     {
         let end = datagram.len() - SIGNATURE_BYTES;
         let nonce = message_nonce(&self.random, self.used);
