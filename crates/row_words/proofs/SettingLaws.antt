@@ -36,7 +36,7 @@ pub set_good : (meta : MetaData) (row : List DataValue) (index : ℕ) (value : V
 set_good meta row index value is none = good_set meta.fields row index value (subst (λ (quality : Bool). IsRowOf quality meta.fields row) none is)
 
 -- each status of a row without quality is 0
-good_at : (fields : List Field) (row : List DataValue) (index : ℕ) (x : DataValue) → IsRowOf false fields row → index < length fields → get_or row index x ≡ x → x.status ≡ 0
+pub good_at : (fields : List Field) (row : List DataValue) (index : ℕ) (x : DataValue) → IsRowOf false fields row → index < length fields → get_or row index x ≡ x → x.status ≡ 0
 good_at [] row index x is within here = absurd (omega arith)
 good_at (field ∷ fields) [] index x is within here = absurd is
 good_at (field ∷ fields) (y ∷ row) zero x is within here = subst (λ (z : DataValue). z.status ≡ 0) here is.0.is_status
