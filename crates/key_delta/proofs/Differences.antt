@@ -1,13 +1,13 @@
 -- What differs between two rows, one field after another.
-use Rattle.std.proofs.Common.{◌≡◌, ◌↔◌, ℕ, ◌+◌, ◌<◌, Bool, true, false, not, List, [], ◌∷◌, ◌++◌, length, take, Some, ◌≤◌, refl, sym, ap, ◌∙◌, subst, arith}
+use Rattle.std.proofs.Common.{◌≡◌, ◌↔◌, ℕ, ◌+◌, ◌<◌, Bool, true, false, not, List, [], ◌∷◌, ◌++◌, length, take, Some, ◌≤◌, refl, sym, ap, ◌∙◌, arith}
 use Rattle.std.specs.Prelude.{slice_get}
 use Rattle.std.proofs.lemmas.List.{take_more, take_all, length-take-le}
 use Rattle.std.proofs.lemmas.Option.{get_or_from_slice_get}
 use Rattle.dataset_meta.specs.DataValues.{DataValue}
-use Rattle.dataset_meta.specs.Metas.{words_of, MetaData}
+use Rattle.dataset_meta.specs.Metas.{MetaData}
 use Rattle.dataset_meta.specs.Rows.{patched, differs, differs_from, cons_if, put_in}
 use Rattle.dataset_meta.specs.SameValues.{same_data_value}
-use Rattle.dataset_meta.proofs.SameLaws.{same_data_value-true, same_data_value-refl}
+use Rattle.dataset_meta.proofs.SameLaws.{same_data_value-refl}
 use Rattle.dataset_meta.proofs.RowLaws.{patched-differs}
 use Rattle.row_words.specs.declared.patch.Patch.{Patch}
 use Rattle.row_words.specs.Belonging.{row_in, spelled_row, Belongs}

@@ -1,11 +1,10 @@
 -- The words of one field among those of two rows, and the words of whole rows.
-use Rattle.std.proofs.Common.{◌≡◌, ◌≢◌, ℕ, zero, suc, ◌+◌, ◌-◌, ◌<◌, ◌≤◌, Bool, true, false, not, ◌&&◌, ◌==◌, List, [], ◌∷◌, ◌++◌, length, take, drop, get_or, replicate, refl, sym, ap, ◌∙◌, subst, arith, ◌↔◌}
+use Rattle.std.proofs.Common.{◌≡◌, ◌≢◌, ℕ, ◌+◌, ◌-◌, ◌<◌, Bool, true, false, not, ◌&&◌, ◌==◌, List, [], ◌∷◌, ◌++◌, length, take, drop, get_or, replicate, refl, sym, ap, ◌∙◌, subst, arith, ◌↔◌}
 use Rattle.std.specs.List.{HoldsAt}
 use Rattle.std.specs.Str.{bytes_eq}
 use Rattle.std.proofs.lemmas.Slice.Eq.{bytes_eq-Decides}
 use Rattle.std.proofs.lemmas.Bool.Decides.{Decides-eqb}
-use Rattle.std.proofs.lemmas.List.{take_at, take_more}
-use Rattle.ua_values.specs.declared.kind.Kind.{Kind}
+use Rattle.std.proofs.lemmas.List.{take_at}
 use Rattle.ua_values.specs.declared.value.Value.{Value}
 use Rattle.dataset_meta.specs.declared.field.Field.{Field}
 use Rattle.dataset_meta.specs.DataValues.{DataValue}
@@ -14,9 +13,9 @@ use Rattle.dataset_meta.specs.Metas.{start_of, words_of, IsMeta, MetaData}
 use Rattle.dataset_meta.specs.Rows.{IsRowOf}
 use Rattle.dataset_meta.specs.SameValues.{same_value, same_data_value}
 use Rattle.dataset_meta.proofs.SameLaws.{same_value-true, same_value-refl}
-use Rattle.row_words.specs.Words.{spelled_value, value_in, is_scalar, scalar_in, IsWordOf}
+use Rattle.row_words.specs.Words.{spelled_value, value_in, scalar_in, IsWordOf}
 use Rattle.row_words.specs.Belonging.{spelled_parts, spelled_row, row_in, Belongs}
-use Rattle.row_words.specs.Setting.{HasValue, HasStatus}
+use Rattle.row_words.specs.Setting.{HasValue}
 use Rattle.row_words.proofs.RowLaws.{Belongs-at, length-spelled_parts}
 use Rattle.row_words.proofs.FieldLaws.{StandsAt, stands, field_read}
 use Rattle.row_words.proofs.ScalarLaws.{word_back}
@@ -107,10 +106,10 @@ good_tells meta old new index differs result of_old of_new within none is same v
     let was : s.x.status ≡ 0 = good_at meta.fields (row_in meta.fields old) index s.x (subst (λ (q : Bool). IsRowOf q meta.fields (row_in meta.fields old)) none of_old.row) within (s.here s.x) in
     let now : t.x.status ≡ 0 = good_at meta.fields (row_in meta.fields new) index t.x (subst (λ (q : Bool). IsRowOf q meta.fields (row_in meta.fields new)) none of_new.row) within (t.here t.x) in
     λ d e.
-        let before = get_or (row_in meta.fields old) index d in
-        let after = get_or (row_in meta.fields new) index e in
-        let statuses : before.status ≡ after.status = ap (λ (x : DataValue). x.status) (s.here d) ∙ was ∙ sym now ∙ sym (ap (λ (x : DataValue). x.status) (t.here e)) in
-        is ∙ good_case (same_value before.value after.value) (before.status == after.status) (sym same ∙ values d e) ((Decides-eqb before.status after.status).1 statuses)
+    let before = get_or (row_in meta.fields old) index d in
+    let after = get_or (row_in meta.fields new) index e in
+    let statuses : before.status ≡ after.status = ap (λ (x : DataValue). x.status) (s.here d) ∙ was ∙ sym now ∙ sym (ap (λ (x : DataValue). x.status) (t.here e)) in
+    is ∙ good_case (same_value before.value after.value) (before.status == after.status) (sym same ∙ values d e) ((Decides-eqb before.status after.status).1 statuses)
 
 -- the words of a row, and zeros behind them
 fronts : (meta : MetaData) (words : List ℕ) → Belongs meta words → words ≡ take (words_of meta.fields) words ++ replicate (125 - words_of meta.fields) 0

@@ -1,16 +1,15 @@
 -- Words cut to the first fields.
-use Rattle.std.proofs.Common.{◌≡◌, ℕ, zero, suc, ◌+◌, ◌-◌, ◌*◌, ◌/◌, ◌^◌, ◌<◌, ◌≤◌, Bool, List, [], ◌∷◌, ◌++◌, length, take, drop, map, refl, sym, ap, ◌∙◌, subst, arith, append_assoc, length-append, length-take-le}
+use Rattle.std.proofs.Common.{◌≡◌, ℕ, zero, suc, ◌+◌, ◌-◌, ◌/◌, ◌^◌, ◌≤◌, Bool, List, [], ◌∷◌, ◌++◌, length, take, drop, refl, sym, ap, ◌∙◌, subst, arith, append_assoc}
 use Rattle.std.specs.Prelude.{replicate}
-use Rattle.std.proofs.lemmas.List.{take_at, drop_at, take-map, drop-replicate, length-replicate, append-nil, take_all, length-drop}
+use Rattle.std.proofs.lemmas.List.{drop_at, take-map, drop-replicate, take_all, length-drop}
 use Rattle.std.proofs.lemmas.List.Sums.{sum_by-cons}
 use borrow.Rule.Slice.PartMut.{mid_of}
 use Rattle.dataset_meta.specs.declared.field.Field.{Field}
 use Rattle.dataset_meta.specs.DataValues.{DataValue}
 use Rattle.dataset_meta.specs.Fields.{width_of}
-use Rattle.dataset_meta.specs.Metas.{value_words, status_words, words_of, IsMeta, MetaData, HasGrown}
-use Rattle.dataset_meta.specs.Rows.{IsRowOf, IsRow, row_cut}
+use Rattle.dataset_meta.specs.Metas.{value_words, status_words, IsMeta, MetaData, HasGrown}
+use Rattle.dataset_meta.specs.Rows.{IsRowOf, row_cut}
 use Rattle.dataset_meta.proofs.CutLaws.{IsRow-cut}
-use Rattle.dataset_meta.proofs.RowLaws.{length_row}
 use Rattle.row_words.specs.Digits.{grouped}
 use Rattle.row_words.specs.Words.{spelled_value}
 use Rattle.row_words.specs.Belonging.{spelled_values, spelled_statuses, spelled_parts, spelled_row, statuses_in, row_in, Belongs, cut_words}
@@ -47,7 +46,7 @@ statuses_cut : (quality : Bool) (fields : List Field) (row : List DataValue) (co
     → take count (statuses_in (behind fields row)) ≡ statuses (take count row)
 unfolding behind spelled_statuses
 statuses_cut quality fields row count is within =
-    let zeros = replicate (125 - length (spelled_parts fields row)) 0 in
+    let zeros : List ℕ = replicate (125 - length (spelled_parts fields row)) 0 in
     let long = count_statuses quality fields row is in
     ap (take count) (statuses_in-grouped (status_words fields) (statuses row) zeros (small_statuses quality fields row is) (omega (arith, long)))
     ∙ take_front (statuses row) (rest_behind (status_words fields) (statuses row) zeros) count (omega (arith, long, within))

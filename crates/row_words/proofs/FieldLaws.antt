@@ -1,24 +1,23 @@
 -- The words of one field among those of a row.
 use Rattle.std.proofs.Common.{◌≡◌, ℕ, zero, suc, ◌+◌, ◌-◌, ◌*◌, ◌/◌, ◌%◌, ◌^◌, ◌<◌, ◌≤◌, Bool, true, false, cond, ◌&&◌, ◌==◌, List, [], ◌∷◌, ◌++◌, length, take, drop, get_or, set, refl, sym, ap, ◌∙◌, subst, arith, Some}
-use Rattle.std.specs.Prelude.{slice_set, slice_get, slice_index, nat_le}
+use Rattle.std.specs.Prelude.{slice_get, slice_index, nat_le}
 use Rattle.std.specs.List.{HoldsAt}
 use Rattle.std.proofs.lemmas.Bool.Decides.{nat_tests}
-use Rattle.std.proofs.lemmas.List.{get_or_read, drop-drop, get_or-drop}
+use Rattle.std.proofs.lemmas.List.{get_or_read, drop-drop}
 use Rattle.std.proofs.lemmas.List.Sums.{sum_by_more, sum_by-take-le}
 use borrow.Rule.Slice.PartMut.{put_mid}
 use Rattle.ua_values.specs.declared.value.Value.{Value}
 use Rattle.dataset_meta.specs.declared.field.Field.{Field}
 use Rattle.dataset_meta.specs.DataValues.{DataValue, IsStatus, FitsField}
 use Rattle.dataset_meta.specs.Fields.{is_sized, has_cap, width_of}
-use Rattle.dataset_meta.specs.Metas.{start_of, value_words, status_words, words_of, IsMeta, MetaData}
-use Rattle.dataset_meta.specs.Rows.{IsRowOf, IsRow}
+use Rattle.dataset_meta.specs.Metas.{start_of, value_words, status_words, IsMeta, MetaData}
+use Rattle.dataset_meta.specs.Rows.{IsRowOf}
 use Rattle.dataset_meta.proofs.RowLaws.{length_row}
 use Rattle.row_words.specs.Digits.{digits_of}
 use Rattle.row_words.specs.Words.{spelled_value, value_in, Spells}
 use Rattle.row_words.specs.Belonging.{spelled_values, spelled_statuses, spelled_row, row_in, Belongs}
 use Rattle.row_words.specs.Setting.{HasValue, HasStatus, with_value, with_status}
 use Rattle.row_words.proofs.StatusLaws.{half_set, half_read}
-use Rattle.row_words.proofs.ValueLaws.{length-spelled_value}
 use Rattle.row_words.proofs.RowLaws.{length_in_field, length-spelled_values, value_back, narrow, statuses, small_statuses, count_statuses, behind, spelled_row-behind, Belongs-at, Belongs-spelled_row, row_in-spelled_row, FitsIn, IsRow-with_value, IsRow-with_status, spelled_row-with_value, spelled_row-with_status, spliced}
 
 pub small_cap : (sized : Bool) (cap : ℕ) → cond sized (nat_le 1 cap && nat_le cap 256) (cap == 0) ≡ true → cap ≤ 256

@@ -13,7 +13,7 @@ use Rattle.row_words.specs.declared.patch.Patch.{Patch}
 use Rattle.row_words.specs.Belonging.{row_in, spelled_row, Belongs}
 use Rattle.row_words.specs.Patches.{marked_from, patch_in, IsPatchOf, patched_words}
 use Rattle.std.specs.List.{HoldsAt}
-use Rattle.row_words.proofs.FieldLaws.{stands, StandsAt}
+use Rattle.row_words.proofs.FieldLaws.{stands}
 use Rattle.row_words.proofs.PatchLaws.{marked_same, none_marked}
 
 -- the mask without its lowest mark

@@ -1,5 +1,5 @@
 -- Patches and what they stand for: each patch has words, and no two patches mean the same.
-use Rattle.std.proofs.Common.{◌≡◌, ◌↔◌, ℕ, zero, suc, ◌+◌, ◌*◌, ◌%◌, ◌^◌, ◌<◌, ◌≤◌, Bool, true, false, List, [], ◌∷◌, length, refl, sym, ap, ◌∙◌, subst, arith, nat_lt, Option, Some}
+use Rattle.std.proofs.Common.{◌≡◌, ◌↔◌, ℕ, zero, suc, ◌+◌, ◌<◌, Bool, true, false, List, [], ◌∷◌, length, refl, sym, ap, ◌∙◌, subst, arith, nat_lt, Option, Some}
 use Rattle.std.specs.Prelude.{◌==◌, slice_set, slice_get, bit_or}
 use Rattle.std.specs.List.{HoldsAt}
 use Rattle.std.specs.Int.{bit_at}
@@ -9,12 +9,12 @@ use Rattle.std.proofs.lemmas.Nat.Bits.{bit_at-lt, same_from_bits_below}
 use Rattle.dataset_meta.specs.declared.field.Field.{Field}
 use Rattle.dataset_meta.specs.DataValues.{DataValue}
 use Rattle.dataset_meta.specs.Metas.{IsMeta, MetaData}
-use Rattle.dataset_meta.specs.Rows.{IsRowOf, IsPatch, IsPatchFrom, cons_if, put_in, patched, opening_value, opening_row}
+use Rattle.dataset_meta.specs.Rows.{IsPatch, IsPatchFrom, cons_if, put_in, patched, opening_value, opening_row}
 use Rattle.dataset_meta.proofs.RowLaws.{length_row, IsRow-opening, IsRow-patched}
 use Rattle.dataset_meta.proofs.ChangeLaws.{patched-put}
 use Rattle.row_words.specs.declared.row.Row.{Row}
 use Rattle.row_words.specs.declared.patch.Patch.{Patch}
-use Rattle.row_words.specs.Belonging.{row_in, spelled_row, Belongs}
+use Rattle.row_words.specs.Belonging.{row_in, spelled_row}
 use Rattle.row_words.specs.Patches.{marked_from, patch_in, IsPatchOf, mask_of, spelled_patch}
 use Rattle.row_words.proofs.RowLaws.{narrow, Belongs-spelled_row, row_in-spelled_row}
 use Rattle.row_words.proofs.PatchLaws.{Puts, put_is, IsPatchOf-none, patch_in-none}

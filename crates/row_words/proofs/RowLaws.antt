@@ -1,6 +1,6 @@
 -- Rows and the words in which they stand.
-use Rattle.std.proofs.Common.{◌≡◌, ℕ, zero, suc, ◌+◌, ◌-◌, ◌*◌, ◌/◌, ◌^◌, ◌<◌, ◌≤◌, Bool, true, false, List, [], ◌∷◌, ◌++◌, length, take, drop, get_or, set, map, refl, sym, ap, ◌∙◌, subst, arith, lit<, append_assoc, length-append}
-use Rattle.std.specs.Prelude.{replicate, slice_set, sum_by, All}
+use Rattle.std.proofs.Common.{◌≡◌, ℕ, zero, suc, ◌+◌, ◌-◌, ◌*◌, ◌^◌, ◌<◌, ◌≤◌, Bool, true, false, List, [], ◌∷◌, ◌++◌, length, take, drop, get_or, set, map, refl, sym, ap, ◌∙◌, subst, arith, lit<, append_assoc, length-append}
+use Rattle.std.specs.Prelude.{replicate, slice_set}
 use Rattle.std.specs.List.{HoldsAt}
 use Rattle.std.proofs.Math.Seq.{take-append-add, drop-append-add}
 use Rattle.std.proofs.lemmas.List.{take_at, drop_at, length-replicate, length-map, get_or-append_right, set-append_right}
@@ -95,7 +95,7 @@ row_of-spelled quality (field ∷ fields) (x ∷ row) rest more is =
 pub row_in-spelled_row : (quality : Bool) (fields : List Field) (row : List DataValue) → IsRowOf quality fields row → row_in fields (spelled_row fields row) ≡ row
 unfolding row_in behind spelled_statuses
 row_in-spelled_row quality fields row is =
-    let zeros = replicate (125 - length (spelled_parts fields row)) 0 in
+    let zeros : List ℕ = replicate (125 - length (spelled_parts fields row)) 0 in
     let all = spelled_row-behind fields row in
     let room : length (statuses row) ≤ 2 * status_words fields = omega (arith, count_statuses quality fields row is) in
     let behind_values = ap (drop (value_words fields)) all ∙ drop_at (spelled_values fields row) (behind fields row) (value_words fields) (length-spelled_values quality fields row is) in
@@ -250,7 +250,7 @@ behind-with_status : (quality : Bool) (fields : List Field) (row : List DataValu
     → set (behind fields row) q (half_set (get_or (behind fields row) q 0) r status) ≡ behind fields (with_status row (2 * q + r) status)
 unfolding behind spelled_statuses
 behind-with_status quality fields row q r status is small within after =
-    let zeros = replicate (125 - length (spelled_parts fields row)) 0 in
+    let zeros : List ℕ = replicate (125 - length (spelled_parts fields row)) 0 in
     let count = count_statuses quality fields row is in
     let long = length-spelled_parts quality fields row is ∙ sym (length-spelled_parts quality fields (with_status row (2 * q + r) status) after) in
     half_written (status_words fields) q r status (statuses row) zeros (small_statuses quality fields row is) small (omega (arith, count)) (omega (arith, count))

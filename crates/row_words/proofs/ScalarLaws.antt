@@ -1,6 +1,6 @@
 -- Scalars, whose values take one word.
-use Rattle.std.proofs.Common.{◌≡◌, ◌≢◌, ℕ, zero, suc, ◌+◌, ◌-◌, ◌^◌, ◌<◌, true, List, [], ◌∷◌, length, take, drop, get_or, set, refl, sym, ap, ◌∙◌, subst, arith, Some}
-use Rattle.std.specs.Prelude.{slice_index, slice_get, slice_set, ◌==◌, if◌then◌else◌, FitsSigned}
+use Rattle.std.proofs.Common.{◌≡◌, ◌≢◌, ℕ, zero, suc, ◌+◌, ◌-◌, ◌^◌, ◌<◌, true, List, [], ◌∷◌, length, take, drop, get_or, set, refl, sym, ap, ◌∙◌, subst, arith}
+use Rattle.std.specs.Prelude.{slice_index, ◌==◌, if◌then◌else◌, FitsSigned}
 use Rattle.std.specs.Int.{w8, w16, w32, w64, cast_signed}
 use Rattle.std.specs.List.{HoldsAt}
 use Rattle.std.proofs.lemmas.Int.{of_z-to_z, ints}
@@ -11,8 +11,7 @@ use Rattle.ua_values.specs.declared.kind.Kind.TheVariants as kinds
 use Rattle.ua_values.specs.Values.{kind_of, size_of, IsValue}
 use Rattle.dataset_meta.specs.declared.field.Field.{Field}
 use Rattle.dataset_meta.specs.Fields.{width, width_of}
-use Rattle.dataset_meta.specs.Metas.{start_of, value_words, IsMeta, MetaData}
-use Rattle.dataset_meta.specs.DataValues.{DataValue}
+use Rattle.dataset_meta.specs.Metas.{start_of, IsMeta, MetaData}
 use Rattle.row_words.specs.Words.{is_scalar, IsWordOf, scalar_in, spelled_value, value_in, Spells}
 use Rattle.row_words.specs.Belonging.{row_in, Belongs}
 use Rattle.row_words.specs.Setting.{HasValue, with_value}

@@ -1,5 +1,5 @@
 -- One value and one status of a row.
-use Rattle.std.proofs.Common.{◌≡◌, ℕ, zero, suc, ◌+◌, ◌<◌, Bool, true, false, List, [], ◌∷◌, length, get_or, refl, sym, ap, ◌∙◌, subst, arith}
+use Rattle.std.proofs.Common.{◌≡◌, ℕ, zero, suc, ◌<◌, Bool, false, List, [], ◌∷◌, length, get_or, refl, sym, ap, ◌∙◌, subst, arith}
 use Rattle.std.specs.Prelude.{slice_set}
 use Rattle.std.specs.List.{HoldsAt}
 use Rattle.ua_values.specs.declared.value.Value.{Value}
@@ -9,7 +9,7 @@ use Rattle.dataset_meta.specs.Metas.{MetaData}
 use Rattle.dataset_meta.specs.Rows.{IsRowOf, IsRow}
 use Rattle.row_words.specs.Belonging.{row_in, Belongs}
 use Rattle.row_words.specs.Setting.{HasStatus, with_value, with_status}
-use Rattle.row_words.proofs.FieldLaws.{stands, StandsAt, IsRow-at}
+use Rattle.row_words.proofs.FieldLaws.{stands}
 
 pub both_set : (row : List DataValue) (index : ℕ) (value : Value) (status : ℕ)
     → with_status (with_value row index value) index status ≡ slice_set row index (record { value = value; status = status })

@@ -10,7 +10,7 @@ use Rattle.ua_values.specs.declared.kind.Kind.TheVariants.{Boolean, SByte, Byte,
 use Rattle.dataset_meta.specs.declared.field.Field.{Field}
 use Rattle.dataset_meta.specs.Fields.{width, width_of, is_sized}
 use Rattle.dataset_meta.specs.DataValues.{DataValue, FitsField}
-use Rattle.dataset_meta.specs.Metas.{value_words, status_words, IsMeta, MetaData}
+use Rattle.dataset_meta.specs.Metas.{value_words, IsMeta, MetaData}
 use Rattle.dataset_meta.specs.Rows.{IsRowOf, IsRow, patched}
 use Rattle.dataset_meta.proofs.RowLaws.{IsRow-patched}
 use Rattle.row_words.specs.declared.patch.Patch.{Patch}

@@ -1,6 +1,5 @@
 use Rattle.std.proofs.Common.{◌≡◌, ◌+◌, ◌-◌, rules, sym, ap, ◌∙◌, get_or}
 use borrow.Rule.Slice.PartMut.{put_mid}
-use Rattle.ua_values.specs.declared.value.Value.{Value}
 use Rattle.dataset_meta.specs.DataValues.{DataValue}
 use Rattle.row_words.specs.Belonging.{row_in}
 use Rattle.row_words.specs.Setting.{with_value}

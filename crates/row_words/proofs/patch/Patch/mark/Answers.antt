@@ -1,9 +1,4 @@
-use Rattle.std.proofs.Common.{◌<◌, arith, ap, sym, ◌∙◌}
-use Rattle.std.specs.Prelude.{slice_set}
-use Rattle.dataset_meta.specs.DataValues.{DataValue}
-use Rattle.dataset_meta.specs.Rows.{put_in}
-use Rattle.row_words.specs.Belonging.{row_in}
-use Rattle.row_words.specs.Patches.{patch_in}
+use Rattle.std.proofs.Common.{◌<◌, arith}
 use Rattle.row_words.proofs.FieldLaws.{stands}
 use Rattle.row_words.proofs.PatchLaws.{put_is}
 use Rattle.row_words.proofs.patch.Patch.mark.Goals as goal

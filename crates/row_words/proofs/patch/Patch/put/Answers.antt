@@ -1,5 +1,4 @@
 use Rattle.std.proofs.Common.{◌<◌, arith, ap, ◌∙◌}
-use Rattle.dataset_meta.specs.DataValues.{DataValue}
 use Rattle.row_words.specs.Setting.{with_status}
 use Rattle.row_words.proofs.PatchLaws.{put_is}
 use Rattle.row_words.proofs.SettingLaws.{both_set}

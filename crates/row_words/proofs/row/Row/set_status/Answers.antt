@@ -1,4 +1,4 @@
-use Rattle.row_words.proofs.FieldLaws.{status_written, WroteStatus}
+use Rattle.row_words.proofs.FieldLaws.{status_written}
 use Rattle.row_words.proofs.row.Row.set_status.Goals as goal
 
 pub returns-clause-belongs : goal.returns-clause-belongs

@@ -1,4 +1,3 @@
-use Rattle.std.proofs.Common.{rules}
 use Rattle.row_words.proofs.FieldLaws.{status_read}
 use Rattle.row_words.proofs.row.Row.status.Goals as goal
 
