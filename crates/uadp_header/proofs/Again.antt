@@ -17,7 +17,7 @@ use Rattle.uadp_header.specs.Formats.{passing}
 use Rattle.uadp_header.specs.Headers.{PublisherValue, U8, U16, U32, U64, Text, IdsValue, NoIds, ListOf, ChunkOf, SecurityValue, HeaderValue}
 use Rattle.uadp_header.specs.Layout.{header_at, flags_fault, extended1_fault, extended2_fault, reserved_fault, text_len}
 use Rattle.uadp_header.specs.Reading.{BeginsWith}
-use Rattle.uadp_header.specs.Spelling.{flag, optional, type_of, has_ids, is_chunk, publisher_bytes, ids_bytes, extended1_byte, extended_bytes, flags_byte, flags_bytes, group_flags, group_bytes, security_flags, security_bytes, header_bytes, header_len, IsShortText, AreIds, IsSendersSecurity, IsSenders, IsPublisher, IsIds, IsHeader}
+use Rattle.uadp_header.specs.Spelling.{flag, optional, type_of, has_ids, is_chunk, publisher_bytes, ids_bytes, extended1_byte, extended_bytes, flags_byte, flags_bytes, group_flags, group_bytes, security_flags, security_bytes, header_bytes, header_len, IsShortText, AreIds, IsSendersSecurity, IsSenders, IsPublisher, IsIds, IsHeader, IsWritten}
 use Rattle.uadp_header.specs.Steps.{as_text, flags_at, flags_when, text_at, publisher_at, group_numbers_at, group_at, ids_at, extras_at, security_at, parts_at, whole_at}
 use Rattle.uadp_header.proofs.FormatLaws.{then_read}
 use Rattle.uadp_header.proofs.Lengths.{length-is_header}
@@ -76,6 +76,20 @@ guid_again : (guid : Option (List ℕ)) (rest : List ℕ) → IfSome guid (λ by
 guid_again None rest sixteen = refl
 guid_again (Some guid) rest sixteen = ap (λ (r : Result (List ℕ × List ℕ) HeaderFault). then_read r (λ read. Ok (Some read.0, read.1))) (bytes_again 16 guid rest sixteen)
 
+-- a sender's header
+record Parts : Type 0 where
+  publisher : PublisherValue
+  class_id : Option (List ℕ)
+  group : ℕ
+  version : Option ℕ
+  message_number : Option ℕ
+  sequence : Option ℕ
+  ids : IdsValue
+  security : Option SecurityValue
+
+abbrev whole : Parts → HeaderValue
+whole p = record { publisher = Some p.publisher; class_id = p.class_id; group = Some p.group; version = p.version; message_number = p.message_number; sequence = p.sequence; ids = p.ids; security = p.security }
+
 -- GroupFlags, and the numbers behind them
 record TellsGroup (has_version has_message_number has_sequence : Bool) (flags : ℕ) : Type 0 where
   no_fault : reserved_fault flags ≡ None
@@ -117,20 +131,19 @@ numbers_again flags id version message_number sequence rest tells small version_
       u16_if sequence rest sequence_small,
     ) refl
 
-group_again : (id : ℕ) (version message_number sequence : Option ℕ) (rest : List ℕ)
-    → id < 2 ^ 16 → IfSome version (λ n. n < 2 ^ 32) → IfSome message_number (λ n. n < 2 ^ 16) → IfSome sequence (λ n. n < 2 ^ 16)
-    → group_at true (group_bytes (Some id) version message_number sequence ++ rest)
-    ≡ Ok (record { id = Some id; version = version; message_number = message_number; sequence = sequence }, rest)
+group_again : (p : Parts) (rest : List ℕ) → IsHeader (whole p) → group_at true (group_bytes (whole p) ++ rest)
+    ≡ Ok (record { id = Some p.group; version = p.version; message_number = p.message_number; sequence = p.sequence }, rest)
 unfolding group_at group_bytes flags_at
-group_again id version message_number sequence rest small version_small message_number_small sequence_small =
-    let flags = group_flags version message_number sequence in
-    let tells = group_tells (is_some version) (is_some message_number) (is_some sequence) in
-    let behind : (to_le_bytes w16 id ++ optional (to_le_bytes w32) version ++ optional (to_le_bytes w16) message_number ++ optional (to_le_bytes w16) sequence) ++ rest
-    ≡ to_le_bytes w16 id ++ (optional (to_le_bytes w32) version ++ (optional (to_le_bytes w16) message_number ++ (optional (to_le_bytes w16) sequence ++ rest)))
+group_again p rest is =
+    let flags = group_flags (whole p) in
+    let tells = group_tells (is_some p.version) (is_some p.message_number) (is_some p.sequence) in
+    let numbers = to_le_bytes w16 p.group ++ optional (to_le_bytes w32) p.version ++ optional (to_le_bytes w16) p.message_number ++ optional (to_le_bytes w16) p.sequence in
+    let behind : numbers ++ rest
+    ≡ to_le_bytes w16 p.group ++ (optional (to_le_bytes w32) p.version ++ (optional (to_le_bytes w16) p.message_number ++ (optional (to_le_bytes w16) p.sequence ++ rest)))
     = simp append_assoc in
-    ap (λ (fault : Option HeaderFault). then_read (passing fault (got flags ((to_le_bytes w16 id ++ optional (to_le_bytes w32) version ++ optional (to_le_bytes w16) message_number ++ optional (to_le_bytes w16) sequence) ++ rest))) (λ f. group_numbers_at f.0 f.1)) tells.no_fault
+    ap (λ (fault : Option HeaderFault). then_read (passing fault (got flags (numbers ++ rest))) (λ f. group_numbers_at f.0 f.1)) tells.no_fault
     ∙ ap (group_numbers_at flags) behind
-    ∙ numbers_again flags id version message_number sequence rest tells small version_small message_number_small sequence_small
+    ∙ numbers_again flags p.group p.version p.message_number p.sequence rest tells is.group is.version is.message_number is.sequence
 
 -- the ids, and nothing between them and the security header
 ids_again : (ids : IdsValue) (rest : List ℕ) → AreIds ids → IsIds ids → ids_at (has_ids ids) (is_chunk ids) (ids_bytes ids ++ rest) ≡ Ok (ids, rest)
@@ -286,22 +299,9 @@ chunk_listed (ListOf bytes) is = refl
 chunk_listed (ChunkOf id) is = refl
 
 -- all parts behind the flags
-record Parts : Type 0 where
-  publisher : PublisherValue
-  class_id : Option (List ℕ)
-  group : ℕ
-  version : Option ℕ
-  message_number : Option ℕ
-  sequence : Option ℕ
-  ids : IdsValue
-  security : Option SecurityValue
-
-abbrev whole : Parts → HeaderValue
-whole p = record { publisher = Some p.publisher; class_id = p.class_id; group = Some p.group; version = p.version; message_number = p.message_number; sequence = p.sequence; ids = p.ids; security = p.security }
-
 abbrev parts_before : Parts → List ℕ → List ℕ
 parts_before p rest =
-    publisher_bytes p.publisher ++ (optional (λ guid. guid) p.class_id ++ (group_bytes (Some p.group) p.version p.message_number p.sequence ++ (ids_bytes p.ids ++ (optional security_bytes p.security ++ rest))))
+    publisher_bytes p.publisher ++ (optional (λ guid. guid) p.class_id ++ (group_bytes (whole p) ++ (ids_bytes p.ids ++ (optional security_bytes p.security ++ rest))))
 
 parts_again : (flags extended1 extended2 : ℕ) (there : Bool) (p : Parts) (rest : List ℕ) → TellsFlags (has_ids p.ids) there flags
     → TellsExtended (type_of p.publisher) (is_some p.class_id) (is_some p.security) (is_chunk p.ids) extended1 → has extended2 0x01 ≡ is_chunk p.ids → has extended2 0x02 ≡ false
@@ -310,7 +310,7 @@ unfolding parts_at
 parts_again flags extended1 extended2 there p rest tells extended chunk promoted senders is =
     let on_security = optional security_bytes p.security ++ rest in
     let on_ids = ids_bytes p.ids ++ on_security in
-    let on_group = group_bytes (Some p.group) p.version p.message_number p.sequence ++ on_ids in
+    let on_group = group_bytes (whole p) ++ on_ids in
     let on_class_id = optional (λ guid. guid) p.class_id ++ on_group in
     rw (
       tells.publisher,
@@ -319,7 +319,7 @@ parts_again flags extended1 extended2 there p rest tells extended chunk promoted
       extended.class,
       guid_again p.class_id on_group is.class_id,
       tells.group,
-      group_again p.group p.version p.message_number p.sequence on_ids is.group is.version is.message_number is.sequence,
+      group_again p on_ids is,
       tells.ids,
       chunk,
       ids_again p.ids on_security senders.ids is.ids,
@@ -352,7 +352,7 @@ written_again : (p : Parts) (rest : List ℕ) → IsSenders (whole p) → IsHead
 unfolding header_bytes
 written_again p rest senders is =
     header_whole (header_bytes (whole p) ++ rest)
-    ∙ ap whole_at (regrouped (flags_bytes (whole p)) (publisher_bytes p.publisher) (optional (λ guid. guid) p.class_id) (group_bytes (Some p.group) p.version p.message_number p.sequence) (ids_bytes p.ids) (optional security_bytes p.security) rest)
+    ∙ ap whole_at (regrouped (flags_bytes (whole p)) (publisher_bytes p.publisher) (optional (λ guid. guid) p.class_id) (group_bytes (whole p)) (ids_bytes p.ids) (optional security_bytes p.security) rest)
     ∙ whole_again p rest senders is
 
 abbrev with_ids : HeaderValue → Option PublisherValue → Option ℕ → HeaderValue
@@ -365,22 +365,22 @@ by_ids h (Some publisher) (Some group) rest senders is =
 by_ids h None group rest senders is = let there : Path Bool false true = senders.publisher in absurd cc
 by_ids h (Some publisher) None rest senders is = let there : Path Bool false true = senders.group in absurd cc
 
-pub header_again : (h : HeaderValue) (rest : List ℕ) → IsSenders h → IsHeader h → header_at (header_bytes h ++ rest) ≡ Ok (h, rest)
-header_again h rest senders is = by_ids h h.publisher h.group rest senders is
+pub header_again : (h : HeaderValue) (rest : List ℕ) → IsWritten h → header_at (header_bytes h ++ rest) ≡ Ok (h, rest)
+header_again h rest is = by_ids h h.publisher h.group rest is.senders is.header
 
-pub header_begins : (h : HeaderValue) (rest : List ℕ) → IsSenders h → IsHeader h → BeginsWith (header_bytes h ++ rest) h (header_len h)
-header_begins h rest senders is =
-    let len = length-is_header h is in
+pub header_begins : (h : HeaderValue) (rest : List ℕ) → IsWritten h → BeginsWith (header_bytes h ++ rest) h (header_len h)
+header_begins h rest is =
+    let len = length-is_header h is.header in
     let behind : drop (header_len h) (header_bytes h ++ rest) ≡ rest = ap (λ n. drop n (header_bytes h ++ rest)) (sym len) ∙ drop-append_seam (header_bytes h) rest in
     record {
       within = omega (arith, len, length-append (header_bytes h) rest);
-      read = header_again h rest senders is ∙ ap (λ (l : List ℕ). Ok (h, l)) (sym behind);
+      read = header_again h rest is ∙ ap (λ (l : List ℕ). Ok (h, l)) (sym behind);
     }
 
-pub same_header : (one other : HeaderValue) (rest after : List ℕ) → IsSenders one → IsHeader one → IsSenders other → IsHeader other → header_bytes one ++ rest ≡ header_bytes other ++ after
+pub same_header : (one other : HeaderValue) (rest after : List ℕ) → IsWritten one → IsWritten other → header_bytes one ++ rest ≡ header_bytes other ++ after
     → (one ≡ other) × (rest ≡ after)
-same_header one other rest after one_senders is_one other_senders is_other same =
+same_header one other rest after is_one is_other same =
     let both : Path (Result (HeaderValue × List ℕ) HeaderFault) (Ok (one, rest)) (Ok (other, after)) =
-    sym (header_again one rest one_senders is_one) ∙ ap header_at same ∙ header_again other after other_senders is_other in
+    sym (header_again one rest is_one) ∙ ap header_at same ∙ header_again other after is_other in
     let pair : Path (HeaderValue × List ℕ) (one, rest) (other, after) = cc in
     (ap (λ (p : HeaderValue × List ℕ). p.0) pair, ap (λ (p : HeaderValue × List ℕ). p.1) pair)

@@ -5,18 +5,18 @@ use Rattle.std.specs.Int.{w16, w32, to_le_bytes}
 use Rattle.std.proofs.lemmas.Bool.{lt-ltb}
 use Rattle.std.proofs.lemmas.List.{length-append}
 use Rattle.uadp_header.specs.Headers.{PublisherValue, U8, U16, U32, U64, Text, IdsValue, NoIds, ListOf, ChunkOf, SecurityValue, HeaderValue}
-use Rattle.uadp_header.specs.Spelling.{flag, optional, type_in, is_chunk, publisher_bytes, ids_bytes, extended1_in, extended_bytes, flags_bytes, group_flags, group_bytes, security_flags, security_bytes, header_bytes, publisher_len, ids_len, len_if, extended_len, security_len, header_len, IsHeader}
+use Rattle.uadp_header.specs.Spelling.{flag, optional, type_in, is_chunk, publisher_bytes, ids_bytes, extended1_in, extended_bytes, flags_bytes, group_flags, group_bytes, security_flags, security_bytes, header_bytes, publisher_len, ids_len, len_if, extended_len, group_len, security_len, header_len, IsHeader}
 
 -- part after part
 pub length-parts : (h : HeaderValue) → length (header_bytes h)
     ≡ length (flags_bytes h) + length (optional publisher_bytes h.publisher) + length (optional (λ guid. guid) h.class_id)
-    + length (group_bytes h.group h.version h.message_number h.sequence) + length (ids_bytes h.ids) + length (optional security_bytes h.security)
+    + length (group_bytes h) + length (ids_bytes h.ids) + length (optional security_bytes h.security)
 unfolding header_bytes
 length-parts h =
     let flags = flags_bytes h in
     let publisher = optional publisher_bytes h.publisher in
     let class_id = optional (λ guid. guid) h.class_id in
-    let group = group_bytes h.group h.version h.message_number h.sequence in
+    let group = group_bytes h in
     let ids = ids_bytes h.ids in
     let security = optional security_bytes h.security in
     omega (
@@ -65,22 +65,21 @@ length-u32 : (o : Option ℕ) → length (optional (to_le_bytes w32) o) ≡ flag
 length-u32 None = refl
 length-u32 (Some n) = refl
 
-length-group : (id version message_number sequence : Option ℕ) → length (group_bytes id version message_number sequence)
-    ≡ 1 + flag (is_some id) 2 + flag (is_some version) 4 + flag (is_some message_number) 2 + flag (is_some sequence) 2
+length-group : (h : HeaderValue) → length (group_bytes h) ≡ group_len h
 unfolding group_bytes
-length-group id version message_number sequence =
-    let first = group_flags version message_number sequence ∷ optional (to_le_bytes w16) id in
-    let second = optional (to_le_bytes w32) version in
-    let third = optional (to_le_bytes w16) message_number in
+length-group h =
+    let first = group_flags h ∷ optional (to_le_bytes w16) h.group in
+    let second = optional (to_le_bytes w32) h.version in
+    let third = optional (to_le_bytes w16) h.message_number in
     omega (
       arith,
       length-append first second,
       length-append (first ++ second) third,
-      length-append (first ++ second ++ third) (optional (to_le_bytes w16) sequence),
-      length-u16 id,
-      length-u32 version,
-      length-u16 message_number,
-      length-u16 sequence,
+      length-append (first ++ second ++ third) (optional (to_le_bytes w16) h.sequence),
+      length-u16 h.group,
+      length-u32 h.version,
+      length-u16 h.message_number,
+      length-u16 h.sequence,
     )
 
 length-ids : (ids : IdsValue) → length (ids_bytes ids) ≡ ids_len ids
@@ -99,7 +98,7 @@ length-header h guid =
     let flags = length-flags h in
     let publisher = length-optional publisher_bytes publisher_len h.publisher length-publisher in
     let class_id : length (optional (λ guid. guid) h.class_id) ≡ len_if length h.class_id = length-optional (λ guid. guid) length h.class_id (λ bytes. refl) in
-    let group = length-group h.group h.version h.message_number h.sequence in
+    let group = length-group h in
     let ids = length-ids h.ids in
     let security = length-optional security_bytes security_len h.security length-security in
     omega (arith, length-parts h, flags, publisher, class_id, guid, group, ids, security)

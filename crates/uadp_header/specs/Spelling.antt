@@ -66,13 +66,14 @@ unfoldable pub flags_bytes : HeaderValue → List ℕ
 flags_bytes h = flags_byte (has_ids h.ids) (extended1_in h) ∷ extended_bytes (extended1_in h) (is_chunk h.ids)
 
 -- GroupFlags; the WriterGroupId is always there
-abbrev pub group_flags : Option ℕ → Option ℕ → Option ℕ → ℕ
-group_flags version message_number sequence = 1 + flag (is_some version) 2 + flag (is_some message_number) 4 + flag (is_some sequence) 8
+abbrev pub group_flags : HeaderValue → ℕ
+group_flags h = 1 + flag (is_some h.version) 2 + flag (is_some h.message_number) 4 + flag (is_some h.sequence) 8
 
 -- GroupFlags and the numbers that they tell of
-unfoldable pub group_bytes : Option ℕ → Option ℕ → Option ℕ → Option ℕ → List ℕ
-group_bytes id version message_number sequence =
-    group_flags version message_number sequence ∷ optional (to_le_bytes w16) id ++ optional (to_le_bytes w32) version ++ optional (to_le_bytes w16) message_number ++ optional (to_le_bytes w16) sequence
+unfoldable pub group_bytes : HeaderValue → List ℕ
+group_bytes h =
+    group_flags h ∷ optional (to_le_bytes w16) h.group ++ optional (to_le_bytes w32) h.version
+    ++ optional (to_le_bytes w16) h.message_number ++ optional (to_le_bytes w16) h.sequence
 
 -- SecurityFlags
 abbrev pub security_flags : SecurityValue → ℕ
@@ -85,7 +86,7 @@ security_bytes s = security_flags s ∷ to_le_bytes w32 s.token ++ length s.nonc
 unfoldable pub header_bytes : HeaderValue → List ℕ
 header_bytes h =
     flags_bytes h ++ optional publisher_bytes h.publisher ++ optional (λ guid. guid) h.class_id
-    ++ group_bytes h.group h.version h.message_number h.sequence ++ ids_bytes h.ids ++ optional security_bytes h.security
+    ++ group_bytes h ++ ids_bytes h.ids ++ optional security_bytes h.security
 
 -- How many bytes that is: it goes by which parts are there, and by the lengths of a text, of a list of ids and of a nonce. No number counts.
 abbrev pub publisher_len : PublisherValue → ℕ
@@ -169,6 +170,11 @@ pub record IsHeader (h : HeaderValue) : Type 0 where
   pub sequence : IfSome h.sequence (λ n. n < 2 ^ 16)
   pub ids : IsIds h.ids
   pub security : IfSome h.security (λ security. security.token < 2 ^ 32)
+
+-- a sender's header that can be written
+pub record IsWritten (h : HeaderValue) : Type 0 where
+  pub senders : IsSenders h
+  pub header : IsHeader h
 
 -- a header as it is read: a text, ids and a nonce are also as long as their lengths can tell
 pub record IsRead (h : HeaderValue) : Type 0 where

@@ -1,20 +1,39 @@
--- The reading of the layout, call after call. That it is the layout's own is a law of proofs/Reading.antt.
-use Rattle.std.specs.Prelude.{ℕ, ◌*◌, ◌%◌, ◌==◌, Bool, List, Option, Some, None, Result, Ok, Err, if◌then◌else◌}
+-- The layout as the calls read it, step after step, and the texts that they write. That the steps are the layout is shown in proofs/StepLaws.antt.
+use Rattle.std.specs.Prelude.{ℕ, ◌+◌, ◌*◌, ◌%◌, ◌≤◌, ◌==◌, Bool, List, length, Option, Some, None, Result, Ok, Err, if◌then◌else◌}
 use Rattle.std.specs.Int.{w16, w32, w64, cast_signed}
 use Rattle.std.specs.Borrow.{Bor}
-use Rattle.ua_binary.specs.Reading.{◌>>=◌, byte_at, bytes_at, number_at, part_at}
+use Rattle.ua_binary.specs.declared.cursor.Cursor.{Cursor}
+use Rattle.ua_binary.specs.declared.pen.Pen.{Pen}
+use Rattle.ua_binary.specs.Reading.{◌>>=◌, ReadsAhead, byte_at, bytes_at, number_at, part_at}
 use Rattle.ua_binary.specs.ReadingValues.{has}
 use Rattle.uadp_header.specs.declared.fault.HeaderFault.{HeaderFault}
 use Rattle.uadp_header.specs.declared.fault.HeaderFault.TheVariants.{Short}
+use Rattle.uadp_header.specs.declared.header.PublisherId.{PublisherId}
+use Rattle.uadp_header.specs.declared.header.SecurityPart.{SecurityPart}
 use Rattle.uadp_header.specs.declared.reading.Group.{Group}
 use Rattle.uadp_header.specs.Formats.{passing}
-use Rattle.uadp_header.specs.Headers.{PublisherValue, U8, U16, U32, U64, Text, IdsValue, NoIds, ListOf, ChunkOf, SecurityValue, HeaderValue}
+use Rattle.uadp_header.specs.Headers.{PublisherValue, U8, U16, U32, U64, Text, IdsValue, NoIds, ListOf, ChunkOf, SecurityValue, HeaderValue, publisher_in, security_in, if_there}
 use Rattle.uadp_header.specs.Layout.{GroupValue, no_group, header_of, flags_fault, extended1_fault, extended2_fault, reserved_fault, text_len, utf8_fault}
+use Rattle.uadp_header.specs.Spelling.{optional, publisher_bytes, security_bytes}
 
 -- what an answer stands for
 abbrev pub told : {A B F : Type 0} → (A → B) → Result A F → Result B F
 told f (Ok x) = Ok (f x)
 told f (Err fault) = Err fault
+
+-- a step answers what stands for what is read
+abbrev pub ReadsAs : {A B : Type 0} → (A → B) → Result A HeaderFault → Cursor → Cursor → (List ℕ → Result (B × List ℕ) HeaderFault) → Type 0
+ReadsAs f result old new read = ReadsAhead (told f result) old new read
+
+-- the text fits behind the pen
+abbrev pub HasRoom : Pen → List ℕ → Type 0
+HasRoom pen text = pen.at + length text ≤ length pen.bytes.now
+
+abbrev pub publisher_part : Option PublisherId → List ℕ
+publisher_part publisher = optional publisher_bytes (if_there publisher_in publisher)
+
+abbrev pub security_part : Option SecurityPart → List ℕ
+security_part security = optional security_bytes (if_there security_in security)
 
 -- a part that is bytes in memory, where it is there
 abbrev pub bytes_in : Option (Bor (List ℕ)) → Option (List ℕ)

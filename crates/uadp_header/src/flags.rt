@@ -1,4 +1,4 @@
-//! The flags of a header, and what they are refused for (OPC 10000-14, UADP NetworkMessage).
+//! The flags of a header, and what they are refused for (OPC 10000-14 7.2.4.4).
 ghost use Rattle.std.specs.Prelude.{◌≡◌, ◌%◌, Ok};
 ghost use Rattle.uadp_header.specs.Formats.{passing};
 ghost use Rattle.uadp_header.specs.Layout.{flags_fault, extended1_fault, extended2_fault, reserved_fault};

@@ -6,8 +6,8 @@ ghost use Rattle.uadp_header.specs.Spelling.{flag, len_if, publisher_len, ids_le
 use crate::header::{Header, Ids, PublisherId, SecurityPart};
 use crate::writing::{extended1_of, is_chunk};
 
-/// How many bytes `write_header` writes. It goes by the parts that are there and by the lengths of a text and of the list
-/// of ids; no number counts.
+/// How many bytes `write_header` writes. It goes by the parts that are there and by the lengths of
+/// a text, of a list of ids and of a nonce; no number counts.
 #[inline(always)]
 #[tactic(auto, unfolding(crate::specs::Spelling::header_len))]
 pub fn header_len(header: &Header<'_>) -> usize

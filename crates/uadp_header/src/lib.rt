@@ -1,4 +1,4 @@
-//! The headers of NetworkMessages (OPC 10000-14, UADP NetworkMessage), as values and as bytes.
+//! The headers of NetworkMessages (OPC 10000-14 7.2.4.4, UADP NetworkMessage), as values and as bytes.
 #![tactic(auto)]
 
 mod fault;
@@ -7,6 +7,8 @@ mod header;
 mod laws;
 mod length;
 mod reading;
+#[cfg(test)]
+mod tests;
 mod writing;
 
 pub use fault::HeaderFault;

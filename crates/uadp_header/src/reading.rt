@@ -8,7 +8,7 @@ ghost use Rattle.uadp_header.specs.Headers.{publisher_in, ids_in, security_in, h
 ghost use Rattle.uadp_header.specs.Layout.{flags_fault, extended1_fault, extended2_fault, reserved_fault};
 ghost use Rattle.uadp_header.specs.Reading.{GivesHeader};
 ghost use Rattle.uadp_header.specs.Spelling.{IsRead};
-ghost use Rattle.uadp_header.specs.Steps.{told, bytes_in, group_in, flags_at, flags_when, text_at, publisher_at, as_text, group_numbers_at, group_at, ids_at, promoted_at, extras_at, security_at, parts_at, whole_at};
+ghost use Rattle.uadp_header.specs.Steps.{ReadsAs, bytes_in, group_in, flags_at, flags_when, text_at, publisher_at, as_text, group_numbers_at, group_at, ids_at, promoted_at, extras_at, security_at, parts_at, whole_at};
 
 use crate::fault::HeaderFault;
 use crate::flags::{
@@ -20,7 +20,8 @@ use crate::flags::{
 use crate::header::{Header, Ids, PublisherId, SecurityPart};
 use ua_binary::Cursor;
 
-/// The header that the bytes begin with (OPC 10000-14, UADP NetworkMessage), and where its payload begins.
+/// The header that the bytes begin with (OPC 10000-14 7.2.4.4, UADP NetworkMessage), and where the
+/// payload begins.
 #[tactic(auto, using(crate::proofs::StepLaws::header_whole))]
 pub fn read_header(bytes: &[u8]) -> Result<(Header<'_>, usize), HeaderFault>
     ensures answer { GivesHeader result bytes.now }
@@ -34,7 +35,7 @@ pub fn read_header(bytes: &[u8]) -> Result<(Header<'_>, usize), HeaderFault>
 #[inline(always)]
 #[tactic(auto, unfolding(crate::specs::Steps::whole_at))]
 fn read_whole<'a>(cursor: &mut Cursor<'a>) -> Result<Header<'a>, HeaderFault>
-    ensures { ReadsAhead (told header_in result) cursor.old cursor.new whole_at }
+    ensures { ReadsAs header_in result cursor.old cursor.new whole_at }
 {
     let flags = read_flags(cursor)?;
     let extended1 = read_extended1(cursor, flags)?;
@@ -70,7 +71,8 @@ fn read_extended1(cursor: &mut Cursor<'_>, flags: u8) -> Result<u8, HeaderFault>
 #[inline(always)]
 #[tactic(auto, unfolding(crate::specs::Steps::flags_at, crate::specs::Steps::flags_when))]
 fn read_extended2(cursor: &mut Cursor<'_>, flags: u8, extended1: u8) -> Result<u8, HeaderFault>
-    ensures { ReadsAhead result cursor.old cursor.new (flags_when (has extended1 0x80) (extended2_fault flags)) }
+    ensures { ReadsAhead result cursor.old cursor.new
+        (flags_when (has extended1 0x80) (extended2_fault flags)) }
 {
     if extended1 & EXTENDED2 == 0 {
         return Ok(0);
@@ -89,7 +91,7 @@ fn read_parts<'a>(
     extended1: u8,
     extended2: u8,
 ) -> Result<Header<'a>, HeaderFault>
-    ensures { ReadsAhead (told header_in result) cursor.old cursor.new (parts_at flags extended1 extended2) }
+    ensures { ReadsAs header_in result cursor.old cursor.new (parts_at flags extended1 extended2) }
 {
     let publisher = read_publisher_if(cursor, flags & PUBLISHER_ID != 0, id_type(extended1))?;
     let class_id = read_guid_if(cursor, extended1 & CLASS_ID != 0)?;
@@ -115,7 +117,8 @@ fn read_publisher_if<'a>(
     present: bool,
     id_type: u8,
 ) -> Result<Option<PublisherId<'a>>, HeaderFault>
-    ensures { ReadsAhead (told (if_there publisher_in) result) cursor.old cursor.new (part_at present (publisher_at id_type)) }
+    ensures { ReadsAs (if_there publisher_in) result cursor.old cursor.new
+        (part_at present (publisher_at id_type)) }
 {
     if !present {
         return Ok(None);
@@ -126,7 +129,7 @@ fn read_publisher_if<'a>(
 #[inline(always)]
 #[tactic(auto, unfolding(crate::specs::Steps::publisher_at))]
 fn read_publisher<'a>(cursor: &mut Cursor<'a>, id_type: u8) -> Result<PublisherId<'a>, HeaderFault>
-    ensures { ReadsAhead (told publisher_in result) cursor.old cursor.new (publisher_at id_type) }
+    ensures { ReadsAs publisher_in result cursor.old cursor.new (publisher_at id_type) }
 {
     Ok(match id_type {
         ID_U8 => PublisherId::U8(cursor.read_u8()?),
@@ -201,7 +204,7 @@ struct Group {
 #[inline(always)]
 #[tactic(auto, unfolding(crate::specs::Steps::flags_at, crate::specs::Steps::group_at))]
 fn read_group(cursor: &mut Cursor<'_>, present: bool) -> Result<Group, HeaderFault>
-    ensures { ReadsAhead (told group_in result) cursor.old cursor.new (group_at present) }
+    ensures { ReadsAs group_in result cursor.old cursor.new (group_at present) }
 {
     if !present {
         return Ok(Group {
@@ -219,7 +222,7 @@ fn read_group(cursor: &mut Cursor<'_>, present: bool) -> Result<Group, HeaderFau
 #[inline(always)]
 #[tactic(auto, unfolding(crate::specs::Steps::group_numbers_at))]
 fn read_group_numbers(cursor: &mut Cursor<'_>, flags: u8) -> Result<Group, HeaderFault>
-    ensures { ReadsAhead (told group_in result) cursor.old cursor.new (group_numbers_at flags) }
+    ensures { ReadsAs group_in result cursor.old cursor.new (group_numbers_at flags) }
 {
     let id = read_u16_if(cursor, flags & GROUP_ID != 0)?;
     let version = read_u32_if(cursor, flags & GROUP_VERSION != 0)?;
@@ -237,7 +240,7 @@ fn read_group_numbers(cursor: &mut Cursor<'_>, flags: u8) -> Result<Group, Heade
 #[inline(always)]
 #[tactic(auto, unfolding(crate::specs::Steps::ids_at))]
 fn read_ids<'a>(cursor: &mut Cursor<'a>, present: bool, chunk: bool) -> Result<Ids<'a>, HeaderFault>
-    ensures { ReadsAhead (told ids_in result) cursor.old cursor.new (ids_at present chunk) }
+    ensures { ReadsAs ids_in result cursor.old cursor.new (ids_at present chunk) }
 {
     if !present {
         return Ok(Ids::None);
@@ -267,7 +270,8 @@ fn read_bytes_if<'a>(
     present: bool,
     len: usize,
 ) -> Result<Option<&'a [u8]>, HeaderFault>
-    ensures { ReadsAhead (told bytes_in result) cursor.old cursor.new (part_at present (bytes_at faults.Short len)) }
+    ensures { ReadsAs bytes_in result cursor.old cursor.new
+        (part_at present (bytes_at faults.Short len)) }
 {
     if !present {
         return Ok(None);
@@ -282,7 +286,7 @@ fn read_promoted_if<'a>(
     cursor: &mut Cursor<'a>,
     present: bool,
 ) -> Result<Option<&'a [u8]>, HeaderFault>
-    ensures { ReadsAhead (told bytes_in result) cursor.old cursor.new (part_at present promoted_at) }
+    ensures { ReadsAs bytes_in result cursor.old cursor.new (part_at present promoted_at) }
 {
     if !present {
         return Ok(None);
@@ -296,7 +300,7 @@ fn read_security_if<'a>(
     cursor: &mut Cursor<'a>,
     present: bool,
 ) -> Result<Option<SecurityPart<'a>>, HeaderFault>
-    ensures { ReadsAhead (told (if_there security_in) result) cursor.old cursor.new (part_at present security_at) }
+    ensures { ReadsAs (if_there security_in) result cursor.old cursor.new (part_at present security_at) }
 {
     if !present {
         return Ok(None);
@@ -308,7 +312,7 @@ fn read_security_if<'a>(
 #[inline(always)]
 #[tactic(auto, unfolding(crate::specs::Steps::flags_at, crate::specs::Steps::security_at))]
 fn read_security<'a>(cursor: &mut Cursor<'a>) -> Result<SecurityPart<'a>, HeaderFault>
-    ensures { ReadsAhead (told security_in result) cursor.old cursor.new security_at }
+    ensures { ReadsAs security_in result cursor.old cursor.new security_at }
 {
     let flags = cursor.read_u8()?;
     check_reserved(flags)?;

@@ -5,6 +5,7 @@ ghost use Rattle.ua_binary.specs.Spelling.{block};
 ghost use Rattle.ua_binary.specs.Writing.{Puts, Writes};
 ghost use Rattle.uadp_header.specs.Headers.{publisher_in, ids_in, security_in, header_in, if_there};
 ghost use Rattle.uadp_header.specs.Spelling.{flag, optional, type_in, has_ids, is_chunk, publisher_bytes, ids_bytes, extended1_in, extended_bytes, flags_byte, flags_bytes, group_flags, group_bytes, security_flags, security_bytes, header_bytes, IsShortText, AreIds, IsSendersSecurity, IsSenders};
+ghost use Rattle.uadp_header.specs.Steps.{HasRoom, publisher_part, security_part};
 
 use crate::flags::{
     CHUNK, CLASS_ID, ENCRYPTED, EXTENDED1, EXTENDED2, GROUP_HEADER, GROUP_ID, GROUP_VERSION,
@@ -15,7 +16,8 @@ use crate::header::{Header, Ids, PublisherId, SecurityPart};
 use crate::length::header_len;
 use ua_binary::{Pen, Room};
 
-/// Writes a sender's header (OPC 10000-14, UADP NetworkMessage). Flags that aren't needed are left out.
+/// Writes a sender's header (OPC 10000-14 7.2.4.4, UADP NetworkMessage). Extended flags that aren't
+/// needed are left out.
 pub fn write_header(pen: &mut Pen<'_>, header: &Header<'_>) -> Result<(), Room>
     requires { IsSenders (header_in header.now) }
     ensures { Writes result pen.old pen.new (header_bytes (header_in header.now)) }
@@ -30,7 +32,7 @@ pub fn write_header(pen: &mut Pen<'_>, header: &Header<'_>) -> Result<(), Room>
 #[inline(always)]
 fn put_header(pen: &mut Pen<'_>, header: &Header<'_>)
     requires senders { IsSenders (header_in header.now) }
-    requires room { pen.old.at + length (header_bytes (header_in header.now)) ≤ length pen.old.bytes.now }
+    requires room { HasRoom pen.old (header_bytes (header_in header.now)) }
     ensures { Puts pen.old pen.new (header_bytes (header_in header.now)) }
 {
     put_flags(pen, header);
@@ -97,7 +99,7 @@ pub(crate) fn extended1_of(header: &Header<'_>) -> u8
 #[inline(always)]
 #[tactic(auto, unfolding(crate::specs::Spelling::flags_bytes))]
 fn put_flags(pen: &mut Pen<'_>, header: &Header<'_>)
-    requires { pen.old.at + length (flags_bytes (header_in header.now)) ≤ length pen.old.bytes.now }
+    requires { HasRoom pen.old (flags_bytes (header_in header.now)) }
     ensures { Puts pen.old pen.new (flags_bytes (header_in header.now)) }
 {
     let extended1 = extended1_of(header);
@@ -119,7 +121,7 @@ fn flags_byte(ids: bool, extended1: u8) -> u8
 /// ExtendedFlags1 where it isn't 0, and ExtendedFlags2 of a chunk.
 #[inline(always)]
 fn put_extended(pen: &mut Pen<'_>, extended1: u8, chunk: bool)
-    requires { pen.old.at + length (extended_bytes extended1 chunk) ≤ length pen.old.bytes.now }
+    requires { HasRoom pen.old (extended_bytes extended1 chunk) }
     ensures { Puts pen.old pen.new (extended_bytes extended1 chunk) }
 {
     if extended1 > 0 {
@@ -133,8 +135,8 @@ fn put_extended(pen: &mut Pen<'_>, extended1: u8, chunk: bool)
 #[inline(always)]
 fn put_publisher_if(pen: &mut Pen<'_>, publisher: &Option<PublisherId<'_>>)
     requires text { IfSome (if_there publisher_in publisher.now) IsShortText }
-    requires room { pen.old.at + length (optional publisher_bytes (if_there publisher_in publisher.now)) ≤ length pen.old.bytes.now }
-    ensures { Puts pen.old pen.new (optional publisher_bytes (if_there publisher_in publisher.now)) }
+    requires room { HasRoom pen.old (publisher_part publisher.now) }
+    ensures { Puts pen.old pen.new (publisher_part publisher.now) }
 {
     if let Some(publisher) = publisher {
         put_publisher(pen, publisher);
@@ -144,7 +146,7 @@ fn put_publisher_if(pen: &mut Pen<'_>, publisher: &Option<PublisherId<'_>>)
 #[inline(always)]
 fn put_publisher(pen: &mut Pen<'_>, publisher: &PublisherId<'_>)
     requires text { IsShortText (publisher_in publisher.now) }
-    requires room { pen.old.at + length (publisher_bytes (publisher_in publisher.now)) ≤ length pen.old.bytes.now }
+    requires room { HasRoom pen.old (publisher_bytes (publisher_in publisher.now)) }
     ensures { Puts pen.old pen.new (publisher_bytes (publisher_in publisher.now)) }
 {
     match publisher {
@@ -160,7 +162,7 @@ fn put_publisher(pen: &mut Pen<'_>, publisher: &PublisherId<'_>)
 #[inline(always)]
 fn put_block(pen: &mut Pen<'_>, bytes: &[u8])
     requires short { length bytes.now < 2 ^ 31 }
-    requires room { pen.old.at + length (block bytes.now) ≤ length pen.old.bytes.now }
+    requires room { HasRoom pen.old (block bytes.now) }
     ensures { Puts pen.old pen.new (block bytes.now) }
 {
     pen.put_u32(bytes.len() as u32);
@@ -169,7 +171,7 @@ fn put_block(pen: &mut Pen<'_>, bytes: &[u8])
 
 #[inline(always)]
 fn put_guid_if(pen: &mut Pen<'_>, guid: &Option<[u8; 16]>)
-    requires { pen.old.at + length (optional (λ bytes. bytes) guid.now) ≤ length pen.old.bytes.now }
+    requires { HasRoom pen.old (optional (λ bytes. bytes) guid.now) }
     ensures { Puts pen.old pen.new (optional (λ bytes. bytes) guid.now) }
 {
     if let Some(guid) = guid {
@@ -179,7 +181,7 @@ fn put_guid_if(pen: &mut Pen<'_>, guid: &Option<[u8; 16]>)
 
 #[inline(always)]
 fn put_u16_if(pen: &mut Pen<'_>, number: Option<u16>)
-    requires { pen.old.at + length (optional (to_le_bytes w16) number) ≤ length pen.old.bytes.now }
+    requires { HasRoom pen.old (optional (to_le_bytes w16) number) }
     ensures { Puts pen.old pen.new (optional (to_le_bytes w16) number) }
 {
     if let Some(number) = number {
@@ -189,7 +191,7 @@ fn put_u16_if(pen: &mut Pen<'_>, number: Option<u16>)
 
 #[inline(always)]
 fn put_u32_if(pen: &mut Pen<'_>, number: Option<u32>)
-    requires { pen.old.at + length (optional (to_le_bytes w32) number) ≤ length pen.old.bytes.now }
+    requires { HasRoom pen.old (optional (to_le_bytes w32) number) }
     ensures { Puts pen.old pen.new (optional (to_le_bytes w32) number) }
 {
     if let Some(number) = number {
@@ -199,7 +201,7 @@ fn put_u32_if(pen: &mut Pen<'_>, number: Option<u32>)
 
 #[inline(always)]
 fn group_flags(header: &Header<'_>) -> u8
-    ensures { result ≡ group_flags header.now.version header.now.message_number header.now.sequence }
+    ensures { result ≡ group_flags (header_in header.now) }
 {
     GROUP_ID
         + flag(header.version.is_some(), GROUP_VERSION)
@@ -210,8 +212,8 @@ fn group_flags(header: &Header<'_>) -> u8
 #[inline(always)]
 #[tactic(auto, unfolding(crate::specs::Spelling::group_bytes))]
 fn put_group(pen: &mut Pen<'_>, header: &Header<'_>)
-    requires { pen.old.at + length (group_bytes header.now.group header.now.version header.now.message_number header.now.sequence) ≤ length pen.old.bytes.now }
-    ensures { Puts pen.old pen.new (group_bytes header.now.group header.now.version header.now.message_number header.now.sequence) }
+    requires { HasRoom pen.old (group_bytes (header_in header.now)) }
+    ensures { Puts pen.old pen.new (group_bytes (header_in header.now)) }
 {
     pen.put_u8(group_flags(header));
     put_u16_if(pen, header.group);
@@ -224,7 +226,7 @@ fn put_group(pen: &mut Pen<'_>, header: &Header<'_>)
 #[inline(always)]
 fn put_ids(pen: &mut Pen<'_>, ids: &Ids<'_>)
     requires ids { AreIds (ids_in ids.now) }
-    requires room { pen.old.at + length (ids_bytes (ids_in ids.now)) ≤ length pen.old.bytes.now }
+    requires room { HasRoom pen.old (ids_bytes (ids_in ids.now)) }
     ensures { Puts pen.old pen.new (ids_bytes (ids_in ids.now)) }
 {
     match ids {
@@ -237,7 +239,7 @@ fn put_ids(pen: &mut Pen<'_>, ids: &Ids<'_>)
 #[inline(always)]
 fn put_counted(pen: &mut Pen<'_>, ids: &[u8])
     requires few { length ids.now ≤ 510 }
-    requires room { pen.old.at + 1 + length ids.now ≤ length pen.old.bytes.now }
+    requires room { HasRoom pen.old ((length ids.now / 2) ∷ ids.now) }
     ensures { Puts pen.old pen.new ((length ids.now / 2) ∷ ids.now) }
 {
     pen.put_u8((ids.len() / 2) as u8);
@@ -247,8 +249,8 @@ fn put_counted(pen: &mut Pen<'_>, ids: &[u8])
 #[inline(always)]
 fn put_security_if(pen: &mut Pen<'_>, security: &Option<SecurityPart<'_>>)
     requires senders { IfSome (if_there security_in security.now) IsSendersSecurity }
-    requires room { pen.old.at + length (optional security_bytes (if_there security_in security.now)) ≤ length pen.old.bytes.now }
-    ensures { Puts pen.old pen.new (optional security_bytes (if_there security_in security.now)) }
+    requires room { HasRoom pen.old (security_part security.now) }
+    ensures { Puts pen.old pen.new (security_part security.now) }
 {
     if let Some(security) = security {
         put_security(pen, security);
@@ -259,7 +261,7 @@ fn put_security_if(pen: &mut Pen<'_>, security: &Option<SecurityPart<'_>>)
 #[tactic(auto, unfolding(crate::specs::Spelling::security_bytes))]
 fn put_security(pen: &mut Pen<'_>, security: &SecurityPart<'_>)
     requires senders { IsSendersSecurity (security_in security.now) }
-    requires room { pen.old.at + length (security_bytes (security_in security.now)) ≤ length pen.old.bytes.now }
+    requires room { HasRoom pen.old (security_bytes (security_in security.now)) }
     ensures { Puts pen.old pen.new (security_bytes (security_in security.now)) }
 {
     pen.put_u8(security_flags(security));
@@ -277,7 +279,7 @@ fn security_flags(security: &SecurityPart<'_>) -> u8
 #[inline(always)]
 fn put_nonce(pen: &mut Pen<'_>, nonce: &[u8])
     requires short { length nonce.now ≤ 255 }
-    requires room { pen.old.at + 1 + length nonce.now ≤ length pen.old.bytes.now }
+    requires room { HasRoom pen.old (length nonce.now ∷ nonce.now) }
     ensures { Puts pen.old pen.new (length nonce.now ∷ nonce.now) }
 {
     pen.put_u8(nonce.len() as u8);
