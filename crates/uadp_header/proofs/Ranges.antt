@@ -14,7 +14,7 @@ use Rattle.uadp_header.specs.declared.fault.HeaderFault.{HeaderFault}
 use Rattle.uadp_header.specs.declared.fault.HeaderFault.TheVariants.{Short, BadId}
 use Rattle.uadp_header.specs.Formats.{Format, Told, Part, ◌>>=◌, passing, read}
 use Rattle.uadp_header.specs.Headers.{PublisherValue, U8, U16, U32, U64, Text, IdsValue, ListOf, ChunkOf, SecurityValue, HeaderValue}
-use Rattle.uadp_header.specs.Layout.{byte, number, block, when, byte_when, any_byte, text_len, fault_in, told_in, len_in, utf8_fault, text, publisher_id, GroupValue, group_numbers, group_when, ids_when, extras, security_header, header_of, parts, header, header_at, reserved_fault, flags_fault, extended1_fault, extended2_fault}
+use Rattle.uadp_header.specs.Layout.{byte, number, block, when, byte_when, any_byte, text_len, fault_in, told_in, len_in, utf8_fault, text, publisher_id, GroupValue, group_numbers, group_when, payload_header, ids_when, extras, security_header, header_of, parts, header, header_at, reserved_fault, flags_fault, extended1_fault, extended2_fault}
 use Rattle.uadp_header.specs.Reading.{IsSecured}
 use Rattle.uadp_header.specs.Spelling.{IsPublisher, IsShortText, IsIds, AreIds, IsRead}
 
@@ -173,7 +173,7 @@ even : (count : ℕ) (bytes : List ℕ) → count < 2 ^ 8 → length bytes ≡ 2
 even count bytes small len = (omega arith, omega arith)
 
 ids_tell : (there chunk : Bool) → Tells AreReadIds (ids_when there chunk)
-unfolding ids_when
+unfolding ids_when payload_header
 ids_tell false chunk = (tt, tt)
 ids_tell true true = then_tells (λ (n : ℕ). n < 2 ^ 16) AreReadIds (number w16) (λ id. Told (ChunkOf id)) u16_tells (λ id small. (small, tt))
 ids_tell true false =

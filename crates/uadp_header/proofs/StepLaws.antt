@@ -7,7 +7,7 @@ use Rattle.ua_binary.specs.Reading.{byte_at, bytes_at, number_at, part_at}
 use Rattle.uadp_header.specs.declared.fault.HeaderFault.{HeaderFault}
 use Rattle.uadp_header.specs.declared.fault.HeaderFault.TheVariants.{Short}
 use Rattle.uadp_header.specs.Formats.{Format, Told, Part, ◌>>=◌, passing, read}
-use Rattle.uadp_header.specs.Layout.{byte, any_byte, number, block, when, byte_when, text_len, fault_in, told_in, len_in, utf8_fault, text, publisher_id, group_numbers, group_when, ids_when, extras, security_header, parts, header, header_at}
+use Rattle.uadp_header.specs.Layout.{byte, any_byte, number, block, when, byte_when, text_len, fault_in, told_in, len_in, utf8_fault, text, publisher_id, group_numbers, group_when, payload_header, ids_when, extras, security_header, parts, header, header_at}
 use Rattle.uadp_header.specs.Steps.{as_text, flags_at, flags_when, text_at, publisher_at, group_numbers_at, group_at, ids_at, promoted_at, extras_at, security_at, parts_at, whole_at}
 use Rattle.uadp_header.proofs.FormatLaws.{then_read, read-then}
 
@@ -129,7 +129,7 @@ unfolding group_when group_at
 read-group there bytes = simp (read-if, read-then, read-byte, read-group_numbers, read-told)
 
 read-ids : (there chunk : Bool) (bytes : List ℕ) → read (ids_when there chunk) bytes ≡ ids_at there chunk bytes
-unfolding ids_when ids_at
+unfolding ids_when payload_header ids_at
 read-ids there chunk bytes = simp (read-if, read-then, read-any, read-number, read-block, read-told)
 
 read-promoted : (bytes : List ℕ) → read (number w16 >>= block) bytes ≡ promoted_at bytes

@@ -1,4 +1,4 @@
--- The layout of a NetworkMessage's header (OPC 10000-14, UADP NetworkMessage), part after part.
+-- The layout of a NetworkMessage's header (OPC 10000-14 7.2.4.4, UADP NetworkMessage), part after part.
 use Rattle.std.specs.Prelude.{ℕ, ℤ, pos, negsuc, zero, suc, ◌*◌, ◌/◌, ◌%◌, ◌==◌, Bool, not, ◌&&◌, ◌||◌, nat_lt, List, slice_index, Option, Some, None, Result, Ok, Err, if◌then◌else◌}
 use Rattle.std.specs.Int.{Width, w16, w32, w64, byte_len, from_le_bytes, cast_signed}
 use Rattle.std.specs.Str.{is_utf8}
@@ -110,13 +110,13 @@ unfoldable pub group_when : Bool → Format GroupValue
 group_when there = if there then (byte reserved_fault >>= group_numbers) else Told no_group
 
 -- the PayloadHeader: a count and so many ids of two bytes, or, in a chunk, the id of its writer
+unfoldable pub payload_header : Bool → Format IdsValue
+payload_header chunk =
+    if chunk then (number w16 >>= λ id. Told (ChunkOf id))
+    else (byte any_byte >>= λ count. block (2 * count) >>= λ ids. Told (ListOf ids))
+
 unfoldable pub ids_when : Bool → Bool → Format IdsValue
-ids_when there chunk =
-    if there
-    then (if chunk
-    then (number w16 >>= λ id. Told (ChunkOf id))
-    else (byte any_byte >>= λ count. block (2 * count) >>= λ ids. Told (ListOf ids)))
-    else Told NoIds
+ids_when there chunk = if there then payload_header chunk else Told NoIds
 
 -- the timestamp, its picoseconds, and the promoted fields behind their size
 unfoldable pub extras : ℕ → ℕ → Format (Unit {0})

@@ -1,4 +1,4 @@
--- The one spelling of a header that a sender writes (OPC 10000-14, UADP NetworkMessage): flags that aren't needed are left out.
+-- The one spelling of a header that a sender writes (OPC 10000-14 7.2.4.4, UADP NetworkMessage): flags that aren't needed are left out.
 use Rattle.std.specs.Prelude.{◌≡◌, ◌≢◌, ℕ, ◌+◌, ◌*◌, ◌/◌, ◌^◌, ◌<◌, ◌≤◌, ⊤, Bool, true, false, is_some, nat_lt, List, [], ◌∷◌, ◌++◌, length, Option, Some, None, IsSome, IfSome, if◌then◌else◌}
 use Rattle.std.specs.Int.{w16, w32, w64, to_le_bytes}
 use Rattle.std.specs.Str.{IsUtf8}
