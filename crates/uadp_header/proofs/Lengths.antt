@@ -5,7 +5,7 @@ use Rattle.std.specs.Int.{w16, w32, to_le_bytes}
 use Rattle.std.proofs.lemmas.Bool.{lt-ltb}
 use Rattle.std.proofs.lemmas.List.{length-append}
 use Rattle.uadp_header.specs.Headers.{PublisherValue, U8, U16, U32, U64, Text, IdsValue, NoIds, ListOf, ChunkOf, SecurityValue, HeaderValue}
-use Rattle.uadp_header.specs.Spelling.{flag, optional, type_in, is_chunk, publisher_bytes, ids_bytes, extended1_in, extended_bytes, flags_bytes, group_flags, group_bytes, security_flags, security_bytes, header_bytes, publisher_len, ids_len, len_if, extended_len, group_len, security_len, header_len, IsHeader}
+use Rattle.uadp_header.specs.Spelling.{flag, optional, type_in, is_chunk, publisher_bytes, ids_bytes, extended1_in, extended_bytes, flags_bytes, group_flags, group_bytes, security_flags, security_bytes, header_bytes, publisher_len, ids_len, len_if, extended_len, group_len, security_len, header_len, IsAlike, IsHeader}
 
 -- part after part
 pub length-parts : (h : HeaderValue) → length (header_bytes h)
@@ -109,3 +109,8 @@ sixteen (Some guid) there = there
 
 pub length-is_header : (h : HeaderValue) → IsHeader h → length (header_bytes h) ≡ header_len h
 length-is_header h is = length-header h (sixteen h.class_id is.class_id)
+
+-- no number counts
+pub alike-len : (one other : HeaderValue) → IsAlike one other → header_len one ≡ header_len other
+unfolding header_len
+alike-len one other a = rw (a.type, a.publisher, a.class_id, a.group, a.version, a.message_number, a.sequence, a.chunk, a.ids, a.secured, a.security) refl

@@ -119,6 +119,20 @@ header_len h =
     1 + extended_len h + len_if publisher_len h.publisher + flag (is_some h.class_id) 16 + group_len h + ids_len h.ids
     + len_if security_len h.security
 
+-- both have the same parts, with texts, ids and nonces of the same lengths; their numbers may differ
+pub record IsAlike (one other : HeaderValue) : Type 0 where
+  pub type : type_in one.publisher ≡ type_in other.publisher
+  pub publisher : len_if publisher_len one.publisher ≡ len_if publisher_len other.publisher
+  pub class_id : is_some one.class_id ≡ is_some other.class_id
+  pub group : is_some one.group ≡ is_some other.group
+  pub version : is_some one.version ≡ is_some other.version
+  pub message_number : is_some one.message_number ≡ is_some other.message_number
+  pub sequence : is_some one.sequence ≡ is_some other.sequence
+  pub chunk : is_chunk one.ids ≡ is_chunk other.ids
+  pub ids : ids_len one.ids ≡ ids_len other.ids
+  pub secured : is_some one.security ≡ is_some other.security
+  pub security : len_if security_len one.security ≡ len_if security_len other.security
+
 -- a String's length is an Int32
 abbrev pub IsShortText : PublisherValue → Type 0
 IsShortText (U8 id) = ⊤

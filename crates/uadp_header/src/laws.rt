@@ -6,7 +6,7 @@ ghost use Rattle.uadp_header.specs.Formats.{Spells, Fails};
 ghost use Rattle.uadp_header.specs.Headers.{HeaderValue, SecurityValue};
 ghost use Rattle.uadp_header.specs.Layout.{header, header_at};
 ghost use Rattle.uadp_header.specs.Reading.{BeginsWith, IsSecured};
-ghost use Rattle.uadp_header.specs.Spelling.{IsWritten, IsHeader, IsRead, header_bytes, header_len};
+ghost use Rattle.uadp_header.specs.Spelling.{IsWritten, IsAlike, IsHeader, IsRead, header_bytes, header_len};
 
 /// A sender's header, whatever follows it, is read as itself, and up to where its spelling ends.
 pub fn written_headers_are_read()
@@ -16,9 +16,11 @@ pub fn written_headers_are_read()
         → BeginsWith (header_bytes one ++ rest) one (header_len one) }
 {}
 
-/// A written header is as long as its parts tell, and the lengths of its text, ids and nonce.
+/// A written header is as long as its parts tell, and the lengths of its text, ids and nonce: headers
+/// that differ in their numbers alone have the same length.
 pub fn a_length_goes_by_the_parts()
-    ensures { (one : HeaderValue) → IsHeader one → length (header_bytes one) ≡ header_len one }
+    ensures len { (one : HeaderValue) → IsHeader one → length (header_bytes one) ≡ header_len one }
+    ensures alike { (one other : HeaderValue) → IsAlike one other → header_len one ≡ header_len other }
 {}
 
 /// Bytes begin with the spelling of one sender's header at most.
