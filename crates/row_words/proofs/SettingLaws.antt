@@ -4,7 +4,7 @@ use Rattle.std.specs.Prelude.{slice_set}
 use Rattle.std.specs.List.{HoldsAt}
 use Rattle.ua_values.specs.declared.value.Value.{Value}
 use Rattle.dataset_meta.specs.declared.field.Field.{Field}
-use Rattle.dataset_meta.specs.DataValues.{DataValue}
+use Rattle.dataset_meta.specs.DataValues.{DataValue, IsStatus}
 use Rattle.dataset_meta.specs.Metas.{MetaData}
 use Rattle.dataset_meta.specs.Rows.{IsRowOf, IsRow}
 use Rattle.row_words.specs.Belonging.{row_in, Belongs}
@@ -34,6 +34,13 @@ good_set (field ∷ fields) (x ∷ row) (suc index) value is = ap (λ (rest : Li
 pub set_good : (meta : MetaData) (row : List DataValue) (index : ℕ) (value : Value) → IsRow meta row → meta.quality ≡ false
     → with_value row index value ≡ slice_set row index (record { value = value; status = 0 })
 set_good meta row index value is none = good_set meta.fields row index value (subst (λ (quality : Bool). IsRowOf quality meta.fields row) none is)
+
+-- and any status that there may be is 0
+pub set_any : (meta : MetaData) (row : List DataValue) (index : ℕ) (value : Value) (status : ℕ) → IsRow meta row → meta.quality ≡ false → IsStatus meta.quality status
+    → with_value row index value ≡ slice_set row index (record { value = value; status = status })
+set_any meta row index value status is none good =
+    let zero_status : IsStatus false status = subst (λ (quality : Bool). IsStatus quality status) none good in
+    set_good meta row index value is none ∙ ap (λ (n : ℕ). slice_set row index (record { value = value; status = n })) (sym zero_status)
 
 -- each status of a row without quality is 0
 pub good_at : (fields : List Field) (row : List DataValue) (index : ℕ) (x : DataValue) → IsRowOf false fields row → index < length fields → get_or row index x ≡ x → x.status ≡ 0
