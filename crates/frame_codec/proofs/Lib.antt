@@ -1,9 +1,9 @@
-pub mod Rows
-pub mod Changes
-pub mod Laid
-pub mod Lengths
+pub mod Grammars
+pub mod FlagLaws
+pub mod FrontGrammar
 pub mod FrontLaws
-pub mod ContentLaws
-pub mod MessageLaws
-pub mod ReadLaws
-mod ScalarLaws
+pub mod ContentGrammar
+pub mod WholeGrammar
+pub mod PatchGrammar
+pub mod FrameGrammar
+pub mod WrittenLaws

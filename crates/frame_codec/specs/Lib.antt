@@ -1,6 +1,6 @@
-pub mod Messages
-pub mod Carrying
+pub mod Frames
 pub mod Spelling
 pub mod Fronts
 pub mod Contents
 pub mod Reading
+pub mod Wire

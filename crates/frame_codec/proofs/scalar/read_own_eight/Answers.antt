@@ -1,7 +1,0 @@
-use Rattle.std.proofs.Common.{rules}
-use Rattle.ua_binary.specs.Reading.{rest_of}
-use Rattle.frame_codec.proofs.ScalarLaws.{eight_read}
-use Rattle.frame_codec.proofs.scalar.read_own_eight.Goals as goal
-
-pub returns-clause-read : goal.returns-clause-read
-returns-clause-read c = eight_read (record {}) c.args.field.now (rest_of c.args.cursor.now) c.in-Ok.bytes (rest_of c.read_array.new.self) c.from_le_bytes.result c.in-Ok.ensures.answer (search rules) (search rules) c.from_le_bytes.ensures c.from_le_bytes.type_inv

@@ -1,8 +1,0 @@
-use Rattle.std.proofs.Common.{rules}
-use Rattle.row_words.specs.Belonging.{row_in}
-use Rattle.frame_codec.specs.Spelling.{values_bytes}
-use Rattle.frame_codec.proofs.Laid.{Puts-lent}
-use Rattle.frame_codec.proofs.writing.put_row.Goals as goal
-
-pub returns : goal.returns
-returns c = Puts-lent c.args.pen.now c.put_values.new.pen _ _ (values_bytes (row_in c.args.meta.now.fields c.args.row.now.words)) c.put_values.ensures (first_of (assumption c, search rules))
