@@ -7,3 +7,4 @@ pub mod WholeGrammar
 pub mod PatchGrammar
 pub mod FrameGrammar
 pub mod WrittenLaws
+pub mod ReadingLaws

@@ -4,3 +4,4 @@ pub mod Fronts
 pub mod Contents
 pub mod Reading
 pub mod Wire
+pub mod Begins

@@ -1,4 +1,5 @@
 //! The front of a DataSetMessage: all that stands before the count of fields.
+ghost use Rattle.std.specs.Prelude.{true};
 ghost use Rattle.std.specs.Int.{w16, w32};
 ghost use Rattle.ua_binary.specs.Reading.{Reads, ReadsAhead, bytes_at, number_at, part_at, skipped};
 ghost use Rattle.frame_codec.specs.declared.fault.FrameFault.TheVariants as faults;
