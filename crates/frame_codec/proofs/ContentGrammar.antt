@@ -106,12 +106,11 @@ ok_once e = cc
 no_ok : {A F : Type 0} {x : A} {fault : F} → Path (Result A F) (Err fault) (Ok x) → ⊥
 no_ok e = cc
 
-pub FitsSome : Field → Option Value → Type 0
+abbrev pub FitsSome : Field → Option Value → Type 0
 FitsSome field value = IsSomeAnd value (λ v. Fits v field.kind field.cap)
 
 given_ok : (quality : Bool) (field : Field) (value : Option Value) (status : ℕ) (x : DataValue) → given quality field value status ≡ Ok x
     → FitsSome field value × (x ≡ kept quality (unwrap_or value (opening field.kind)) status)
-unfolding FitsSome
 given_ok quality field None status x e = absurd (no_ok e)
 given_ok quality field (Some value) status x e = by_suits (suits field value) refl e
   where
@@ -120,7 +119,6 @@ given_ok quality field (Some value) status x e = by_suits (suits field value) re
     by_suits false is e = absurd (no_ok e)
 
 pub given_fits : (quality : Bool) (field : Field) (value : Option Value) (status : ℕ) → FitsSome field value → given quality field value status ≡ Ok (kept quality (unwrap_or value (opening field.kind)) status)
-unfolding FitsSome
 given_fits quality field None status fits = absurd fits
 given_fits quality field (Some value) status fits = rw (suits-fits field value fits) refl
 
@@ -135,7 +133,7 @@ GivenJoined : Bool → ℕ → Field → DataValue → List ℕ → Type 0
 GivenJoined quality encoding field = Joined Measured DataValue (SpellsValue encoding) (λ m x text. (given quality field m.value m.status ≡ Ok x) × (text ≡ []))
 
 pub field_grammar : (quality : Bool) (encoding : ℕ) (field : Field) → IsGrammar DataValue FrameFault Short (SpellsField quality encoding field) (field_at quality encoding field)
-unfolding field_at GivenJoined FitsSome
+unfolding field_at GivenJoined
 field_grammar quality encoding field =
     same_grammar DataValue FrameFault Short (GivenJoined quality encoding field) (SpellsField quality encoding field) (field_at quality encoding field) there here
     (then_grammar Measured DataValue FrameFault Short (SpellsValue encoding) (λ m x text. (given quality field m.value m.status ≡ Ok x) × (text ≡ [])) (value_at encoding) (λ m rest. given quality field m.value m.status >>= λ value. Ok (value, rest)) (value_grammar encoding)

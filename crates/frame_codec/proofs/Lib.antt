@@ -7,4 +7,9 @@ pub mod WholeGrammar
 pub mod PatchGrammar
 pub mod FrameGrammar
 pub mod WrittenLaws
+pub mod RowReading
+pub mod ScalarLaws
+pub mod Setting
 pub mod ReadingLaws
+pub mod Laid
+pub mod Lengths
