@@ -1,30 +1,24 @@
 -- The fields of a message are read of exactly what spells them.
-use Rattle.std.proofs.Common.{◌≡◌, ℕ, zero, suc, ◌+◌, ◌-◌, ◌<◌, ◌≤◌, ◌^◌, Bool, true, false, List, [], ◌∷◌, ◌++◌, length, Option, Some, None, Result, Ok, Err, refl, sym, ap, ◌∙◌, subst, append_assoc, append-nil, length-append, arith}
-use Rattle.std.specs.Prelude.{IfSome, IsSomeAnd, is_some, unwrap_or, ◌==◌, ◌&&◌, ◌||◌, nat_lt, nat_le, slice_get, if◌then◌else◌, ⊤}
-use Rattle.std.specs.Int.{w16, to_le_bytes}
-use Rattle.std.proofs.lemmas.Bool.{eqb-true, eqb-false, eq-eqb, le-leb, leb-true, ltb-true, lt-ltb}
-use Rattle.std.proofs.lemmas.Grind.{flat_map-append}
+use Rattle.std.proofs.Common.{◌≡◌, ℕ, zero, suc, Bool, true, false, List, [], ◌∷◌, ◌++◌, length, Option, Some, None, Result, Ok, Err, refl, sym, ap, ◌∙◌, subst, append-nil, arith}
+use Rattle.std.specs.Prelude.{IsSomeAnd, is_some, unwrap_or, ◌==◌, nat_le, if◌then◌else◌}
+use Rattle.std.proofs.lemmas.Bool.{eqb-true, eq-eqb, le-leb, leb-true}
 use Rattle.ua_values.specs.declared.kind.Kind.{Kind}
 use Rattle.ua_values.specs.declared.kind.Kind.TheVariants as kinds
 use Rattle.ua_values.specs.declared.value.Value.{Value}
 use Rattle.ua_values.specs.Values.{Fits, kind_of, size_of, opening}
 use Rattle.ua_binary.specs.declared.data_value.Measured.{Measured}
-use Rattle.ua_binary.specs.Reading.{◌>>=◌, number_at}
+use Rattle.ua_binary.specs.Reading.{◌>>=◌}
 use Rattle.ua_binary.specs.ReadingValues.{variant_at, data_value_at}
 use Rattle.ua_binary.specs.Types.{type_of, kind_with}
-use Rattle.ua_binary.specs.Wire.{WireValue, IsWireValue, variant_as, WireDataValue, IsWireDataValue, data_value_as, measured_of}
-use Rattle.ua_binary.proofs.Grammar.{IsGrammar, Joined, then_grammar, Done, done_grammar, Never, refused_grammar, same_grammar, Made, made_grammar, alone}
-use Rattle.ua_binary.proofs.Parts.{IsNumber, number_grammar, coded16}
+use Rattle.ua_binary.proofs.Grammar.{IsGrammar, Joined, then_grammar, Done, done_grammar, same_grammar, Made, made_grammar, alone}
 use Rattle.ua_binary.proofs.Values.{SpellsVariant, variant_grammar}
 use Rattle.ua_binary.proofs.DataValues.{SpellsDataValue, data_value_grammar}
 use Rattle.dataset_meta.specs.declared.field.Field.{Field}
 use Rattle.dataset_meta.specs.DataValues.{DataValue}
-use Rattle.dataset_meta.specs.Metas.{MetaData}
-use Rattle.dataset_meta.specs.Rows.{put_in}
 use Rattle.frame_codec.specs.declared.fault.FrameFault.{FrameFault}
-use Rattle.frame_codec.specs.declared.fault.FrameFault.TheVariants.{Short, BadValue, BadIndex, WrongCount}
-use Rattle.frame_codec.specs.Contents.{in_frame, good, value_at, suits, kept, given, field_at, present, surplus_at, row_at, surpluses_at, is_count, counted_at, whole_at, put_at, change_at, changes_at, patch_at}
-use Rattle.frame_codec.specs.Wire.{WireField, AsVariant, AsDataValue, IsWireField, field_bytes, field_read, values_bytes, change_bytes, changes_bytes, IsForField, IsSurplus, AreValues, IsFor, AreChanges, value_read, row_read, put_read, patch_read}
+use Rattle.frame_codec.specs.declared.fault.FrameFault.TheVariants.{Short, BadValue}
+use Rattle.frame_codec.specs.Contents.{in_frame, good, value_at, suits, kept, given, field_at, present, surplus_at, row_at, surpluses_at}
+use Rattle.frame_codec.specs.Wire.{WireField, AsVariant, AsDataValue, IsWireField, field_bytes, field_read, values_bytes, IsForField, AreValues, value_read, row_read}
 use Rattle.frame_codec.proofs.Grammars.{Choice, either_grammar, judged_grammar, framed_grammar}
 use Rattle.frame_codec.proofs.FlagLaws.{both}
 

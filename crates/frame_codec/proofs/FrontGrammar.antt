@@ -1,20 +1,17 @@
 -- The front of a message is read of exactly what spells it.
-use Rattle.std.proofs.Common.{◌≡◌, ℕ, suc, ◌+◌, ◌<◌, ◌^◌, Bool, true, false, not, List, [], ◌∷◌, ◌++◌, Option, Some, None, Result, Ok, refl, sym, ap, ◌∙◌, subst, append_assoc, append-nil, arith}
-use Rattle.std.specs.Prelude.{IfSome, is_some, ◌==◌, ◌&&◌, ◌||◌, nat_lt, if◌then◌else◌}
+use Rattle.std.proofs.Common.{◌≡◌, ℕ, ◌<◌, ◌^◌, Bool, true, List, [], ◌∷◌, ◌++◌, Option, Some, None, Ok, refl, sym, ap, ◌∙◌, subst, append-nil}
+use Rattle.std.specs.Prelude.{IfSome, is_some}
 use Rattle.std.specs.Int.{Width, w16, w32, to_le_bytes}
-use Rattle.std.proofs.lemmas.Bool.{eqb-true, ltb-false}
 use Rattle.ua_binary.specs.Reading.{◌>>=◌, byte_at, bytes_at, number_at, part_at, skipped}
 use Rattle.ua_binary.specs.ReadingValues.{has}
-use Rattle.ua_binary.specs.Wire.{flag, optional, IsPart}
+use Rattle.ua_binary.specs.Wire.{optional, IsPart}
 use Rattle.ua_binary.proofs.Grammar.{IsGrammar, Joined, then_grammar, Done, done_grammar, same_grammar, Optional, PartSpells, part_grammar, Skips, skipped_grammar}
 use Rattle.ua_binary.proofs.Parts.{IsByte, byte_grammar, IsPartOf, bytes_grammar, IsNumber, number_grammar, coded16, coded32}
 use Rattle.frame_codec.specs.declared.fault.FrameFault.{FrameFault}
-use Rattle.frame_codec.specs.declared.fault.FrameFault.TheVariants.{Short, BadEncoding, NotValid, EventOut, ReservedBits}
+use Rattle.frame_codec.specs.declared.fault.FrameFault.TheVariants.{Short}
 use Rattle.frame_codec.specs.declared.front.Front.{Front}
-use Rattle.frame_codec.specs.Fronts.{encoding_in, kind_in, is_encoding, fault_in_flags1, fault_in_flags2, passing, flags1_at, flags2_at, times_past, parts_at, front_at}
-use Rattle.frame_codec.specs.Wire.{WireFront, IsWireFront, is_kind, flags1, flags2, flags2_bytes, front_bytes, front_read}
+use Rattle.frame_codec.specs.Fronts.{encoding_in, kind_in, fault_in_flags1, fault_in_flags2, passing, flags1_at, flags2_at, times_past, parts_at}
 use Rattle.frame_codec.proofs.Grammars.{Choice, either_grammar, passing_grammar}
-use Rattle.frame_codec.proofs.FlagLaws.{both, code1, code2, decoded1, decoded2, Tells1, told1, Tells2, told2}
 
 -- a byte that is judged
 pub record SpellsFlags (fault : Option FrameFault) (flags : ℕ) (text : List ℕ) : Type 0 where
@@ -239,7 +236,7 @@ parts_grammar flags extended =
           minor_is = c.0;
           tells = n.spells.0;
           split = j.split ∙ ap (λ (l : List ℕ). l ++ j.back) a.1 ∙ ap (λ (l : List ℕ). optional (to_le_bytes w16) j.first ++ l) (p.split ∙ ap (λ (l : List ℕ). p.front ++ l) (m.split
-          ∙ ap (λ (l : List ℕ). l ++ m.back) b.1 ∙ ap (λ (l : List ℕ). optional (to_le_bytes w32) m.first ++ l) (n.split ∙ ap (λ (l : List ℕ). n.front ++ l) n.spells.1 ∙ append-nil n.front ∙ c.1)));
+              ∙ ap (λ (l : List ℕ). l ++ m.back) b.1 ∙ ap (λ (l : List ℕ). optional (to_le_bytes w32) m.first ++ l) (n.split ∙ ap (λ (l : List ℕ). n.front ++ l) n.spells.1 ∙ append-nil n.front ∙ c.1)));
         }
 
     here : (front : Front) (text : List ℕ) → SpellsParts flags extended front text → NumberJoined flags extended front text

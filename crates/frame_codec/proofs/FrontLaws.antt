@@ -1,11 +1,11 @@
 -- What spells a front, as a record of it on the wire.
-use Rattle.std.proofs.Common.{◌≡◌, ℕ, zero, suc, ◌+◌, ◌*◌, ◌<◌, ◌≤◌, ◌^◌, Bool, true, false, not, List, [], ◌∷◌, ◌++◌, Option, Some, None, Result, Ok, refl, sym, ap, ◌∙◌, subst, append_assoc, append-nil, arith}
-use Rattle.std.specs.Prelude.{IfSome, is_some, ◌==◌, ◌&&◌, ◌||◌, nat_lt, if◌then◌else◌}
+use Rattle.std.proofs.Common.{◌≡◌, ℕ, zero, suc, ◌<◌, Bool, true, false, not, List, [], ◌∷◌, ◌++◌, Option, Some, None, refl, sym, ap, ◌∙◌, subst, append_assoc, arith}
+use Rattle.std.specs.Prelude.{is_some, ◌==◌, ◌&&◌, ◌||◌, nat_lt, if◌then◌else◌}
 use Rattle.std.specs.Int.{w16, w32, to_le_bytes}
-use Rattle.std.proofs.lemmas.Bool.{eqb-true, eqb-false, eq-eqb, ltb-true, ltb-false, le-ltb}
+use Rattle.std.proofs.lemmas.Bool.{eqb-true, ltb-false, le-ltb}
 use Rattle.ua_binary.specs.Reading.{◌>>=◌}
 use Rattle.ua_binary.specs.ReadingValues.{has}
-use Rattle.ua_binary.specs.Wire.{flag, optional, IsPart}
+use Rattle.ua_binary.specs.Wire.{optional}
 use Rattle.ua_binary.proofs.Grammar.{IsGrammar, Joined, then_grammar, Done, same_grammar}
 use Rattle.frame_codec.specs.declared.fault.FrameFault.{FrameFault}
 use Rattle.frame_codec.specs.declared.fault.FrameFault.TheVariants.{Short, BadEncoding, NotValid, EventOut, ReservedBits}
@@ -13,8 +13,8 @@ use Rattle.frame_codec.specs.declared.front.Front.{Front}
 use Rattle.frame_codec.specs.Fronts.{encoding_in, kind_in, is_encoding, fault_in_flags1, fault_in_flags2, flags1_at, flags2_at, parts_at, front_at}
 use Rattle.frame_codec.specs.Wire.{WireFront, IsWireFront, is_kind, flags1, flags2, flags2_bytes, front_bytes, front_read}
 use Rattle.frame_codec.proofs.Grammars.{Choice}
-use Rattle.frame_codec.proofs.FlagLaws.{both, code1, code2, decoded1, decoded2, Tells1, told1, Tells2, told2}
-use Rattle.frame_codec.proofs.FrontGrammar.{SpellsFlags, flags1_grammar, SpellsFlags2, flags2_grammar, SpellsTimes, SpellsParts, parts_grammar}
+use Rattle.frame_codec.proofs.FlagLaws.{code1, code2, decoded1, decoded2, told1, told2}
+use Rattle.frame_codec.proofs.FrontGrammar.{SpellsFlags, flags1_grammar, SpellsFlags2, flags2_grammar, SpellsParts, parts_grammar}
 
 -- a front on the wire has this text and tells this
 pub record SpellsFront (fixed : Bool) (front : Front) (text : List ℕ) : Type 0 where
@@ -224,7 +224,7 @@ front_grammar fixed =
             front = middle;
             back = parts;
             spells_first = extended_back flags extended middle t2.small (rw t1.encoding (flags2_passes wire.encoding extended wire.kind t2.kind is.kind is.no_raw_delta t2.free))
-            (λ not_there. is.plain (sym t1.extended ∙ not_there)) (rw t1.extended refl);
+                (λ not_there. is.plain (sym t1.extended ∙ not_there)) (rw t1.extended refl);
             spells = record {
               number = wire.number;
               major = wire.major;

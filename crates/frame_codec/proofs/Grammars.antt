@@ -1,11 +1,10 @@
 -- More readings that take from left to right exactly what spells their answer.
-use Rattle.std.proofs.Common.{◌≡◌, ℕ, Bool, true, false, List, [], ◌++◌, length, take, Option, Some, None, Result, Ok, Err, refl, sym, ap, ◌∙◌, subst, arith}
+use Rattle.std.proofs.Common.{◌≡◌, ℕ, Bool, true, false, List, [], Option, Some, None, Result, Ok, Err, refl, sym, ap}
 use Rattle.std.specs.Prelude.{if◌then◌else◌}
 use Rattle.ua_binary.specs.declared.fault.ValueFault.{ValueFault}
 use Rattle.ua_binary.specs.declared.fault.ValueFault.TheVariants as values
 use Rattle.ua_binary.specs.Reading.{◌>>=◌}
-use Rattle.ua_binary.specs.Wire.{AreBytes}
-use Rattle.ua_binary.proofs.Grammar.{Spelled, IsGrammar, Done, Never, done_grammar, refused_grammar, same_grammar}
+use Rattle.ua_binary.proofs.Grammar.{IsGrammar, Done, Never, done_grammar, refused_grammar, same_grammar}
 use Rattle.frame_codec.specs.declared.fault.FrameFault.{FrameFault}
 use Rattle.frame_codec.specs.declared.fault.FrameFault.TheVariants.{Short}
 use Rattle.frame_codec.specs.Fronts.{passing}

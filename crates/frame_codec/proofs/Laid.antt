@@ -1,28 +1,31 @@
 -- The fields of a frame laid one behind another.
-use Rattle.std.proofs.Common.{◌≡◌, ℕ, zero, suc, ◌+◌, ◌/◌, ◌%◌, ◌^◌, ◌<◌, ◌≤◌, Bool, true, false, List, [], ◌∷◌, ◌++◌, length, take, drop, get_or, refl, sym, ap, ◌∙◌, subst, arith, length-append, length-take-le}
-use Rattle.std.specs.Prelude.{◌==◌, count_ones}
-use Rattle.std.specs.Int.{bit_at}
+use Rattle.std.proofs.Common.{◌≡◌, ℕ, zero, suc, ◌+◌, ◌/◌, ◌%◌, ◌^◌, ◌<◌, ◌≤◌, Bool, true, false, List, [], ◌∷◌, ◌++◌, length, take, drop, get_or, Option, Some, None, refl, sym, ap, ◌∙◌, subst, arith, length-append, length-take-le}
+use Rattle.std.specs.Prelude.{◌==◌, count_ones, if◌then◌else◌}
+use Rattle.std.specs.Int.{bit_at, w32, to_le_bytes}
 use Rattle.std.specs.Int.Count.{ones, ones_step}
 use Rattle.std.specs.List.{HoldsAt}
 use Rattle.std.proofs.Math.Nat.{div-div-eq-div-mul, div-eq_of_lt, div-one, pow-suc}
 use Rattle.std.proofs.Math.Numerals.{add-one}
+use Rattle.std.proofs.lemmas.Bool.{eqb-true}
 use Rattle.std.proofs.lemmas.Nat.Bits.{bit_at-lt}
 use Rattle.std.proofs.lemmas.List.{take_more, take-append-drop, append-nil}
 use Rattle.std.proofs.lemmas.Grind.{flat_map-append}
 use Rattle.std.proofs.lemmas.List.Folds.{length-flat_map-take}
 use Rattle.ua_values.specs.declared.value.Value.{Value}
-use Rattle.ua_binary.specs.Spelling.{variant}
+use Rattle.ua_values.specs.declared.value.Value.TheVariants as values
+use Rattle.ua_binary.specs.Spelling.{variant, data_value}
 use Rattle.ua_binary.specs.declared.pen.Pen.{Pen}
 use Rattle.ua_binary.specs.Writing.{Puts}
+use Rattle.ua_binary.proofs.Laying.{Puts-then}
 use Rattle.dataset_meta.specs.declared.field.Field.{Field}
 use Rattle.dataset_meta.specs.DataValues.{DataValue}
 use Rattle.dataset_meta.specs.Rows.{cons_if}
 use Rattle.row_words.specs.Belonging.{row_of, row_in}
 use Rattle.row_words.specs.Words.{scalar_in}
-use Rattle.row_words.specs.Setting.{HasValue}
+use Rattle.row_words.specs.Setting.{HasValue, HasStatus}
 use Rattle.row_words.specs.Patches.{marked_from}
 use Rattle.row_words.proofs.FieldLaws.{StandsAt, stands_at}
-use Rattle.frame_codec.specs.Spelling.{value_bytes, values_bytes, change_bytes, changes_bytes}
+use Rattle.frame_codec.specs.Spelling.{status_if, value_bytes, values_bytes, change_bytes, changes_bytes}
 
 length-row_of : (fields : List Field) (words statuses : List ℕ) → length (row_of fields words statuses) ≡ length fields
 length-row_of [] words statuses = refl
@@ -139,15 +142,6 @@ pub count_ones-marked : (row : List DataValue) (mask : ℕ) → mask < 2 ^ lengt
 count_ones-marked row mask below =
     ap ones (sym (div-one mask)) ∙ ones_marked row 0 mask (subst (λ (n : ℕ). mask < 2 ^ n) (omega arith) below)
 
--- what is put by a pen that the bytes are lent to is put by the one that has them again
-pub Puts-lent : (old after : Pen) (name : ℕ) (left text : List ℕ) (within : old.at ≤ length old.bytes.now) (still : after.at ≤ length left)
-    → Puts (record { bytes = record { ref_ptr = old.bytes.ref_ptr; ghost_name = name; now = old.bytes.now }; at = old.at; within = within }) after text
-    → (name ≡ after.bytes.ghost_name → left ≡ after.bytes.now)
-    → Puts old (record { bytes = record { ref_ptr = old.bytes.ref_ptr; ghost_name = old.bytes.ghost_name; now = left }; at = after.at; within = still }) text
-Puts-lent old after name left text within still puts back =
-    let is : left ≡ after.bytes.now = back (sym puts.same_loan) in
-    record { written = is ∙ puts.written; moved = puts.moved; same_loan = refl; same_length = ap (λ (bytes : List ℕ). length bytes) is ∙ puts.same_length }
-
 -- the scalar that has this word
 pub word_value : (fields : List Field) (row : List DataValue) (index word : ℕ) (field : Field) (e : DataValue) → field ≡ get_or fields index field
     → ((d : Field) → HasValue row index (scalar_in (get_or fields index d).kind word)) → (get_or row index e).value ≡ scalar_in field.kind word
@@ -161,3 +155,50 @@ word_room fields row index word field pen d at held room = subst (λ (v : Value)
 pub word_puts : (fields : List Field) (row : List DataValue) (index word : ℕ) (field : Field) (old new : Pen) → field ≡ get_or fields index field
     → ((d : Field) → HasValue row index (scalar_in (get_or fields index d).kind word)) → Puts old new (variant (scalar_in field.kind word)) → (e : DataValue) → Puts old new (variant (get_or row index e).value)
 word_puts fields row index word field old new at held puts e = subst (λ (v : Value). Puts old new (variant v)) (sym (word_value fields row index word field e at held)) puts
+
+pub value_room : (row : List DataValue) (index : ℕ) (value : Value) (pen : Pen) → HasValue row index value → ((d : DataValue) → pen.at + length (variant (get_or row index d).value) ≤ length pen.bytes.now)
+    → pen.at + length (variant value) ≤ length pen.bytes.now
+value_room row index value pen held room =
+    let d : DataValue = record { value = value; status = 0 } in
+    subst (λ (v : Value). pen.at + length (variant v) ≤ length pen.bytes.now) (held d) (room d)
+
+-- DataValues
+data_some : (value : Value) (status : Option ℕ) → 1 ≤ length (data_value value status)
+data_some value None = omega arith
+data_some value (Some status) = omega arith
+
+pub any : DataValue
+any = record { value = values.Byte 0; status = 0 }
+
+pub data_room : (row : List DataValue) (index : ℕ) (pen : Pen) → ((d : DataValue) → pen.at + length (value_bytes true (get_or row index d)) ≤ length pen.bytes.now) → pen.at + 1 ≤ length pen.bytes.now
+data_room row index pen room = omega (arith, room any, data_some (get_or row index any).value (status_if (get_or row index any).status))
+
+some_status : (status : ℕ) → ¬ (status ≡ 0) → status_if status ≡ Some status
+some_status status some = by_test (status == 0) refl
+  where
+    by_test : (b : Bool) → (status == 0) ≡ b → (if b then None else Some status) ≡ Some status
+    by_test true is = absurd (some (eqb-true status 0 is))
+    by_test false is = refl
+
+pub room_behind : (row : List DataValue) (index status : ℕ) (old a b : Pen) → ¬ (status ≡ 0) → HasStatus row index status → ((d : DataValue) → old.at + length (value_bytes true (get_or row index d)) ≤ length old.bytes.now)
+    → Puts old a (3 ∷ []) → ((d : DataValue) → Puts a b (variant (get_or row index d).value)) → b.at + 4 ≤ length b.bytes.now
+room_behind row index status old a b some held room first second =
+    let x : DataValue = get_or row index any in
+    let code : status_if x.status ≡ Some status = ap status_if (held any) ∙ some_status status some in
+    let put = second any in
+    let long : length (data_value x.value (status_if x.status)) ≡ 5 + length (variant x.value) =
+    ap (λ (o : Option ℕ). length (data_value x.value o)) code ∙ omega (arith, length-append (variant x.value) (to_le_bytes w32 status)) in
+    omega (arith, long, room any, first.moved, first.same_length, put.moved, put.same_length)
+
+pub alone_puts : (row : List DataValue) (index status : ℕ) (old a b : Pen) → status ≡ 0 → HasStatus row index status → Puts old a (1 ∷ []) → ((d : DataValue) → Puts a b (variant (get_or row index d).value))
+    → (d : DataValue) → Puts old b (value_bytes true (get_or row index d))
+alone_puts row index status old a b none held first second d =
+    subst (λ (n : ℕ). Puts old b (data_value (get_or row index d).value (status_if n))) (sym (held d ∙ none)) (Puts-then old a b (1 ∷ []) (variant (get_or row index d).value) first (second d))
+
+pub with_puts : (row : List DataValue) (index status : ℕ) (old a b c : Pen) → ¬ (status ≡ 0) → HasStatus row index status → Puts old a (3 ∷ []) → ((d : DataValue) → Puts a b (variant (get_or row index d).value)) → Puts b c (to_le_bytes w32 status)
+    → (d : DataValue) → Puts old c (value_bytes true (get_or row index d))
+with_puts row index status old a b c some held first second third d =
+    let value : Value = (get_or row index d).value in
+    let code : status_if (get_or row index d).status ≡ Some status = ap status_if (held d) ∙ some_status status some in
+    subst (λ (o : Option ℕ). Puts old c (data_value value o)) (sym code)
+    (Puts-then old b c ((3 ∷ []) ++ variant value) (to_le_bytes w32 status) (Puts-then old a b (3 ∷ []) (variant value) first (second d)) third)

@@ -1,23 +1,20 @@
 -- How long the frames of a meta are at most.
-use Rattle.std.proofs.Common.{◌≡◌, ℕ, ◌+◌, ◌*◌, ◌≤◌, Bool, true, false, List, [], ◌∷◌, ◌++◌, length, zero, suc, ◌<◌, drop, get_or, Option, Some, None, refl, sym, ap, subst, ◌∙◌, arith, length-append}
-use Rattle.std.specs.Prelude.{sum_by, is_some, ◌==◌, if◌then◌else◌}
+use Rattle.std.proofs.Common.{◌≡◌, ℕ, ◌+◌, ◌*◌, ◌≤◌, Bool, true, false, List, [], ◌∷◌, length, zero, suc, ◌<◌, drop, get_or, Option, Some, None, refl, sym, ap, subst, ◌∙◌, arith, length-append}
+use Rattle.std.specs.Prelude.{sum_by, is_some, if◌then◌else◌}
 use Rattle.std.specs.Int.{w16, w32, to_le_bytes}
 use Rattle.std.proofs.lemmas.List.Sums.{sum_by-cons}
-use Rattle.std.specs.List.{HoldsAt}
 use Rattle.ua_values.specs.declared.kind.Kind.{Kind}
 use Rattle.ua_values.specs.declared.value.Value.{Value}
 use Rattle.ua_values.specs.declared.value.Value.TheVariants.{Boolean, SByte, Byte, Int16, UInt16, Int32, UInt32, Int64, UInt64, Float, Double, String, DateTime, Guid, ByteString, StatusCode}
 use Rattle.ua_values.specs.Values.{kind_of, size_of, IsValue}
 use Rattle.ua_binary.specs.Spelling.{variant, data_value}
-use Rattle.ua_binary.specs.Wire.{flag, optional}
+use Rattle.ua_binary.specs.Wire.{optional}
 use Rattle.dataset_meta.specs.declared.field.Field.{Field}
 use Rattle.dataset_meta.specs.DataValues.{DataValue, FitsField}
 use Rattle.dataset_meta.specs.Fields.{width, width_of}
 use Rattle.dataset_meta.specs.Metas.{MetaData, IsMeta}
-use Rattle.dataset_meta.specs.Rows.{IsRowOf, IsPatchFrom, cons_if}
+use Rattle.dataset_meta.specs.Rows.{IsRowOf, IsPatchFrom}
 use Rattle.row_words.proofs.PatchLaws.{IsPatch-patch_in}
-use Rattle.row_words.specs.Belonging.{row_in}
-use Rattle.row_words.specs.Patches.{patch_in}
 use Rattle.frame_codec.specs.declared.frame.Frame.{Frame as FrameWords}
 use Rattle.frame_codec.specs.declared.frame.FrameKind.{FrameKind}
 use Rattle.frame_codec.specs.declared.frame.FrameKind.TheVariants as kinds

@@ -7,9 +7,12 @@ pub mod WholeGrammar
 pub mod PatchGrammar
 pub mod FrameGrammar
 pub mod WrittenLaws
+pub mod FitLaws
+pub mod ReadingLaws
+pub mod FaultLaws
 pub mod RowReading
 pub mod ScalarLaws
 pub mod Setting
-pub mod ReadingLaws
 pub mod Laid
 pub mod Lengths
+pub mod WordLaws

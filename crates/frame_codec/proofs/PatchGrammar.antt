@@ -1,6 +1,6 @@
 -- A delta frame is read of exactly what spells it.
-use Rattle.std.proofs.Common.{◌≡◌, ℕ, zero, suc, ◌+◌, ◌<◌, ◌≤◌, ◌^◌, Bool, true, false, List, [], ◌∷◌, ◌++◌, length, Option, Some, None, Result, Ok, Err, refl, sym, ap, ◌∙◌, subst, append_assoc, append-nil, arith}
-use Rattle.std.specs.Prelude.{slice_get, if◌then◌else◌}
+use Rattle.std.proofs.Common.{◌≡◌, ℕ, zero, suc, ◌<◌, ◌^◌, Bool, true, false, List, [], ◌∷◌, ◌++◌, length, Option, Some, None, Ok, Err, refl, sym, ap, ◌∙◌, append-nil, arith}
+use Rattle.std.specs.Prelude.{slice_get}
 use Rattle.std.specs.Int.{w16, to_le_bytes}
 use Rattle.ua_binary.specs.Reading.{◌>>=◌, number_at}
 use Rattle.ua_binary.proofs.Grammar.{IsGrammar, Joined, then_grammar, Done, done_grammar, Never, refused_grammar, same_grammar, Made, made_grammar, alone}
@@ -12,8 +12,7 @@ use Rattle.dataset_meta.specs.Rows.{put_in}
 use Rattle.frame_codec.specs.declared.fault.FrameFault.{FrameFault}
 use Rattle.frame_codec.specs.declared.fault.FrameFault.TheVariants.{Short, BadIndex}
 use Rattle.frame_codec.specs.Contents.{field_at, surplus_at, put_at, change_at, changes_at, patch_at}
-use Rattle.frame_codec.specs.Wire.{WireField, field_bytes, change_bytes, changes_bytes, IsSurplus, IsFor, AreChanges, put_read, patch_read}
-use Rattle.frame_codec.proofs.Grammars.{Choice, either_grammar}
+use Rattle.frame_codec.specs.Wire.{WireField, field_bytes, change_bytes, changes_bytes, IsFor, AreChanges, put_read, patch_read}
 use Rattle.frame_codec.proofs.ContentGrammar.{SpellsField, field_grammar, SpellsSurplus, surplus_grammar}
 
 -- a patch

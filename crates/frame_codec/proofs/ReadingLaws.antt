@@ -1,23 +1,26 @@
 -- What is read of a whole message, with zeros behind it.
-use Rattle.std.proofs.Common.{◌≡◌, ℕ, zero, suc, ◌+◌, ◌<◌, ◌≤◌, ◌^◌, Bool, true, false, List, [], ◌∷◌, ◌++◌, length, take, replicate, Option, Some, None, Result, Ok, Err, refl, sym, ap, ◌∙◌, subst, append-nil, append_assoc, arith, inl, inr}
-use Rattle.std.specs.Prelude.{◌↔◌, ◌==◌, nat_lt, if◌then◌else◌}
+use Rattle.std.proofs.Common.{◌≡◌, ℕ, zero, suc, ◌<◌, Bool, true, false, List, [], ◌∷◌, ◌++◌, length, take, replicate, Option, Some, Result, Ok, Err, refl, sym, ap, ◌∙◌, subst, arith, inl, inr}
+use Rattle.std.specs.Prelude.{◌↔◌, ◌==◌, ◌&&◌, if◌then◌else◌}
 use Rattle.std.proofs.lemmas.Bool.{eqb-true, lt-ltb}
 use Rattle.ua_binary.specs.Reading.{◌>>=◌}
 use Rattle.ua_binary.specs.Wire.{AreBytes}
+use Rattle.dataset_meta.specs.DataValues.{DataValue}
 use Rattle.dataset_meta.specs.Metas.{MetaData, IsMeta, HasGrown}
 use Rattle.frame_codec.specs.declared.fault.FrameFault.{FrameFault}
 use Rattle.frame_codec.specs.declared.fault.FrameFault.TheVariants.{Short, Trailing}
 use Rattle.frame_codec.specs.declared.front.Front.{Front}
-use Rattle.frame_codec.specs.Frames.{Content, Frame, IsFrame, frame_cut}
+use Rattle.frame_codec.specs.Frames.{Content, Whole, Change, Alive, Frame, IsFrame, frame_cut}
 use Rattle.frame_codec.specs.Fronts.{front_at}
 use Rattle.frame_codec.specs.Contents.{is_newer}
 use Rattle.frame_codec.specs.Reading.{message_at, are_zero, ended, frame_at}
-use Rattle.frame_codec.specs.Spelling.{frame_bytes}
+use Rattle.frame_codec.specs.Spelling.{is_key, frame_bytes}
+use Rattle.frame_codec.specs.Spelling as written
 use Rattle.frame_codec.specs.Wire.{WireFront, IsWireFront, front_bytes, front_read, WireFrame, IsWireFrame, wire_bytes, frame_read}
-use Rattle.frame_codec.specs.Begins.{BeginsWithFront, IsSpelled}
-use Rattle.frame_codec.proofs.FrontLaws.{SpellsFront, front_grammar}
+use Rattle.frame_codec.specs.Begins.{BeginsWithFront, IsSpelled, raw_front}
+use Rattle.frame_codec.proofs.FrontLaws.{front_grammar}
 use Rattle.frame_codec.proofs.FrameGrammar.{SpellsFrame, message_grammar}
-use Rattle.frame_codec.proofs.WrittenLaws.{appended, frame-spelled, cut-whole, grown-same, none-appended}
+use Rattle.frame_codec.proofs.FitLaws.{wire-fits}
+use Rattle.frame_codec.proofs.WrittenLaws.{kind_of, wire_front, front-written, front-fits, frame-spelled, cut-whole, grown-same, none-appended}
 
 zeros-are-zero : (count : ℕ) → are_zero (replicate count 0) ≡ true
 zeros-are-zero zero = refl
@@ -70,7 +73,7 @@ read-spelled meta bytes frame all = (
 pub front-spelled : (fixed : Bool) (bytes rest : List ℕ) (front : Front) → AreBytes bytes → (front_at fixed bytes ≡ Ok (front, rest)) ↔ BeginsWithFront fixed bytes front rest
 front-spelled fixed bytes rest front all = (
   λ e. let s = (front_grammar fixed).back bytes rest front all e in
-  record { wire = s.spells.wire; is_wire = s.spells.is_wire; meaning = s.spells.tells; split = s.split ∙ ap (λ (l : List ℕ). l ++ rest) s.spells.split },
+      record { wire = s.spells.wire; is_wire = s.spells.is_wire; meaning = s.spells.tells; split = s.split ∙ ap (λ (l : List ℕ). l ++ rest) s.spells.split },
   λ s. ap (front_at fixed) s.split ∙ (front_grammar fixed).again front (front_bytes s.wire) rest (record { wire = s.wire; is_wire = s.is_wire; tells = s.meaning; split = refl }),
 )
 
@@ -97,3 +100,35 @@ ok_once same = cc
 pub one-frame : (meta : MetaData) (one other : Frame) → IsMeta meta.fields → IsFrame meta one → IsFrame meta other → frame_bytes meta.quality one ≡ frame_bytes meta.quality other → one ≡ other
 one-frame meta one other is_meta is_one is_other same =
     ok_once (sym (written-read meta one 0 is_meta is_one) ∙ ap (λ (bytes : List ℕ). frame_at meta (bytes ++ [])) same ∙ written-read meta other 0 is_meta is_other)
+
+pub front-few : (fixed : Bool) (wire : WireFront) (len : ℕ) → IsWireFront fixed wire → len < length (front_bytes wire) → front_at fixed (take len (front_bytes wire)) ≡ Err Short
+front-few fixed wire len is below = (front_grammar fixed).fewer (front_read wire) (front_bytes wire) len (record { wire = wire; is_wire = is; tells = refl; split = refl }) below
+
+pub message-few : (meta : MetaData) (wire : WireFrame) (len : ℕ) → IsWireFrame meta wire → len < length (wire_bytes wire) → frame_at meta (take len (wire_bytes wire)) ≡ Err Short
+message-few meta wire len is below = few-short meta (frame_read meta wire) (wire_bytes wire) len (record { wire = wire; is_wire = is; meaning = refl; spelled = refl }) below
+
+pub read-fits : (meta : MetaData) (bytes : List ℕ) (frame : Frame) → AreBytes bytes → frame_at meta bytes ≡ Ok frame → IsFrame meta frame
+read-fits meta bytes frame all e =
+    let s : IsSpelled meta bytes frame = (read-spelled meta bytes frame all).0 e in
+    subst (IsFrame meta) s.meaning (wire-fits meta s.wire s.is_wire)
+
+-- fronts with RawData
+raw_kind : (content : Content) → ((patch : List (ℕ × DataValue)) → ¬ (content ≡ Change patch)) → kind_of content ≡ (if is_key content then 0 else 3)
+raw_kind (Whole row) no_delta = refl
+raw_kind (Change patch) no_delta = absurd (no_delta patch refl)
+raw_kind Alive no_delta = refl
+
+raw_allowed : (content : Content) → ((patch : List (ℕ × DataValue)) → ¬ (content ≡ Change patch)) → (1 == 1 && kind_of content == 1) ≡ false
+raw_allowed (Whole row) no_delta = refl
+raw_allowed (Change patch) no_delta = absurd (no_delta patch refl)
+raw_allowed Alive no_delta = refl
+
+pub raw-front-read : (meta : MetaData) (frame : Frame) (rest : List ℕ) → IsFrame meta frame → ((patch : List (ℕ × DataValue)) → ¬ (frame.content ≡ Change patch)) → front_at true (written.front_bytes 1 frame ++ rest) ≡ Ok (raw_front frame, rest)
+raw-front-read meta frame rest is no_delta =
+    ap (λ (bytes : List ℕ). front_at true (bytes ++ rest)) (sym (front-written 1 frame))
+    ∙ (front_grammar true).again (raw_front frame) (front_bytes (wire_front 1 frame)) rest (record {
+      wire = wire_front 1 frame;
+      is_wire = front-fits true 1 frame refl (raw_allowed frame.content no_delta) is.number is.major is.minor;
+      tells = ap (λ (kind : ℕ). record { valid = true; encoding = 1; kind = kind; number = frame.number; major = frame.major; minor = frame.minor }) (raw_kind frame.content no_delta);
+      split = refl;
+    })

@@ -1,9 +1,8 @@
 -- What is set in a row, or put into a patch, once it is read.
-use Rattle.std.proofs.Common.{◌≡◌, ℕ, zero, suc, ◌<◌, ◌≤◌, Bool, true, false, List, [], ◌∷◌, length, get_or, Option, Some, None, Result, Ok, Err, refl, sym, ap, ◌∙◌, subst, arith}
-use Rattle.std.specs.Prelude.{slice_get, slice_set, IsSomeAnd, if◌then◌else◌}
+use Rattle.std.proofs.Common.{◌≡◌, ℕ, zero, suc, ◌<◌, ◌≤◌, Bool, true, false, List, [], ◌∷◌, length, get_or, Option, Some, None, Result, Ok, Err, refl, sym, ap, ◌∙◌, arith}
+use Rattle.std.specs.Prelude.{slice_get, slice_set, if◌then◌else◌}
 use Rattle.std.specs.Int.{w16}
 use Rattle.ua_values.specs.declared.value.Value.{Value}
-use Rattle.ua_values.specs.Values.{Fits}
 use Rattle.ua_binary.specs.declared.cursor.Cursor.{Cursor}
 use Rattle.ua_binary.specs.declared.cursor.Short.{Short as NoBytes}
 use Rattle.ua_binary.specs.declared.data_value.Measured.{Measured}
@@ -97,8 +96,8 @@ pub change_surplus : (meta : MetaData) (newer : Bool) (encoding index : ℕ) (pa
 change_surplus meta newer encoding index patch short old mid new (Ok done) number past grown read =
     record {
       answer = indexed meta newer encoding index patch None _ _ short number.answer (get_past meta.fields index past)
-      ∙ ap (λ (b : Bool). if b then (surplus_at encoding (rest_of mid) >>= λ value. Ok (patch, value.1)) else Err (BadIndex index)) grown
-      ∙ ap (λ (r : Result (Unit {0} × List ℕ) FrameFault). r >>= λ value. Ok (patch, value.1)) read.answer;
+          ∙ ap (λ (b : Bool). if b then (surplus_at encoding (rest_of mid) >>= λ value. Ok (patch, value.1)) else Err (BadIndex index)) grown
+          ∙ ap (λ (r : Result (Unit {0} × List ℕ) FrameFault). r >>= λ value. Ok (patch, value.1)) read.answer;
       same_bytes = read.same_bytes ∙ number.same_bytes;
     }
 change_surplus meta newer encoding index patch short old mid new (Err fault) number past grown read =

@@ -1,5 +1,5 @@
 -- A key frame is read of exactly what spells it.
-use Rattle.std.proofs.Common.{◌≡◌, ℕ, zero, suc, ◌+◌, ◌-◌, ◌<◌, ◌≤◌, ◌^◌, Bool, true, false, List, [], ◌∷◌, ◌++◌, length, Result, Ok, Err, refl, sym, ap, ◌∙◌, subst, append_assoc, append-nil, length-append, arith}
+use Rattle.std.proofs.Common.{◌≡◌, ℕ, suc, ◌+◌, ◌-◌, ◌<◌, ◌≤◌, ◌^◌, Bool, true, false, List, [], ◌∷◌, ◌++◌, length, Ok, Err, refl, sym, ap, ◌∙◌, subst, append-nil, length-append, arith}
 use Rattle.std.specs.Prelude.{◌==◌, ◌&&◌, ◌||◌, nat_lt, if◌then◌else◌}
 use Rattle.std.specs.Int.{w16, to_le_bytes}
 use Rattle.std.proofs.lemmas.Bool.{eqb-true, eq-eqb, ltb-true, lt-ltb}
@@ -13,7 +13,7 @@ use Rattle.dataset_meta.specs.Metas.{MetaData}
 use Rattle.frame_codec.specs.declared.fault.FrameFault.{FrameFault}
 use Rattle.frame_codec.specs.declared.fault.FrameFault.TheVariants.{Short, WrongCount}
 use Rattle.frame_codec.specs.Contents.{row_at, surpluses_at, is_count, counted_at, whole_at}
-use Rattle.frame_codec.specs.Wire.{WireField, field_bytes, values_bytes, IsSurplus, AreValues, value_read, row_read}
+use Rattle.frame_codec.specs.Wire.{WireField, field_bytes, values_bytes, AreValues, value_read, row_read}
 use Rattle.frame_codec.proofs.Grammars.{Choice, either_grammar}
 use Rattle.frame_codec.proofs.ContentGrammar.{SpellsRow, row_grammar, SpellsSurpluses, surpluses_grammar}
 
@@ -139,7 +139,7 @@ whole_grammar meta newer encoding =
           are = join_values newer encoding meta.fields r.values s.values r.are (surplus_are newer encoding (length meta.fields) count s.values counts s.counted s.are);
           meaning = row-joined meta.quality encoding meta.fields r.values s.values r.are ∙ r.meaning ∙ sym c.spells.spells.0;
           spelled = split ∙ ap (λ (l : List ℕ). l ++ back) number.1 ∙ ap (λ (l : List ℕ). to_le_bytes w16 count ++ l) (c.split ∙ ap (λ (l : List ℕ). l ++ c.back) r.spelled ∙ ap (λ (l : List ℕ). values_bytes r.values ++ l) behind ∙ sym (flat_map-append field_bytes r.values s.values))
-          ∙ ap (λ (n : ℕ). to_le_bytes w16 n ++ values_bytes (r.values ++ s.values)) (sym long);
+              ∙ ap (λ (n : ℕ). to_le_bytes w16 n ++ values_bytes (r.values ++ s.values)) (sym long);
         }
 
     by_count : (row : List DataValue) (text front back : List ℕ) (count : ℕ) → IsNumber w16 16 count front → text ≡ front ++ back → (b : Bool) → is_count newer (length meta.fields) count ≡ b → Choice b (Counted meta encoding count row back) ⊥ → SpellsWhole meta newer encoding row text

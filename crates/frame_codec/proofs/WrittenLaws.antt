@@ -1,25 +1,24 @@
 -- A written frame stands on the wire as one of what it is, and as one of what its data set was before it grew.
-use Rattle.std.proofs.Common.{◌≡◌, ℕ, zero, suc, ◌+◌, ◌*◌, ◌<◌, ◌≤◌, ◌^◌, Bool, true, false, not, List, [], ◌∷◌, ◌++◌, length, take, drop, get_or, Option, Some, None, refl, sym, ap, ◌∙◌, subst, append_assoc, append-nil, length-append, take-append-drop, length-take-le, arith, inl, inr}
-use Rattle.std.specs.Prelude.{IfSome, is_some, ◌==◌, ◌&&◌, ◌⊎◌, nat_lt, map, filter, slice_get, unwrap_or, if◌then◌else◌, ⊤}
+use Rattle.std.proofs.Common.{◌≡◌, ℕ, zero, suc, ◌+◌, ◌*◌, ◌<◌, ◌≤◌, ◌^◌, Bool, true, false, not, List, [], ◌∷◌, ◌++◌, length, take, drop, get_or, Option, Some, None, refl, sym, ap, ◌∙◌, subst, append_assoc, append-nil, length-append, take-append-drop, arith, inl, inr}
+use Rattle.std.specs.Prelude.{IfSome, is_some, ◌==◌, ◌&&◌, ◌⊎◌, nat_lt, filter, slice_get, unwrap_or, if◌then◌else◌, ⊤}
 use Rattle.std.specs.Int.{w16, w32, to_le_bytes}
 use Rattle.std.specs.List.{HoldsAt}
-use Rattle.std.proofs.lemmas.Bool.{eqb-true, lt-ltb, le-ltb, ltb-true, ltb-false}
-use Rattle.ua_values.specs.Values.{opening}
-use Rattle.ua_binary.specs.Spelling.{variant, data_value}
+use Rattle.std.proofs.lemmas.Bool.{eqb-true, lt-ltb, ltb-true, ltb-false}
+use Rattle.ua_binary.specs.Spelling.{data_value}
 use Rattle.ua_binary.specs.Wire.{flag, optional, Form, WireValue, WireDataValue, variant_as, data_value_as}
 use Rattle.ua_binary.specs.Wire as wires
 use Rattle.std.proofs.lemmas.List.{take_all, drop_all}
 use Rattle.dataset_meta.specs.declared.field.Field.{Field}
-use Rattle.dataset_meta.specs.DataValues.{DataValue, IsStatus, FitsField}
+use Rattle.dataset_meta.specs.DataValues.{DataValue, FitsField}
 use Rattle.dataset_meta.specs.Metas.{MetaData, HasGrown}
-use Rattle.dataset_meta.specs.Rows.{IsRowOf, IsRow, IsPatch, IsPatchFrom, put_in, row_cut, patch_cut}
+use Rattle.dataset_meta.specs.Rows.{IsRowOf, IsPatchFrom, put_in}
 use Rattle.dataset_meta.proofs.RowLaws.{length_row}
 use Rattle.frame_codec.specs.Frames.{Content, Whole, Change, Alive, Frame, IsContent, IsFrame, content_cut, frame_cut}
-use Rattle.frame_codec.specs.Contents.{kept, is_newer}
+use Rattle.frame_codec.specs.Contents.{is_newer}
 use Rattle.frame_codec.specs.Fronts.{is_encoding}
 use Rattle.frame_codec.specs.Spelling.{is_key, status_if, value_bytes, encoding_of, frame_bytes}
 use Rattle.frame_codec.specs.Spelling as written
-use Rattle.frame_codec.specs.Wire.{WireFront, IsWireFront, is_kind, WireField, AsVariant, AsDataValue, IsWireField, field_bytes, field_read, values_bytes, change_bytes, changes_bytes, WireContent, Key, Delta, KeepAlive, kind_number, content_bytes, IsForField, IsSurplus, AreValues, IsFor, AreChanges, IsWireContent, value_read, row_read, put_read, patch_read, content_read, WireFrame, wire_bytes, IsWireFrame, frame_read, front_bytes}
+use Rattle.frame_codec.specs.Wire.{WireFront, IsWireFront, is_kind, WireField, AsVariant, AsDataValue, field_bytes, values_bytes, changes_bytes, WireContent, Key, Delta, KeepAlive, kind_number, content_bytes, IsForField, IsSurplus, AreValues, IsFor, AreChanges, IsWireContent, value_read, row_read, put_read, patch_read, content_read, wire_bytes, front_bytes}
 use Rattle.frame_codec.proofs.FrameGrammar.{SpellsFrame}
 
 -- a value with its status, as it is written
@@ -256,12 +255,12 @@ length_patch quality fields from [] is within = omega arith
 length_patch quality fields from (change ∷ patch) is within = omega (arith, is.0, length_patch quality fields (change.0 + 1) patch is.3 (omega (arith, is.1)))
 
 -- fronts
-pub kind_of : Content → ℕ
+abbrev pub kind_of : Content → ℕ
 kind_of (Whole row) = 0
 kind_of (Change patch) = 1
 kind_of Alive = 3
 
-pub wire_front : ℕ → Frame → WireFront
+abbrev pub wire_front : ℕ → Frame → WireFront
 wire_front encoding frame = record {
   encoding = encoding;
   extended = not (is_key frame.content);
@@ -278,7 +277,7 @@ three_nil : (a b c d : List ℕ) → (((((a ++ b) ++ []) ++ []) ++ []) ++ c) ++ 
 three_nil a b c d = simp append-nil refl
 
 pub front-written : (encoding : ℕ) (frame : Frame) → front_bytes (wire_front encoding frame) ≡ written.front_bytes encoding frame
-unfolding wire_front kind_of front_bytes written.front_bytes
+unfolding front_bytes written.front_bytes
 front-written encoding frame = by_content frame.content
   where
     same_bytes : (a b c d : ℕ) (two : List ℕ) → (a + 0 + b + c + d) ∷ two ++ optional (to_le_bytes w16) frame.number ++ [] ++ [] ++ [] ++ optional (to_le_bytes w32) frame.major ++ optional (to_le_bytes w32) frame.minor
@@ -293,20 +292,17 @@ front-written encoding frame = by_content frame.content
     by_content Alive = same_bytes (1 + 2 * encoding + flag (is_some frame.number) 8) (flag (is_some frame.major) 32) (flag (is_some frame.minor) 64) 128 (3 ∷ [])
 
 kind_is : (content : Content) → is_kind (kind_of content) ≡ true
-unfolding kind_of
 kind_is (Whole row) = refl
 kind_is (Change patch) = refl
 kind_is Alive = refl
 
 plain_is : (content : Content) → not (is_key content) ≡ false → kind_of content ≡ 0
-unfolding kind_of
 plain_is (Whole row) key = refl
 plain_is (Change patch) key = absurd cc
 plain_is Alive key = absurd cc
 
 pub front-fits : (fixed : Bool) (encoding : ℕ) (frame : Frame) → is_encoding fixed encoding ≡ true → (encoding == 1 && kind_of frame.content == 1) ≡ false
     → IfSome frame.number (λ n. n < 2 ^ 16) → IfSome frame.major (λ n. n < 2 ^ 32) → IfSome frame.minor (λ n. n < 2 ^ 32) → IsWireFront fixed (wire_front encoding frame)
-unfolding wire_front
 front-fits fixed encoding frame allowed no_delta number major minor = record {
   encoding = allowed;
   kind = kind_is frame.content;
@@ -335,7 +331,7 @@ content-written quality (Change patch) =
 content-written quality Alive = refl
 
 same_kind : (quality : Bool) (content : Content) → kind_of content ≡ kind_number (wire_content quality content)
-unfolding wire_content kind_of
+unfolding wire_content
 same_kind quality (Whole row) = refl
 same_kind quality (Change patch) = refl
 same_kind quality Alive = refl
@@ -379,7 +375,6 @@ written_encoding true Alive = refl
 written_encoding false Alive = refl
 
 not_raw : (quality : Bool) (content : Content) → (encoding_of quality content == 1 && kind_of content == 1) ≡ false
-unfolding kind_of
 not_raw true (Whole row) = refl
 not_raw false (Whole row) = refl
 not_raw true (Change patch) = refl
@@ -390,7 +385,7 @@ not_raw false Alive = refl
 -- a written frame is a spelling of what a meta that it has grown from has of it
 pub frame-spelled : (short full : MetaData) (frame : Frame) → HasGrown short full → length full.fields ≤ 65535 → MayHave (is_newer short frame.minor) (appended short full) → IsFrame full frame
     → SpellsFrame short (frame_cut short frame) (frame_bytes full.quality frame)
-unfolding frame_bytes wire_bytes wire_front
+unfolding frame_bytes wire_bytes
 frame-spelled short full frame grown few may is =
     let encoding = encoding_of full.quality frame.content in
     record {

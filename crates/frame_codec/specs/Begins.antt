@@ -1,8 +1,9 @@
 -- What bytes begin with, or are.
-use Rattle.std.specs.Prelude.{◌≡◌, ℕ, Bool, List, ◌++◌, replicate}
+use Rattle.std.specs.Prelude.{◌≡◌, ℕ, Bool, true, List, ◌++◌, replicate, if◌then◌else◌}
 use Rattle.dataset_meta.specs.Metas.{MetaData}
 use Rattle.frame_codec.specs.declared.front.Front.{Front}
 use Rattle.frame_codec.specs.Frames.{Frame}
+use Rattle.frame_codec.specs.Spelling.{is_key}
 use Rattle.frame_codec.specs.Wire.{WireFront, IsWireFront, front_bytes, front_read, WireFrame, IsWireFrame, wire_bytes, frame_read}
 
 -- a front that tells this stands in front of this rest
@@ -19,3 +20,14 @@ pub record IsSpelled (meta : MetaData) (bytes : List ℕ) (frame : Frame) : Type
   pub meaning : frame_read meta wire ≡ frame
   pub zeros : ℕ
   pub split : bytes ≡ wire_bytes wire ++ replicate zeros 0
+
+-- what the front of a frame with RawData tells
+abbrev pub raw_front : Frame → Front
+raw_front frame = record {
+  valid = true;
+  encoding = 1;
+  kind = if is_key frame.content then 0 else 3;
+  number = frame.number;
+  major = frame.major;
+  minor = frame.minor;
+}

@@ -5,7 +5,6 @@ use Rattle.std.specs.Int.{w16, w32, to_le_bytes}
 use Rattle.ua_binary.specs.Spelling.{variant, data_value}
 use Rattle.ua_binary.specs.Wire.{flag, optional}
 use Rattle.dataset_meta.specs.DataValues.{DataValue}
-use Rattle.dataset_meta.specs.Metas.{MetaData}
 use Rattle.frame_codec.specs.Frames.{Content, Whole, Change, Alive, Frame}
 
 abbrev pub is_key : Content → Bool

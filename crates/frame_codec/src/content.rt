@@ -79,12 +79,7 @@ fn read_content(
             read_whole(cursor, meta, newer, front.encoding, &mut row)?;
             Ok(FrameKind::Whole(row))
         }
-        DELTA => Ok(FrameKind::Change(read_patch(
-            cursor,
-            meta,
-            newer,
-            front.encoding,
-        )?)),
+        DELTA => Ok(FrameKind::Change(read_patch(cursor, meta, newer, front.encoding)?)),
         _ => Ok(FrameKind::Alive),
     }
 }
@@ -298,11 +293,7 @@ fn set_word(meta: &Meta, row: &mut Row, index: u8, word: u64, status: u32)
 
 /// So many surplus values, which are judged by their own bytes and dropped.
 #[tactic(auto, using(crate::proofs::RowReading::surpluses_refused, crate::proofs::RowReading::surpluses_more))]
-fn read_surpluses(
-    cursor: &mut Cursor<'_>,
-    encoding: u8,
-    count: usize,
-) -> Result<(), FrameFault>
+fn read_surpluses(cursor: &mut Cursor<'_>, encoding: u8, count: usize) -> Result<(), FrameFault>
     ensures { ReadsAhead result cursor.old cursor.new (surpluses_at encoding count) }
 {
     for _ in 0..count {

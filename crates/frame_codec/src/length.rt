@@ -73,8 +73,8 @@ fn row_len(meta: &Meta, row: &Row) -> usize
     ensures small { result ≤ 64 * 266 }
 {
     let mut len = 0;
-    for index in 0..field_count(meta) {
-        len += value_len(meta, row, index);
+    for index in 0..meta.fields().len() {
+        len += value_len(meta, row, index as u8);
     }
     len
 }

@@ -6,6 +6,7 @@ mod fault;
 mod flags;
 mod frame;
 mod front;
+mod laws;
 mod length;
 mod reading;
 mod scalar;
@@ -14,6 +15,12 @@ mod writing;
 pub use fault::FrameFault;
 pub use frame::{Frame, FrameKind};
 pub use front::{Front, read_front};
+pub use laws::{
+    bytes_are_of_one_frame, fewer_bytes_are_short, fields_are_judged_in_their_order,
+    flags_are_judged_first, frames_are_not_too_long, frames_are_read_as_spelled,
+    frames_have_one_meaning, fronts_are_read_as_spelled, grown_frames_are_read_cut,
+    what_is_read_fits, written_frames_are_read, written_fronts_are_read,
+};
 pub use length::MAX_LEN;
 pub use reading::read_frame;
 pub use writing::{write_frame, write_front};

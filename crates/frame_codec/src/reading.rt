@@ -60,11 +60,7 @@ fn read_into(meta: &Meta, bytes: &[u8], frame: &mut Frame) -> Result<(), FrameFa
 
 #[inline(always)]
 #[tactic(auto, unfolding(crate::specs::Reading::message_at, crate::specs::Reading::behind_front))]
-fn read_message(
-    cursor: &mut Cursor<'_>,
-    meta: &Meta,
-    frame: &mut Frame,
-) -> Result<(), FrameFault>
+fn read_message(cursor: &mut Cursor<'_>, meta: &Meta, frame: &mut Frame) -> Result<(), FrameFault>
     requires { IsFrameOf meta.now frame.old }
     ensures of { OnOk result (IsFrameOf meta.now frame.new) }
     ensures answer { ReadsAhead (leaving result (frame_in meta.now.fields frame.new)) cursor.old cursor.new (message_at meta.now) }

@@ -169,23 +169,8 @@ fn put_content(pen: &mut Pen<'_>, meta: &Meta, kind: &FrameKind)
     }
 }
 
-/// Writes the values of a row. The pen's place is kept apart until the last is written, so that it need not be stored for each.
-fn put_row(pen: &mut Pen<'_>, meta: &Meta, row: &Row)
-    requires belongs { Belongs meta.now row.now.words }
-    requires room { pen.old.at + length (values_bytes meta.now.quality (row_in meta.now.fields row.now.words)) ≤ length pen.old.bytes.now }
-    ensures { Puts pen.old pen.new (values_bytes meta.now.quality (row_in meta.now.fields row.now.words)) }
-{
-    let mut lent = Pen {
-        bytes: &mut *pen.bytes,
-        at: pen.at,
-    };
-    put_values(&mut lent, meta, row);
-    pen.at = lent.at;
-}
-
 /// Writes the values of a row one behind another.
-#[inline(always)]
-fn put_values(pen: &mut Pen<'_>, meta: &Meta, row: &Row)
+fn put_row(pen: &mut Pen<'_>, meta: &Meta, row: &Row)
     requires belongs { Belongs meta.now row.now.words }
     requires room { pen.old.at + length (values_bytes meta.now.quality (row_in meta.now.fields row.now.words)) ≤ length pen.old.bytes.now }
     ensures { Puts pen.old pen.new (values_bytes meta.now.quality (row_in meta.now.fields row.now.words)) }
@@ -270,12 +255,7 @@ fn put_field(pen: &mut Pen<'_>, meta: &Meta, row: &Row, index: u8)
     } else if has_eight_bytes(field.kind) {
         put_eight(pen, field.kind, row.word(meta, index));
     } else {
-        let mut lent = Pen {
-            bytes: &mut *pen.bytes,
-            at: pen.at,
-        };
-        put_any(&mut lent, meta, row, index);
-        pen.at = lent.at;
+        put_any(pen, meta, row, index);
     }
 }
 

@@ -1,4 +1,4 @@
-use Rattle.std.proofs.Common.{◌≡◌, rules, get_or}
+use Rattle.std.proofs.Common.{◌≡◌, get_or}
 use Rattle.ua_binary.specs.Reading.{rest_of}
 use Rattle.row_words.specs.Belonging.{row_in}
 use Rattle.frame_codec.proofs.Setting.{own_set}

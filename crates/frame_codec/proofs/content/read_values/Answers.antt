@@ -1,4 +1,4 @@
-use Rattle.std.proofs.Common.{◌≡◌, ◌<◌, length, Ok, Err, refl, sym, ap, ◌∙◌, rules, arith}
+use Rattle.std.proofs.Common.{◌<◌, length, ◌∙◌, rules, arith}
 use Rattle.std.proofs.lemmas.Result.{err_from_is_err_and}
 use Rattle.dataset_meta.proofs.RowLaws.{length_row}
 use Rattle.ua_binary.specs.Reading.{rest_of}

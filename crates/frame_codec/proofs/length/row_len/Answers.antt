@@ -11,7 +11,7 @@ loop-index-preserved c =
     let fields = c.args.meta.now.fields in
     let quality = c.args.meta.now.quality in
     let row = row_in fields c.args.row.now.words in
-    let within : c.loop-index.index < length row = omega (arith, length-row_in fields c.args.row.now.words, rw c.field_count-index-end.ensures at c.loop-index-test.true) in
+    let within : c.loop-index.index < length row = omega (arith, length-row_in fields c.args.row.now.words, rw c.fields-index-end.ensures.fields at c.loop-index-test.true) in
     let s = stands_at row c.loop-index.index within in
     let here : c.value_len-len.result ≡ length (value_bytes quality s.x) = at_stands (λ x. c.value_len-len.result ≡ length (value_bytes quality x)) row c.loop-index.index s c.value_len-len.ensures.len in
     record {
@@ -29,5 +29,5 @@ pub returns-clause-len : goal.returns-clause-len
 returns-clause-len c =
     let fields = c.args.meta.now.fields in
     let row = row_in fields c.args.row.now.words in
-    let all : length row ≤ c.loop-index.index = omega (arith, length-row_in fields c.args.row.now.words, rw c.field_count-index-end.ensures at c.loop-index-test.false) in
+    let all : length row ≤ c.loop-index.index = omega (arith, length-row_in fields c.args.row.now.words, rw c.fields-index-end.ensures.fields at c.loop-index-test.false) in
     rw (take_all c.loop-index.index row all) at c.loop-index.invariant.so_far

@@ -1,18 +1,14 @@
-use Rattle.std.proofs.Common.{rules, ◌≡◌, ◌+◌, ◌<◌, ◌≤◌, ℕ, List, Option, ◌++◌, true, false, length, OnOk, IsTrue, ◌↔◌, ◌-◌, ◌*◌, ◌/◌, ◌%◌, Bool, nat_eq, nat_lt, [], ◌∷◌, slice_index_or, slice_set, bit_and, bit_or, Fits, w8, w64, Bor, MutBor}
-use Rattle.std.specs.Int.{w16, w32, to_le_bytes}
-use Rattle.std.specs.List.{HoldsAt}
-use Rattle.ua_binary.specs.Spelling.{variant}
-use Rattle.ua_binary.specs.Wire.{flag, optional}
-use Rattle.ua_binary.specs.Writing.{Puts, Writes}
-use Rattle.dataset_meta.specs.declared.field.Field.{Field as AnyField}
-use Rattle.row_words.specs.Words.{IsWordOf, scalar_in}
-use Rattle.row_words.specs.Belonging.{Belongs, row_in}
-use Rattle.row_words.specs.Patches.{IsPatchOf, patch_in}
-use Rattle.frame_codec.specs.Calls.{scalar_bytes, has_four_bytes, has_eight_bytes}
-use Rattle.frame_codec.specs.Spelling.{flags1, flags2, front_bytes, value_bytes, values_bytes, change_bytes, changes_bytes, content_bytes, encoding_of, frame_bytes}
-use Rattle.frame_codec.specs.Words.{IsKindOf, IsFrameOf, content_in, frame_in}
+use Rattle.std.proofs.Common.{◌≡◌, get_or}
+use Rattle.dataset_meta.specs.DataValues.{DataValue}
+use Rattle.row_words.specs.Belonging.{row_in}
+use Rattle.row_words.specs.Words.{scalar_in}
+use Rattle.frame_codec.proofs.Laid.{word_room}
 use Rattle.frame_codec.proofs.writing.put_any.Goals as goal
 
--- src/writing.rt:292:9
 pub put_scalar-requires-clause-room : goal.put_scalar-requires-clause-room
-put_scalar-requires-clause-room c = ?
+put_scalar-requires-clause-room c =
+    let fields = c.args.meta.now.fields in
+    let field = c.index-fields-from.result in
+    let at : field ≡ get_or fields c.args.index field = rw (c.fields.ensures.fields, c.from.ensures) at c.index-fields-from.is in
+    let d : DataValue = record { value = scalar_in field.kind c.word.result; status = 0 } in
+    word_room fields (row_in fields c.args.row.now.words) c.args.index c.word.result field c.args.pen.now d at c.word.ensures.value c.requires.room

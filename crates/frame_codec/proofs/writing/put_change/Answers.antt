@@ -1,22 +1,19 @@
-use Rattle.std.proofs.Common.{rules, ◌≡◌, ◌+◌, ◌<◌, ◌≤◌, ℕ, List, Option, ◌++◌, true, false, length, OnOk, IsTrue, ◌↔◌, ◌-◌, ◌*◌, ◌/◌, ◌%◌, Bool, nat_eq, nat_lt, [], ◌∷◌, slice_index_or, slice_set, bit_and, bit_or, Fits, w8, w64, Bor, MutBor}
-use Rattle.std.specs.Int.{w16, w32, to_le_bytes}
-use Rattle.std.specs.List.{HoldsAt}
-use Rattle.ua_binary.specs.Spelling.{variant}
-use Rattle.ua_binary.specs.Wire.{flag, optional}
-use Rattle.ua_binary.specs.Writing.{Puts, Writes}
-use Rattle.dataset_meta.specs.declared.field.Field.{Field as AnyField}
-use Rattle.row_words.specs.Words.{IsWordOf, scalar_in}
-use Rattle.row_words.specs.Belonging.{Belongs, row_in}
-use Rattle.row_words.specs.Patches.{IsPatchOf, patch_in}
-use Rattle.frame_codec.specs.Calls.{scalar_bytes, has_four_bytes, has_eight_bytes}
-use Rattle.frame_codec.specs.Spelling.{flags1, flags2, front_bytes, value_bytes, values_bytes, change_bytes, changes_bytes, content_bytes, encoding_of, frame_bytes}
-use Rattle.frame_codec.specs.Words.{IsKindOf, IsFrameOf, content_in, frame_in}
+use Rattle.std.proofs.Common.{ℕ, ◌++◌, subst, get_or, length-append, arith}
+use Rattle.std.specs.Int.{w16, to_le_bytes}
+use Rattle.ua_binary.specs.Writing.{Puts}
+use Rattle.ua_binary.proofs.Laying.{Puts-then}
+use Rattle.row_words.specs.Belonging.{row_in}
+use Rattle.frame_codec.specs.Spelling.{value_bytes}
+use Rattle.frame_codec.proofs.Laid.{any}
 use Rattle.frame_codec.proofs.writing.put_change.Goals as goal
 
--- src/writing.rt:220:5
 pub put_u16-requires : goal.put_u16-requires
-put_u16-requires c = ?
+put_u16-requires c =
+    let x = get_or (row_in c.args.meta.now.fields c.args.row.now.words) c.args.index any in
+    omega (arith, c.requires.room any, length-append (to_le_bytes w16 c.args.index) (value_bytes c.args.meta.now.quality x))
 
--- src/writing.rt:213:1
 pub returns : goal.returns
-returns c = ?
+returns c = λ d.
+    let x = get_or (row_in c.args.meta.now.fields c.args.row.now.words) c.args.index d in
+    subst (λ (n : ℕ). Puts c.args.pen.now c.put_value.new.pen (to_le_bytes w16 n ++ value_bytes c.args.meta.now.quality x)) c.from.ensures
+    (Puts-then c.args.pen.now c.put_u16.new.self c.put_value.new.pen _ _ c.put_u16.ensures (c.put_value.ensures d))

@@ -1,34 +1,23 @@
-use Rattle.std.proofs.Common.{rules, ◌≡◌, ◌+◌, ◌<◌, ◌≤◌, ℕ, List, Option, ◌++◌, true, false, length, OnOk, IsTrue, ◌↔◌, ◌-◌, ◌*◌, ◌/◌, ◌%◌, Bool, nat_eq, nat_lt, [], ◌∷◌, slice_index_or, slice_set, bit_and, bit_or, Fits, w8, w64, Bor, MutBor}
-use Rattle.std.specs.Int.{w16, w32, to_le_bytes}
-use Rattle.std.specs.List.{HoldsAt}
-use Rattle.ua_binary.specs.Spelling.{variant}
-use Rattle.ua_binary.specs.Wire.{flag, optional}
-use Rattle.ua_binary.specs.Writing.{Puts, Writes}
-use Rattle.dataset_meta.specs.declared.field.Field.{Field as AnyField}
-use Rattle.row_words.specs.Words.{IsWordOf, scalar_in}
-use Rattle.row_words.specs.Belonging.{Belongs, row_in}
-use Rattle.row_words.specs.Patches.{IsPatchOf, patch_in}
-use Rattle.frame_codec.specs.Calls.{scalar_bytes, has_four_bytes, has_eight_bytes}
-use Rattle.frame_codec.specs.Spelling.{flags1, flags2, front_bytes, value_bytes, values_bytes, change_bytes, changes_bytes, content_bytes, encoding_of, frame_bytes}
-use Rattle.frame_codec.specs.Words.{IsKindOf, IsFrameOf, content_in, frame_in}
+use Rattle.row_words.specs.Belonging.{row_in}
+use Rattle.frame_codec.proofs.Laid.{data_room, room_behind, alone_puts, with_puts}
 use Rattle.frame_codec.proofs.writing.put_data_value.Goals as goal
 
--- src/writing.rt:249:9
 pub put_u8-requires : goal.put_u8-requires
-put_u8-requires c = ?
+put_u8-requires c = data_room (row_in c.args.meta.now.fields c.args.row.now.words) c.args.index c.args.pen.now c.requires.room
 
--- src/writing.rt:252:9
 pub put_u8-requires-else-status-eq0 : goal.put_u8-requires-else-status-eq0
-put_u8-requires-else-status-eq0 c = ?
+put_u8-requires-else-status-eq0 c = data_room (row_in c.args.meta.now.fields c.args.row.now.words) c.args.index c.args.pen.now c.requires.room
 
--- src/writing.rt:254:9
 pub put_u32-requires : goal.put_u32-requires
-put_u32-requires c = ?
+put_u32-requires c =
+    room_behind (row_in c.args.meta.now.fields c.args.row.now.words) c.args.index c.status-status.result c.args.pen.now c.put_u8-else-status-eq0.new.self c.put_field-else-status-eq0.new.pen c.if-status-eq0.false c.status-status.ensures c.requires.room
+    c.put_u8-else-status-eq0.ensures c.put_field-else-status-eq0.ensures
 
--- src/writing.rt:240:1
 pub returns-then-status-eq0 : goal.returns-then-status-eq0
-returns-then-status-eq0 c = ?
+returns-then-status-eq0 c =
+    alone_puts (row_in c.args.meta.now.fields c.args.row.now.words) c.args.index c.status-status.result c.args.pen.now c.put_u8.new.self c.put_field.new.pen c.if-status-eq0.true c.status-status.ensures c.put_u8.ensures c.put_field.ensures
 
--- src/writing.rt:240:1
 pub returns-else-status-eq0 : goal.returns-else-status-eq0
-returns-else-status-eq0 c = ?
+returns-else-status-eq0 c =
+    with_puts (row_in c.args.meta.now.fields c.args.row.now.words) c.args.index c.status-status.result c.args.pen.now c.put_u8-else-status-eq0.new.self c.put_field-else-status-eq0.new.pen c.put_u32.new.self c.if-status-eq0.false c.status-status.ensures
+    c.put_u8-else-status-eq0.ensures c.put_field-else-status-eq0.ensures c.put_u32.ensures
