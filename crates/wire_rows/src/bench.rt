@@ -2,7 +2,7 @@
 use crate::fault::RowFault;
 use crate::row::Row;
 use crate::timers::TimerRows;
-use crate::{metas, security, values};
+use crate::{headers, metas, security, values};
 use std::alloc::Global;
 
 /// What is kept from line to line: the machines that the calls speak of.
@@ -39,6 +39,8 @@ impl Bench {
             "text" => values::text(alloc, row),
             "blob" => values::blob(alloc, row),
             "fits" => values::fits(alloc, row),
+            "read_header" => headers::read_header(alloc, row),
+            "spell_header" => headers::spell_header(alloc, row),
             "block128" => security::block128(alloc, row),
             "block256" => security::block256(alloc, row),
             "stream128" => security::stream128(alloc, row),

@@ -4,10 +4,13 @@
 
 mod bench;
 mod fault;
+mod header_parts;
+mod headers;
 mod metas;
 mod parsed;
 mod row;
 mod security;
+mod senders;
 mod shown;
 mod timers;
 mod values;

@@ -86,9 +86,7 @@ impl<'a> Row<'a> {
 
     /// The next word as bytes.
     pub fn piece(&mut self, alloc: Global) -> Result<Vec<u8>, RowFault> {
-        let mut bytes = Vec::new(alloc);
-        push_word(alloc, &mut bytes, self.word()?)?;
-        Ok(bytes)
+        bytes_of(alloc, self.word()?)
     }
 
     /// The rest of the line as bytes: words of hexadecimal digits, of which `00*7` stands for seven bytes 0, and `-` for none.
@@ -100,6 +98,13 @@ impl<'a> Row<'a> {
         self.rest = "";
         Ok(bytes)
     }
+}
+
+/// The bytes of a word.
+pub fn bytes_of(alloc: Global, word: &str) -> Result<Vec<u8>, RowFault> {
+    let mut bytes = Vec::new(alloc);
+    push_word(alloc, &mut bytes, word)?;
+    Ok(bytes)
 }
 
 fn hex_number(word: &str) -> Result<u64, RowFault> {
