@@ -1,5 +1,5 @@
 //! Which headers a sender may have.
-ghost use Rattle.std.specs.Prelude.{◌≡◌, ◌≢◌, ◌×◌, ◌≤◌, ◌<◌, ◌^◌, ◌%◌, ◌→◌, IsTrue, IsSome, IfSome, false, length, Some};
+ghost use Rattle.std.specs.Prelude.{◌≡◌, IsTrue, IsSome, IfSome};
 ghost use Rattle.uadp_header.specs.Headers.{header_in, publisher_in, ids_in, security_in, if_there};
 ghost use Rattle.uadp_header.specs.Spelling.{IsSenders, IsShortText, AreIds, IsSendersSecurity};
 

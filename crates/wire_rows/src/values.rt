@@ -106,35 +106,35 @@ fn refused(alloc: Global, fault: ValueFault, at: usize) -> Result<String, RowFau
 /// `prefixes_of_variant BYTES`: how many proper prefixes are Short, and leave the cursor
 pub fn prefixes_of_variant(alloc: Global, row: &mut Row) -> Answer {
     let bytes = row.bytes(alloc)?;
-    let mut short = 0;
-    for len in 0..bytes.len() {
-        let mut cursor = Cursor {
-            bytes: &bytes[..len],
-            at: 0,
-        };
-        let fault = read_value(&mut cursor).err();
-        if fault == Some(ValueFault::Short) && cursor.at == 0 {
-            short += 1;
-        }
-    }
+    let short = (0..bytes.len())
+        .filter(|len| is_short_variant(&bytes[..*len]))
+        .count();
     Ok(Some(format!(in alloc; "{short} of {} Short", bytes.len())?))
+}
+
+fn is_short_variant(bytes: &[u8]) -> bool {
+    let mut cursor = Cursor { bytes, at: 0 };
+    match read_value(&mut cursor) {
+        Ok(_) => false,
+        Err(fault) => fault == ValueFault::Short && cursor.at == 0,
+    }
 }
 
 /// `prefixes_of_data_value BYTES`: how many proper prefixes are Short, and leave the cursor
 pub fn prefixes_of_data_value(alloc: Global, row: &mut Row) -> Answer {
     let bytes = row.bytes(alloc)?;
-    let mut short = 0;
-    for len in 0..bytes.len() {
-        let mut cursor = Cursor {
-            bytes: &bytes[..len],
-            at: 0,
-        };
-        let fault = read_measured(&mut cursor).err();
-        if fault == Some(ValueFault::Short) && cursor.at == 0 {
-            short += 1;
-        }
-    }
+    let short = (0..bytes.len())
+        .filter(|len| is_short_data_value(&bytes[..*len]))
+        .count();
     Ok(Some(format!(in alloc; "{short} of {} Short", bytes.len())?))
+}
+
+fn is_short_data_value(bytes: &[u8]) -> bool {
+    let mut cursor = Cursor { bytes, at: 0 };
+    match read_measured(&mut cursor) {
+        Ok(_) => false,
+        Err(fault) => fault == ValueFault::Short && cursor.at == 0,
+    }
 }
 
 /// `kinds`: the type bytes that a Variant with 260 zeros behind them isn't KindOut for
