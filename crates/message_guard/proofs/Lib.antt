@@ -5,3 +5,4 @@ pub mod Sets
 pub mod Restoring
 pub mod Telling
 pub mod Once
+pub mod Rings

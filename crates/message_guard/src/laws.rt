@@ -1,15 +1,18 @@
 // What the definitions owe the reader.
-ghost use Rattle.std.specs.Prelude.{◌≡◌, ◌≢◌, ℕ, List, ◌++◌, length, true, AllPairs, Option, Some, Ok};
+ghost use Rattle.std.specs.Prelude.{◌≡◌, ◌≢◌, ℕ, List, ◌++◌, length, true, AllPairs, Option, Some, Ok, Bool, ◌≤◌, map};
+ghost use Rattle.std.specs.Option.{option_map};
+ghost use Rattle.group_keys.specs.Faults.{IsAccepted};
+ghost use Rattle.group_keys.specs.KeySets.{Rises, current};
 ghost use Rattle.uadp_header.specs.Headers.{SecurityValue};
 ghost use Rattle.message_guard.specs.declared.keys.TokenKeys.{TokenKeys};
 ghost use Rattle.message_guard.specs.declared.mode.Mode.{Mode};
 ghost use Rattle.message_guard.specs.declared.pass.Pass1.{Pass1};
 ghost use Rattle.message_guard.specs.Modes.{is_secured};
-ghost use Rattle.message_guard.specs.Protection.{signature_of};
+ghost use Rattle.message_guard.specs.Protection.{keys_in, keys_with, signature_of};
 ghost use Rattle.message_guard.specs.Acceptance.{AreAcceptable};
 ghost use Rattle.message_guard.specs.Opening.{verdict, opened};
 ghost use Rattle.message_guard.specs.Opened.{MayOpen, IsPassed, sent_pass};
-ghost use Rattle.message_guard.specs.Senders.{SenderState, SenderStep, front_value, sent, taken_by};
+ghost use Rattle.message_guard.specs.Senders.{SenderState, SenderStep, front_value, sent, taken_by, turned};
 
 /// A datagram that a sender protected is passed, and decrypted to its payload, by a guard of the same mode and first
 /// block that has the sender's key set and accepts the number.
@@ -45,4 +48,17 @@ pub fn no_pair_is_accepted_twice()
 #[tactic(auto, using(crate::proofs::Once::taken_once))]
 pub fn no_token_and_number_come_twice()
     ensures { (s : SenderState) (steps : List SenderStep) → AllPairs (λ a b. a ≢ b) (taken_by s steps) }
+{}
+
+/// A sender whose moments don't fall has the keys of the set whose moment came last.
+pub fn a_sender_has_the_keys_of_the_moment()
+    ensures { (long : Bool) (s : SenderState) (earlier now : ℕ) → IsAccepted long s.sets → earlier ≤ now
+        → option_map keys_in (current s.sets earlier) ≡ Some s.keys
+        → option_map keys_in (current s.sets now) ≡ Some (turned s now).keys }
+{}
+
+/// A guard of a sender's ring knows the keys that the sender has at any moment.
+pub fn a_guard_of_the_ring_has_the_senders_keys()
+    ensures { (s : SenderState) (now : ℕ) → Rises s.sets → option_map keys_in (current s.sets now) ≡ Some s.keys
+        → keys_with (map keys_in s.sets) s.keys.token ≡ Some s.keys }
 {}

@@ -9,11 +9,14 @@ mod mode;
 mod open_fault;
 mod pass;
 mod sender;
+#[cfg(test)]
+mod tests;
 
 pub use guard::Guard;
 pub use laws::{
-    a_passed_datagram_is_signed_and_acceptable, a_protected_datagram_is_opened,
-    no_pair_is_accepted_twice, no_token_and_number_come_twice,
+    a_guard_of_the_ring_has_the_senders_keys, a_passed_datagram_is_signed_and_acceptable,
+    a_protected_datagram_is_opened, a_sender_has_the_keys_of_the_moment, no_pair_is_accepted_twice,
+    no_token_and_number_come_twice,
 };
 pub use mode::Mode;
 pub use open_fault::OpenFault;
