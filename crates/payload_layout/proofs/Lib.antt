@@ -1,0 +1,5 @@
+pub mod Again
+pub mod Filled
+pub mod Laid
+pub mod Packs
+pub mod Pieces
