@@ -2,7 +2,7 @@
 use crate::fault::RowFault;
 use crate::row::Row;
 use crate::timers::TimerRows;
-use crate::{headers, metas, security, values};
+use crate::{frames, headers, metas, security, values};
 use std::alloc::Global;
 
 /// What is kept from line to line: the machines that the calls speak of.
@@ -39,6 +39,10 @@ impl Bench {
             "text" => values::text(alloc, row),
             "blob" => values::blob(alloc, row),
             "fits" => values::fits(alloc, row),
+            "read_frame" => frames::read_frame(alloc, row),
+            "rewrite_frame" => frames::rewrite_frame(alloc, row),
+            "prefixes_of_frame" => frames::prefixes_of_frame(alloc, row),
+            "read_front" => frames::read_front(alloc, row),
             "read_header" => headers::read_header(alloc, row),
             "spell_header" => headers::spell_header(alloc, row),
             "block128" => security::block128(alloc, row),

@@ -4,6 +4,7 @@
 
 mod bench;
 mod fault;
+mod frames;
 mod header_parts;
 mod headers;
 mod metas;

@@ -68,6 +68,26 @@ fn fields_of(alloc: Global, row: &mut Row) -> Result<Vec<Field>, RowFault> {
     Ok(fields)
 }
 
+/// A data set in one word: its version and its fields, as `1.0/a:UInt32/b:String:60`, and `1.0+quality/..` where it has quality.
+pub fn data_set(alloc: Global, word: &str) -> Result<Meta, RowFault> {
+    let (version, rest) = word.split_once('/').ok_or(RowFault::Missing)?;
+    let (version, quality) = match version.split_once('+') {
+        Some((version, _)) => (version, true),
+        None => (version, false),
+    };
+    let (major, minor) = version.split_once('.').ok_or(RowFault::Missing)?;
+    let major = major.parse::<u32>().map_err(|_| RowFault::Number)?;
+    let minor = minor.parse::<u32>().map_err(|_| RowFault::Number)?;
+    let mut fields = Vec::new(alloc);
+    for field in rest.split('/') {
+        fields.push(field_of(field)?)?;
+    }
+    match new_meta(fields, major, minor, quality)? {
+        Ok(meta) => Ok(meta),
+        Err(_) => Err(RowFault::Condition),
+    }
+}
+
 fn new_meta(
     fields: Vec<Field>,
     major: u32,
