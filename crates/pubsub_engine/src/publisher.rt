@@ -1,7 +1,8 @@
 //! The publishing side: the turns of the writer group, and its writer.
-ghost use Rattle.std.specs.Prelude.{◌≡◌, ◌≤◌, ◌<◌, ◌+◌, ◌*◌, ◌-◌, ◌++◌, ◌∷◌, ◌^◌, ◌||◌, take, false, [], IsTrue, IfOk, List, Option, option_map, vec_len, nat_le, if◌then◌else◌};
+ghost use Rattle.std.specs.Prelude.{◌≡◌, ◌≤◌, ◌<◌, ◌+◌, ◌*◌, ◌-◌, ◌++◌, ◌∷◌, ◌^◌, ◌||◌, take, false, [], IsTrue, IfOk, List, Option, option_map, vec_len, nat_le, if◌then◌else◌, IsSome};
 ghost use Rattle.seq_number.specs.Numbers.{wire};
 ghost use Rattle.ua_base.specs.Journal.{Tells};
+ghost use Rattle.ua_base.specs.Links.{KeepsLink};
 ghost use Rattle.pubsub_model.specs.Frames.{Frame as ModelFrame};
 ghost use Rattle.pubsub_model.specs.Cadence.{Deed};
 ghost use Rattle.frame_codec.specs.Messages.{IsFrameOf, message_in};
@@ -93,7 +94,7 @@ impl Publisher {
         sampled: &Sampled,
         link: &mut L,
     ) -> Ticked
-        requires open { IsTrue (L.is_open link.old) }
+        requires open { IsSome (L.opened_with link.old) }
         requires left { 0 < self.old.left }
         requires short { ms ≤ 3600000 }
         requires meta { meta.now ≡ demo_meta }
@@ -101,11 +102,9 @@ impl Publisher {
             → IsPublisher steps self.old.moment self.old.last self.old.writer self.old.sequence → HasSent steps self.old.sent self.old.failed self.old.failing
             → Ticks steps ms closing (sample_of sampled.now ∷ []) self.new.moment self.new.last self.new.writer self.new.sequence self.new.sent self.new.failed self.new.failing (L.told link.old) (L.told link.new) }
         ensures left { result ≡ Ticked.Done → self.new.left + 1 ≡ self.old.left }
-        ensures memory { result ≡ Ticked.Memory → IsTrue (L.takes_memory link.old) }
+        ensures memory { result ≡ Ticked.Memory → IsTrue L.takes_memory }
         ensures kept { result ≡ Ticked.Memory → (self.new.moment ≡ self.old.moment + ms) × SentNothing self.old.last self.old.sequence self.old.sent self.old.failed self.new.last self.new.sequence self.new.sent self.new.failed }
-        ensures open { L.is_open link.new ≡ L.is_open link.old }
-        ensures memory_stays { L.takes_memory link.new ≡ L.takes_memory link.old }
-        ensures faults { L.faults link.old ≤ L.faults link.new }
+        ensures link { KeepsLink L.opened_with L.faults link.old link.new }
         ensures untold { result ≡ Ticked.Memory → Tells (L.told link.old) (L.told link.new) (λ before after. after.journal ≡ before.journal) }
     {
         self.left -= 1;
@@ -132,18 +131,16 @@ impl Publisher {
         sampled: &Sampled,
         link: &mut L,
     ) -> Ticked
-        requires open { IsTrue (L.is_open link.old) }
+        requires open { IsSome (L.opened_with link.old) }
         requires meta { meta.now ≡ demo_meta }
         requires room { self.old.left < self.old.writer.left }
         requires unfailing { self.old.failing ≡ false }
         ensures done { result ≡ Ticked.Done → (past : List Deed) → IsWriter demo_fields demo_settings past self.old.writer
             → Publishes past (writer_turn self.old.moment closing (sample_of sampled.now)) self.new.writer self.old.sequence self.new.sequence self.old.sent self.new.sent self.old.failed self.new.failed self.new.failing (L.told link.old) (L.told link.new) }
         ensures moments { result ≡ Ticked.Done → (self.new.moment ≡ self.old.moment) × (self.new.last ≡ (if closing then self.old.last else self.old.moment)) × (self.new.left ≡ self.old.left) }
-        ensures memory { result ≡ Ticked.Memory → IsTrue (L.takes_memory link.old) }
+        ensures memory { result ≡ Ticked.Memory → IsTrue L.takes_memory }
         ensures kept { result ≡ Ticked.Memory → (self.new.moment ≡ self.old.moment) × SentNothing self.old.last self.old.sequence self.old.sent self.old.failed self.new.last self.new.sequence self.new.sent self.new.failed }
-        ensures open { L.is_open link.new ≡ L.is_open link.old }
-        ensures memory_stays { L.takes_memory link.new ≡ L.takes_memory link.old }
-        ensures faults { L.faults link.old ≤ L.faults link.new }
+        ensures link { KeepsLink L.opened_with L.faults link.old link.new }
         ensures untold { result ≡ Ticked.Memory → Tells (L.told link.old) (L.told link.new) (λ before after. after.journal ≡ before.journal) }
     {
         let turn = self
@@ -158,18 +155,16 @@ impl Publisher {
 
     /// Sends what the writer answered its turn, if it is a frame.
     fn send_turn<L: Link>(&mut self, meta: &Meta, turn: &Turn, link: &mut L) -> Ticked
-        requires open { IsTrue (L.is_open link.old) }
+        requires open { IsSome (L.opened_with link.old) }
         requires meta { meta.now ≡ demo_meta }
         requires turn { IsTurnOf demo_fields turn.now }
         requires unfailing { self.old.failing ≡ false }
         ensures done { result ≡ Ticked.Done → (answer : Option ModelFrame) → message_sent demo_fields turn.now ≡ option_map demo_message answer
             → SendsAnswer answer self.old.sequence self.new.sequence self.old.sent self.new.sent self.old.failed self.new.failed self.new.failing (L.told link.old) (L.told link.new) }
         ensures others { (self.new.moment ≡ self.old.moment) × (self.new.last ≡ self.old.last) × (self.new.writer ≡ self.old.writer) × (self.new.left ≡ self.old.left) }
-        ensures memory { result ≡ Ticked.Memory → IsTrue (L.takes_memory link.old) }
+        ensures memory { result ≡ Ticked.Memory → IsTrue L.takes_memory }
         ensures kept { result ≡ Ticked.Memory → (self.new.sequence ≡ self.old.sequence) × (self.new.sent ≡ self.old.sent) × (self.new.failed ≡ self.old.failed) }
-        ensures open { L.is_open link.new ≡ L.is_open link.old }
-        ensures memory_stays { L.takes_memory link.new ≡ L.takes_memory link.old }
-        ensures faults { L.faults link.old ≤ L.faults link.new }
+        ensures link { KeepsLink L.opened_with L.faults link.old link.new }
         ensures untold { result ≡ Ticked.Memory → Tells (L.told link.old) (L.told link.new) (λ before after. after.journal ≡ before.journal) }
     {
         let _sequence = self.sequence;
@@ -181,17 +176,15 @@ impl Publisher {
 
     /// Sends the datagram of a frame.
     fn send_frame<L: Link>(&mut self, meta: &Meta, frame: &Frame, link: &mut L) -> Ticked
-        requires open { IsTrue (L.is_open link.old) }
+        requires open { IsSome (L.opened_with link.old) }
         requires meta { meta.now ≡ demo_meta }
         requires frame { IsFrameOf demo_fields frame.now }
         ensures done { result ≡ Ticked.Done → Sends (datagram self.old.sequence (message_in demo_fields frame.now) ∷ []) self.old.sent self.new.sent self.old.failed self.new.failed self.new.failing (L.told link.old) (L.told link.new) }
         ensures sequence { result ≡ Ticked.Done → self.new.sequence ≡ wire (self.old.sequence + 1) }
         ensures others { (self.new.moment ≡ self.old.moment) × (self.new.last ≡ self.old.last) × (self.new.writer ≡ self.old.writer) × (self.new.left ≡ self.old.left) }
-        ensures memory { result ≡ Ticked.Memory → IsTrue (L.takes_memory link.old) }
+        ensures memory { result ≡ Ticked.Memory → IsTrue L.takes_memory }
         ensures kept { result ≡ Ticked.Memory → (self.new.sequence ≡ self.old.sequence) × (self.new.sent ≡ self.old.sent) × (self.new.failed ≡ self.old.failed) }
-        ensures open { L.is_open link.new ≡ L.is_open link.old }
-        ensures memory_stays { L.takes_memory link.new ≡ L.takes_memory link.old }
-        ensures faults { L.faults link.old ≤ L.faults link.new }
+        ensures link { KeepsLink L.opened_with L.faults link.old link.new }
         ensures untold { result ≡ Ticked.Memory → Tells (L.told link.old) (L.told link.new) (λ before after. after.journal ≡ before.journal) }
     {
         let len = write_datagram(&mut self.buffer, meta, self.sequence, frame);
@@ -204,15 +197,13 @@ impl Publisher {
 
     /// Sends the datagram of this length that is in the buffer, and counts how that ended.
     fn send<L: Link>(&mut self, len: usize, link: &mut L) -> Ticked
-        requires open { IsTrue (L.is_open link.old) }
+        requires open { IsSome (L.opened_with link.old) }
         requires within { len ≤ 2058 }
         ensures done { result ≡ Ticked.Done → Sends (take len self.old.buffer.items ∷ []) self.old.sent self.new.sent self.old.failed self.new.failed self.new.failing (L.told link.old) (L.told link.new) }
         ensures others { (self.new.moment ≡ self.old.moment) × (self.new.last ≡ self.old.last) × (self.new.writer ≡ self.old.writer) × (self.new.sequence ≡ self.old.sequence) × (self.new.left ≡ self.old.left) }
-        ensures memory { result ≡ Ticked.Memory → IsTrue (L.takes_memory link.old) }
+        ensures memory { result ≡ Ticked.Memory → IsTrue L.takes_memory }
         ensures kept { result ≡ Ticked.Memory → (self.new.sent ≡ self.old.sent) × (self.new.failed ≡ self.old.failed) }
-        ensures open { L.is_open link.new ≡ L.is_open link.old }
-        ensures memory_stays { L.takes_memory link.new ≡ L.takes_memory link.old }
-        ensures faults { L.faults link.old ≤ L.faults link.new }
+        ensures link { KeepsLink L.opened_with L.faults link.old link.new }
         ensures untold { result ≡ Ticked.Memory → Tells (L.told link.old) (L.told link.new) (λ before after. after.journal ≡ before.journal) }
     {
         match link.send(&self.buffer[..len]) {
