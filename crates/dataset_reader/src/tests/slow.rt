@@ -6,7 +6,7 @@ ghost use Rattle.std.specs.Option.{option_map_or};
 ghost use Rattle.ua_values.specs.declared.value.Value.TheVariants.{UInt32};
 ghost use Rattle.seq_number.specs.Numbers.{number_of_place, greatest};
 ghost use Rattle.pubsub_model.specs.Frames.{is_whole, is_silent, carried, published};
-ghost use Rattle.pubsub_model.specs.Records.{Came, Cut, place_in, since_cut, cut_reason, is_record, records, breaks_with, breaks_of, from_whole, is_nothing, last_with, held_in, held, why, break_with, breaks, row_of, unnumbered_row};
+ghost use Rattle.pubsub_model.specs.Records.{Came, Cut, place_in, since_cut, cut_reason, is_record, records, breaks_with, breaks_of, from_whole, is_nothing, last_with, held_in, held, why, break_with, breaks, row_alone, unnumbered_row};
 ghost use Rattle.dataset_reader.specs.Keeping.{stamps, jumps, with_jumps};
 
 use crate::{Break, Why};
@@ -411,7 +411,7 @@ pub fn with_jumps(alloc: Global, arrivals: &[Arrival]) -> Result<Vec<Arrival>, A
 }
 
 fn last_whole(items: &[Item]) -> Option<u32>
-    ensures { option_map (λ v. UInt32 v ∷ []) result ≡ row_of (find (λ item. is_whole item.frame) items.now) }
+    ensures { option_map (λ v. UInt32 v ∷ []) result ≡ row_alone (find (λ item. is_whole item.frame) items.now) }
 {
     let [item, before @ ..] = items else {
         return None;
