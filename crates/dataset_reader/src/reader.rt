@@ -3,7 +3,7 @@ ghost use Rattle.std.specs.Prelude.{◌≡◌, [], ◌≤◌, List, Some, IfSome
 ghost use Rattle.dataset_meta.specs.declared.field.Field.{Field};
 ghost use Rattle.dataset_meta.specs.Metas.{MetaData};
 ghost use Rattle.row_words.specs.Belonging.{Belongs, row_in};
-ghost use Rattle.frame_codec.specs.Standing.{IsFrameOf};
+ghost use Rattle.frame_codec.specs.Words.{IsFrameOf};
 ghost use Rattle.pubsub_model.specs.Records.{Arrival, Item, Cut};
 ghost use Rattle.dataset_reader.specs.Kept.{fresh, cut_kept};
 

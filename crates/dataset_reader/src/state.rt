@@ -3,7 +3,7 @@ ghost use Rattle.std.specs.Prelude.{◌≡◌, List, option_map, reverse, take, 
 ghost use Rattle.dataset_meta.specs.declared.field.Field.{Field};
 ghost use Rattle.dataset_meta.specs.Metas.{MetaData};
 ghost use Rattle.row_words.specs.Belonging.{Belongs, row_in};
-ghost use Rattle.frame_codec.specs.Standing.{IsFrameOf, IsKindOf, frame_in, content_in};
+ghost use Rattle.frame_codec.specs.Words.{IsFrameOf, IsKindOf, frame_in, content_in};
 ghost use Rattle.dataset_reader.specs.Kept.{fresh, cut_kept};
 ghost use Rattle.dataset_reader.specs.Cases.{frame_case, unnumbered_case, numbered_case, stamped, placed_case, record_number, record_case, noted, unbroken, is_alive, older};
 
