@@ -46,7 +46,7 @@ pub struct HeldEnd {
     pub number: Option<u16>,
     pub version: Option<u64>,
     pub row: Row,
-    ghost belongs: { Belongs demo_fields row.words },
+    ghost belongs: { Belongs demo_meta row.words },
 }
 
 /// The reader: what it holds or else why it waits, and its breaks, of which the last eight are kept.

@@ -32,7 +32,7 @@ pub struct Subscriber {
     /// Datagrams that were too long for the buffer.
     pub long: u64,
     ghost numbered: { numbering_of reader ≡ AnyNumbering.Message },
-    ghost belongs: { IsReaderOf demo_fields reader },
+    ghost belongs: { IsReaderOf demo_meta reader },
 }
 
 impl Subscriber {

@@ -1,4 +1,4 @@
-use Rattle.pubsub_engine.specs.BuiltIn.{demo_fields}
+use Rattle.pubsub_engine.specs.BuiltIn.{demo_fields, demo_meta}
 use Rattle.pubsub_engine.proofs.BuiltIns.{demo_is_meta}
 use Rattle.pubsub_engine.proofs.built_in.opening.Goals as goal
 

@@ -1,5 +1,5 @@
 use Rattle.dataset_reader.specs.Reader.{kept_by}
-use Rattle.pubsub_engine.specs.BuiltIn.{demo_fields}
+use Rattle.pubsub_engine.specs.BuiltIn.{demo_fields, demo_meta}
 use Rattle.pubsub_engine.proofs.Showing.{shows_row, shows_none}
 use Rattle.pubsub_engine.proofs.closing.held_end.Goals as goal
 

@@ -2,5 +2,5 @@ use Rattle.std.proofs.Common.{arith}
 use Rattle.pubsub_engine.proofs.Publishes.{answers_nothing}
 use Rattle.pubsub_engine.proofs.publisher.Publisher.send_turn.Goals as goal
 
-pub returns-in-Quiet-clause-done : goal.returns-in-Quiet-clause-done
-returns-in-Quiet-clause-done g c = λ is answer e. answers_nothing answer c.args.self.now.sequence _ _ c.args.self.now.failing _ (rw c.in-Quiet.is at e) (omega arith) c.requires.unfailing
+pub returns-clause-done : goal.returns-clause-done
+returns-clause-done g c = λ is answer e. answers_nothing answer c.args.self.now.sequence _ _ c.args.self.now.failing _ e (omega arith) c.requires.unfailing

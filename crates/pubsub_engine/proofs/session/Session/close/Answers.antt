@@ -1,6 +1,6 @@
 use Rattle.std.proofs.Common.{List, ℕ, arith, ap, ◌∙◌}
 use Rattle.dataset_reader.specs.Reader.{kept_by}
-use Rattle.pubsub_engine.specs.BuiltIn.{demo_fields, demo_settings}
+use Rattle.pubsub_engine.specs.BuiltIn.{demo_fields, demo_meta, demo_settings}
 use Rattle.pubsub_engine.specs.Publishing.{writer_past, deeds}
 use Rattle.pubsub_engine.specs.Reading.{held_by}
 use Rattle.pubsub_engine.specs.Closing.{holding}
