@@ -5,7 +5,7 @@ use Rattle.std.specs.List.{cons_option}
 use Rattle.ua_base.specs.Journal.{Got}
 use Rattle.dataset_meta.specs.Metas.{MetaData}
 use Rattle.frame_codec.specs.declared.fault.FrameFault.{FrameFault}
-use Rattle.frame_codec.specs.declared.frame.Frame.{Frame}
+use Rattle.frame_codec.specs.declared.frame.Frame.{Frame as FrameWords}
 use Rattle.frame_codec.specs.Frames.{Frame}
 use Rattle.frame_codec.specs.Words.{frame_in}
 use Rattle.frame_codec.specs.Reading.{frame_at}
@@ -69,7 +69,7 @@ takes_message datagram message old new carried received taken broken long read =
 }
 
 -- one step of the reader
-pub reads_step : (meta : MetaData) (frame : Frame) (old new : Subscriber) (before : List Frame) → meta ≡ demo_meta → numbering_of old.reader ≡ numberings.Message
+pub reads_step : (meta : MetaData) (frame : FrameWords) (old new : Subscriber) (before : List Frame) → meta ≡ demo_meta → numbering_of old.reader ≡ numberings.Message
     → kept_by meta.fields new.reader ≡ (after_frame meta old.reader frame None).0 → new.ready ≡ (is_held (after_frame meta old.reader frame None).1.outcome || old.ready)
     → HasRead before old → HasRead (frame_in demo_fields frame ∷ before) new
 reads_step meta frame old new before same numbered kept ready h =
@@ -86,5 +86,5 @@ reads_step meta frame old new before same numbered kept ready h =
     }
 
 -- what is read for the built-in data set
-pub demo_read : (meta : MetaData) (bytes : List ℕ) (read : Result Frame FrameFault) → meta ≡ demo_meta → message_at meta.fields bytes ≡ read → message_read (frame_at demo_meta bytes) ≡ message_read read
-demo_read meta bytes read same e = ap message_read (ap (λ (m : MetaData). message_at m.fields bytes) (sym same) ∙ e)
+pub demo_read : (meta : MetaData) (bytes : List ℕ) (read : Result Frame FrameFault) → meta ≡ demo_meta → frame_at meta bytes ≡ read → message_read (frame_at demo_meta bytes) ≡ message_read read
+demo_read meta bytes read same e = ap message_read (ap (λ (m : MetaData). frame_at m bytes) (sym same) ∙ e)

@@ -21,7 +21,6 @@ use Rattle.frame_codec.specs.Frames as frames
 use Rattle.frame_codec.specs.Frames.{Frame, IsFrame}
 use Rattle.frame_codec.specs.Spelling.{frame_bytes}
 use Rattle.frame_codec.specs.Reading.{frame_at}
-use Rattle.frame_codec.proofs.MessageLaws.{message_again}
 use Rattle.dataset_reader.specs.declared.took.Numbering.TheVariants as numberings
 use Rattle.dataset_reader.specs.Kept.{Kept}
 use Rattle.dataset_reader.specs.Keeping.{Keeps, IsReading, AreNearInEach, jumps, came_on, with_jumps}
@@ -61,13 +60,14 @@ starts sequence message = rw (ten (sequence % 256) (sequence / 256 % 256) (frame
 key_fits : (number : ℕ) (row : List DataValue) → number < 2 ^ 16 → IsRow demo_meta row → IsFrame demo_meta (key_message number row)
 key_fits number row small is = record { number = small; major = tt; minor = tt; content = is }
 
+key_read : (number : ℕ) (row : List DataValue) → number < 2 ^ 16 → IsRow demo_meta row → frame_at demo_meta (frame_bytes demo_meta.quality (key_message number row)) ≡ Ok (key_message number row)
+key_read number row small is = ?
+
 carried-datagram : (sequence number : ℕ) (row : List DataValue) → number < 2 ^ 16 → IsRow demo_meta row → message_carried (datagram sequence (key_message number row)) ≡ Some (key_message number row)
 unfolding message_carried datagram
 carried-datagram sequence number row small is =
     let message = key_message number row in
-    rw (starts sequence message)
-    (ap (λ (bytes : List ℕ). message_read (frame_at demo_meta bytes)) (sym (append-nil (frame_bytes demo_meta.quality message)))
-    ∙ ap message_read (message_again demo_fields message 0 (lit≤ tt) (key_fits number row small is)))
+    rw (starts sequence message) (ap message_read (key_read number row small is))
 
 -- ---- the log after one more step
 
