@@ -5,7 +5,7 @@ use Rattle.std.specs.List.{cons_option}
 use Rattle.std.proofs.lemmas.Bool.Decides.{nat_tests}
 use Rattle.std.proofs.lemmas.List.Elements.{All-head, All-tail}
 use Rattle.seq_number.specs.Numbers.{number_of_place, place_from}
-use Rattle.pubsub_model.specs.Frames.{PlacedFrame, IsFrame, carried}
+use Rattle.pubsub_model.specs.Frames.{PlacedFrame, IsPlacedFrame, carried}
 use Rattle.pubsub_model.specs.Records.{Arrival, Came, at}
 use Rattle.frame_codec.specs.Frames as frames
 use Rattle.frame_codec.specs.Frames.{Content, Frame, IsFrame}
@@ -31,7 +31,7 @@ contents number (frames.Whole row) = refl
 contents number (frames.Change patch) = refl
 contents number frames.Alive = refl
 
-has_place : (number : ℕ) (content : Content) → IsFrame (placed_frame number content)
+has_place : (number : ℕ) (content : Content) → IsPlacedFrame (placed_frame number content)
 has_place number (frames.Whole row) = tt
 has_place number (frames.Change patch) = tt
 has_place number frames.Alive = omega arith

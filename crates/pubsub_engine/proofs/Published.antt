@@ -1,6 +1,6 @@
 -- Where each received datagram was sent before, the reader keeps what Records says of the items that came, and what it holds is the row of the version
 -- that the log has at its number.
-use Rattle.std.proofs.Common.{◌≡◌, refl, sym, ap, ◌∙◌, subst, arith, ℕ, zero, suc, ◌+◌, ◌%◌, ◌^◌, ◌<◌, ◌≤◌, Bool, true, false, cond, List, [], ◌∷◌, ◌++◌, map, length, reverse, Option, Some, None, inl, inr, All, lit≤, append_assoc, length-append}
+use Rattle.std.proofs.Common.{◌≡◌, refl, sym, ap, ◌∙◌, subst, arith, ℕ, zero, suc, ◌+◌, ◌%◌, ◌^◌, ◌<◌, ◌≤◌, Bool, true, false, cond, List, [], ◌∷◌, ◌++◌, map, length, reverse, Option, Some, None, Ok, inl, inr, All, lit≤, append_assoc, length-append}
 use Rattle.std.specs.Prelude.{nat_le, ◌==◌, ◌/◌, find, option_map, filter_map, Contains}
 use Rattle.std.specs.Option.{option_or}
 use Rattle.std.specs.List.{cons_option}
@@ -21,6 +21,7 @@ use Rattle.frame_codec.specs.Frames as frames
 use Rattle.frame_codec.specs.Frames.{Frame, IsFrame}
 use Rattle.frame_codec.specs.Spelling.{frame_bytes}
 use Rattle.frame_codec.specs.Reading.{frame_at}
+use Rattle.frame_codec.proofs.ReadingLaws.{written-read}
 use Rattle.dataset_reader.specs.declared.took.Numbering.TheVariants as numberings
 use Rattle.dataset_reader.specs.Kept.{Kept}
 use Rattle.dataset_reader.specs.Keeping.{Keeps, IsReading, AreNearInEach, jumps, came_on, with_jumps}
@@ -32,6 +33,7 @@ use Rattle.pubsub_engine.specs.Publishing.{built_in, Deed, Ticked, turns_in, wri
 use Rattle.pubsub_engine.specs.Reading.{messages_in, messages_at, kept_of, kept_at, HeldRow, held_by, arrival_of, arrivals_in, arrivals}
 use Rattle.pubsub_engine.specs.Closing.{version_of, version_at}
 use Rattle.pubsub_engine.specs.Holding.{HasSample, SampleRows, IsPublished}
+use Rattle.pubsub_engine.proofs.BuiltIns.{demo_is_meta}
 use Rattle.pubsub_engine.proofs.Turning.{has_turn}
 
 -- a key frame's message
@@ -61,7 +63,9 @@ key_fits : (number : ℕ) (row : List DataValue) → number < 2 ^ 16 → IsRow d
 key_fits number row small is = record { number = small; major = tt; minor = tt; content = is }
 
 key_read : (number : ℕ) (row : List DataValue) → number < 2 ^ 16 → IsRow demo_meta row → frame_at demo_meta (frame_bytes demo_meta.quality (key_message number row)) ≡ Ok (key_message number row)
-key_read number row small is = ?
+key_read number row small is =
+    let message = key_message number row in
+    ap (frame_at demo_meta) (sym (append-nil (frame_bytes demo_meta.quality message))) ∙ written-read demo_meta message 0 demo_is_meta (key_fits number row small is)
 
 carried-datagram : (sequence number : ℕ) (row : List DataValue) → number < 2 ^ 16 → IsRow demo_meta row → message_carried (datagram sequence (key_message number row)) ≡ Some (key_message number row)
 unfolding message_carried datagram

@@ -2,6 +2,7 @@
 ghost use Rattle.std.specs.Prelude.{◌≡◌, ◌≤◌, ◌<◌, ◌+◌, ◌++◌, ◌∷◌, [], IfOk, vec_len, vec_capacity};
 ghost use Rattle.row_words.specs.Belonging.{Belongs, row_in};
 ghost use Rattle.pubsub_engine.specs.BuiltIn.{demo_fields, demo_meta};
+ghost use Rattle.pubsub_engine.specs.Props.{Belongs-prop};
 
 use crate::Sampled;
 use crate::built_in::opening;
@@ -19,7 +20,7 @@ pub struct Plain {
     pub threads: Vec<u8>,
     /// Writes that may still come.
     pub left: u32,
-    ghost belongs: { Belongs demo_meta row.words },
+    ghost belongs: { Belongs demo_meta row.words } by { Belongs-prop demo_meta row.words },
     ghost room: { vec_len threads + left ≤ vec_capacity threads },
 }
 

@@ -8,6 +8,7 @@ ghost use Rattle.frame_codec.specs.Words.{IsFrameOf, frame_in};
 ghost use Rattle.dataset_writer.specs.Standing.{IsWriter, HoldsRowOf, frame_of_turn, lent};
 ghost use Rattle.pubsub_engine.specs.Steps.{Step};
 ghost use Rattle.pubsub_engine.specs.BuiltIn.{demo_fields, demo_meta, demo_settings};
+ghost use Rattle.pubsub_engine.specs.Props.{HoldsRowOf-prop};
 ghost use Rattle.pubsub_engine.specs.Datagram.{datagram, demo_message};
 ghost use Rattle.pubsub_engine.specs.Samples.{sample_of};
 
@@ -51,7 +52,7 @@ pub struct Publisher {
     buffer: Vec<u8>,
     ghost long: { vec_len buffer ≡ 2058 },
     ghost ordered: { last ≤ moment },
-    ghost belongs: { HoldsRowOf demo_meta writer },
+    ghost belongs: { HoldsRowOf demo_meta writer } by { HoldsRowOf-prop demo_meta writer },
     ghost room: { left ≤ writer.left },
     ghost time: { moment + left * 3600000 < 2 ^ 64 },
 }

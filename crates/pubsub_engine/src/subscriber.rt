@@ -5,6 +5,7 @@ ghost use Rattle.dataset_reader.specs.declared.took.Numbering.{Numbering as AnyN
 ghost use Rattle.dataset_reader.specs.Reader.{numbering_of, IsReaderOf};
 ghost use Rattle.pubsub_engine.specs.Steps.{IsPump};
 ghost use Rattle.pubsub_engine.specs.BuiltIn.{demo_fields, demo_meta};
+ghost use Rattle.pubsub_engine.specs.Props.{IsReaderOf-prop};
 ghost use Rattle.pubsub_engine.specs.Reading.{is_held};
 ghost use Rattle.pubsub_engine.specs.Counts.{is_datagram};
 
@@ -32,7 +33,7 @@ pub struct Subscriber {
     /// Datagrams that were too long for the buffer.
     pub long: u64,
     ghost numbered: { numbering_of reader ≡ AnyNumbering.Message },
-    ghost belongs: { IsReaderOf demo_meta reader },
+    ghost belongs: { IsReaderOf demo_meta reader } by { IsReaderOf-prop demo_meta reader },
 }
 
 impl Subscriber {
