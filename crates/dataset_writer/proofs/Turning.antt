@@ -11,7 +11,7 @@ use Rattle.seq_number.specs.Numbers.{number_of_place}
 use Rattle.row_words.specs.declared.row.Row.{Row}
 use Rattle.row_words.specs.declared.patch.Patch.{Patch}
 use Rattle.row_words.specs.Belonging.{row_in, spelled_row, Belongs}
-use Rattle.row_words.specs.Patches.{IsPatchOf, patch_in}
+use Rattle.row_words.specs.Patches.{patch_in}
 use Rattle.pubsub_model.specs.Frames as model
 use Rattle.pubsub_model.specs.Cadence.{Settings, WriterTurn, Answered, WriterDeed, cadence, answer, quiet_answer, is_key_due, is_fresh, turns_since, last_turn, next_place, is_key, is_data, is_any, log_entry}
 use Rattle.pubsub_model.proofs.CadenceLaws.{answer-same, answer-changed}
@@ -26,7 +26,7 @@ use Rattle.dataset_writer.specs.declared.settings.WriterSettings.{WriterSettings
 use Rattle.dataset_writer.specs.declared.writer.Writer.{Writer}
 use Rattle.dataset_writer.specs.declared.sends.Sends.{Sends}
 use Rattle.dataset_writer.specs.Turns.{model_settings, turn_at}
-use Rattle.dataset_writer.specs.Sends.{framed, HasSent, IsData}
+use Rattle.dataset_writer.specs.Sends.{HasSent, IsData}
 use Rattle.dataset_writer.specs.Standing.{StandsAfter, IsWriter, Answers}
 
 abbrev answered : WriterTurn → Option model.PlacedFrame → Answered

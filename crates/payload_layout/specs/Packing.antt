@@ -39,3 +39,10 @@ pub record IsSound {X : Type 0} (size : X → ℕ) (room : ℕ) (packed : Packed
   pub some : 0 < length packed.frames
   pub uncut : packed.cut ≡ false → fits size room packed.frames ≡ true
   pub alone : packed.cut ≡ true → (frame : X) × (packed.frames ≡ frame ∷ []) × (room < size frame)
+
+-- another pack follows only where this one is cut, or the other's first frame doesn't fit in it too
+pub record IsFull {X : Type 0} (size : X → ℕ) (room : ℕ) (packed next : Packed X) : Type 0 where
+  pub first : X
+  pub later : List X
+  pub begins : next.frames ≡ first ∷ later
+  pub full : packed.cut ≡ false → fits size room (packed.frames ++ first ∷ []) ≡ false

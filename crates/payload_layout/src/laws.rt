@@ -1,7 +1,7 @@
 //! Laws of packs and payloads, each the contract of a function that does nothing. A frame is a list of bytes.
 ghost use Rattle.std.specs.Prelude.{◌≡◌, ◌<◌, ◌++◌, ◌∷◌, [], ℕ, List, length, map};
 ghost use Rattle.std.specs.List.{All, flat_map};
-ghost use Rattle.payload_layout.specs.Packing.{packs_of, pack_of, IsSound};
+ghost use Rattle.payload_layout.specs.Packing.{Packed, packs_of, pack_of, IsSound, IsFull};
 ghost use Rattle.payload_layout.specs.Payloads.{payload_of, frames_of, AreShort, HasBadSizes, BeginsWithPayload};
 ghost use Rattle.ua_binary.specs.Wire.{AreBytes};
 
@@ -13,6 +13,14 @@ pub fn packed_frames_are_the_frames()
 /// Each pack has a frame, and fits with its sizes and further writer ids, or is one frame that doesn't fit and is cut.
 pub fn packs_fit_or_are_cut()
     ensures { (room : ℕ) (frames : List (List ℕ)) → All (IsSound length room) (packs_of length room frames) }
+{}
+
+/// A pack is followed by another only where it is cut, or the other's first frame doesn't fit in it too. With the two laws
+/// above this leaves one packing of given frames.
+pub fn packs_are_filled()
+    ensures { (room : ℕ) (frames : List (List ℕ)) (before : List (Packed (List ℕ))) (pack next : Packed (List ℕ))
+        (after : List (Packed (List ℕ))) → packs_of length room frames ≡ before ++ pack ∷ next ∷ after
+        → IsFull length room pack next }
 {}
 
 /// What is told of the packs hangs on the frames' sizes alone.

@@ -8,7 +8,7 @@ mod parts;
 mod tests;
 
 pub use laws::{
-    packed_frames_are_the_frames, packs_are_told_by_sizes, packs_fit_or_are_cut,
+    packed_frames_are_the_frames, packs_are_filled, packs_are_told_by_sizes, packs_fit_or_are_cut,
     payloads_are_split_again, split_payloads_are_laid_out,
 };
 pub use packing::{Pack, Packs, plan};
