@@ -1,7 +1,9 @@
 //! The calls by their names, and what is kept from line to line.
 use crate::fault::RowFault;
+use crate::joiners::{self, JoinerRows};
 use crate::row::Row;
 use crate::timers::TimerRows;
+use crate::windows::WindowRows;
 use crate::{frames, headers, metas, security, values};
 use std::alloc::Global;
 
@@ -10,6 +12,8 @@ use std::alloc::Global;
 pub struct Bench {
     alloc: Global,
     timer: TimerRows,
+    joiner: JoinerRows,
+    window: WindowRows,
 }
 
 /// What a call prints, where it answers anything.
@@ -20,6 +24,8 @@ impl Bench {
         Bench {
             alloc,
             timer: TimerRows::new(),
+            joiner: JoinerRows::new(),
+            window: WindowRows::new(),
         }
     }
 
@@ -51,6 +57,24 @@ impl Bench {
             "stream256" => security::stream256(alloc, row),
             "hmac" => security::hmac(alloc, row),
             "ring" => security::ring(alloc, row),
+            "cut" => joiners::cut(alloc, row),
+            "read_chunk" => joiners::read_chunk(alloc, row),
+            "write_chunk" => joiners::write_chunk(alloc, row),
+            call => self.kept(call, row),
+        }
+    }
+
+    /// The calls of what is kept from line to line.
+    fn kept(&mut self, call: &str, row: &mut Row) -> Answer {
+        let alloc = self.alloc;
+        match call {
+            "joiner" => self.joiner.anew(),
+            "joiner_clear" => self.joiner.clear(),
+            "chunk" => self.joiner.chunk(alloc, row),
+            "joined_is" => self.joiner.is(alloc, row),
+            "window" => self.window.anew(),
+            "number_seen" => self.window.test(alloc, row),
+            "number_taken" => self.window.take(alloc, row),
             "timer" => self.timer.limit(row),
             "seen" => self.timer.seen(row),
             "clear" => self.timer.clear(),

@@ -7,6 +7,7 @@ mod fault;
 mod frames;
 mod header_parts;
 mod headers;
+mod joiners;
 mod metas;
 mod parsed;
 mod row;
@@ -15,6 +16,7 @@ mod senders;
 mod shown;
 mod timers;
 mod values;
+mod windows;
 
 use bench::Bench;
 use row::Row;
