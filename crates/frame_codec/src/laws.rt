@@ -18,7 +18,7 @@ ghost use Rattle.frame_codec.specs.Reading.{are_zero, frame_at};
 ghost use Rattle.frame_codec.specs.Spelling.{front_bytes, frame_bytes};
 ghost use Rattle.frame_codec.specs.Wire.{WireFront, IsWireFront, WireField, values_bytes, changes_bytes, AreValues, AreChanges, patch_read, WireFrame, IsWireFrame, wire_bytes};
 ghost use Rattle.frame_codec.specs.Wire as wires;
-ghost use Rattle.frame_codec.specs.Words.{IsFrameOf, frame_in, spelled_frame};
+ghost use Rattle.frame_codec.specs.Words.{IsFrameOf, GivesFrame, frame_in, spelled_frame};
 
 /// Bytes are read as a frame exactly where one of the messages that are this frame stands there, with zeros behind it,
 /// whatever is in the parts that are read past.
@@ -33,11 +33,16 @@ pub fn fronts_are_read_as_spelled()
         → (front_at fixed bytes ≡ Ok (front, rest)) ↔ BeginsWithFront fixed bytes front rest }
 {}
 
-/// A written frame, with any number of zeros behind it, is read as itself.
+/// A written frame, with any number of zeros behind it, is read as itself, and answered in the words that it was written from.
 pub fn written_frames_are_read()
-    ensures { (meta : MetaData) (frame : Frame) (zeros : ℕ) → IsMeta meta.fields
+    ensures frames { (meta : MetaData) (frame : Frame) (zeros : ℕ) → IsMeta meta.fields
         → IsFrame meta frame
         → frame_at meta (frame_bytes meta.quality frame ++ replicate zeros 0) ≡ Ok frame }
+    ensures words { (meta : MetaData) (frame other : FrameWords) (zeros : ℕ) → IsMeta meta.fields
+        → IsFrameOf meta frame → IsFrame meta (frame_in meta.fields frame)
+        → GivesFrame meta (Ok other) (frame_at meta
+        (frame_bytes meta.quality (frame_in meta.fields frame) ++ replicate zeros 0))
+        → other ≡ frame }
 {}
 
 /// What a data set that has grown writes with a greater minor version is read for what it was before as the same frame, cut to

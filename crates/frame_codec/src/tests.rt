@@ -51,14 +51,14 @@ fn a_frame_with_a_status(rt: HostRuntime) -> Result<(), Fail> {
         major: None,
         minor: None,
     };
-    let mut page = [0; 64];
+    let mut page = [0; 33];
     let mut pen = Pen {
         bytes: &mut page,
         at: 0,
     };
     assert_eq!(rt; write_frame(&mut pen, &meta, &frame), Ok(()));
     assert_eq!(rt; pen.at, 33);
-    assert!(rt; page[..33] == KEY[..]);
+    assert!(rt; page == KEY);
     assert_eq!(rt; read_frame(&meta, &KEY), Ok(frame));
     Ok(())
 }
