@@ -1,5 +1,5 @@
 -- Frames in words, and the frames that they stand for.
-use Rattle.std.proofs.Common.{◌≡◌, ℕ, ◌<◌, ◌^◌, List, [], Option, refl, sym, ap, ◌∙◌}
+use Rattle.std.proofs.Common.{◌≡◌, ℕ, ◌<◌, ◌^◌, List, [], ◌++◌, replicate, Option, Result, Ok, refl, sym, ap, ◌∙◌}
 use Rattle.std.specs.Prelude.{IfSome}
 use Rattle.dataset_meta.specs.DataValues.{DataValue}
 use Rattle.dataset_meta.specs.Metas.{MetaData, IsMeta}
@@ -11,7 +11,11 @@ use Rattle.frame_codec.specs.declared.frame.Frame.{Frame as FrameWords}
 use Rattle.frame_codec.specs.declared.frame.FrameKind.{FrameKind}
 use Rattle.frame_codec.specs.declared.frame.FrameKind.TheVariants as kinds
 use Rattle.frame_codec.specs.Frames.{Content, Whole, Change, Alive, Frame, IsContent, IsFrame}
-use Rattle.frame_codec.specs.Words.{content_in, frame_in, IsKindOf, IsFrameOf, spelled_kind, spelled_frame}
+use Rattle.frame_codec.specs.Words.{content_in, frame_in, IsKindOf, IsFrameOf, GivesFrame, spelled_kind, spelled_frame}
+use Rattle.frame_codec.specs.declared.fault.FrameFault.{FrameFault}
+use Rattle.frame_codec.specs.Reading.{frame_at}
+use Rattle.frame_codec.specs.Spelling.{frame_bytes}
+use Rattle.frame_codec.proofs.ReadingLaws.{written-read}
 use Rattle.frame_codec.proofs.Lengths.{kind_content}
 
 pub words-fit : (meta : MetaData) (frame : FrameWords) → IsFrameOf meta frame → IfSome frame.number (λ n. n < 2 ^ 16) → IfSome frame.major (λ n. n < 2 ^ 32) → IfSome frame.minor (λ n. n < 2 ^ 32) → IsFrame meta (frame_in meta.fields frame)
@@ -74,3 +78,12 @@ words-one meta one other is_one is_other e =
     ∙ ap (λ (n : Option ℕ). made other.number n one.minor one.kind) major
     ∙ ap (λ (n : Option ℕ). made other.number other.major n one.kind) minor
     ∙ ap (λ (k : FrameKind). made other.number other.major other.minor k) kind
+
+ok_once : {one other : Frame} → Path (Result Frame FrameFault) (Ok one) (Ok other) → one ≡ other
+ok_once same = cc
+
+-- what is read of a written frame in words is answered in the same words
+pub words-read : (meta : MetaData) (frame other : FrameWords) (zeros : ℕ) → IsMeta meta.fields → IsFrameOf meta frame → IsFrame meta (frame_in meta.fields frame)
+    → GivesFrame meta (Ok other) (frame_at meta (frame_bytes meta.quality (frame_in meta.fields frame) ++ replicate zeros 0)) → other ≡ frame
+words-read meta frame other zeros is_meta of is given =
+    words-one meta other frame given.0 of (ok_once (sym given.1 ∙ written-read meta (frame_in meta.fields frame) zeros is_meta is))

@@ -35,7 +35,8 @@ pub(crate) fn read_content_into(
 ) -> Result<(), FrameFault>
     requires { IsKindOf meta.now kind.old }
     ensures of { OnOk result (IsKindOf meta.now kind.new) }
-    ensures answer { ReadsAhead (leaving result (content_in meta.now.fields kind.new)) cursor.old cursor.new (content_at meta.now newer front.now.encoding front.now.kind) }
+    ensures answer { ReadsAhead (leaving result (content_in meta.now.fields kind.new))
+        cursor.old cursor.new (content_at meta.now newer front.now.encoding front.now.kind) }
 {
     match kind {
         FrameKind::Whole(row) if front.kind == KEY => {
@@ -55,7 +56,8 @@ fn replace_content(
     kind: &mut FrameKind,
 ) -> Result<(), FrameFault>
     ensures of { OnOk result (IsKindOf meta.now kind.new) }
-    ensures answer { ReadsAhead (leaving result (content_in meta.now.fields kind.new)) cursor.old cursor.new (content_at meta.now newer front.now.encoding front.now.kind) }
+    ensures answer { ReadsAhead (leaving result (content_in meta.now.fields kind.new))
+        cursor.old cursor.new (content_at meta.now newer front.now.encoding front.now.kind) }
 {
     *kind = read_content(cursor, meta, newer, front)?;
     Ok(())
@@ -70,7 +72,8 @@ fn read_content(
     front: &Front,
 ) -> Result<FrameKind, FrameFault>
     ensures of { IfOk result (IsKindOf meta.now) }
-    ensures answer { ReadsAhead (meaning meta.now.fields result) cursor.old cursor.new (content_at meta.now newer front.now.encoding front.now.kind) }
+    ensures answer { ReadsAhead (meaning meta.now.fields result)
+        cursor.old cursor.new (content_at meta.now newer front.now.encoding front.now.kind) }
 {
     match front.kind {
         KEY => {
@@ -96,7 +99,8 @@ fn read_whole(
 ) -> Result<(), FrameFault>
     requires { Belongs meta.now row.old.words }
     ensures belongs { OnOk result (Belongs meta.now row.new.words) }
-    ensures answer { ReadsAhead (leaving result (row_in meta.now.fields row.new.words)) cursor.old cursor.new (whole_at meta.now newer encoding) }
+    ensures answer { ReadsAhead (leaving result (row_in meta.now.fields row.new.words))
+        cursor.old cursor.new (whole_at meta.now newer encoding) }
 {
     let count = cursor.read_u16()?;
     if !is_count(meta, newer, count) {
@@ -124,7 +128,8 @@ fn read_counted(
 ) -> Result<(), FrameFault>
     requires { Belongs meta.now row.old.words }
     ensures belongs { OnOk result (Belongs meta.now row.new.words) }
-    ensures answer { ReadsAhead (leaving result (row_in meta.now.fields row.new.words)) cursor.old cursor.new (counted_at meta.now.quality encoding meta.now.fields count) }
+    ensures answer { ReadsAhead (leaving result (row_in meta.now.fields row.new.words))
+        cursor.old cursor.new (counted_at meta.now.quality encoding meta.now.fields count) }
 {
     read_row(cursor, meta, encoding, row)?;
     let surplus = usize::from(count).saturating_sub(meta.fields().len());
@@ -140,7 +145,8 @@ fn read_row(
 ) -> Result<(), FrameFault>
     requires { Belongs meta.now row.old.words }
     ensures belongs { OnOk result (Belongs meta.now row.new.words) }
-    ensures answer { ReadsAhead (leaving result (row_in meta.now.fields row.new.words)) cursor.old cursor.new (row_at meta.now.quality encoding meta.now.fields) }
+    ensures answer { ReadsAhead (leaving result (row_in meta.now.fields row.new.words))
+        cursor.old cursor.new (row_at meta.now.quality encoding meta.now.fields) }
 {
     let mut lent = *cursor;
     read_values(&mut lent, meta, encoding, row)?;
@@ -158,7 +164,8 @@ fn read_values(
 ) -> Result<(), FrameFault>
     requires { Belongs meta.now row.old.words }
     ensures belongs { OnOk result (Belongs meta.now row.new.words) }
-    ensures answer { ReadsAhead (leaving result (row_in meta.now.fields row.new.words)) cursor.old cursor.new (row_at meta.now.quality encoding meta.now.fields) }
+    ensures answer { ReadsAhead (leaving result (row_in meta.now.fields row.new.words))
+        cursor.old cursor.new (row_at meta.now.quality encoding meta.now.fields) }
 {
     for index in 0..field_count(meta) {
         read_into(cursor, meta, index, encoding, row)?;
@@ -179,7 +186,11 @@ fn read_into(
     requires row { Belongs meta.now row.old.words }
     requires index { index < length meta.now.fields }
     ensures belongs { OnOk result (Belongs meta.now row.new.words) }
-    ensures answer { HoldsAt (λ field. ReadsAhead (leaving result (row_in meta.now.fields row.new.words)) cursor.old cursor.new (set_at meta.now.quality encoding field index (row_in meta.now.fields row.old.words))) meta.now.fields index }
+    ensures answer { HoldsAt (λ field. ReadsAhead (leaving result
+        (row_in meta.now.fields row.new.words))
+        cursor.old cursor.new
+        (set_at meta.now.quality encoding field index (row_in meta.now.fields row.old.words)))
+        meta.now.fields index }
 {
     let field = &meta.fields()[usize::from(index)];
     match read_own(cursor, field, encoding) {
@@ -203,7 +214,11 @@ fn read_lent_into(
     requires row { Belongs meta.now row.old.words }
     requires index { index < length meta.now.fields }
     ensures belongs { OnOk result (Belongs meta.now row.new.words) }
-    ensures answer { HoldsAt (λ field. ReadsAhead (leaving result (row_in meta.now.fields row.new.words)) cursor.old cursor.new (set_at meta.now.quality encoding field index (row_in meta.now.fields row.old.words))) meta.now.fields index }
+    ensures answer { HoldsAt (λ field. ReadsAhead (leaving result
+        (row_in meta.now.fields row.new.words))
+        cursor.old cursor.new
+        (set_at meta.now.quality encoding field index (row_in meta.now.fields row.old.words)))
+        meta.now.fields index }
 {
     let mut lent = *cursor;
     read_any_into(&mut lent, meta, index, encoding, row)?;
@@ -224,7 +239,11 @@ fn read_any_into(
     requires row { Belongs meta.now row.old.words }
     requires index { index < length meta.now.fields }
     ensures belongs { OnOk result (Belongs meta.now row.new.words) }
-    ensures answer { HoldsAt (λ field. ReadsAhead (leaving result (row_in meta.now.fields row.new.words)) cursor.old cursor.new (set_at meta.now.quality encoding field index (row_in meta.now.fields row.old.words))) meta.now.fields index }
+    ensures answer { HoldsAt (λ field. ReadsAhead (leaving result
+        (row_in meta.now.fields row.new.words))
+        cursor.old cursor.new
+        (set_at meta.now.quality encoding field index (row_in meta.now.fields row.old.words)))
+        meta.now.fields index }
 {
     let field = &meta.fields()[usize::from(index)];
     let measured = read_value(cursor, encoding)?;
@@ -251,7 +270,8 @@ fn read_value(cursor: &mut Cursor<'_>, encoding: u8) -> Result<Measured, FrameFa
 #[inline(always)]
 fn suited(value: Option<Value>, field: &Field) -> Result<Value, FrameFault>
     ensures fits { IfOk result (λ value. Fits value field.now.kind field.now.cap) }
-    ensures given { (quality : Bool) (status : ℕ) → given quality field.now value status ≡ kept_if quality result status }
+    ensures given { (quality : Bool) (status : ℕ)
+        → given quality field.now value status ≡ kept_if quality result status }
 {
     match value {
         Some(value) if fits(&value, field.kind, field.cap) => Ok(value),
@@ -267,7 +287,8 @@ fn set_value(meta: &Meta, row: &mut Row, index: u8, value: &Value, status: u32)
     requires fits { HoldsAt (λ field. Fits value.now field.kind field.cap) meta.now.fields index }
     ensures belongs { Belongs meta.now row.new.words }
     ensures set { row_in meta.now.fields row.new.words
-        ≡ slice_set (row_in meta.now.fields row.old.words) index (kept meta.now.quality value.now status) }
+        ≡ slice_set (row_in meta.now.fields row.old.words) index
+        (kept meta.now.quality value.now status) }
 {
     row.set(meta, index, value);
     if meta.quality() {
@@ -283,7 +304,8 @@ fn set_word(meta: &Meta, row: &mut Row, index: u8, word: u64, status: u32)
     requires word { HoldsAt (λ field. IsWordOf field.kind word) meta.now.fields index }
     ensures belongs { Belongs meta.now row.new.words }
     ensures set { HoldsAt (λ field. row_in meta.now.fields row.new.words
-        ≡ slice_set (row_in meta.now.fields row.old.words) index (kept meta.now.quality (scalar_in field.kind word) status)) meta.now.fields index }
+        ≡ slice_set (row_in meta.now.fields row.old.words) index (kept meta.now.quality
+        (scalar_in field.kind word) status)) meta.now.fields index }
 {
     row.set_word(meta, index, word);
     if meta.quality() {
@@ -323,7 +345,8 @@ fn read_patch(
     encoding: u8,
 ) -> Result<Patch, FrameFault>
     ensures of { IfOk result (IsPatchOf meta.now) }
-    ensures answer { ReadsAhead (patch_meaning meta.now.fields result) cursor.old cursor.new (patch_at meta.now newer encoding) }
+    ensures answer { ReadsAhead (patch_meaning meta.now.fields result)
+        cursor.old cursor.new (patch_at meta.now newer encoding) }
 {
     prove!(meta.fields().len() <= 64);
     let count = cursor.read_u16()?;
@@ -344,7 +367,9 @@ fn read_changes(
 ) -> Result<(), FrameFault>
     requires { IsPatchOf meta.now patch.old }
     ensures of { OnOk result (IsPatchOf meta.now patch.new) }
-    ensures answer { ReadsAhead (leaving result (patch_in meta.now.fields patch.new)) cursor.old cursor.new (changes_at meta.now newer encoding count (patch_in meta.now.fields patch.old)) }
+    ensures answer { ReadsAhead (leaving result (patch_in meta.now.fields patch.new))
+        cursor.old cursor.new (changes_at meta.now newer encoding count
+        (patch_in meta.now.fields patch.old)) }
 {
     for _ in 0..count {
         read_change(cursor, meta, newer, encoding, patch)?;
@@ -363,7 +388,9 @@ fn read_change(
 ) -> Result<(), FrameFault>
     requires { IsPatchOf meta.now patch.old }
     ensures of { OnOk result (IsPatchOf meta.now patch.new) }
-    ensures answer { ReadsAhead (leaving result (patch_in meta.now.fields patch.new)) cursor.old cursor.new (change_at meta.now newer encoding (patch_in meta.now.fields patch.old)) }
+    ensures answer { ReadsAhead (leaving result (patch_in meta.now.fields patch.new))
+        cursor.old cursor.new (change_at meta.now newer encoding
+        (patch_in meta.now.fields patch.old)) }
 {
     let index = cursor.read_u16()?;
     match meta.fields().get(usize::from(index)) {
@@ -386,7 +413,11 @@ fn read_put(
     requires patch { IsPatchOf meta.now patch.old }
     requires index { index < length meta.now.fields }
     ensures of { OnOk result (IsPatchOf meta.now patch.new) }
-    ensures answer { HoldsAt (λ field. ReadsAhead (leaving result (patch_in meta.now.fields patch.new)) cursor.old cursor.new (put_at meta.now.quality false encoding (patch_in meta.now.fields patch.old) index (Some field))) meta.now.fields index }
+    ensures answer { HoldsAt (λ field. ReadsAhead (leaving result
+        (patch_in meta.now.fields patch.new))
+        cursor.old cursor.new
+        (put_at meta.now.quality false encoding (patch_in meta.now.fields patch.old) index
+        (Some field))) meta.now.fields index }
 {
     let field = &meta.fields()[usize::from(index)];
     let measured = read_value(cursor, encoding)?;

@@ -96,7 +96,8 @@ fn read_parts(cursor: &mut Cursor<'_>, flags: u8, extended: u8) -> Result<Front,
 
 #[inline(always)]
 fn read_u16_if(cursor: &mut Cursor<'_>, present: bool) -> Result<Option<u16>, FrameFault>
-    ensures { ReadsAhead result cursor.old cursor.new (part_at present (number_at faults.Short w16)) }
+    ensures { ReadsAhead result
+        cursor.old cursor.new (part_at present (number_at faults.Short w16)) }
 {
     if !present {
         return Ok(None);
@@ -106,7 +107,8 @@ fn read_u16_if(cursor: &mut Cursor<'_>, present: bool) -> Result<Option<u16>, Fr
 
 #[inline(always)]
 fn read_u32_if(cursor: &mut Cursor<'_>, present: bool) -> Result<Option<u32>, FrameFault>
-    ensures { ReadsAhead result cursor.old cursor.new (part_at present (number_at faults.Short w32)) }
+    ensures { ReadsAhead result
+        cursor.old cursor.new (part_at present (number_at faults.Short w32)) }
 {
     if !present {
         return Ok(None);
@@ -127,7 +129,8 @@ fn skip_times(cursor: &mut Cursor<'_>, flags: u8, extended: u8) -> Result<(), Fr
 
 #[inline(always)]
 fn skip_if(cursor: &mut Cursor<'_>, present: bool, len: usize) -> Result<(), FrameFault>
-    ensures { ReadsAhead result cursor.old cursor.new (skipped (part_at present (bytes_at faults.Short len))) }
+    ensures { ReadsAhead result
+        cursor.old cursor.new (skipped (part_at present (bytes_at faults.Short len))) }
 {
     if present {
         cursor.read_bytes(len)?;

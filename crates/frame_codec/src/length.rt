@@ -28,7 +28,8 @@ pub(crate) fn frame_len(meta: &Meta, frame: &Frame) -> usize
 /// How many bytes the front of a frame takes, whatever the field encoding: all that stands before the count of fields.
 #[inline(always)]
 pub(crate) fn front_len(frame: &Frame) -> usize
-    ensures len { (encoding : ℕ) (fields : List AnyField) → result ≡ length (front_bytes encoding (frame_in fields frame.now)) }
+    ensures len { (encoding : ℕ) (fields : List AnyField)
+        → result ≡ length (front_bytes encoding (frame_in fields frame.now)) }
     ensures small { result ≤ 12 }
 {
     flags_len(&frame.kind)
@@ -39,7 +40,8 @@ pub(crate) fn front_len(frame: &Frame) -> usize
 
 #[inline(always)]
 fn flags_len(kind: &FrameKind) -> usize
-    ensures len { (fields : List AnyField) → result ≡ 1 + length (flags2 (content_in fields kind.now)) }
+    ensures len { (fields : List AnyField)
+        → result ≡ 1 + length (flags2 (content_in fields kind.now)) }
     ensures small { result ≤ 2 }
 {
     match kind {
@@ -57,7 +59,8 @@ fn len_if(present: bool, len: usize) -> usize
 
 fn content_len(meta: &Meta, kind: &FrameKind) -> usize
     requires { IsKindOf meta.now kind.now }
-    ensures len { result ≡ length (content_bytes meta.now.quality (content_in meta.now.fields kind.now)) }
+    ensures len { result ≡ length (content_bytes meta.now.quality
+        (content_in meta.now.fields kind.now)) }
     ensures small { result ≤ 2 + 64 * 268 }
 {
     match kind {
@@ -69,7 +72,8 @@ fn content_len(meta: &Meta, kind: &FrameKind) -> usize
 
 fn row_len(meta: &Meta, row: &Row) -> usize
     requires { Belongs meta.now row.now.words }
-    ensures len { result ≡ length (values_bytes meta.now.quality (row_in meta.now.fields row.now.words)) }
+    ensures len { result ≡ length (values_bytes meta.now.quality
+        (row_in meta.now.fields row.now.words)) }
     ensures small { result ≤ 64 * 266 }
 {
     let mut len = 0;
@@ -81,7 +85,8 @@ fn row_len(meta: &Meta, row: &Row) -> usize
 
 fn patch_len(meta: &Meta, patch: &Patch) -> usize
     requires { IsPatchOf meta.now patch.now }
-    ensures len { result ≡ length (changes_bytes meta.now.quality (patch_in meta.now.fields patch.now)) }
+    ensures len { result ≡ length (changes_bytes meta.now.quality
+        (patch_in meta.now.fields patch.now)) }
     ensures small { result ≤ 64 * 268 }
 {
     let mut len = 0;
@@ -97,7 +102,8 @@ fn patch_len(meta: &Meta, patch: &Patch) -> usize
 fn value_len(meta: &Meta, row: &Row, index: u8) -> usize
     requires belongs { Belongs meta.now row.now.words }
     requires index { index < length meta.now.fields }
-    ensures len { HoldsAt (λ x. result ≡ length (value_bytes meta.now.quality x)) (row_in meta.now.fields row.now.words) index }
+    ensures len { HoldsAt (λ x. result
+        ≡ length (value_bytes meta.now.quality x)) (row_in meta.now.fields row.now.words) index }
     ensures small { result ≤ 266 }
 {
     let len = variant_len(&row.field(meta, index));

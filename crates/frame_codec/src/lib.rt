@@ -10,6 +10,8 @@ mod laws;
 mod length;
 mod reading;
 mod scalar;
+#[cfg(test)]
+mod tests;
 mod writing;
 
 pub use fault::FrameFault;

@@ -48,7 +48,8 @@ fn opening(meta: &Meta) -> Frame
 fn read_into(meta: &Meta, bytes: &[u8], frame: &mut Frame) -> Result<(), FrameFault>
     requires { IsFrameOf meta.now frame.old }
     ensures of { OnOk result (IsFrameOf meta.now frame.new) }
-    ensures answer { leaving result (frame_in meta.now.fields frame.new) ≡ frame_at meta.now bytes.now }
+    ensures answer { leaving result (frame_in meta.now.fields frame.new)
+        ≡ frame_at meta.now bytes.now }
 {
     let mut cursor = Cursor { bytes, at: 0 };
     read_message(&mut cursor, meta, frame)?;
@@ -63,7 +64,8 @@ fn read_into(meta: &Meta, bytes: &[u8], frame: &mut Frame) -> Result<(), FrameFa
 fn read_message(cursor: &mut Cursor<'_>, meta: &Meta, frame: &mut Frame) -> Result<(), FrameFault>
     requires { IsFrameOf meta.now frame.old }
     ensures of { OnOk result (IsFrameOf meta.now frame.new) }
-    ensures answer { ReadsAhead (leaving result (frame_in meta.now.fields frame.new)) cursor.old cursor.new (message_at meta.now) }
+    ensures answer { ReadsAhead (leaving result (frame_in meta.now.fields frame.new))
+        cursor.old cursor.new (message_at meta.now) }
 {
     let front = read_front_in(cursor, false)?;
     let newer = is_newer(meta, front.minor);

@@ -24,7 +24,8 @@ pub(crate) struct Own {
 #[inline(always)]
 pub(crate) fn read_own(cursor: &mut Cursor<'_>, field: &Field, encoding: u8) -> Option<Own>
     ensures word { IfSome result (λ own. IsWordOf field.now.kind own.word) }
-    ensures read { IfSome result (λ own. HasRead (measured_in field.now.kind own.word own.status) cursor.old cursor.new (value_at encoding)) }
+    ensures read { IfSome result (λ own. HasRead (measured_in field.now.kind own.word own.status)
+        cursor.old cursor.new (value_at encoding)) }
     ensures not_read { IfNone result (cursor.new ≡ cursor.old) }
 {
     if encoding == VARIANT {
@@ -38,7 +39,8 @@ pub(crate) fn read_own(cursor: &mut Cursor<'_>, field: &Field, encoding: u8) -> 
 #[inline(always)]
 fn read_own_data_value(cursor: &mut Cursor<'_>, kind: Kind) -> Option<Own>
     ensures word { IfSome result (λ own. IsWordOf kind own.word) }
-    ensures read { IfSome result (λ own. HasRead (measured_in kind own.word own.status) cursor.old cursor.new data_value_at) }
+    ensures read { IfSome result (λ own. HasRead (measured_in kind own.word own.status)
+        cursor.old cursor.new data_value_at) }
     ensures not_read { IfNone result (cursor.new ≡ cursor.old) }
 {
     let mut ahead = *cursor;
@@ -52,7 +54,8 @@ fn read_own_data_value(cursor: &mut Cursor<'_>, kind: Kind) -> Option<Own>
 /// The status behind the value of a DataValue with this mask, which tells of nothing else.
 #[inline(always)]
 fn read_status(cursor: &mut Cursor<'_>, mask: u8) -> Option<u32>
-    ensures read { IfSome result (λ status. EndsDataValue mask status (rest_of cursor.old) (rest_of cursor.new)) }
+    ensures read { IfSome result (λ status. EndsDataValue mask status (rest_of cursor.old)
+        (rest_of cursor.new)) }
     ensures same_bytes { cursor.new.bytes ≡ cursor.old.bytes }
 {
     match mask {
@@ -67,7 +70,8 @@ fn read_status(cursor: &mut Cursor<'_>, mask: u8) -> Option<u32>
 #[inline(always)]
 fn read_own_variant(cursor: &mut Cursor<'_>, kind: Kind) -> Option<u64>
     ensures word { IfSome result (IsWordOf kind) }
-    ensures read { IfSome result (λ word. HasRead (scalar_in kind word) cursor.old cursor.new variant_at) }
+    ensures read { IfSome result (λ word. HasRead (scalar_in kind word)
+        cursor.old cursor.new variant_at) }
     ensures not_read { IfNone result (cursor.new ≡ cursor.old) }
 {
     if let Some(word) = read_own_four(cursor, kind) {
@@ -83,7 +87,8 @@ fn read_own_variant(cursor: &mut Cursor<'_>, kind: Kind) -> Option<u64>
 #[inline(always)]
 fn read_own_four(cursor: &mut Cursor<'_>, kind: Kind) -> Option<u64>
     ensures word { IfSome result (IsWordOf kind) }
-    ensures read { IfSome result (λ word. HasRead (scalar_in kind word) cursor.old cursor.new variant_at) }
+    ensures read { IfSome result (λ word. HasRead (scalar_in kind word)
+        cursor.old cursor.new variant_at) }
     ensures not_read { IfNone result (cursor.new ≡ cursor.old) }
 {
     let mut ahead = *cursor;
@@ -102,7 +107,8 @@ fn read_own_four(cursor: &mut Cursor<'_>, kind: Kind) -> Option<u64>
 #[inline(always)]
 fn read_own_eight(cursor: &mut Cursor<'_>, kind: Kind) -> Option<u64>
     ensures word { IfSome result (IsWordOf kind) }
-    ensures read { IfSome result (λ word. HasRead (scalar_in kind word) cursor.old cursor.new variant_at) }
+    ensures read { IfSome result (λ word. HasRead (scalar_in kind word)
+        cursor.old cursor.new variant_at) }
     ensures not_read { IfNone result (cursor.new ≡ cursor.old) }
 {
     let mut ahead = *cursor;
@@ -122,7 +128,8 @@ fn read_own_eight(cursor: &mut Cursor<'_>, kind: Kind) -> Option<u64>
 #[inline(always)]
 fn read_own_small(cursor: &mut Cursor<'_>, kind: Kind) -> Option<u64>
     ensures word { IfSome result (IsWordOf kind) }
-    ensures read { IfSome result (λ word. HasRead (scalar_in kind word) cursor.old cursor.new variant_at) }
+    ensures read { IfSome result (λ word. HasRead (scalar_in kind word)
+        cursor.old cursor.new variant_at) }
     ensures not_read { IfNone result (cursor.new ≡ cursor.old) }
 {
     let mut ahead = *cursor;
@@ -139,7 +146,8 @@ fn read_own_small(cursor: &mut Cursor<'_>, kind: Kind) -> Option<u64>
 #[inline(always)]
 fn read_small(cursor: &mut Cursor<'_>, kind: Kind) -> Option<u64>
     ensures word { IfSome result (IsWordOf kind) }
-    ensures read { IfSome result (λ word. HasRead (scalar_in kind word) cursor.old cursor.new (plain_at kind)) }
+    ensures read { IfSome result (λ word. HasRead (scalar_in kind word)
+        cursor.old cursor.new (plain_at kind)) }
 {
     match kind {
         Kind::Boolean => Some(u64::from(cursor.read_u8().ok()? != 0)),

@@ -29,7 +29,8 @@ use ua_values::Kind;
 /// Good is left out, and Variants elsewhere.
 pub fn write_frame(pen: &mut Pen<'_>, meta: &Meta, frame: &Frame) -> Result<(), Room>
     requires { IsFrameOf meta.now frame.now }
-    ensures written { Writes result pen.old pen.new (frame_bytes meta.now.quality (frame_in meta.now.fields frame.now)) }
+    ensures written { Writes result pen.old pen.new (frame_bytes meta.now.quality
+        (frame_in meta.now.fields frame.now)) }
     ensures short { OnOk result (pen.new.at ≤ pen.old.at + 2048) }
 {
     if !has_room(pen, meta, frame) {
@@ -44,7 +45,8 @@ pub fn write_frame(pen: &mut Pen<'_>, meta: &Meta, frame: &Frame) -> Result<(), 
 /// (OPC 10000-14, UADP DataSetMessage header). Its first byte is 0x0b, or 0x6b with both versions, where the frame is a
 /// numbered key frame.
 pub fn write_front(pen: &mut Pen<'_>, frame: &Frame) -> Result<(), Room>
-    ensures { (fields : List AnyField) → Writes result pen.old pen.new (front_bytes 1 (frame_in fields frame.now)) }
+    ensures { (fields : List AnyField)
+        → Writes result pen.old pen.new (front_bytes 1 (frame_in fields frame.now)) }
 {
     if pen.room() < front_len(frame) {
         return Err(Room);
@@ -57,8 +59,10 @@ pub fn write_front(pen: &mut Pen<'_>, frame: &Frame) -> Result<(), Room>
 #[inline(always)]
 fn has_room(pen: &Pen<'_>, meta: &Meta, frame: &Frame) -> bool
     requires { IsFrameOf meta.now frame.now }
-    ensures room { IsTrue result ↔ (pen.now.at + length (frame_bytes meta.now.quality (frame_in meta.now.fields frame.now)) ≤ length pen.now.bytes.now) }
-    ensures short { length (frame_bytes meta.now.quality (frame_in meta.now.fields frame.now)) ≤ 2048 }
+    ensures room { IsTrue result ↔ (pen.now.at + length (frame_bytes meta.now.quality
+        (frame_in meta.now.fields frame.now)) ≤ length pen.now.bytes.now) }
+    ensures short { length (frame_bytes meta.now.quality
+        (frame_in meta.now.fields frame.now)) ≤ 2048 }
 {
     prove!(!meta.fields().is_empty());
     pen.room() >= MAX_LEN || pen.room() >= frame_len(meta, frame)
@@ -67,7 +71,8 @@ fn has_room(pen: &Pen<'_>, meta: &Meta, frame: &Frame) -> bool
 /// The field encoding of a frame. A keep-alive has no fields, and 0.
 #[inline(always)]
 fn encoding_of(meta: &Meta, kind: &FrameKind) -> u8
-    ensures encoding { (fields : List AnyField) → result ≡ encoding_of meta.now.quality (content_in fields kind.now) }
+    ensures encoding { (fields : List AnyField)
+        → result ≡ encoding_of meta.now.quality (content_in fields kind.now) }
     ensures small { result ≤ 2 }
 {
     match kind {
@@ -80,8 +85,11 @@ fn encoding_of(meta: &Meta, kind: &FrameKind) -> u8
 #[inline(always)]
 fn put_front(pen: &mut Pen<'_>, frame: &Frame, encoding: u8)
     requires encoding { encoding ≤ 2 }
-    requires room { (fields : List AnyField) → pen.old.at + length (front_bytes encoding (frame_in fields frame.now)) ≤ length pen.old.bytes.now }
-    ensures { (fields : List AnyField) → Puts pen.old pen.new (front_bytes encoding (frame_in fields frame.now)) }
+    requires room { (fields : List AnyField)
+        → pen.old.at + length (front_bytes encoding (frame_in fields frame.now))
+        ≤ length pen.old.bytes.now }
+    ensures { (fields : List AnyField)
+        → Puts pen.old pen.new (front_bytes encoding (frame_in fields frame.now)) }
 {
     pen.put_u8(flags1(frame, encoding));
     put_flags2(pen, &frame.kind);
@@ -119,8 +127,10 @@ fn flag(set: bool, weight: u8) -> u8
 /// DataSetFlags2, where the frame has it.
 #[inline(always)]
 fn put_flags2(pen: &mut Pen<'_>, kind: &FrameKind)
-    requires { (fields : List AnyField) → pen.old.at + length (flags2 (content_in fields kind.now)) ≤ length pen.old.bytes.now }
-    ensures { (fields : List AnyField) → Puts pen.old pen.new (flags2 (content_in fields kind.now)) }
+    requires { (fields : List AnyField)
+        → pen.old.at + length (flags2 (content_in fields kind.now)) ≤ length pen.old.bytes.now }
+    ensures { (fields : List AnyField)
+        → Puts pen.old pen.new (flags2 (content_in fields kind.now)) }
 {
     match kind {
         FrameKind::Whole(_) => {}
@@ -153,8 +163,10 @@ fn put_u32_if(pen: &mut Pen<'_>, number: Option<u32>)
 #[inline(always)]
 fn put_content(pen: &mut Pen<'_>, meta: &Meta, kind: &FrameKind)
     requires of { IsKindOf meta.now kind.now }
-    requires room { pen.old.at + length (content_bytes meta.now.quality (content_in meta.now.fields kind.now)) ≤ length pen.old.bytes.now }
-    ensures { Puts pen.old pen.new (content_bytes meta.now.quality (content_in meta.now.fields kind.now)) }
+    requires room { pen.old.at + length (content_bytes meta.now.quality
+        (content_in meta.now.fields kind.now)) ≤ length pen.old.bytes.now }
+    ensures { Puts pen.old pen.new (content_bytes meta.now.quality
+        (content_in meta.now.fields kind.now)) }
 {
     match kind {
         FrameKind::Whole(row) => {
@@ -172,8 +184,10 @@ fn put_content(pen: &mut Pen<'_>, meta: &Meta, kind: &FrameKind)
 /// Writes the values of a row one behind another.
 fn put_row(pen: &mut Pen<'_>, meta: &Meta, row: &Row)
     requires belongs { Belongs meta.now row.now.words }
-    requires room { pen.old.at + length (values_bytes meta.now.quality (row_in meta.now.fields row.now.words)) ≤ length pen.old.bytes.now }
-    ensures { Puts pen.old pen.new (values_bytes meta.now.quality (row_in meta.now.fields row.now.words)) }
+    requires room { pen.old.at + length (values_bytes meta.now.quality
+        (row_in meta.now.fields row.now.words)) ≤ length pen.old.bytes.now }
+    ensures { Puts pen.old pen.new (values_bytes meta.now.quality
+        (row_in meta.now.fields row.now.words)) }
 {
     for index in 0..field_count(meta) {
         put_value(pen, meta, row, index);
@@ -184,8 +198,10 @@ fn put_row(pen: &mut Pen<'_>, meta: &Meta, row: &Row)
 #[inline(never)]
 fn put_patch(pen: &mut Pen<'_>, meta: &Meta, patch: &Patch)
     requires of { IsPatchOf meta.now patch.now }
-    requires room { pen.old.at + length (changes_bytes meta.now.quality (patch_in meta.now.fields patch.now)) ≤ length pen.old.bytes.now }
-    ensures { Puts pen.old pen.new (changes_bytes meta.now.quality (patch_in meta.now.fields patch.now)) }
+    requires room { pen.old.at + length (changes_bytes meta.now.quality
+        (patch_in meta.now.fields patch.now)) ≤ length pen.old.bytes.now }
+    ensures { Puts pen.old pen.new (changes_bytes meta.now.quality
+        (patch_in meta.now.fields patch.now)) }
 {
     for index in 0..meta.fields().len() {
         if is_marked(patch, index) {
@@ -199,8 +215,10 @@ fn put_patch(pen: &mut Pen<'_>, meta: &Meta, patch: &Patch)
 fn put_change(pen: &mut Pen<'_>, meta: &Meta, row: &Row, index: u8)
     requires belongs { Belongs meta.now row.now.words }
     requires index { index < length meta.now.fields }
-    requires room { HoldsAt (λ x. pen.old.at + length (change_bytes meta.now.quality (index, x)) ≤ length pen.old.bytes.now) (row_in meta.now.fields row.now.words) index }
-    ensures { HoldsAt (λ x. Puts pen.old pen.new (change_bytes meta.now.quality (index, x))) (row_in meta.now.fields row.now.words) index }
+    requires room { HoldsAt (λ x. pen.old.at + length (change_bytes meta.now.quality (index, x))
+        ≤ length pen.old.bytes.now) (row_in meta.now.fields row.now.words) index }
+    ensures { HoldsAt (λ x. Puts pen.old pen.new (change_bytes meta.now.quality (index, x)))
+        (row_in meta.now.fields row.now.words) index }
 {
     pen.put_u16(u16::from(index));
     put_value(pen, meta, row, index);
@@ -211,8 +229,10 @@ fn put_change(pen: &mut Pen<'_>, meta: &Meta, row: &Row, index: u8)
 fn put_value(pen: &mut Pen<'_>, meta: &Meta, row: &Row, index: u8)
     requires belongs { Belongs meta.now row.now.words }
     requires index { index < length meta.now.fields }
-    requires room { HoldsAt (λ x. pen.old.at + length (value_bytes meta.now.quality x) ≤ length pen.old.bytes.now) (row_in meta.now.fields row.now.words) index }
-    ensures { HoldsAt (λ x. Puts pen.old pen.new (value_bytes meta.now.quality x)) (row_in meta.now.fields row.now.words) index }
+    requires room { HoldsAt (λ x. pen.old.at + length (value_bytes meta.now.quality x)
+        ≤ length pen.old.bytes.now) (row_in meta.now.fields row.now.words) index }
+    ensures { HoldsAt (λ x. Puts pen.old pen.new (value_bytes meta.now.quality x))
+        (row_in meta.now.fields row.now.words) index }
 {
     if meta.quality() {
         put_data_value(pen, meta, row, index);
@@ -226,8 +246,10 @@ fn put_value(pen: &mut Pen<'_>, meta: &Meta, row: &Row, index: u8)
 fn put_data_value(pen: &mut Pen<'_>, meta: &Meta, row: &Row, index: u8)
     requires belongs { Belongs meta.now row.now.words }
     requires index { index < length meta.now.fields }
-    requires room { HoldsAt (λ x. pen.old.at + length (value_bytes true x) ≤ length pen.old.bytes.now) (row_in meta.now.fields row.now.words) index }
-    ensures { HoldsAt (λ x. Puts pen.old pen.new (value_bytes true x)) (row_in meta.now.fields row.now.words) index }
+    requires room { HoldsAt (λ x. pen.old.at + length (value_bytes true x)
+        ≤ length pen.old.bytes.now) (row_in meta.now.fields row.now.words) index }
+    ensures { HoldsAt (λ x. Puts pen.old pen.new (value_bytes true x))
+        (row_in meta.now.fields row.now.words) index }
 {
     let status = row.status(meta, index);
     if status == 0 {
@@ -246,8 +268,10 @@ fn put_data_value(pen: &mut Pen<'_>, meta: &Meta, row: &Row, index: u8)
 fn put_field(pen: &mut Pen<'_>, meta: &Meta, row: &Row, index: u8)
     requires belongs { Belongs meta.now row.now.words }
     requires index { index < length meta.now.fields }
-    requires room { HoldsAt (λ x. pen.old.at + length (variant x.value) ≤ length pen.old.bytes.now) (row_in meta.now.fields row.now.words) index }
-    ensures { HoldsAt (λ x. Puts pen.old pen.new (variant x.value)) (row_in meta.now.fields row.now.words) index }
+    requires room { HoldsAt (λ x. pen.old.at + length (variant x.value)
+        ≤ length pen.old.bytes.now) (row_in meta.now.fields row.now.words) index }
+    ensures { HoldsAt (λ x. Puts pen.old pen.new (variant x.value))
+        (row_in meta.now.fields row.now.words) index }
 {
     let field = &meta.fields()[usize::from(index)];
     if has_four_bytes(field.kind) {
@@ -264,8 +288,10 @@ fn put_field(pen: &mut Pen<'_>, meta: &Meta, row: &Row, index: u8)
 fn put_any(pen: &mut Pen<'_>, meta: &Meta, row: &Row, index: u8)
     requires belongs { Belongs meta.now row.now.words }
     requires index { index < length meta.now.fields }
-    requires room { HoldsAt (λ x. pen.old.at + length (variant x.value) ≤ length pen.old.bytes.now) (row_in meta.now.fields row.now.words) index }
-    ensures { HoldsAt (λ x. Puts pen.old pen.new (variant x.value)) (row_in meta.now.fields row.now.words) index }
+    requires room { HoldsAt (λ x. pen.old.at + length (variant x.value)
+        ≤ length pen.old.bytes.now) (row_in meta.now.fields row.now.words) index }
+    ensures { HoldsAt (λ x. Puts pen.old pen.new (variant x.value))
+        (row_in meta.now.fields row.now.words) index }
 {
     let field = &meta.fields()[usize::from(index)];
     if is_scalar(field.kind) {
@@ -280,8 +306,10 @@ fn put_any(pen: &mut Pen<'_>, meta: &Meta, row: &Row, index: u8)
 fn put_whole_value(pen: &mut Pen<'_>, meta: &Meta, row: &Row, index: u8)
     requires belongs { Belongs meta.now row.now.words }
     requires index { index < length meta.now.fields }
-    requires room { HoldsAt (λ x. pen.old.at + length (variant x.value) ≤ length pen.old.bytes.now) (row_in meta.now.fields row.now.words) index }
-    ensures { HoldsAt (λ x. Puts pen.old pen.new (variant x.value)) (row_in meta.now.fields row.now.words) index }
+    requires room { HoldsAt (λ x. pen.old.at + length (variant x.value)
+        ≤ length pen.old.bytes.now) (row_in meta.now.fields row.now.words) index }
+    ensures { HoldsAt (λ x. Puts pen.old pen.new (variant x.value))
+        (row_in meta.now.fields row.now.words) index }
 {
     put_variant(pen, &row.field(meta, index));
 }
