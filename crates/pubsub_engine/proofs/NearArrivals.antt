@@ -14,7 +14,7 @@ use Rattle.dataset_reader.specs.Kept.{Kept}
 use Rattle.dataset_reader.specs.Cases.{frame_case}
 use Rattle.frame_codec.specs.Carrying.{content_of}
 use Rattle.dataset_reader.specs.Keeping.{Keeps, IsReading, IsOfMajor, AreNearInEach, with_jumps}
-use Rattle.pubsub_engine.specs.BuiltIn.{demo_fields, demo_meta}
+use Rattle.pubsub_engine.specs.BuiltIn.{demo_meta}
 use Rattle.pubsub_engine.specs.Steps.{Step, Tick, Pump, moment_of}
 use Rattle.pubsub_engine.specs.Reading.{messages_in, messages_at, kept_of, kept_at, placed_frame, placed_of, arrival_of, arrivals_in, arrivals}
 use Rattle.pubsub_engine.proofs.Published.{KeepsRuns}

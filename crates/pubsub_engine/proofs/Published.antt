@@ -1,6 +1,6 @@
 -- Where each received datagram was sent before, the reader keeps what Records says of the items that came, and what it holds is the row of the version
 -- that the log has at its number.
-use Rattle.std.proofs.Common.{◌≡◌, refl, sym, ap, ◌∙◌, subst, arith, ℕ, zero, suc, ◌+◌, ◌%◌, ◌^◌, ◌<◌, ◌≤◌, Bool, true, false, cond, List, [], ◌∷◌, ◌++◌, map, length, reverse, Option, Some, None, Ok, inl, inr, All, lit≤, append_assoc, length-append}
+use Rattle.std.proofs.Common.{◌≡◌, refl, sym, ap, ◌∙◌, subst, arith, ℕ, zero, suc, ◌+◌, ◌%◌, ◌^◌, ◌<◌, ◌≤◌, Bool, true, false, cond, List, [], ◌∷◌, ◌++◌, map, length, reverse, Option, Some, None, Ok, inl, inr, All, append_assoc, length-append}
 use Rattle.std.specs.Prelude.{nat_le, ◌==◌, ◌/◌, find, option_map, filter_map, Contains}
 use Rattle.std.specs.Option.{option_or}
 use Rattle.std.specs.List.{cons_option}
@@ -25,7 +25,7 @@ use Rattle.frame_codec.proofs.ReadingLaws.{written-read}
 use Rattle.dataset_reader.specs.declared.took.Numbering.TheVariants as numberings
 use Rattle.dataset_reader.specs.Kept.{Kept}
 use Rattle.dataset_reader.specs.Keeping.{Keeps, IsReading, AreNearInEach, jumps, came_on, with_jumps}
-use Rattle.pubsub_engine.specs.BuiltIn.{demo_fields, demo_meta}
+use Rattle.pubsub_engine.specs.BuiltIn.{demo_meta}
 use Rattle.pubsub_engine.specs.Samples.{Sample}
 use Rattle.pubsub_engine.specs.Datagram.{datagram, message_read, has_header, message_carried, brought_by}
 use Rattle.pubsub_engine.specs.Steps.{Step, Tick, Pump, moment_of, IsPump, send_entry, send_entries}

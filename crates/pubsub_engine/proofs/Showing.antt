@@ -6,7 +6,7 @@ use Rattle.pubsub_model.specs.declared.reading.Why.{Why}
 use Rattle.dataset_meta.specs.DataValues.{DataValue}
 use Rattle.dataset_reader.specs.Kept.{Kept}
 use Rattle.dataset_reader.specs.Reader.{kept_by}
-use Rattle.pubsub_engine.specs.BuiltIn.{demo_fields, demo_meta}
+use Rattle.pubsub_engine.specs.BuiltIn.{demo_fields}
 use Rattle.pubsub_engine.specs.declared.closed.State.{State}
 use Rattle.pubsub_engine.specs.declared.closed.State.TheVariants.{Paused, Operational, Error, PreOperational}
 use Rattle.pubsub_engine.specs.declared.closed.LinkEnd.{LinkEnd}

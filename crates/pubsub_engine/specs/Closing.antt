@@ -4,7 +4,7 @@ use Rattle.seq_number.specs.Numbers.{number_of_place}
 use Rattle.row_words.specs.Belonging.{row_in}
 use Rattle.pubsub_model.specs.declared.reading.Break.{Break}
 use Rattle.pubsub_model.specs.declared.reading.Why.{Why}
-use Rattle.pubsub_engine.specs.BuiltIn.{demo_fields, demo_meta}
+use Rattle.pubsub_engine.specs.BuiltIn.{demo_fields}
 use Rattle.pubsub_engine.specs.declared.closed.Closed.{Closed}
 use Rattle.pubsub_engine.specs.declared.closed.HeldEnd.{HeldEnd}
 use Rattle.pubsub_engine.specs.declared.closed.State.{State}

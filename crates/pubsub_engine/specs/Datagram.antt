@@ -9,7 +9,7 @@ use Rattle.frame_codec.specs.Frames.{Frame}
 use Rattle.frame_codec.specs.Spelling.{frame_bytes}
 use Rattle.frame_codec.specs.Reading.{frame_at}
 use Rattle.frame_codec.specs.Carrying.{frame_of}
-use Rattle.pubsub_engine.specs.BuiltIn.{demo_fields, demo_meta, demo_settings}
+use Rattle.pubsub_engine.specs.BuiltIn.{demo_meta, demo_settings}
 
 -- version 1 with PublisherId, GroupHeader and PayloadHeader; PublisherId 5; GroupFlags: WriterGroupId and SequenceNumber; WriterGroupId 1
 abbrev pub front : List ℕ

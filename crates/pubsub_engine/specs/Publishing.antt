@@ -7,7 +7,7 @@ use Rattle.dataset_meta.specs.Rows.{opening_row, cons_if}
 use Rattle.pubsub_model.specs.Frames.{PlacedFrame}
 use Rattle.pubsub_model.specs.Cadence.{Settings, WriterTurn, WriterDeed, HadTurn, cadence, log_of, frames_of}
 use Rattle.dataset_writer.specs.Turns.{model_settings, latest_answer}
-use Rattle.pubsub_engine.specs.BuiltIn.{demo_fields, demo_meta, demo_settings}
+use Rattle.pubsub_engine.specs.BuiltIn.{demo_fields, demo_settings}
 use Rattle.pubsub_engine.specs.Samples.{Sample}
 use Rattle.pubsub_engine.specs.Datagram.{datagram, demo_message}
 use Rattle.pubsub_engine.specs.Steps.{Step, Tick, Pump, moment_of, IsPump, send_entries}

@@ -3,7 +3,7 @@ use Rattle.std.specs.Prelude.{ℕ, List}
 use Rattle.dataset_meta.specs.DataValues.{DataValue}
 use Rattle.row_words.specs.Belonging.{row_in}
 use Rattle.pubsub_engine.specs.declared.sampled.Sampled.{Sampled}
-use Rattle.pubsub_engine.specs.BuiltIn.{demo_fields, demo_meta}
+use Rattle.pubsub_engine.specs.BuiltIn.{demo_fields}
 
 -- a version with its row
 pub record Sample : Type 0 where

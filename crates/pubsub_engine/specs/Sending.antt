@@ -7,7 +7,7 @@ use Rattle.pubsub_model.specs.Cadence.{WriterTurn, WriterDeed, HadTurn, cadence}
 use Rattle.dataset_writer.specs.declared.writer.Writer.{Writer}
 use Rattle.dataset_writer.specs.Turns.{latest_answer}
 use Rattle.dataset_writer.specs.Standing.{IsWriter}
-use Rattle.pubsub_engine.specs.BuiltIn.{demo_fields, demo_meta, demo_settings}
+use Rattle.pubsub_engine.specs.BuiltIn.{demo_meta, demo_settings}
 use Rattle.pubsub_engine.specs.Steps.{send_entries}
 use Rattle.pubsub_engine.specs.Publishing.{built_in, datagrams_with, last_failed}
 use Rattle.pubsub_engine.specs.Counts.{counted, is_sent, is_send_failed}

@@ -1,6 +1,6 @@
 use Rattle.std.proofs.Common.{◌≡◌, refl}
 use Rattle.dataset_meta.specs.Metas.{Refuses}
-use Rattle.pubsub_engine.specs.BuiltIn.{demo_fields, demo_meta}
+use Rattle.pubsub_engine.specs.BuiltIn.{demo_fields}
 use Rattle.pubsub_engine.proofs.BuiltIns.{demo_is_meta}
 use Rattle.pubsub_engine.proofs.built_in.built_in_meta.Goals as goal
 

@@ -1,6 +1,5 @@
 use Rattle.std.proofs.Common.{refl, arith}
-use Rattle.pubsub_engine.specs.BuiltIn.{demo_fields, demo_meta}
-use Rattle.pubsub_engine.proofs.BuiltIns.{demo_is_meta}
+use Rattle.pubsub_engine.specs.BuiltIn.{demo_meta}
 use Rattle.pubsub_engine.proofs.publisher.Publisher.new.Goals as goal
 
 pub invariant_of-result-clause-belongs : goal.invariant_of-result-clause-belongs

@@ -2,7 +2,7 @@ use Rattle.std.proofs.Common.{◌≡◌, Bool, Some, refl, sym, ap, ◌∙◌}
 use Rattle.std.specs.Prelude.{◌||◌}
 use Rattle.dataset_meta.specs.Metas.{MetaData}
 use Rattle.frame_codec.specs.Words.{frame_in}
-use Rattle.pubsub_engine.specs.BuiltIn.{demo_fields, demo_meta}
+use Rattle.pubsub_engine.specs.BuiltIn.{demo_fields}
 use Rattle.pubsub_engine.specs.Reading.{is_held}
 use Rattle.pubsub_engine.proofs.Carried.{carried_none, carried_some, takes_none, takes_message, reads_step, demo_read}
 use Rattle.pubsub_engine.proofs.subscriber.Subscriber.accept.Goals as goal
