@@ -2,18 +2,18 @@
 use Rattle.std.proofs.Common.{◌≡◌, refl, sym, ap, ◌∙◌, arith, ℕ, Bool, true, false, List, Option, Some, None}
 use Rattle.std.specs.Prelude.{◌==◌, ◌≢◌, max, unwrap_or}
 use Rattle.std.proofs.lemmas.Bool.Decides.{nat_tests}
-use Rattle.ua_values.specs.declared.value.Value.{Value}
+use Rattle.dataset_meta.specs.DataValues.{DataValue}
 use Rattle.seq_number.specs.Numbers.{newer}
 use Rattle.pubsub_model.specs.declared.reading.Why.TheVariants.{Jump}
-use Rattle.frame_codec.specs.Messages as messages
-use Rattle.frame_codec.specs.Messages.{Content, Message}
+use Rattle.frame_codec.specs.Frames as frames
+use Rattle.frame_codec.specs.Frames.{Content, Frame}
 use Rattle.dataset_reader.specs.declared.took.Took.{Took}
 use Rattle.dataset_reader.specs.declared.took.Outcome.{Outcome}
 use Rattle.dataset_reader.specs.declared.took.Numbering.{Numbering}
 use Rattle.dataset_reader.specs.declared.took.Numbering.TheVariants as numberings
 use Rattle.dataset_reader.specs.Kept.{Kept, cut_kept}
-use Rattle.dataset_reader.specs.Cases.{is_alive, place_at, change_case, record_case, following_case, placed_case, placed_at, noted, breaks_run, older, due, is_jump, stamped, numbered_case, unnumbered_case, numbering_case, major_case, frame_case}
-use Rattle.dataset_reader.specs.Answers.{BeginsEmpty, IsOlder, IsPassed, Tells}
+use Rattle.dataset_reader.specs.Cases.{is_alive, record_number, change_case, record_case, following_case, placed_case, placed_at, noted, breaks_run, older, due, is_jump, stamped, numbered_case, unnumbered_case, numbering_case, major_case, frame_case}
+use Rattle.dataset_reader.specs.Answers.{BeginsEmpty, IsOlder, IsPassed, HasCause}
 
 -- ---- the stamp
 
@@ -40,26 +40,26 @@ stamps old (Some n) = stamped_by (is_jump old.stamp n) old n refl
 
 -- ---- a record
 
-abbrev RecordTells : ℕ → Message → Kept → Kept × Outcome → Type 0
-RecordTells major message old taken = Tells numberings.Message major message old taken.0 taken.1
+abbrev RecordTells : ℕ → Frame → Kept → Kept × Outcome → Type 0
+RecordTells major message old taken = HasCause numberings.Message major message old taken.0 taken.1
 
-change_tells : (major : ℕ) (message : Message) (old k : Kept) (n : ℕ) (patch : List (ℕ × Value)) (row : Option (List Value)) → k.row ≡ row
+change_tells : (major : ℕ) (message : Frame) (old k : Kept) (n : ℕ) (patch : List (ℕ × DataValue)) (row : Option (List DataValue)) → k.row ≡ row
     → RecordTells major message old (change_case k n patch row)
 change_tells major message old k n patch None e = (refl, refl, λ empty. e)
 change_tells major message old k n patch (Some row) e = refl
 
-record_tells : (major : ℕ) (message : Message) (old k : Kept) (c : Content) (n : ℕ) (broke : Bool) → (broke ≡ false → is_alive c ≡ true → BeginsEmpty old → k.row ≡ None)
+record_tells : (major : ℕ) (message : Frame) (old k : Kept) (c : Content) (n : ℕ) (broke : Bool) → (broke ≡ false → is_alive c ≡ true → BeginsEmpty old → k.row ≡ None)
     → RecordTells major message old (record_case k c n broke)
-record_tells major message old k (messages.Whole row) n broke empty = refl
-record_tells major message old k (messages.Change patch) n true empty = (refl, refl, λ _. refl)
-record_tells major message old k messages.Alive n true empty = (refl, refl, λ _. refl)
-record_tells major message old k messages.Alive n false empty = (refl, refl, empty refl refl)
-record_tells major message old k (messages.Change patch) n false empty = change_tells major message old k n patch k.row refl
+record_tells major message old k (frames.Whole row) n broke empty = refl
+record_tells major message old k (frames.Change patch) n true empty = (refl, refl, λ _. refl)
+record_tells major message old k frames.Alive n true empty = (refl, refl, λ _. refl)
+record_tells major message old k frames.Alive n false empty = (refl, refl, empty refl refl)
+record_tells major message old k (frames.Change patch) n false empty = change_tells major message old k n patch k.row refl
 
-abbrev TookTells : Numbering → ℕ → Message → Kept → Kept × Took → Type 0
-TookTells numbering major message old taken = Tells numbering major message old taken.0 taken.1.outcome
+abbrev TookTells : Numbering → ℕ → Frame → Kept → Kept × Took → Type 0
+TookTells numbering major message old taken = HasCause numbering major message old taken.0 taken.1.outcome
 
-following_tells : (major : ℕ) (message : Message) (old k : Kept) (c : Content) (n p last : ℕ) (breaks : Bool) → breaks_run c n last ≡ breaks
+following_tells : (major : ℕ) (message : Frame) (old k : Kept) (c : Content) (n p last : ℕ) (breaks : Bool) → breaks_run c n last ≡ breaks
     → TookTells numberings.Message major message old (following_case k c n p last breaks)
 following_tells major message old k c n p last true e =
     record_tells major message old (noted (placed_at k p) (record { expected = due last; got = n })) c n true (λ wrong. absurd (true_is wrong))
@@ -74,64 +74,64 @@ following_tells major message old k c n p last false e =
 
 -- ---- a frame that isn't a record
 
-older_tells : (major : ℕ) (message : Message) (old now : Kept) (c : Content) → message.content ≡ c → IsOlder old message → IsPassed old now
-    → Tells numberings.Message major message old now (older c)
-older_tells major message old now (messages.Whole row) e is passed = (refl, ap is_alive e, is, passed)
-older_tells major message old now (messages.Change patch) e is passed = (refl, ap is_alive e, is, passed)
-older_tells major message old now messages.Alive e is passed = (e, is, passed)
+older_tells : (major : ℕ) (message : Frame) (old now : Kept) (c : Content) → message.content ≡ c → IsOlder old message → IsPassed old now
+    → HasCause numberings.Message major message old now (older c)
+older_tells major message old now (frames.Whole row) e is passed = (refl, ap is_alive e, is, passed)
+older_tells major message old now (frames.Change patch) e is passed = (refl, ap is_alive e, is, passed)
+older_tells major message old now frames.Alive e is passed = (e, is, passed)
 
-newer_tells : (new : Bool) (major : ℕ) (message : Message) (old k : Kept) (n last : ℕ) → newer (place_at message.content n) last ≡ new → message.number ≡ Some n
-    → (old.last ≡ Some last) × IsPassed old k → TookTells numberings.Message major message old (placed_case k message.content n (place_at message.content n) (Some last))
+newer_tells : (new : Bool) (major : ℕ) (message : Frame) (old k : Kept) (n last : ℕ) → newer (record_number message.content n) last ≡ new → message.number ≡ Some n
+    → (old.last ≡ Some last) × IsPassed old k → TookTells numberings.Message major message old (placed_case k message.content n (record_number message.content n) (Some last))
 newer_tells true major message old k n last e number before =
-    rw e (following_tells major message old k message.content n (place_at message.content n) last (breaks_run message.content n last) refl)
+    rw e (following_tells major message old k message.content n (record_number message.content n) last (breaks_run message.content n last) refl)
 newer_tells false major message old k n last e number before = rw e (older_tells major message old k message.content refl (n, last, number, before.0, e) before.1)
 
-placed_tells : (major : ℕ) (message : Message) (old k : Kept) (n : ℕ) (last : Option ℕ) → k.last ≡ last → message.number ≡ Some n → Stamps old k
-    → TookTells numberings.Message major message old (placed_case k message.content n (place_at message.content n) last)
+placed_tells : (major : ℕ) (message : Frame) (old k : Kept) (n : ℕ) (last : Option ℕ) → k.last ≡ last → message.number ≡ Some n → Stamps old k
+    → TookTells numberings.Message major message old (placed_case k message.content n (record_number message.content n) last)
 placed_tells major message old k n None e number s =
-    record_tells major message old (placed_at k (place_at message.content n)) message.content n false (λ _ _ empty. s.begins empty e)
+    record_tells major message old (placed_at k (record_number message.content n)) message.content n false (λ _ _ empty. s.begins empty e)
 placed_tells major message old k n (Some last) e number s =
-    newer_tells (newer (place_at message.content n) last) major message old k n last refl number (s.passed last e)
+    newer_tells (newer (record_number message.content n) last) major message old k n last refl number (s.passed last e)
 
-numbered_tells : (major : ℕ) (message : Message) (old : Kept) (stamp number : Option ℕ) → message.number ≡ number → TookTells numberings.Message major message old (numbered_case old message.content stamp number)
+numbered_tells : (major : ℕ) (message : Frame) (old : Kept) (stamp number : Option ℕ) → message.number ≡ number → TookTells numberings.Message major message old (numbered_case old message.content stamp number)
 numbered_tells major message old stamp None e = (e, refl)
 numbered_tells major message old stamp (Some n) e = placed_tells major message old (stamped old stamp) n (stamped old stamp).last refl e (stamps old stamp)
 
-unnumbered_tells : (major : ℕ) (message : Message) (old : Kept) (c : Content) → message.content ≡ c → TookTells numberings.Unnumbered major message old (unnumbered_case old c)
-unnumbered_tells major message old (messages.Whole row) e = refl
-unnumbered_tells major message old (messages.Change patch) e = ((patch, e), refl)
-unnumbered_tells major message old messages.Alive e = (e, refl)
+unnumbered_tells : (major : ℕ) (message : Frame) (old : Kept) (c : Content) → message.content ≡ c → TookTells numberings.Unnumbered major message old (unnumbered_case old c)
+unnumbered_tells major message old (frames.Whole row) e = refl
+unnumbered_tells major message old (frames.Change patch) e = ((patch, e), refl)
+unnumbered_tells major message old frames.Alive e = (e, refl)
 
-numbering_tells : (numbering : Numbering) (major : ℕ) (message : Message) (old : Kept) (stamp : Option ℕ) → TookTells numbering major message old (numbering_case numbering old message stamp)
+numbering_tells : (numbering : Numbering) (major : ℕ) (message : Frame) (old : Kept) (stamp : Option ℕ) → TookTells numbering major message old (numbering_case numbering old message stamp)
 numbering_tells numberings.Message major message old stamp = numbered_tells major message old stamp message.number refl
 numbering_tells numberings.Unnumbered major message old stamp = unnumbered_tells major message old message.content refl
 
-foreign_tells : (same : Bool) (numbering : Numbering) (major got : ℕ) (message : Message) (old : Kept) (stamp : Option ℕ) → (got == major) ≡ same → message.major ≡ Some got
+foreign_tells : (same : Bool) (numbering : Numbering) (major got : ℕ) (message : Frame) (old : Kept) (stamp : Option ℕ) → (got == major) ≡ same → message.major ≡ Some got
     → TookTells numbering major message old (major_case numbering major old message stamp (Some got))
 foreign_tells true numbering major got message old stamp e carries = rw e (numbering_tells numbering major message old stamp)
 foreign_tells false numbering major got message old stamp e carries =
     let other : got ≢ major = λ is. absurd (grind (arith, nat_tests, e, is)) in rw e (carries, other, refl)
 
-major_tells : (numbering : Numbering) (major : ℕ) (message : Message) (old : Kept) (stamp carries : Option ℕ) → message.major ≡ carries
+major_tells : (numbering : Numbering) (major : ℕ) (message : Frame) (old : Kept) (stamp carries : Option ℕ) → message.major ≡ carries
     → TookTells numbering major message old (major_case numbering major old message stamp carries)
 major_tells numbering major message old stamp None e = numbering_tells numbering major message old stamp
 major_tells numbering major message old stamp (Some got) e = foreign_tells (got == major) numbering major got message old stamp refl e
 
-pub frame-tells : (numbering : Numbering) (major : ℕ) (message : Message) (old : Kept) (stamp : Option ℕ) → TookTells numbering major message old (frame_case numbering major old message stamp)
+pub frame-tells : (numbering : Numbering) (major : ℕ) (message : Frame) (old : Kept) (stamp : Option ℕ) → TookTells numbering major message old (frame_case numbering major old message stamp)
 frame-tells numbering major message old stamp = major_tells numbering major message old stamp message.major refl
 
 -- ---- before any record no row is held
 
-change_last : (k : Kept) (n : ℕ) (patch : List (ℕ × Value)) (row : Option (List Value)) → (change_case k n patch row).0.last ≡ k.last
+change_last : (k : Kept) (n : ℕ) (patch : List (ℕ × DataValue)) (row : Option (List DataValue)) → (change_case k n patch row).0.last ≡ k.last
 change_last k n patch None = refl
 change_last k n patch (Some row) = refl
 
 record_last : (k : Kept) (c : Content) (n : ℕ) (broke : Bool) → (record_case k c n broke).0.last ≡ k.last
-record_last k (messages.Whole row) n broke = refl
-record_last k (messages.Change patch) n true = refl
-record_last k (messages.Change patch) n false = change_last k n patch k.row
-record_last k messages.Alive n true = refl
-record_last k messages.Alive n false = refl
+record_last k (frames.Whole row) n broke = refl
+record_last k (frames.Change patch) n true = refl
+record_last k (frames.Change patch) n false = change_last k n patch k.row
+record_last k frames.Alive n true = refl
+record_last k frames.Alive n false = refl
 
 begun : (k : Kept) (p : ℕ) → k.last ≡ Some p → BeginsEmpty k
 begun k p is none = absurd (wrong (sym is ∙ none))
@@ -156,16 +156,16 @@ placed_begins k c n p (Some last) empty = newer_begins (newer p last) k c n p la
 
 numbered_begins : (k : Kept) (c : Content) (stamp number : Option ℕ) → BeginsEmpty k → BeginsEmpty (numbered_case k c stamp number).0
 numbered_begins k c stamp None empty = empty
-numbered_begins k c stamp (Some n) empty = placed_begins (stamped k stamp) c n (place_at c n) (stamped k stamp).last ((stamps k stamp).begins empty)
+numbered_begins k c stamp (Some n) empty = placed_begins (stamped k stamp) c n (record_number c n) (stamped k stamp).last ((stamps k stamp).begins empty)
 
-major_begins : (same : Bool) (major got : ℕ) (k : Kept) (message : Message) (stamp : Option ℕ) → (got == major) ≡ same → BeginsEmpty k
+major_begins : (same : Bool) (major got : ℕ) (k : Kept) (message : Frame) (stamp : Option ℕ) → (got == major) ≡ same → BeginsEmpty k
     → BeginsEmpty (major_case numberings.Message major k message stamp (Some got)).0
 major_begins true major got k message stamp e empty = rw e (numbered_begins k message.content stamp message.number empty)
 major_begins false major got k message stamp e empty = rw e empty
 
-carried_begins : (major : ℕ) (k : Kept) (message : Message) (stamp carries : Option ℕ) → BeginsEmpty k → BeginsEmpty (major_case numberings.Message major k message stamp carries).0
+carried_begins : (major : ℕ) (k : Kept) (message : Frame) (stamp carries : Option ℕ) → BeginsEmpty k → BeginsEmpty (major_case numberings.Message major k message stamp carries).0
 carried_begins major k message stamp None empty = numbered_begins k message.content stamp message.number empty
 carried_begins major k message stamp (Some got) empty = major_begins (got == major) major got k message stamp refl empty
 
-pub begins-frame : (major : ℕ) (k : Kept) (message : Message) (stamp : Option ℕ) → BeginsEmpty k → BeginsEmpty (frame_case numberings.Message major k message stamp).0
+pub begins-frame : (major : ℕ) (k : Kept) (message : Frame) (stamp : Option ℕ) → BeginsEmpty k → BeginsEmpty (frame_case numberings.Message major k message stamp).0
 begins-frame major k message stamp empty = carried_begins major k message stamp message.major empty

@@ -1,6 +1,8 @@
 mod Notes
 mod KeepingLaws
 mod RunLaws
+mod NextLaws
+mod NumberedLaws
 mod ListLaws
 mod EveryLaws
 mod BreakLaws

@@ -2,6 +2,7 @@
 -- stand first.
 use Rattle.std.proofs.Common.{◌≡◌, refl, ℕ, ◌⊎◌, inl, inr, List, [], ◌∷◌, Option, Some, None}
 use Rattle.ua_values.specs.declared.value.Value.{Value}
+use Rattle.dataset_meta.specs.DataValues.{DataValue}
 use Rattle.ua_values.specs.declared.value.Value.TheVariants.{UInt32}
 use Rattle.seq_number.specs.Numbers.{number_of_place}
 use Rattle.pubsub_model.specs.declared.reading.Break.{Break}
@@ -11,11 +12,14 @@ use Rattle.pubsub_model.specs.Frames.{Whole, Change, Alive}
 use Rattle.pubsub_model.specs.Records.{Arrival, Came, Cut, Held, at, held, why, breaks}
 use Rattle.dataset_reader.specs.Keeping.{with_jumps}
 
-abbrev row : ℕ → List Value
-row value = UInt32 value ∷ []
+abbrev good : Value → DataValue
+good value = record { value = value; status = 0 }
 
-abbrev patch : ℕ → List (ℕ × Value)
-patch value = (0, UInt32 value) ∷ []
+abbrev row : ℕ → List DataValue
+row value = good (UInt32 value) ∷ []
+
+abbrev patch : ℕ → List (ℕ × DataValue)
+patch value = (0, good (UInt32 value)) ∷ []
 
 abbrev whole : ℕ → ℕ → Option ℕ → Arrival
 whole place value stamp = Came (at 0 stamp (Whole place (row value)))
@@ -28,7 +32,7 @@ alive next stamp = Came (at 0 stamp (Alive next))
 
 -- the number and the row that are held, or why none is
 abbrev View : Type 0
-View = (ℕ × List Value) ⊎ Why
+View = (ℕ × List DataValue) ⊎ Why
 
 abbrev holds : ℕ → ℕ → View
 holds number value = inl (number, row value)

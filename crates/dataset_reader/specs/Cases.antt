@@ -1,13 +1,13 @@
 -- What one frame does to a reader, and what it is answered (OPC 10000-14, DataSetReader and DataSetMessageSequenceNumber).
 use Rattle.std.specs.Prelude.{ℕ, ◌+◌, ◌-◌, ◌%◌, ◌^◌, min, max, List, ◌∷◌, take, Bool, true, false, not, ◌||◌, nat_le, ◌==◌, Option, Some, None, unwrap_or, if◌then◌else◌}
 use Rattle.std.specs.Option.{option_map_or}
-use Rattle.ua_values.specs.declared.value.Value.{Value}
+use Rattle.dataset_meta.specs.DataValues.{DataValue}
 use Rattle.dataset_meta.specs.Rows.{patched}
 use Rattle.seq_number.specs.Numbers.{newer}
 use Rattle.pubsub_model.specs.declared.reading.Break.{Break}
 use Rattle.pubsub_model.specs.declared.reading.Why.TheVariants.{Gap, Jump}
-use Rattle.frame_codec.specs.Messages as messages
-use Rattle.frame_codec.specs.Messages.{Content}
+use Rattle.frame_codec.specs.Frames as frames
+use Rattle.frame_codec.specs.Frames.{Content, Frame}
 use Rattle.dataset_reader.specs.declared.took.Took.{Took}
 use Rattle.dataset_reader.specs.declared.took.Outcome.{Outcome}
 use Rattle.dataset_reader.specs.declared.took.Outcome.TheVariants as outcomes
@@ -20,23 +20,23 @@ abbrev pub unbroken : Outcome → Took
 unbroken outcome = record { outcome = outcome; broke = None }
 
 -- a delta frame that follows the last record is laid into the row that is held
-abbrev pub change_case : Kept → ℕ → List (ℕ × Value) → Option (List Value) → Kept × Outcome
+abbrev pub change_case : Kept → ℕ → List (ℕ × DataValue) → Option (List DataValue) → Kept × Outcome
 change_case kept number patch None = (kept, outcomes.Waiting kept.why)
 change_case kept number patch (Some row) = (record kept { number = Some number; row = Some (patched row patch) }, outcomes.Held)
 
 -- what a record does: a key frame is held, and after a break nothing else is
 abbrev pub record_case : Kept → Content → ℕ → Bool → Kept × Outcome
-record_case kept (messages.Whole row) number broke = (record kept { number = Some number; row = Some row }, outcomes.Held)
-record_case kept (messages.Change patch) number true = (record kept { number = None; row = None; why = Gap }, outcomes.Waiting Gap)
-record_case kept messages.Alive number true = (record kept { number = None; row = None; why = Gap }, outcomes.Waiting Gap)
-record_case kept messages.Alive number false = (kept, outcomes.Waiting kept.why)
-record_case kept (messages.Change patch) number false = change_case kept number patch kept.row
+record_case kept (frames.Whole row) number broke = (record kept { number = Some number; row = Some row }, outcomes.Held)
+record_case kept (frames.Change patch) number true = (record kept { number = None; row = None; why = Gap }, outcomes.Waiting Gap)
+record_case kept frames.Alive number true = (record kept { number = None; row = None; why = Gap }, outcomes.Waiting Gap)
+record_case kept frames.Alive number false = (kept, outcomes.Waiting kept.why)
+record_case kept (frames.Change patch) number false = change_case kept number patch kept.row
 
 -- a keep-alive
 abbrev pub is_alive : Content → Bool
-is_alive (messages.Whole row) = false
-is_alive (messages.Change patch) = false
-is_alive messages.Alive = true
+is_alive (frames.Whole row) = false
+is_alive (frames.Change patch) = false
+is_alive frames.Alive = true
 
 -- what isn't a record changes nothing
 abbrev pub older : Content → Outcome
@@ -88,31 +88,31 @@ stamped kept (Some stamp) =
     else record kept { stamp = Some (max stamp (unwrap_or kept.stamp 0)) }
 
 -- where a frame with this number stands: a keep-alive carries the number of the next data frame
-abbrev pub place_at : Content → ℕ → ℕ
-place_at content number = if is_alive content then (number + 65535) % 65536 else number
+abbrev pub record_number : Content → ℕ → ℕ
+record_number content number = if is_alive content then (number + 65535) % 65536 else number
 
 -- with numbering by message
 abbrev pub numbered_case : Kept → Content → Option ℕ → Option ℕ → Kept × Took
 numbered_case kept content stamp None = (kept, unbroken outcomes.Unnumbered)
 numbered_case kept content stamp (Some number) =
-    let now = stamped kept stamp in placed_case now content number (place_at content number) now.last
+    let now = stamped kept stamp in placed_case now content number (record_number content number) now.last
 
 -- with no numbering
 abbrev pub unnumbered_case : Kept → Content → Kept × Took
-unnumbered_case kept (messages.Whole row) = (record kept { row = Some row }, unbroken outcomes.Held)
-unnumbered_case kept (messages.Change patch) = (kept, unbroken outcomes.Unnumbered)
-unnumbered_case kept messages.Alive = (kept, unbroken outcomes.Alive)
+unnumbered_case kept (frames.Whole row) = (record kept { row = Some row }, unbroken outcomes.Held)
+unnumbered_case kept (frames.Change patch) = (kept, unbroken outcomes.Unnumbered)
+unnumbered_case kept frames.Alive = (kept, unbroken outcomes.Alive)
 
-abbrev pub numbering_case : Numbering → Kept → messages.Message → Option ℕ → Kept × Took
+abbrev pub numbering_case : Numbering → Kept → Frame → Option ℕ → Kept × Took
 numbering_case numberings.Message kept message stamp = numbered_case kept message.content stamp message.number
 numbering_case numberings.Unnumbered kept message stamp = unnumbered_case kept message.content
 
 -- a carried major version
-abbrev pub major_case : Numbering → ℕ → Kept → messages.Message → Option ℕ → Option ℕ → Kept × Took
+abbrev pub major_case : Numbering → ℕ → Kept → Frame → Option ℕ → Option ℕ → Kept × Took
 major_case numbering major kept message stamp None = numbering_case numbering kept message stamp
 major_case numbering major kept message stamp (Some got) =
     if got == major then numbering_case numbering kept message stamp else (kept, unbroken (outcomes.WrongMajor got))
 
 -- what a reader keeps after a message, for a data set with this major version, and what it answers
-abbrev pub frame_case : Numbering → ℕ → Kept → messages.Message → Option ℕ → Kept × Took
+abbrev pub frame_case : Numbering → ℕ → Kept → Frame → Option ℕ → Kept × Took
 frame_case numbering major kept message stamp = major_case numbering major kept message stamp message.major

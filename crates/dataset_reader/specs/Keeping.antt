@@ -4,9 +4,9 @@ use Rattle.seq_number.specs.Numbers.{number_of_place, greatest, IsNear}
 use Rattle.pubsub_model.specs.declared.reading.Break.{Break}
 use Rattle.pubsub_model.specs.declared.reading.Why.{Why}
 use Rattle.pubsub_model.specs.declared.reading.Why.TheVariants.{Jump}
-use Rattle.pubsub_model.specs.Frames.{Frame, IsFrame, carried}
+use Rattle.pubsub_model.specs.Frames.{PlacedFrame, IsPlacedFrame, carried}
 use Rattle.pubsub_model.specs.Records.{Item, Arrival, Came, Cut, place_in, since_cut, cut_reason, records, held_in, reason_in, breaks, unnumbered_row, is_nothing}
-use Rattle.frame_codec.specs.Messages.{Message}
+use Rattle.frame_codec.specs.Frames.{Frame}
 use Rattle.frame_codec.specs.Carrying.{content_of}
 use Rattle.dataset_reader.specs.declared.took.Numbering.{Numbering}
 use Rattle.dataset_reader.specs.declared.took.Numbering.TheVariants as numberings
@@ -53,24 +53,24 @@ IsOfMajor major None = ⊤
 IsOfMajor major (Some got) = got ≡ major
 
 -- the message is the frame as it is sent
-pub record IsMessageOf (major : ℕ) (frame : Frame) (message : Message) : Type 0 where
+pub record IsMessageOf (major : ℕ) (frame : PlacedFrame) (message : Frame) : Type 0 where
   pub version : IsOfMajor major message.major
   pub number : message.number ≡ Some (carried frame)
   pub content : message.content ≡ content_of frame
-  pub place : IsFrame frame
+  pub place : IsPlacedFrame frame
 
 -- the message brings this frame to a reader with this numbering; with no numbering its number is nothing, and it may have none
-abbrev pub Brings : Numbering → ℕ → Frame → Message → Type 0
+abbrev pub Brings : Numbering → ℕ → PlacedFrame → Frame → Type 0
 Brings numberings.Message major frame message = IsMessageOf major frame message
 Brings numberings.Unnumbered major frame message = IsOfMajor major message.major × (message.content ≡ content_of frame)
 
 -- a message of another major version
-abbrev pub IsForeign : ℕ → Message → Type 0
+abbrev pub IsForeign : ℕ → Frame → Type 0
 IsForeign major message = (got : ℕ) × (message.major ≡ Some got) × (got ≢ major)
 
 -- The message is no item for a reader with this numbering: it is of another major version; it has no number, where the reader goes by numbers; it is a delta
 -- frame, where the reader goes by none.
-abbrev pub IsNoItem : Numbering → ℕ → Message → Type 0
+abbrev pub IsNoItem : Numbering → ℕ → Frame → Type 0
 IsNoItem numberings.Message major message = IsForeign major message ⊎ (message.number ≡ None)
 IsNoItem numberings.Unnumbered major message = IsForeign major message ⊎ IsChange message.content
 
@@ -108,17 +108,47 @@ pub record KeepsUnnumbered (arrivals : List Arrival) (kept : Kept) : Type 0 wher
   pub breaks : kept.breaks ≡ 0
   pub recent : kept.recent ≡ []
 
+-- what a reader with this numbering keeps after these arrivals
+abbrev pub KeepsBy : Numbering → List Arrival → Kept → Type 0
+KeepsBy numberings.Message arrivals kept = Keeps arrivals kept
+KeepsBy numberings.Unnumbered arrivals kept = KeepsUnnumbered arrivals kept
+
+-- ---- one item more
+
+-- the arrivals with an item more; by numbers a jump cuts before it
+abbrev pub came_by : Numbering → List Arrival → Item → List Arrival
+came_by numberings.Message before item = came_on before item
+came_by numberings.Unnumbered before item = Came item ∷ before
+
+-- by numbers the item's place is near to those before it
+abbrev pub IsNearBy : Numbering → List Arrival → Item → Type 0
+IsNearBy numberings.Message before item = AreNear (came_on before item)
+IsNearBy numberings.Unnumbered before item = ⊤
+
+-- behind these arrivals a message with this stamp is this item, near to those before, for a reader with this numbering of a data set with this major version
+pub record IsNextItem (numbering : Numbering) (major : ℕ) (before : List Arrival) (item : Item) (message : Frame) (stamp : Option ℕ) : Type 0 where
+  pub brings : Brings numbering major item.frame message
+  pub stamp_is : item.stamp ≡ stamp
+  pub near : IsNearBy numbering before item
+
+-- ---- over lists
+
+-- by numbers a number is kept exactly where a row is held
+pub record NumbersItsRow (kept : Kept) : Type 0 where
+  pub no_row : kept.number ≡ None → kept.row ≡ None
+  pub no_number : kept.row ≡ None → kept.number ≡ None
+
 -- What a reader with this numbering, for a data set with this major version, keeps after these arrivals, each of which came to it as a message of its frame,
 -- or cut it.
-abbrev pub IsRun : Numbering → ℕ → List Arrival → Kept → Type 0
-IsRun numbering major [] kept = kept ≡ fresh
-IsRun numbering major (Cut why ∷ before) kept = (old : Kept) × IsRun numbering major before old × (kept ≡ cut_kept why old)
-IsRun numbering major (Came item ∷ before) kept =
-    (old : Kept) × (message : Message) × IsRun numbering major before old × Brings numbering major item.frame message × (kept ≡ (frame_case numbering major old message item.stamp).0)
+abbrev pub IsReading : Numbering → ℕ → List Arrival → Kept → Type 0
+IsReading numbering major [] kept = kept ≡ fresh
+IsReading numbering major (Cut why ∷ before) kept = (old : Kept) × IsReading numbering major before old × (kept ≡ cut_kept why old)
+IsReading numbering major (Came item ∷ before) kept =
+    (old : Kept) × (message : Frame) × IsReading numbering major before old × Brings numbering major item.frame message × (kept ≡ (frame_case numbering major old message item.stamp).0)
 
 -- what comes to a reader: a message with its stamp, or a cut
 pub data Event : Type 0 where
-  Framed : (message : Message) (stamp : Option ℕ) → Event
+  Framed : (message : Frame) (stamp : Option ℕ) → Event
   CutBy : Why → Event
 
 -- numbers of 16 bits

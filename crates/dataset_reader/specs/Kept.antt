@@ -1,6 +1,6 @@
 -- What a reader keeps of the frames that came to it (OPC 10000-14, DataSetReader).
 use Rattle.std.specs.Prelude.{ℕ, List, [], Option, None}
-use Rattle.ua_values.specs.declared.value.Value.{Value}
+use Rattle.dataset_meta.specs.DataValues.{DataValue}
 use Rattle.pubsub_model.specs.declared.reading.Break.{Break}
 use Rattle.pubsub_model.specs.declared.reading.Why.{Why}
 use Rattle.pubsub_model.specs.declared.reading.Why.TheVariants.{Start}
@@ -11,7 +11,7 @@ pub record Kept : Type 0 where
   pub last : Option ℕ
   pub stamp : Option ℕ
   pub number : Option ℕ
-  pub row : Option (List Value)
+  pub row : Option (List DataValue)
   pub why : Why
   pub breaks : ℕ
   pub recent : List Break

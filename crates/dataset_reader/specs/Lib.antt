@@ -2,4 +2,5 @@ pub mod Kept
 pub mod Cases
 pub mod Keeping
 pub mod Answers
+pub mod State
 pub mod Reader

@@ -1,2 +1,3 @@
-pub mod Sending
+pub mod Turns
+pub mod Sends
 pub mod Standing

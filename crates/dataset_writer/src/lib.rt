@@ -3,6 +3,7 @@
 #![tactic(auto)]
 
 mod laws;
+mod sends;
 mod settings;
 #[cfg(test)]
 mod tests;

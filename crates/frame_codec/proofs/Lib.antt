@@ -1,9 +1,18 @@
-pub mod Rows
-pub mod Changes
+pub mod Grammars
+pub mod FlagLaws
+pub mod FrontGrammar
+pub mod FrontLaws
+pub mod ContentGrammar
+pub mod WholeGrammar
+pub mod PatchGrammar
+pub mod FrameGrammar
+pub mod WrittenLaws
+pub mod FitLaws
+pub mod ReadingLaws
+pub mod FaultLaws
+pub mod RowReading
+pub mod ScalarLaws
+pub mod Setting
 pub mod Laid
 pub mod Lengths
-pub mod FrontLaws
-pub mod ContentLaws
-pub mod MessageLaws
-pub mod ReadLaws
-mod ScalarLaws
+pub mod WordLaws

@@ -1,7 +1,7 @@
 -- Scalars as Variants.
-use Rattle.std.proofs.Common.{◌≡◌, ℕ, zero, suc, ◌-◌, ◌^◌, ◌<◌, Bool, true, false, List, [], ◌∷◌, ◌++◌, ◌≤◌, length, take, drop, length-take-le, get_or, sym, Option, Some, Result, Ok, Err, refl, ap, ◌∙◌, arith}
-use Rattle.std.specs.Prelude.{◌&&◌, nat_lt, slice_get, slice_index, if◌then◌else◌}
-use Rattle.std.proofs.lemmas.Bool.{eqb-true, ltb-false}
+use Rattle.std.proofs.Common.{◌≡◌, ℕ, suc, ◌-◌, ◌^◌, ◌<◌, Bool, true, false, List, [], ◌∷◌, ◌++◌, ◌≤◌, length, take, drop, length-take-le, sym, Some, Result, Ok, Err, refl, ap, ◌∙◌, arith}
+use Rattle.std.specs.Prelude.{IfSome, nat_lt, slice_index, if◌then◌else◌}
+use Rattle.std.proofs.lemmas.Bool.{ltb-false}
 use Rattle.std.proofs.lemmas.List.{take-append-drop}
 use Rattle.std.specs.Int.{Width, w8, w16, w32, w64, byte_len, byte_worth, sum_through, cast_signed, from_le_bytes, to_le_bytes}
 use Rattle.std.proofs.lemmas.Int.{of_z-to_z}
@@ -14,17 +14,15 @@ use Rattle.ua_binary.specs.Types.{type_of}
 use Rattle.ua_binary.specs.declared.cursor.Short.{Short as NoBytes}
 use Rattle.ua_binary.specs.declared.fault.ValueFault.{ValueFault}
 use Rattle.ua_binary.specs.declared.fault.ValueFault.TheVariants.{Short}
-use Rattle.ua_binary.specs.Reading.{◌>>=◌, byte_at, bytes_at, number_at}
-use Rattle.ua_binary.specs.ReadingValues.{as_value, plain_at, variant_at}
-use Rattle.ua_binary.proofs.Again.{bytes_again, kind_again}
-use Rattle.dataset_meta.specs.declared.field.Field.{Field}
-use Rattle.row_words.specs.Words.{is_scalar, IsWordOf, scalar_in}
-use Rattle.row_words.proofs.ScalarLaws.{kind_of-scalar_in, boolean_word, FitsField-scalar_in}
-use Rattle.frame_codec.specs.declared.fault.FrameFault.{FrameFault}
-use Rattle.frame_codec.specs.declared.fault.FrameFault.TheVariants.{BadValue}
-use Rattle.frame_codec.specs.Spelling.{scalar_bytes, has_four_bytes, has_eight_bytes}
-use Rattle.frame_codec.specs.Contents.{fault_of, in_frame, suited, field_at, is_number, is_own_scalar}
-use Rattle.frame_codec.proofs.ContentLaws.{suits-fits}
+use Rattle.std.specs.Result.{result_ok}
+use Rattle.ua_binary.specs.declared.cursor.Cursor.{Cursor}
+use Rattle.ua_binary.specs.Reading.{◌>>=◌, byte_at, bytes_at, number_at, Reads, rest_of}
+use Rattle.ua_binary.specs.ReadingValues.{as_value, plain_at, variant_at, parts_at, times_past, data_value_at}
+use Rattle.ua_binary.proofs.Parts.{bytes_again}
+use Rattle.ua_binary.proofs.Values.{kind_read}
+use Rattle.row_words.specs.Words.{IsWordOf, scalar_in}
+use Rattle.row_words.proofs.ScalarLaws.{kind_of-scalar_in, boolean_word}
+use Rattle.frame_codec.specs.Calls.{scalar_bytes, has_four_bytes, has_eight_bytes, EndsDataValue}
 
 -- a scalar's bytes are those of its word
 pub plain-scalar_in : (kind : Kind) (word : ℕ) → IsWordOf kind word → plain (scalar_in kind word) ≡ scalar_bytes kind word
@@ -71,7 +69,7 @@ four_case P signed unsigned float code kinds.Guid four = absurd (cc)
 pub four_small : (kind : Kind) (word : ℕ) → has_four_bytes kind ≡ true → IsWordOf kind word → word < 2 ^ 32
 four_small kind word four = four_case (λ (k : Kind). IsWordOf k word → word < 2 ^ 32) (λ is. is) (λ is. is) (λ is. is) (λ is. is) kind four
 
-four_word : (kind : Kind) (word : ℕ) → has_four_bytes kind ≡ true → word < 2 ^ 32 → IsWordOf kind word
+pub four_word : (kind : Kind) (word : ℕ) → has_four_bytes kind ≡ true → word < 2 ^ 32 → IsWordOf kind word
 four_word kind word four = four_case (λ (k : Kind). word < 2 ^ 32 → IsWordOf k word) (λ is. is) (λ is. is) (λ is. is) (λ is. is) kind four
 
 four_bytes : (kind : Kind) (word : ℕ) → has_four_bytes kind ≡ true → scalar_bytes kind word ≡ to_le_bytes w32 word
@@ -114,7 +112,7 @@ eight_bytes kind word eight = eight_case (λ (k : Kind). scalar_bytes k word ≡
 pub eight-scalar_in : (kind : Kind) (word : ℕ) → has_eight_bytes kind ≡ true → IsWordOf kind word → variant (scalar_in kind word) ≡ type_of kind ∷ to_le_bytes w64 word
 eight-scalar_in kind word eight is = variant-scalar_in kind word is ∙ ap (λ (bytes : List ℕ). type_of kind ∷ bytes) (eight_bytes kind word eight)
 
-eight_word : (kind : Kind) (word : ℕ) → has_eight_bytes kind ≡ true → word < 2 ^ 64 → IsWordOf kind word
+pub eight_word : (kind : Kind) (word : ℕ) → has_eight_bytes kind ≡ true → word < 2 ^ 64 → IsWordOf kind word
 eight_word kind word eight = eight_case (λ (k : Kind). word < 2 ^ 64 → IsWordOf k word) (λ is. is) (λ is. is) (λ is. is) (λ is. is) kind eight
 
 eight_plain : (kind : Kind) (word : ℕ) (bytes rest : List ℕ) → has_eight_bytes kind ≡ true → number_at Short w64 bytes ≡ Ok (word, rest) → plain_at kind bytes ≡ Ok (scalar_in kind word, rest)
@@ -125,52 +123,6 @@ eight_plain kind word bytes rest eight read =
     (ap (as_value values.Double) read)
     (ap (as_value (λ (n : ℕ). values.DateTime (cast_signed w64 n))) read)
     kind eight
-
--- what is known where a scalar of a kind follows
-own_number : (kind : Kind) (bytes : List ℕ) → is_own_scalar kind bytes ≡ true → is_number (type_of kind) (slice_get bytes 0) ≡ true
-own_number kind bytes own = second (is_scalar kind) (is_number (type_of kind) (slice_get bytes 0)) own
-  where
-    second : (a b : Bool) → (a && b) ≡ true → b ≡ true
-    second true b is = is
-    second false true is = refl
-    second false false is = is
-
-own_bytes : (short : NoBytes) (number byte : ℕ) (bytes rest : List ℕ) → is_number number (slice_get bytes 0) ≡ true → byte_at short bytes ≡ Ok (byte, rest) → bytes ≡ number ∷ rest
-own_bytes short number byte [] rest own read = absurd (cc)
-own_bytes short number byte (first ∷ others) rest own read =
-    let same : first ≡ number = eqb-true first number own in
-    let left : others ≡ rest = ap rest_in read in
-    cc
-  where
-    rest_in : Result (ℕ × List ℕ) NoBytes → List ℕ
-    rest_in (Ok read) = read.1
-    rest_in (Err short) = []
-
--- a value that is read for a field
-abbrev shown : Result (Value × List ℕ) ValueFault → Result (Option Value × List ℕ) FrameFault
-shown read = in_frame read >>= λ v. Ok (Some v.0, v.1)
-
-abbrev judged : Field → Result (Value × List ℕ) ValueFault → Result (Value × List ℕ) FrameFault
-judged field read = shown read >>= λ v. suited field v.0 v.1
-
--- a field whose bytes begin with its own number
-field_after_number : (field : Field) (bytes rest : List ℕ) → bytes ≡ type_of field.kind ∷ rest → field_at 0 field bytes ≡ judged field (plain_at field.kind rest)
-unfolding field_at variant_at
-field_after_number field bytes rest is =
-    ap (field_at 0 field) is ∙ ap (λ (r : Result (Kind × List ℕ) ValueFault). judged field (r >>= λ k. plain_at k.0 k.1)) (kind_again field.kind rest)
-
-typed_scalar_read : (field : Field) (word : ℕ) (bytes after rest : List ℕ) → bytes ≡ type_of field.kind ∷ after → IsWordOf field.kind word
-    → plain_at field.kind after ≡ Ok (scalar_in field.kind word, rest) → field_at 0 field bytes ≡ Ok (scalar_in field.kind word, rest)
-typed_scalar_read field word bytes after rest typed is read =
-    let value = scalar_in field.kind word in
-    field_after_number field bytes after typed
-    ∙ ap (judged field) read
-    ∙ ap (λ (b : Bool). if b then Ok (value, rest) else Err BadValue) (suits-fits field value (FitsField-scalar_in field word is).fits)
-
-pub own_scalar_read : (short : NoBytes) (field : Field) (byte word : ℕ) (bytes rest after : List ℕ) → is_own_scalar field.kind bytes ≡ true → byte_at short bytes ≡ Ok (byte, rest)
-    → IsWordOf field.kind word → plain_at field.kind rest ≡ Ok (scalar_in field.kind word, after) → field_at 0 field bytes ≡ Ok (scalar_in field.kind word, after)
-own_scalar_read short field byte word bytes rest after own first is read =
-    typed_scalar_read field word bytes rest after (own_bytes short (type_of field.kind) byte bytes rest (own_number field.kind bytes own) first) is read
 
 -- a type byte and the bytes of a number that are read at once
 bytes_are : (short : NoBytes) (n : ℕ) (bytes text rest : List ℕ) → bytes_at short n bytes ≡ Ok (text, rest) → (bytes ≡ text ++ rest) × (length text ≡ n)
@@ -197,38 +149,81 @@ bytes_are short n bytes text rest read = by_length (nat_lt (length bytes) n) ref
 abbrev behind : Width → List ℕ → ℕ
 behind w text = sum_through (λ i. byte_worth i (slice_index text (suc i))) (byte_len w - 1)
 
-number_behind : (w : Width) (field : Field) (text rest : List ℕ) (word : ℕ) → length text ≡ suc (byte_len w) → slice_index text 0 ≡ type_of field.kind → IsWordOf field.kind word → word ≡ behind w text
-    → ((after : List ℕ) → number_at Short w after ≡ Ok (word, rest) → plain_at field.kind after ≡ Ok (scalar_in field.kind word, rest)) → field_at 0 field (text ++ rest) ≡ Ok (scalar_in field.kind word, rest)
-number_behind w field [] rest word long typed is spelled plainly = absurd (omega (arith, long))
-number_behind w field (number ∷ text) rest word long typed is spelled plainly =
+typed_read : (kind : Kind) (value : Value) (after rest : List ℕ) → plain_at kind after ≡ Ok (value, rest) → variant_at (type_of kind ∷ after) ≡ Ok (value, rest)
+unfolding variant_at
+typed_read kind value after rest read = ap (λ (r : Result (Kind × List ℕ) ValueFault). r >>= λ k. plain_at k.0 k.1) (kind_read kind after) ∙ read
+
+number_behind : (w : Width) (kind : Kind) (text rest : List ℕ) (word : ℕ) → length text ≡ suc (byte_len w) → slice_index text 0 ≡ type_of kind → word ≡ behind w text
+    → ((after : List ℕ) → number_at Short w after ≡ Ok (word, rest) → plain_at kind after ≡ Ok (scalar_in kind word, rest)) → variant_at (text ++ rest) ≡ Ok (scalar_in kind word, rest)
+number_behind w kind [] rest word long typed spelled plainly = absurd (omega (arith, long))
+number_behind w kind (number ∷ text) rest word long typed spelled plainly =
     let read : number_at Short w (text ++ rest) ≡ Ok (word, rest) =
-    ap (λ (r : Result (List ℕ × List ℕ) ValueFault). r >>= λ n. Ok (from_le_bytes w n.0, n.1)) (bytes_again Short (byte_len w) text rest (omega (arith, long))) ∙ ap (λ (n : ℕ). Ok (n, rest)) (sym spelled) in
-    typed_scalar_read field word (number ∷ text ++ rest) (text ++ rest) rest (ap (λ (n : ℕ). n ∷ text ++ rest) typed) is (plainly (text ++ rest) read)
+    ap (λ (r : Result (List ℕ × List ℕ) ValueFault). r >>= λ n. Ok (from_le_bytes w n.0, n.1)) (bytes_again ValueFault Short (byte_len w) text rest (omega (arith, long))) ∙ ap (λ (n : ℕ). Ok (n, rest)) (sym spelled) in
+    ap (λ (n : ℕ). variant_at (n ∷ text ++ rest)) typed ∙ typed_read kind (scalar_in kind word) (text ++ rest) rest (plainly (text ++ rest) read)
 
-number_read : (short : NoBytes) (w : Width) (field : Field) (bytes text rest : List ℕ) (word : ℕ) → bytes_at short (suc (byte_len w)) bytes ≡ Ok (text, rest) → slice_index text 0 ≡ type_of field.kind → IsWordOf field.kind word → word ≡ behind w text
-    → ((after : List ℕ) → number_at Short w after ≡ Ok (word, rest) → plain_at field.kind after ≡ Ok (scalar_in field.kind word, rest)) → field_at 0 field bytes ≡ Ok (scalar_in field.kind word, rest)
-number_read short w field bytes text rest word read typed is spelled plainly =
+number_read : (short : NoBytes) (w : Width) (kind : Kind) (bytes text rest : List ℕ) (word : ℕ) → bytes_at short (suc (byte_len w)) bytes ≡ Ok (text, rest) → slice_index text 0 ≡ type_of kind → word ≡ behind w text
+    → ((after : List ℕ) → number_at Short w after ≡ Ok (word, rest) → plain_at kind after ≡ Ok (scalar_in kind word, rest)) → variant_at bytes ≡ Ok (scalar_in kind word, rest)
+number_read short w kind bytes text rest word read typed spelled plainly =
     let are = bytes_are short (suc (byte_len w)) bytes text rest read in
-    ap (field_at 0 field) are.0 ∙ number_behind w field text rest word are.1 typed is spelled plainly
+    ap variant_at are.0 ∙ number_behind w kind text rest word are.1 typed spelled plainly
 
-pub four_read : (short : NoBytes) (field : Field) (bytes five rest : List ℕ) (word : ℕ) → bytes_at short 5 bytes ≡ Ok (five, rest) → slice_index five 0 ≡ type_of field.kind → has_four_bytes field.kind ≡ true
-    → word ≡ behind w32 five → word < 2 ^ 32 → IsWordOf field.kind word × (field_at 0 field bytes ≡ Ok (scalar_in field.kind word, rest))
-four_read short field bytes five rest word read typed four spelled small =
-    let is = four_word field.kind word four small in
-    (is, number_read short w32 field bytes five rest word read typed is spelled (λ after. four_plain field.kind word after rest four))
+pub four_read : (short : NoBytes) (kind : Kind) (bytes five rest : List ℕ) (word : ℕ) → bytes_at short 5 bytes ≡ Ok (five, rest) → slice_index five 0 ≡ type_of kind → has_four_bytes kind ≡ true
+    → word ≡ behind w32 five → variant_at bytes ≡ Ok (scalar_in kind word, rest)
+four_read short kind bytes five rest word read typed four spelled = number_read short w32 kind bytes five rest word read typed spelled (λ after. four_plain kind word after rest four)
 
-pub eight_read : (short : NoBytes) (field : Field) (bytes nine rest : List ℕ) (word : ℕ) → bytes_at short 9 bytes ≡ Ok (nine, rest) → slice_index nine 0 ≡ type_of field.kind → has_eight_bytes field.kind ≡ true
-    → word ≡ behind w64 nine → word < 2 ^ 64 → IsWordOf field.kind word × (field_at 0 field bytes ≡ Ok (scalar_in field.kind word, rest))
-eight_read short field bytes nine rest word read typed eight spelled small =
-    let is = eight_word field.kind word eight small in
-    (is, number_read short w64 field bytes nine rest word read typed is spelled (λ after. eight_plain field.kind word after rest eight))
+pub eight_read : (short : NoBytes) (kind : Kind) (bytes nine rest : List ℕ) (word : ℕ) → bytes_at short 9 bytes ≡ Ok (nine, rest) → slice_index nine 0 ≡ type_of kind → has_eight_bytes kind ≡ true
+    → word ≡ behind w64 nine → variant_at bytes ≡ Ok (scalar_in kind word, rest)
+eight_read short kind bytes nine rest word read typed eight spelled = number_read short w64 kind bytes nine rest word read typed spelled (λ after. eight_plain kind word after rest eight)
 
-pub own_scalar_refused : (short : NoBytes) (field : Field) (byte : ℕ) (bytes rest : List ℕ) (fault : ValueFault) → is_own_scalar field.kind bytes ≡ true → byte_at short bytes ≡ Ok (byte, rest)
-    → plain_at field.kind rest ≡ Err fault → field_at 0 field bytes ≡ Err (fault_of fault)
-own_scalar_refused short field byte bytes rest fault own first read =
-    field_after_number field bytes rest (own_bytes short (type_of field.kind) byte bytes rest (own_number field.kind bytes own) first) ∙ ap (judged field) read
+pub byte_then : (short : NoBytes) (kind : Kind) (number : ℕ) (value : Value) (bytes rest after : List ℕ) → byte_at short bytes ≡ Ok (number, rest) → number ≡ type_of kind → plain_at kind rest ≡ Ok (value, after) → variant_at bytes ≡ Ok (value, after)
+byte_then short kind number value [] rest after first typed read = absurd (cc)
+byte_then short kind number value (byte ∷ others) rest after first typed read =
+    let same : byte ≡ number = ap byte_in first in
+    let left : others ≡ rest = ap rest_in first in
+    ap (λ (n : ℕ). variant_at (n ∷ others)) (same ∙ typed) ∙ ap (λ (l : List ℕ). variant_at (type_of kind ∷ l)) left ∙ typed_read kind value rest after read
+  where
+    byte_in : Result (ℕ × List ℕ) NoBytes → ℕ
+    byte_in (Ok read) = read.0
+    byte_in (Err short) = 0
 
-pub some_field : (fields : List Field) (index : ℕ) → index < length fields → (field : Field) × (field ≡ get_or fields index field)
-some_field [] index within = absurd (omega arith)
-some_field (field ∷ fields) zero within = (field, refl)
-some_field (field ∷ fields) (suc index) within = some_field fields index (omega arith)
+    rest_in : Result (ℕ × List ℕ) NoBytes → List ℕ
+    rest_in (Ok read) = read.1
+    rest_in (Err short) = []
+
+-- the first byte
+byte_bytes : (short : NoBytes) (number : ℕ) (bytes rest : List ℕ) → byte_at short bytes ≡ Ok (number, rest) → bytes ≡ number ∷ rest
+byte_bytes short number [] rest first = absurd (cc)
+byte_bytes short number (byte ∷ others) rest first =
+    let pair : Path (ℕ × List ℕ) (byte, others) (number, rest) = cc in
+    ap (λ (p : ℕ × List ℕ). p.0 ∷ p.1) pair
+
+-- a number that is read, whatever fault it might have had
+pub number_other : {F G : Type 0} (short : F) (other : G) (w : Width) (bytes : List ℕ) (x : ℕ × List ℕ) → number_at short w bytes ≡ Ok x → number_at other w bytes ≡ Ok x
+number_other {F} {G} short other w bytes x e = by_length (nat_lt (length bytes) (byte_len w)) e
+  where
+    step : {H : Type 0} → H → Bool → Result (ℕ × List ℕ) H
+    step {H} fault b = let read : Result (List ℕ × List ℕ) H = if b then Err fault else Ok (take (byte_len w) bytes, drop (byte_len w) bytes) in read >>= λ n. Ok (from_le_bytes w n.0, n.1)
+
+    by_length : (b : Bool) → step short b ≡ Ok x → step other b ≡ Ok x
+    by_length true e = absurd (let no : Path (Result (ℕ × List ℕ) F) (Err short) (Ok x) = e in cc)
+    by_length false e = let same : Path (ℕ × List ℕ) (from_le_bytes w (take (byte_len w) bytes), drop (byte_len w) bytes) x = cc in ap Ok same
+
+pub value_alone : (value : Value) (bytes here : List ℕ) → variant_at bytes ≡ Ok (value, here) → data_value_at (1 ∷ bytes) ≡ Ok (record { value = Some value; status = 0 }, here)
+unfolding data_value_at parts_at times_past
+value_alone value bytes here read = rw read refl
+
+pub value_with_status : (short : NoBytes) (status : ℕ) (value : Value) (bytes here there : List ℕ) → number_at short w32 here ≡ Ok (status, there) → variant_at bytes ≡ Ok (value, here)
+    → data_value_at (3 ∷ bytes) ≡ Ok (record { value = Some value; status = status }, there)
+unfolding data_value_at parts_at times_past
+value_with_status short status value bytes here there code read = rw (read, number_other short Short w32 here (status, there) code) refl
+
+pub masked : (short : NoBytes) (mask status : ℕ) (value : Value) (bytes rest here there : List ℕ) → byte_at short bytes ≡ Ok (mask, rest) → variant_at rest ≡ Ok (value, here) → EndsDataValue mask status here there
+    → data_value_at bytes ≡ Ok (record { value = Some value; status = status }, there)
+masked short mask status value bytes rest here there first read ends = ap data_value_at (byte_bytes short mask bytes rest first) ∙ ends value rest read
+
+pub status_read : (short : NoBytes) (mask : ℕ) (old new : Cursor) (r : Result ℕ NoBytes) → mask ≡ 3 → Reads r old new (number_at short w32) → IfSome (result_ok r) (λ status. EndsDataValue mask status (rest_of old) (rest_of new))
+status_read short mask old new (Ok status) is read = λ value bytes before. ap (λ (m : ℕ). data_value_at (m ∷ bytes)) is ∙ value_with_status short status value bytes (rest_of old) (rest_of new) read.answer before
+status_read short mask old new (Err fault) is read = tt
+
+pub no_status : (mask : ℕ) (here : List ℕ) → mask ≡ 1 → EndsDataValue mask 0 here here
+no_status mask here is = λ value bytes before. ap (λ (m : ℕ). data_value_at (m ∷ bytes)) is ∙ value_alone value bytes here before

@@ -1,7 +1,7 @@
 -- How the front of a DataSetMessage is read, from left to right: all that stands before the count of fields (OPC 10000-14, UADP DataSetMessage header).
 use Rattle.std.specs.Prelude.{ℕ, ◌/◌, ◌%◌, ◌==◌, Bool, true, not, ◌&&◌, ◌||◌, nat_lt, List, Option, Some, None, Result, Ok, Err, if◌then◌else◌}
-use Rattle.std.specs.Int.{Width, w16, w32}
-use Rattle.ua_binary.specs.Reading.{◌>>=◌, byte_at, bytes_at, number_at}
+use Rattle.std.specs.Int.{w16, w32}
+use Rattle.ua_binary.specs.Reading.{◌>>=◌, byte_at, bytes_at, number_at, part_at, skipped}
 use Rattle.ua_binary.specs.ReadingValues.{has}
 use Rattle.frame_codec.specs.declared.fault.FrameFault.{FrameFault}
 use Rattle.frame_codec.specs.declared.fault.FrameFault.TheVariants.{Short, BadEncoding, NotValid, EventOut, ReservedBits}
@@ -47,28 +47,20 @@ flags2_at flags bytes =
     then (byte_at Short bytes >>= λ extended. passing (fault_in_flags2 (encoding_in flags) extended.0) extended)
     else Ok (0, bytes)
 
--- a number, where it is there
-abbrev pub number_if : Bool → Width → List ℕ → Result (Option ℕ × List ℕ) FrameFault
-number_if present w bytes = if present then (number_at Short w bytes >>= λ n. Ok (Some n.0, n.1)) else Ok (None, bytes)
-
--- a part that is read past, where it is there
-abbrev pub past_if : Bool → ℕ → List ℕ → Result (List ℕ) FrameFault
-past_if present len bytes = if present then (bytes_at Short len bytes >>= λ part. Ok part.1) else Ok bytes
-
 -- the timestamp, its picoseconds and the status, which are read past
-unfoldable pub times_past : ℕ → ℕ → List ℕ → Result (List ℕ) FrameFault
+unfoldable pub times_past : ℕ → ℕ → List ℕ → Result (Unit {0} × List ℕ) FrameFault
 times_past flags extended bytes = do
-  timestamp ← past_if (has extended 0x10) 8 bytes
-  picoseconds ← past_if (has extended 0x20) 2 timestamp
-  past_if (has flags 0x10) 2 picoseconds
+  timestamp ← skipped (part_at (has extended 0x10) (bytes_at Short 8)) bytes
+  picoseconds ← skipped (part_at (has extended 0x20) (bytes_at Short 2)) timestamp.1
+  skipped (part_at (has flags 0x10) (bytes_at Short 2)) picoseconds.1
 
 -- the parts that the flags tell of
 unfoldable pub parts_at : ℕ → ℕ → List ℕ → Result (Front × List ℕ) FrameFault
 parts_at flags extended bytes = do
-  number ← number_if (has flags 0x08) w16 bytes
-  status ← times_past flags extended number.1
-  major ← number_if (has flags 0x20) w32 status
-  minor ← number_if (has flags 0x40) w32 major.1
+  number ← part_at (has flags 0x08) (number_at Short w16) bytes
+  times ← times_past flags extended number.1
+  major ← part_at (has flags 0x20) (number_at Short w32) times.1
+  minor ← part_at (has flags 0x40) (number_at Short w32) major.1
   Ok (record { valid = true; encoding = encoding_in flags; kind = kind_in extended; number = number.0; major = major.0; minor = minor.0 }, minor.1)
 
 -- the front of a message, in a fixed layout or in a dynamic one

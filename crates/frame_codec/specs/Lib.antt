@@ -1,6 +1,10 @@
-pub mod Messages
+pub mod Frames
+pub mod Words
 pub mod Carrying
 pub mod Spelling
 pub mod Fronts
 pub mod Contents
 pub mod Reading
+pub mod Wire
+pub mod Begins
+pub mod Calls

@@ -1,75 +1,205 @@
 //! The fields of a DataSetMessage, read.
-ghost use Rattle.std.specs.Prelude.{◌≡◌, ◌<◌, ◌≤◌, ℕ, List, length, slice_index, slice_set, IfOk};
+ghost use Rattle.std.specs.Prelude.{◌≡◌, ◌<◌, ℕ, Bool, false, Some, length, slice_set, OnOk, IfOk, if◌then◌else◌};
 ghost use Rattle.std.specs.List.{HoldsAt};
-ghost use Rattle.ua_values.specs.declared.value.Value.{Value as AnyValue};
 ghost use Rattle.ua_values.specs.Values.{Fits};
-ghost use Rattle.ua_binary.specs.Reading.{Gives, KeepsBytes, rest_of};
+ghost use Rattle.ua_binary.specs.Reading.{ReadsAhead};
+ghost use Rattle.dataset_meta.specs.DataValues.{IsStatus};
+ghost use Rattle.row_words.specs.Words.{IsWordOf, scalar_in};
 ghost use Rattle.row_words.specs.Belonging.{Belongs, row_in};
 ghost use Rattle.row_words.specs.Patches.{IsPatchOf, patch_in};
-ghost use Rattle.frame_codec.specs.Contents.{value_at, field_at, row_at, whole_at, change_at, changes_at, patch_at, content_at};
-ghost use Rattle.frame_codec.specs.Messages.{IsKindOf};
-ghost use Rattle.frame_codec.specs.Reading.{SetsRead, GivesField, GivesRow, GivesChange, GivesPatch, GivesKind, GivesContent};
+ghost use Rattle.frame_codec.specs.Calls.{leaving, meaning, patch_meaning, kept_if, set_at};
+ghost use Rattle.frame_codec.specs.Contents.{kept, given, value_at, surplus_at, row_at, surpluses_at, is_count, counted_at, whole_at, put_at, change_at, changes_at, patch_at, content_at};
+ghost use Rattle.frame_codec.specs.Words.{IsKindOf, content_in};
 
 use crate::fault::FrameFault;
 use crate::flags::{DELTA, KEY, VARIANT};
 use crate::frame::FrameKind;
 use crate::front::Front;
 use crate::length::field_count;
-use crate::scalar::{is_own_scalar, read_own_number, read_own_scalar};
+use crate::scalar::read_own;
 use dataset_meta::{Field, Meta};
 use row_words::{Patch, Row};
-use ua_binary::{Cursor, read_data_value, read_variant};
+use ua_binary::{Cursor, Measured, read_data_value, read_variant};
 use ua_values::{Value, fits};
 
+/// All that stands behind the front, in place of other content of the same meta. The row of a key frame is filled where it
+/// stands.
 #[inline(always)]
-fn read_value(cursor: &mut Cursor<'_>, encoding: u8) -> Result<Option<Value>, FrameFault>
-    requires { cursor.old.at ≤ length cursor.old.bytes.now }
-    ensures answer { Gives result (rest_of cursor.new) (value_at encoding (rest_of cursor.old)) }
-    ensures kept { KeepsBytes cursor.old cursor.new }
+#[tactic(auto, unfolding(crate::specs::Contents::content_at))]
+pub(crate) fn read_content_into(
+    cursor: &mut Cursor<'_>,
+    meta: &Meta,
+    newer: bool,
+    front: &Front,
+    kind: &mut FrameKind,
+) -> Result<(), FrameFault>
+    requires { IsKindOf meta.now kind.old }
+    ensures of { OnOk result (IsKindOf meta.now kind.new) }
+    ensures answer { ReadsAhead (leaving result (content_in meta.now.fields kind.new))
+        cursor.old cursor.new (content_at meta.now newer front.now.encoding front.now.kind) }
 {
-    if encoding == VARIANT {
-        return Ok(Some(read_variant(cursor)?));
+    match kind {
+        FrameKind::Whole(row) if front.kind == KEY => {
+            read_whole(cursor, meta, newer, front.encoding, row)
+        }
+        _ => replace_content(cursor, meta, newer, front, kind),
     }
-    Ok(read_data_value(cursor)?.value)
 }
 
-/// A value that fits its field.
-#[inline(always)]
-#[tactic(auto, unfolding(crate::specs::Contents::field_at))]
-fn read_field(cursor: &mut Cursor<'_>, field: &Field, encoding: u8) -> Result<Value, FrameFault>
-    requires { cursor.old.at ≤ length cursor.old.bytes.now }
-    ensures answer { Gives result (rest_of cursor.new) (field_at encoding field.now (rest_of cursor.old)) }
-    ensures fits { IfOk result (λ value. Fits value field.now.kind field.now.cap) }
-    ensures kept { KeepsBytes cursor.old cursor.new }
-{
-    let Some(value) = read_value(cursor, encoding)? else {
-        return Err(FrameFault::BadValue);
-    };
-    if !fits(&value, field.kind, field.cap) {
-        return Err(FrameFault::BadValue);
-    }
-    Ok(value)
-}
-
-/// Reads a value that fits its field, and sets it in the row. It is a function of its own for the room that a value takes.
+/// The same in place of content of other words.
 #[inline(never)]
-fn read_any_into(
+fn replace_content(
+    cursor: &mut Cursor<'_>,
+    meta: &Meta,
+    newer: bool,
+    front: &Front,
+    kind: &mut FrameKind,
+) -> Result<(), FrameFault>
+    ensures of { OnOk result (IsKindOf meta.now kind.new) }
+    ensures answer { ReadsAhead (leaving result (content_in meta.now.fields kind.new))
+        cursor.old cursor.new (content_at meta.now newer front.now.encoding front.now.kind) }
+{
+    *kind = read_content(cursor, meta, newer, front)?;
+    Ok(())
+}
+
+#[inline(always)]
+#[tactic(auto, unfolding(crate::specs::Contents::content_at))]
+fn read_content(
+    cursor: &mut Cursor<'_>,
+    meta: &Meta,
+    newer: bool,
+    front: &Front,
+) -> Result<FrameKind, FrameFault>
+    ensures of { IfOk result (IsKindOf meta.now) }
+    ensures answer { ReadsAhead (meaning meta.now.fields result)
+        cursor.old cursor.new (content_at meta.now newer front.now.encoding front.now.kind) }
+{
+    match front.kind {
+        KEY => {
+            prove!(meta.fields().len() <= 64);
+            let mut row = Row::opening();
+            read_whole(cursor, meta, newer, front.encoding, &mut row)?;
+            Ok(FrameKind::Whole(row))
+        }
+        DELTA => Ok(FrameKind::Change(read_patch(cursor, meta, newer, front.encoding)?)),
+        _ => Ok(FrameKind::Alive),
+    }
+}
+
+/// The fields of a key frame: their count, and each.
+#[inline(always)]
+#[tactic(auto, unfolding(crate::specs::Contents::whole_at))]
+fn read_whole(
+    cursor: &mut Cursor<'_>,
+    meta: &Meta,
+    newer: bool,
+    encoding: u8,
+    row: &mut Row,
+) -> Result<(), FrameFault>
+    requires { Belongs meta.now row.old.words }
+    ensures belongs { OnOk result (Belongs meta.now row.new.words) }
+    ensures answer { ReadsAhead (leaving result (row_in meta.now.fields row.new.words))
+        cursor.old cursor.new (whole_at meta.now newer encoding) }
+{
+    let count = cursor.read_u16()?;
+    if !is_count(meta, newer, count) {
+        return Err(FrameFault::WrongCount { got: count });
+    }
+    read_counted(cursor, meta, encoding, count, row)
+}
+
+#[inline(always)]
+fn is_count(meta: &Meta, newer: bool, count: u16) -> bool
+    ensures { result ≡ is_count newer (length meta.now.fields) count }
+{
+    let fields = meta.fields().len();
+    usize::from(count) == fields || (newer && fields < usize::from(count))
+}
+
+/// The values of the fields, and then the surplus ones.
+#[inline(always)]
+fn read_counted(
+    cursor: &mut Cursor<'_>,
+    meta: &Meta,
+    encoding: u8,
+    count: u16,
+    row: &mut Row,
+) -> Result<(), FrameFault>
+    requires { Belongs meta.now row.old.words }
+    ensures belongs { OnOk result (Belongs meta.now row.new.words) }
+    ensures answer { ReadsAhead (leaving result (row_in meta.now.fields row.new.words))
+        cursor.old cursor.new (counted_at meta.now.quality encoding meta.now.fields count) }
+{
+    read_row(cursor, meta, encoding, row)?;
+    let surplus = usize::from(count).saturating_sub(meta.fields().len());
+    read_surpluses(cursor, encoding, surplus)
+}
+
+/// The values of the fields. The cursor is kept apart until the last is read, so that it need not be stored for each.
+fn read_row(
+    cursor: &mut Cursor<'_>,
+    meta: &Meta,
+    encoding: u8,
+    row: &mut Row,
+) -> Result<(), FrameFault>
+    requires { Belongs meta.now row.old.words }
+    ensures belongs { OnOk result (Belongs meta.now row.new.words) }
+    ensures answer { ReadsAhead (leaving result (row_in meta.now.fields row.new.words))
+        cursor.old cursor.new (row_at meta.now.quality encoding meta.now.fields) }
+{
+    let mut lent = *cursor;
+    read_values(&mut lent, meta, encoding, row)?;
+    *cursor = lent;
+    Ok(())
+}
+
+/// The values of the fields, one after another.
+#[inline(always)]
+fn read_values(
+    cursor: &mut Cursor<'_>,
+    meta: &Meta,
+    encoding: u8,
+    row: &mut Row,
+) -> Result<(), FrameFault>
+    requires { Belongs meta.now row.old.words }
+    ensures belongs { OnOk result (Belongs meta.now row.new.words) }
+    ensures answer { ReadsAhead (leaving result (row_in meta.now.fields row.new.words))
+        cursor.old cursor.new (row_at meta.now.quality encoding meta.now.fields) }
+{
+    for index in 0..field_count(meta) {
+        read_into(cursor, meta, index, encoding, row)?;
+    }
+    Ok(())
+}
+
+/// Reads a value that fits its field, and sets it in the row. Of a scalar of the field's own kind no more than its word is
+/// copied; every other value is read by a call, so that a loop over fields stays short.
+#[inline(always)]
+fn read_into(
     cursor: &mut Cursor<'_>,
     meta: &Meta,
     index: u8,
     encoding: u8,
     row: &mut Row,
 ) -> Result<(), FrameFault>
-    requires cursor { cursor.old.at ≤ length cursor.old.bytes.now }
-    requires row { Belongs meta.now.fields row.old.words }
+    requires row { Belongs meta.now row.old.words }
     requires index { index < length meta.now.fields }
-    ensures answer { HoldsAt (λ field. GivesField meta.now.fields index row.old result row.new (rest_of cursor.new) (field_at encoding field (rest_of cursor.old))) meta.now.fields index }
-    ensures kept { KeepsBytes cursor.old cursor.new }
+    ensures belongs { OnOk result (Belongs meta.now row.new.words) }
+    ensures answer { HoldsAt (λ field. ReadsAhead (leaving result
+        (row_in meta.now.fields row.new.words))
+        cursor.old cursor.new
+        (set_at meta.now.quality encoding field index (row_in meta.now.fields row.old.words)))
+        meta.now.fields index }
 {
     let field = &meta.fields()[usize::from(index)];
-    let value = read_field(cursor, field, encoding)?;
-    row.set(meta, index, &value);
-    Ok(())
+    match read_own(cursor, field, encoding) {
+        Some(own) => {
+            set_word(meta, row, index, own.word, own.status);
+            Ok(())
+        }
+        None => read_lent_into(cursor, meta, index, encoding, row),
+    }
 }
 
 /// The same by a copy of the cursor, so that the cursor itself need not stand in memory.
@@ -81,11 +211,14 @@ fn read_lent_into(
     encoding: u8,
     row: &mut Row,
 ) -> Result<(), FrameFault>
-    requires cursor { cursor.old.at ≤ length cursor.old.bytes.now }
-    requires row { Belongs meta.now.fields row.old.words }
+    requires row { Belongs meta.now row.old.words }
     requires index { index < length meta.now.fields }
-    ensures answer { HoldsAt (λ field. GivesField meta.now.fields index row.old result row.new (rest_of cursor.new) (field_at encoding field (rest_of cursor.old))) meta.now.fields index }
-    ensures kept { KeepsBytes cursor.old cursor.new }
+    ensures belongs { OnOk result (Belongs meta.now row.new.words) }
+    ensures answer { HoldsAt (λ field. ReadsAhead (leaving result
+        (row_in meta.now.fields row.new.words))
+        cursor.old cursor.new
+        (set_at meta.now.quality encoding field index (row_in meta.now.fields row.old.words)))
+        meta.now.fields index }
 {
     let mut lent = *cursor;
     read_any_into(&mut lent, meta, index, encoding, row)?;
@@ -93,113 +226,155 @@ fn read_lent_into(
     Ok(())
 }
 
-/// Reads a value that fits its field, and sets it in the row. Of a scalar of the field's own kind no more than its word is
-/// copied.
-#[inline(always)]
-fn read_scalar_into(
+/// The same of any value. It is a function of its own for the room that a value takes.
+#[inline(never)]
+#[tactic(auto, unfolding(crate::specs::Calls::set_at, crate::specs::Contents::field_at))]
+fn read_any_into(
     cursor: &mut Cursor<'_>,
     meta: &Meta,
     index: u8,
     encoding: u8,
     row: &mut Row,
 ) -> Result<(), FrameFault>
-    requires cursor { cursor.old.at ≤ length cursor.old.bytes.now }
-    requires row { Belongs meta.now.fields row.old.words }
+    requires row { Belongs meta.now row.old.words }
     requires index { index < length meta.now.fields }
-    ensures answer { HoldsAt (λ field. GivesField meta.now.fields index row.old result row.new (rest_of cursor.new) (field_at encoding field (rest_of cursor.old))) meta.now.fields index }
-    ensures kept { KeepsBytes cursor.old cursor.new }
+    ensures belongs { OnOk result (Belongs meta.now row.new.words) }
+    ensures answer { HoldsAt (λ field. ReadsAhead (leaving result
+        (row_in meta.now.fields row.new.words))
+        cursor.old cursor.new
+        (set_at meta.now.quality encoding field index (row_in meta.now.fields row.old.words)))
+        meta.now.fields index }
 {
     let field = &meta.fields()[usize::from(index)];
-    if encoding == VARIANT && is_own_scalar(cursor, field.kind) {
-        let word = read_own_scalar(cursor, field)?;
-        row.set_word(meta, index, word);
-        return Ok(());
-    }
-    read_lent_into(cursor, meta, index, encoding, row)
+    let measured = read_value(cursor, encoding)?;
+    let value = suited(measured.value, field)?;
+    set_value(meta, row, index, &value, measured.status);
+    Ok(())
 }
 
-/// The same. A scalar of four or eight bytes is judged first and at once.
+/// A Variant, whose status is Good, or a DataValue.
 #[inline(always)]
-fn read_into(
-    cursor: &mut Cursor<'_>,
-    meta: &Meta,
-    index: u8,
-    encoding: u8,
-    row: &mut Row,
-) -> Result<(), FrameFault>
-    requires cursor { cursor.old.at ≤ length cursor.old.bytes.now }
-    requires row { Belongs meta.now.fields row.old.words }
-    requires index { index < length meta.now.fields }
-    ensures answer { HoldsAt (λ field. GivesField meta.now.fields index row.old result row.new (rest_of cursor.new) (field_at encoding field (rest_of cursor.old))) meta.now.fields index }
-    ensures kept { KeepsBytes cursor.old cursor.new }
+fn read_value(cursor: &mut Cursor<'_>, encoding: u8) -> Result<Measured, FrameFault>
+    ensures { ReadsAhead result cursor.old cursor.new (value_at encoding) }
 {
-    let field = &meta.fields()[usize::from(index)];
     if encoding == VARIANT {
-        if let Some(word) = read_own_number(cursor, field) {
-            row.set_word(meta, index, word);
-            return Ok(());
-        }
+        return Ok(Measured {
+            value: Some(read_variant(cursor)?),
+            status: 0,
+        });
     }
-    read_scalar_into(cursor, meta, index, encoding, row)
+    Ok(read_data_value(cursor)?)
 }
 
-/// Reads a value for each field into the row, whatever it was.
+/// A value that is there, and fits its field.
 #[inline(always)]
-fn read_values(
-    cursor: &mut Cursor<'_>,
-    meta: &Meta,
-    encoding: u8,
-    row: &mut Row,
-) -> Result<(), FrameFault>
-    requires cursor { cursor.old.at ≤ length cursor.old.bytes.now }
-    requires row { Belongs meta.now.fields row.old.words }
-    ensures answer { GivesRow meta.now.fields result row.new (rest_of cursor.new) (row_at encoding meta.now.fields (rest_of cursor.old)) }
-    ensures kept { KeepsBytes cursor.old cursor.new }
+fn suited(value: Option<Value>, field: &Field) -> Result<Value, FrameFault>
+    ensures fits { IfOk result (λ value. Fits value field.now.kind field.now.cap) }
+    ensures given { (quality : Bool) (status : ℕ)
+        → given quality field.now value status ≡ kept_if quality result status }
 {
-    for index in 0..field_count(meta) {
-        read_into(cursor, meta, index, encoding, row)?;
+    match value {
+        Some(value) if fits(&value, field.kind, field.cap) => Ok(value),
+        _ => Err(FrameFault::BadValue),
+    }
+}
+
+/// Sets a field. Where the data set has no statuses, the status is dropped.
+#[inline(always)]
+fn set_value(meta: &Meta, row: &mut Row, index: u8, value: &Value, status: u32)
+    requires row { Belongs meta.now row.old.words }
+    requires index { index < length meta.now.fields }
+    requires fits { HoldsAt (λ field. Fits value.now field.kind field.cap) meta.now.fields index }
+    ensures belongs { Belongs meta.now row.new.words }
+    ensures set { row_in meta.now.fields row.new.words
+        ≡ slice_set (row_in meta.now.fields row.old.words) index
+        (kept meta.now.quality value.now status) }
+{
+    row.set(meta, index, value);
+    if meta.quality() {
+        row.set_status(meta, index, status);
+    }
+}
+
+/// The same of a scalar with this word.
+#[inline(always)]
+fn set_word(meta: &Meta, row: &mut Row, index: u8, word: u64, status: u32)
+    requires row { Belongs meta.now row.old.words }
+    requires index { index < length meta.now.fields }
+    requires word { HoldsAt (λ field. IsWordOf field.kind word) meta.now.fields index }
+    ensures belongs { Belongs meta.now row.new.words }
+    ensures set { HoldsAt (λ field. row_in meta.now.fields row.new.words
+        ≡ slice_set (row_in meta.now.fields row.old.words) index (kept meta.now.quality
+        (scalar_in field.kind word) status)) meta.now.fields index }
+{
+    row.set_word(meta, index, word);
+    if meta.quality() {
+        row.set_status(meta, index, status);
+    }
+}
+
+/// So many surplus values, which are judged by their own bytes and dropped.
+#[tactic(auto, using(crate::proofs::RowReading::surpluses_refused, crate::proofs::RowReading::surpluses_more))]
+fn read_surpluses(cursor: &mut Cursor<'_>, encoding: u8, count: usize) -> Result<(), FrameFault>
+    ensures { ReadsAhead result cursor.old cursor.new (surpluses_at encoding count) }
+{
+    for _ in 0..count {
+        read_surplus(cursor, encoding)?;
     }
     Ok(())
 }
 
-/// Reads a value for each field. The cursor's place is kept apart until the last is read, so that it need not be stored for
-/// each.
-fn read_row(
-    cursor: &mut Cursor<'_>,
-    meta: &Meta,
-    encoding: u8,
-    row: &mut Row,
-) -> Result<(), FrameFault>
-    requires cursor { cursor.old.at ≤ length cursor.old.bytes.now }
-    requires row { Belongs meta.now.fields row.old.words }
-    ensures answer { GivesRow meta.now.fields result row.new (rest_of cursor.new) (row_at encoding meta.now.fields (rest_of cursor.old)) }
-    ensures kept { KeepsBytes cursor.old cursor.new }
+#[inline(never)]
+#[tactic(auto, unfolding(crate::specs::Contents::surplus_at))]
+fn read_surplus(cursor: &mut Cursor<'_>, encoding: u8) -> Result<(), FrameFault>
+    ensures { ReadsAhead result cursor.old cursor.new (surplus_at encoding) }
 {
-    let mut lent = *cursor;
-    read_values(&mut lent, meta, encoding, row)?;
-    *cursor = lent;
+    let measured = read_value(cursor, encoding)?;
+    if measured.value.is_none() {
+        return Err(FrameFault::BadValue);
+    }
     Ok(())
 }
 
-/// The fields of a key frame: their count, and each.
-#[inline(always)]
-#[tactic(auto, unfolding(crate::specs::Contents::whole_at))]
-fn read_whole(
+/// The fields of a delta frame: a count, and so many changes.
+#[tactic(auto, unfolding(crate::specs::Contents::patch_at))]
+fn read_patch(
     cursor: &mut Cursor<'_>,
     meta: &Meta,
+    newer: bool,
     encoding: u8,
-    row: &mut Row,
-) -> Result<(), FrameFault>
-    requires cursor { cursor.old.at ≤ length cursor.old.bytes.now }
-    requires row { Belongs meta.now.fields row.old.words }
-    ensures answer { GivesRow meta.now.fields result row.new (rest_of cursor.new) (whole_at encoding meta.now.fields (rest_of cursor.old)) }
-    ensures kept { KeepsBytes cursor.old cursor.new }
+) -> Result<Patch, FrameFault>
+    ensures of { IfOk result (IsPatchOf meta.now) }
+    ensures answer { ReadsAhead (patch_meaning meta.now.fields result)
+        cursor.old cursor.new (patch_at meta.now newer encoding) }
 {
+    prove!(meta.fields().len() <= 64);
     let count = cursor.read_u16()?;
-    if usize::from(count) != meta.fields().len() {
-        return Err(FrameFault::WrongCount { got: count });
+    let mut patch = Patch::empty();
+    read_changes(cursor, meta, newer, encoding, count, &mut patch)?;
+    Ok(patch)
+}
+
+/// So many changes, one after another. Of two of one field the later counts.
+#[tactic(auto, using(crate::proofs::RowReading::changes_refused))]
+fn read_changes(
+    cursor: &mut Cursor<'_>,
+    meta: &Meta,
+    newer: bool,
+    encoding: u8,
+    count: u16,
+    patch: &mut Patch,
+) -> Result<(), FrameFault>
+    requires { IsPatchOf meta.now patch.old }
+    ensures of { OnOk result (IsPatchOf meta.now patch.new) }
+    ensures answer { ReadsAhead (leaving result (patch_in meta.now.fields patch.new))
+        cursor.old cursor.new (changes_at meta.now newer encoding count
+        (patch_in meta.now.fields patch.old)) }
+{
+    for _ in 0..count {
+        read_change(cursor, meta, newer, encoding, patch)?;
     }
-    read_row(cursor, meta, encoding, row)
+    Ok(())
 }
 
 /// A field's index and its value, which is put into the patch.
@@ -207,113 +382,55 @@ fn read_whole(
 fn read_change(
     cursor: &mut Cursor<'_>,
     meta: &Meta,
+    newer: bool,
     encoding: u8,
     patch: &mut Patch,
 ) -> Result<(), FrameFault>
-    requires cursor { cursor.old.at ≤ length cursor.old.bytes.now }
-    requires patch { IsPatchOf meta.now.fields patch.old }
-    ensures answer { GivesChange meta.now.fields result patch.new (rest_of cursor.new) (change_at encoding meta.now.fields (patch_in meta.now.fields patch.old) (rest_of cursor.old)) }
-    ensures kept { KeepsBytes cursor.old cursor.new }
+    requires { IsPatchOf meta.now patch.old }
+    ensures of { OnOk result (IsPatchOf meta.now patch.new) }
+    ensures answer { ReadsAhead (leaving result (patch_in meta.now.fields patch.new))
+        cursor.old cursor.new (change_at meta.now newer encoding
+        (patch_in meta.now.fields patch.old)) }
 {
     let index = cursor.read_u16()?;
-    let Some(field) = meta.fields().get(usize::from(index)) else {
-        return Err(FrameFault::BadIndex { got: index });
-    };
-    let value = read_field(cursor, field, encoding)?;
-    patch.put(meta, index as u8, &value);
-    Ok(())
+    match meta.fields().get(usize::from(index)) {
+        Some(_) => read_put(cursor, meta, index as u8, encoding, patch),
+        None if newer => read_surplus(cursor, encoding),
+        None => Err(FrameFault::BadIndex { got: index }),
+    }
 }
 
-/// So many changes, one after another. Of two of one field the later counts.
-#[tactic(auto, using(crate::proofs::Changes::changes_refused))]
-fn read_changes(
+/// Reads a value that fits its field, and puts it into the patch. It is a function of its own for the room that a value takes.
+#[inline(never)]
+#[tactic(auto, unfolding(crate::specs::Contents::field_at))]
+fn read_put(
     cursor: &mut Cursor<'_>,
     meta: &Meta,
+    index: u8,
     encoding: u8,
-    count: u16,
     patch: &mut Patch,
 ) -> Result<(), FrameFault>
-    requires cursor { cursor.old.at ≤ length cursor.old.bytes.now }
-    requires patch { IsPatchOf meta.now.fields patch.old }
-    ensures answer { GivesChange meta.now.fields result patch.new (rest_of cursor.new) (changes_at encoding meta.now.fields count (patch_in meta.now.fields patch.old) (rest_of cursor.old)) }
-    ensures kept { KeepsBytes cursor.old cursor.new }
+    requires patch { IsPatchOf meta.now patch.old }
+    requires index { index < length meta.now.fields }
+    ensures of { OnOk result (IsPatchOf meta.now patch.new) }
+    ensures answer { HoldsAt (λ field. ReadsAhead (leaving result
+        (patch_in meta.now.fields patch.new))
+        cursor.old cursor.new
+        (put_at meta.now.quality false encoding (patch_in meta.now.fields patch.old) index
+        (Some field))) meta.now.fields index }
 {
-    for _ in 0..count {
-        read_change(cursor, meta, encoding, patch)?;
-    }
+    let field = &meta.fields()[usize::from(index)];
+    let measured = read_value(cursor, encoding)?;
+    let value = suited(measured.value, field)?;
+    patch.put(meta, index, &value, kept_status(meta, measured.status));
     Ok(())
 }
 
-/// The fields of a delta frame: a count, and so many changes.
-#[tactic(auto, unfolding(crate::specs::Contents::patch_at))]
-fn read_patch(cursor: &mut Cursor<'_>, meta: &Meta, encoding: u8) -> Result<Patch, FrameFault>
-    requires { cursor.old.at ≤ length cursor.old.bytes.now }
-    ensures answer { GivesPatch meta.now.fields result (rest_of cursor.new) (patch_at encoding meta.now.fields (rest_of cursor.old)) }
-    ensures kept { KeepsBytes cursor.old cursor.new }
-{
-    prove!(meta.fields().len() <= 64);
-    let count = cursor.read_u16()?;
-    let mut patch = Patch::empty();
-    read_changes(cursor, meta, encoding, count, &mut patch)?;
-    Ok(patch)
-}
-
-/// All that stands behind the front.
+/// The status of a value, or Good where the data set has none.
 #[inline(always)]
-#[tactic(auto, unfolding(crate::specs::Contents::content_at))]
-fn read_content(
-    cursor: &mut Cursor<'_>,
-    meta: &Meta,
-    front: &Front,
-) -> Result<FrameKind, FrameFault>
-    requires { cursor.old.at ≤ length cursor.old.bytes.now }
-    ensures answer { GivesKind meta.now.fields result (rest_of cursor.new) (content_at front.now.kind front.now.encoding meta.now.fields (rest_of cursor.old)) }
-    ensures kept { KeepsBytes cursor.old cursor.new }
+fn kept_status(meta: &Meta, status: u32) -> u32
+    ensures kept { result ≡ (if meta.now.quality then status else 0) }
+    ensures is { IsStatus meta.now.quality result }
 {
-    match front.kind {
-        KEY => {
-            prove!(meta.fields().len() <= 64);
-            let mut row = Row::opening();
-            read_whole(cursor, meta, front.encoding, &mut row)?;
-            Ok(FrameKind::Whole(row))
-        }
-        DELTA => Ok(FrameKind::Change(read_patch(cursor, meta, front.encoding)?)),
-        _ => Ok(FrameKind::Alive),
-    }
-}
-
-/// The same in place of other content.
-#[inline(never)]
-fn replace_content(
-    cursor: &mut Cursor<'_>,
-    meta: &Meta,
-    front: &Front,
-    kind: &mut FrameKind,
-) -> Result<(), FrameFault>
-    requires { cursor.old.at ≤ length cursor.old.bytes.now }
-    ensures answer { GivesContent meta.now.fields result kind.new (rest_of cursor.new) (content_at front.now.kind front.now.encoding meta.now.fields (rest_of cursor.old)) }
-    ensures kept { KeepsBytes cursor.old cursor.new }
-{
-    *kind = read_content(cursor, meta, front)?;
-    Ok(())
-}
-
-/// The same in place of content of the same fields. The row of a key frame is filled where it stands.
-#[inline(always)]
-#[tactic(auto, unfolding(crate::specs::Contents::content_at))]
-pub(crate) fn read_content_into(
-    cursor: &mut Cursor<'_>,
-    meta: &Meta,
-    front: &Front,
-    kind: &mut FrameKind,
-) -> Result<(), FrameFault>
-    requires cursor { cursor.old.at ≤ length cursor.old.bytes.now }
-    requires kind { IsKindOf meta.now.fields kind.old }
-    ensures answer { GivesContent meta.now.fields result kind.new (rest_of cursor.new) (content_at front.now.kind front.now.encoding meta.now.fields (rest_of cursor.old)) }
-    ensures kept { KeepsBytes cursor.old cursor.new }
-{
-    match kind {
-        FrameKind::Whole(row) if front.kind == KEY => read_whole(cursor, meta, front.encoding, row),
-        _ => replace_content(cursor, meta, front, kind),
-    }
+    if meta.quality() { status } else { 0 }
 }

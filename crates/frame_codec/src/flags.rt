@@ -31,6 +31,11 @@ pub(crate) const RAW_DATA: u8 = 1;
 
 pub(crate) const DATA_VALUE: u8 = 2;
 
+// The masks of a DataValue with a value alone, and with a status.
+pub(crate) const VALUE: u8 = 0x01;
+
+pub(crate) const VALUE_AND_STATUS: u8 = 0x03;
+
 // The kinds of message.
 pub(crate) const KEY: u8 = 0;
 

@@ -1,9 +1,9 @@
 //! The front of a DataSetMessage: all that stands before the count of fields.
-ghost use Rattle.std.specs.Prelude.{◌≡◌, ◌≤◌, length, OnErr, true};
-ghost use Rattle.ua_binary.specs.Reading.{Gives, GivesRest, KeepsBytes, rest_of};
-ghost use Rattle.frame_codec.specs.Fronts.{flags1_at, flags2_at, times_past, parts_at, front_at};
+ghost use Rattle.std.specs.Prelude.{true};
 ghost use Rattle.std.specs.Int.{w16, w32};
-ghost use Rattle.frame_codec.specs.Fronts.{number_if, past_if};
+ghost use Rattle.ua_binary.specs.Reading.{Reads, ReadsAhead, bytes_at, number_at, part_at, skipped};
+ghost use Rattle.frame_codec.specs.declared.fault.FrameFault.TheVariants as faults;
+ghost use Rattle.frame_codec.specs.Fronts.{flags1_at, flags2_at, times_past, parts_at, front_at};
 
 use crate::fault::FrameFault;
 use crate::flags::{
@@ -26,12 +26,31 @@ pub struct Front {
     pub minor: Option<u32>,
 }
 
+/// The front of a message in a fixed layout, where RawData is a field encoding too. A refusal leaves the cursor.
+pub fn read_front(cursor: &mut Cursor<'_>) -> Result<Front, FrameFault>
+    ensures { Reads result cursor.old cursor.new (front_at true) }
+{
+    let mut ahead = *cursor;
+    let front = read_front_in(&mut ahead, true)?;
+    *cursor = ahead;
+    Ok(front)
+}
+
+/// The front of a message, in a fixed layout or in a dynamic one; a refusal leaves the cursor anywhere.
+#[inline(always)]
+#[tactic(auto, unfolding(crate::specs::Fronts::front_at))]
+pub(crate) fn read_front_in(cursor: &mut Cursor<'_>, fixed: bool) -> Result<Front, FrameFault>
+    ensures { ReadsAhead result cursor.old cursor.new (front_at fixed) }
+{
+    let flags = read_flags1(cursor, fixed)?;
+    let extended = read_flags2(cursor, flags)?;
+    read_parts(cursor, flags, extended)
+}
+
 #[inline(always)]
 #[tactic(auto, unfolding(crate::specs::Fronts::flags1_at))]
 fn read_flags1(cursor: &mut Cursor<'_>, fixed: bool) -> Result<u8, FrameFault>
-    requires { cursor.old.at ≤ length cursor.old.bytes.now }
-    ensures answer { Gives result (rest_of cursor.new) (flags1_at fixed (rest_of cursor.old)) }
-    ensures kept { KeepsBytes cursor.old cursor.new }
+    ensures { ReadsAhead result cursor.old cursor.new (flags1_at fixed) }
 {
     let flags = cursor.read_u8()?;
     match fault_in_flags1(fixed, flags) {
@@ -44,9 +63,7 @@ fn read_flags1(cursor: &mut Cursor<'_>, fixed: bool) -> Result<u8, FrameFault>
 #[inline(always)]
 #[tactic(auto, unfolding(crate::specs::Fronts::flags2_at))]
 fn read_flags2(cursor: &mut Cursor<'_>, flags: u8) -> Result<u8, FrameFault>
-    requires { cursor.old.at ≤ length cursor.old.bytes.now }
-    ensures answer { Gives result (rest_of cursor.new) (flags2_at flags (rest_of cursor.old)) }
-    ensures kept { KeepsBytes cursor.old cursor.new }
+    ensures { ReadsAhead result cursor.old cursor.new (flags2_at flags) }
 {
     if flags & FLAGS2 == 0 {
         return Ok(0);
@@ -59,60 +76,9 @@ fn read_flags2(cursor: &mut Cursor<'_>, flags: u8) -> Result<u8, FrameFault>
 }
 
 #[inline(always)]
-fn read_u16_if(cursor: &mut Cursor<'_>, present: bool) -> Result<Option<u16>, FrameFault>
-    requires { cursor.old.at ≤ length cursor.old.bytes.now }
-    ensures answer { Gives result (rest_of cursor.new) (number_if present w16 (rest_of cursor.old)) }
-    ensures kept { KeepsBytes cursor.old cursor.new }
-{
-    if !present {
-        return Ok(None);
-    }
-    Ok(Some(cursor.read_u16()?))
-}
-
-#[inline(always)]
-fn read_u32_if(cursor: &mut Cursor<'_>, present: bool) -> Result<Option<u32>, FrameFault>
-    requires { cursor.old.at ≤ length cursor.old.bytes.now }
-    ensures answer { Gives result (rest_of cursor.new) (number_if present w32 (rest_of cursor.old)) }
-    ensures kept { KeepsBytes cursor.old cursor.new }
-{
-    if !present {
-        return Ok(None);
-    }
-    Ok(Some(cursor.read_u32()?))
-}
-
-#[inline(always)]
-fn skip_if(cursor: &mut Cursor<'_>, present: bool, len: usize) -> Result<(), FrameFault>
-    requires { cursor.old.at ≤ length cursor.old.bytes.now }
-    ensures answer { GivesRest result (rest_of cursor.new) (past_if present len (rest_of cursor.old)) }
-    ensures kept { KeepsBytes cursor.old cursor.new }
-{
-    if present {
-        cursor.read_bytes(len)?;
-    }
-    Ok(())
-}
-
-/// Reads past the timestamp, its picoseconds and the status.
-#[inline(always)]
-#[tactic(auto, unfolding(crate::specs::Fronts::times_past))]
-fn skip_times(cursor: &mut Cursor<'_>, flags: u8, extended: u8) -> Result<(), FrameFault>
-    requires { cursor.old.at ≤ length cursor.old.bytes.now }
-    ensures answer { GivesRest result (rest_of cursor.new) (times_past flags extended (rest_of cursor.old)) }
-    ensures kept { KeepsBytes cursor.old cursor.new }
-{
-    skip_if(cursor, extended & TIMESTAMP != 0, 8)?;
-    skip_if(cursor, extended & PICOSECONDS != 0, 2)?;
-    skip_if(cursor, flags & STATUS != 0, 2)
-}
-
-#[inline(always)]
 #[tactic(auto, unfolding(crate::specs::Fronts::parts_at))]
 fn read_parts(cursor: &mut Cursor<'_>, flags: u8, extended: u8) -> Result<Front, FrameFault>
-    requires { cursor.old.at ≤ length cursor.old.bytes.now }
-    ensures answer { Gives result (rest_of cursor.new) (parts_at flags extended (rest_of cursor.old)) }
-    ensures kept { KeepsBytes cursor.old cursor.new }
+    ensures { ReadsAhead result cursor.old cursor.new (parts_at flags extended) }
 {
     let number = read_u16_if(cursor, flags & NUMBER != 0)?;
     skip_times(cursor, flags, extended)?;
@@ -128,30 +94,46 @@ fn read_parts(cursor: &mut Cursor<'_>, flags: u8, extended: u8) -> Result<Front,
     })
 }
 
-/// The front of a message, in a fixed layout or in a dynamic one; a refusal leaves the cursor anywhere.
 #[inline(always)]
-#[tactic(auto, unfolding(crate::specs::Fronts::front_at))]
-pub(crate) fn read_front_in(cursor: &mut Cursor<'_>, fixed: bool) -> Result<Front, FrameFault>
-    requires { cursor.old.at ≤ length cursor.old.bytes.now }
-    ensures answer { Gives result (rest_of cursor.new) (front_at fixed (rest_of cursor.old)) }
-    ensures kept { KeepsBytes cursor.old cursor.new }
+fn read_u16_if(cursor: &mut Cursor<'_>, present: bool) -> Result<Option<u16>, FrameFault>
+    ensures { ReadsAhead result
+        cursor.old cursor.new (part_at present (number_at faults.Short w16)) }
 {
-    let flags = read_flags1(cursor, fixed)?;
-    let extended = read_flags2(cursor, flags)?;
-    read_parts(cursor, flags, extended)
+    if !present {
+        return Ok(None);
+    }
+    Ok(Some(cursor.read_u16()?))
 }
 
-/// The front of a message in a fixed layout, where RawData is a field encoding too. A refusal leaves the cursor.
-pub fn read_front(cursor: &mut Cursor<'_>) -> Result<Front, FrameFault>
-    requires { cursor.old.at ≤ length cursor.old.bytes.now }
-    ensures answer { Gives result (rest_of cursor.new) (front_at true (rest_of cursor.old)) }
-    ensures kept { KeepsBytes cursor.old cursor.new }
-    ensures refused { OnErr result (cursor.new ≡ cursor.old) }
+#[inline(always)]
+fn read_u32_if(cursor: &mut Cursor<'_>, present: bool) -> Result<Option<u32>, FrameFault>
+    ensures { ReadsAhead result
+        cursor.old cursor.new (part_at present (number_at faults.Short w32)) }
 {
-    let start = cursor.at;
-    let read = read_front_in(cursor, true);
-    if read.is_err() {
-        cursor.at = start;
+    if !present {
+        return Ok(None);
     }
-    read
+    Ok(Some(cursor.read_u32()?))
+}
+
+/// Reads past the timestamp, its picoseconds and the status.
+#[inline(always)]
+#[tactic(auto, unfolding(crate::specs::Fronts::times_past))]
+fn skip_times(cursor: &mut Cursor<'_>, flags: u8, extended: u8) -> Result<(), FrameFault>
+    ensures { ReadsAhead result cursor.old cursor.new (times_past flags extended) }
+{
+    skip_if(cursor, extended & TIMESTAMP != 0, 8)?;
+    skip_if(cursor, extended & PICOSECONDS != 0, 2)?;
+    skip_if(cursor, flags & STATUS != 0, 2)
+}
+
+#[inline(always)]
+fn skip_if(cursor: &mut Cursor<'_>, present: bool, len: usize) -> Result<(), FrameFault>
+    ensures { ReadsAhead result
+        cursor.old cursor.new (skipped (part_at present (bytes_at faults.Short len))) }
+{
+    if present {
+        cursor.read_bytes(len)?;
+    }
+    Ok(())
 }

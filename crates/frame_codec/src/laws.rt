@@ -1,40 +1,174 @@
 //! Laws of DataSetMessages, each the contract of a function that does nothing.
-ghost use Rattle.std.specs.Prelude.{◌≡◌, ◌++◌, ◌<◌, ◌≤◌, ℕ, List, length, Ok, true, replicate, All, if◌then◌else◌};
-ghost use Rattle.ua_values.specs.declared.value.Value.{Value};
+ghost use Rattle.std.specs.Prelude.{◌≡◌, ◌++◌, ◌∷◌, ◌-◌, ◌<◌, ◌≤◌, ◌^◌, ◌↔◌, ℕ, Bool, true, false, List, [], length, take, Option, Some, None, Ok, Err, IfSome, replicate};
+ghost use Rattle.std.specs.Int.{w16, to_le_bytes};
+ghost use Rattle.ua_binary.specs.ReadingValues.{has};
+ghost use Rattle.ua_binary.specs.Wire.{AreBytes};
 ghost use Rattle.dataset_meta.specs.declared.field.Field.{Field};
-ghost use Rattle.dataset_meta.specs.Metas.{IsMeta};
-ghost use Rattle.frame_codec.specs.declared.frame.Frame.{Frame};
-ghost use Rattle.frame_codec.specs.Messages.{Message, IsMessage, IsFrameOf, Change, message_in};
-ghost use Rattle.frame_codec.specs.Spelling.{front_bytes, frame_bytes, is_key};
-ghost use Rattle.frame_codec.specs.Fronts.{front_at};
-ghost use Rattle.frame_codec.specs.Reading.{message_at};
+ghost use Rattle.dataset_meta.specs.DataValues.{DataValue};
+ghost use Rattle.dataset_meta.specs.Metas.{IsMeta, MetaData, HasGrown};
+ghost use Rattle.frame_codec.specs.declared.fault.FrameFault.{FrameFault};
+ghost use Rattle.frame_codec.specs.declared.fault.FrameFault.TheVariants as faults;
+ghost use Rattle.frame_codec.specs.declared.frame.Frame.{Frame as FrameWords};
+ghost use Rattle.frame_codec.specs.declared.front.Front.{Front as AnyFront};
+ghost use Rattle.frame_codec.specs.Begins.{BeginsWithFront, IsSpelled, raw_front};
+ghost use Rattle.frame_codec.specs.Contents.{field_at, surplus_at, change_at, is_newer, is_count};
+ghost use Rattle.frame_codec.specs.Frames.{Frame, Change, Alive, IsFrame, frame_cut};
+ghost use Rattle.frame_codec.specs.Fronts.{encoding_in, fault_in_flags1, fault_in_flags2, front_at};
+ghost use Rattle.frame_codec.specs.Reading.{are_zero, frame_at};
+ghost use Rattle.frame_codec.specs.Spelling.{front_bytes, frame_bytes};
+ghost use Rattle.frame_codec.specs.Wire.{WireFront, IsWireFront, WireField, values_bytes, changes_bytes, AreValues, AreChanges, patch_read, WireFrame, IsWireFrame, wire_bytes};
+ghost use Rattle.frame_codec.specs.Wire as wires;
+ghost use Rattle.frame_codec.specs.Words.{IsFrameOf, GivesFrame, frame_in, spelled_frame};
 
-/// A written message, with any number of zeros behind it, is read as itself.
-pub fn written_is_read()
-    ensures { (fields : List Field) (message : Message) (zeros : ℕ) → IsMeta fields → IsMessage fields message
-        → message_at fields (frame_bytes message ++ replicate zeros 0) ≡ Ok message }
+/// Bytes are read as a frame exactly where one of the messages that are this frame stands there, with zeros behind it,
+/// whatever is in the parts that are read past.
+pub fn frames_are_read_as_spelled()
+    ensures { (meta : MetaData) (bytes : List ℕ) (frame : Frame) → AreBytes bytes
+        → (frame_at meta bytes ≡ Ok frame) ↔ IsSpelled meta bytes frame }
 {}
 
-/// The front of a message with RawData, which is no delta frame, is read as the front of that message, whatever follows
-/// it, and up to where it ends.
+/// Bytes are read as a front exactly where one of the fronts that tell this stands in front of the rest.
+pub fn fronts_are_read_as_spelled()
+    ensures { (fixed : Bool) (bytes rest : List ℕ) (front : AnyFront) → AreBytes bytes
+        → (front_at fixed bytes ≡ Ok (front, rest)) ↔ BeginsWithFront fixed bytes front rest }
+{}
+
+/// A written frame, with any number of zeros behind it, is read as itself, and answered in the words that it was written from.
+pub fn written_frames_are_read()
+    ensures frames { (meta : MetaData) (frame : Frame) (zeros : ℕ) → IsMeta meta.fields
+        → IsFrame meta frame
+        → frame_at meta (frame_bytes meta.quality frame ++ replicate zeros 0) ≡ Ok frame }
+    ensures words { (meta : MetaData) (frame other : FrameWords) (zeros : ℕ) → IsMeta meta.fields
+        → IsFrameOf meta frame → IsFrame meta (frame_in meta.fields frame)
+        → GivesFrame meta (Ok other) (frame_at meta
+        (frame_bytes meta.quality (frame_in meta.fields frame) ++ replicate zeros 0))
+        → other ≡ frame }
+{}
+
+/// What a data set that has grown writes with a greater minor version is read for what it was before as the same frame, cut to
+/// the fields that it had.
+pub fn grown_frames_are_read_cut()
+    ensures { (short full : MetaData) (frame : Frame) (minor zeros : ℕ) → IsMeta full.fields
+        → HasGrown short full
+        → IsFrame full frame → frame.minor ≡ Some minor → short.minor < minor
+        → frame_at short (frame_bytes full.quality frame ++ replicate zeros 0)
+        ≡ Ok (frame_cut short frame) }
+{}
+
+/// The front of a frame with RawData, which is no delta frame, is read as the front of that frame, whatever follows it, and up
+/// to where it ends.
 pub fn written_fronts_are_read()
-    ensures { (fields : List Field) (message : Message) (rest : List ℕ) → IsMessage fields message → ((patch : List (ℕ × Value)) → ¬ (message.content ≡ Change patch))
-        → front_at true (front_bytes 1 message ++ rest)
-        ≡ Ok (record { valid = true; encoding = 1; kind = if is_key message.content then 0 else 3; number = message.number; major = message.major; minor = message.minor }, rest) }
+    ensures { (meta : MetaData) (frame : Frame) (rest : List ℕ) → IsFrame meta frame
+        → ((patch : List (ℕ × DataValue)) → ¬ (frame.content ≡ Change patch))
+        → front_at true (front_bytes 1 frame ++ rest) ≡ Ok (raw_front frame, rest) }
 {}
 
-/// Bytes are those of one message at most.
-pub fn bytes_are_of_one_message()
-    ensures { (fields : List Field) (one other : Message) → IsMeta fields → IsMessage fields one → IsMessage fields other → frame_bytes one ≡ frame_bytes other → one ≡ other }
+/// Of a message, and of a front, fewer bytes are Short; of a written frame too.
+pub fn fewer_bytes_are_short()
+    ensures messages { (meta : MetaData) (wire : WireFrame) (len : ℕ) → IsWireFrame meta wire
+        → len < length (wire_bytes wire)
+        → frame_at meta (take len (wire_bytes wire)) ≡ Err faults.Short }
+    ensures fronts { (fixed : Bool) (wire : WireFront) (len : ℕ) → IsWireFront fixed wire
+        → len < length (wires.front_bytes wire)
+        → front_at fixed (take len (wires.front_bytes wire)) ≡ Err faults.Short }
+    ensures written { (meta : MetaData) (frame : Frame) (len : ℕ) → IsMeta meta.fields
+        → IsFrame meta frame
+        → len < length (frame_bytes meta.quality frame)
+        → frame_at meta (take len (frame_bytes meta.quality frame)) ≡ Err faults.Short }
 {}
 
-/// What is read is a message of the fields that it was read for: each value fits its field, and each number its width.
+/// DataSetFlags1 and DataSetFlags2 are judged where they stand, and a front's fault is the frame's.
+pub fn flags_are_judged_first()
+    ensures flags1 { (fixed : Bool) (flags : ℕ) (rest : List ℕ) (fault : FrameFault)
+        → fault_in_flags1 fixed flags ≡ Some fault
+        → front_at fixed (flags ∷ rest) ≡ Err fault }
+    ensures flags2 { (fixed : Bool) (flags extended : ℕ) (rest : List ℕ) (fault : FrameFault)
+        → fault_in_flags1 fixed flags ≡ None
+        → has flags 0x80 ≡ true → fault_in_flags2 (encoding_in flags) extended ≡ Some fault
+        → front_at fixed (flags ∷ extended ∷ rest) ≡ Err fault }
+    ensures frames { (meta : MetaData) (bytes : List ℕ) (fault : FrameFault)
+        → front_at false bytes ≡ Err fault
+        → frame_at meta bytes ≡ Err fault }
+{}
+
+/// Behind a right front each fault of the fields is named at the first part that has it: the count of a key frame, a value
+/// behind right ones, a surplus value behind right ones, an index or a value of a delta frame behind right ones; and last a
+/// byte behind the message that isn't 0.
+pub fn fields_are_judged_in_their_order()
+    ensures count { (meta : MetaData) (wire : WireFront) (count : ℕ) (rest : List ℕ)
+        → IsWireFront false wire → wire.kind ≡ 0
+        → count < 2 ^ 16 → is_count (is_newer meta wire.minor) (length meta.fields) count ≡ false
+        → frame_at meta (wires.front_bytes wire ++ (to_le_bytes w16 count ++ rest))
+        ≡ Err (faults.WrongCount count) }
+    ensures value { (meta : MetaData) (wire : WireFront) (count : ℕ) (before after : List Field)
+        (field : Field)
+        (values : List WireField) (rest : List ℕ) (fault : FrameFault) → IsWireFront false wire
+        → wire.kind ≡ 0 → count < 2 ^ 16
+        → is_count (is_newer meta wire.minor) (length meta.fields) count ≡ true
+        → meta.fields ≡ before ++ field ∷ after
+        → AreValues false wire.encoding before values
+        → field_at meta.quality wire.encoding field rest ≡ Err fault
+        → frame_at meta (wires.front_bytes wire ++ (to_le_bytes w16 count ++
+        (values_bytes values ++ rest))) ≡ Err fault }
+    ensures surplus { (meta : MetaData) (wire : WireFront) (count : ℕ)
+        (values more : List WireField) (rest : List ℕ)
+        (fault : FrameFault) → IsWireFront false wire → wire.kind ≡ 0 → count < 2 ^ 16
+        → is_count (is_newer meta wire.minor) (length meta.fields) count ≡ true
+        → AreValues false wire.encoding meta.fields values → AreValues true wire.encoding [] more
+        → length more < count - length meta.fields → surplus_at wire.encoding rest ≡ Err fault
+        → frame_at meta (wires.front_bytes wire ++ (to_le_bytes w16 count ++
+        (values_bytes values ++ (values_bytes more ++ rest))))
+        ≡ Err fault }
+    ensures change { (meta : MetaData) (wire : WireFront) (count : ℕ) (changes : List
+        (ℕ × WireField)) (rest : List ℕ)
+        (fault : FrameFault) → IsWireFront false wire → wire.kind ≡ 1 → count < 2 ^ 16
+        → AreChanges (is_newer meta wire.minor) wire.encoding meta.fields changes
+        → length changes < count
+        → change_at meta (is_newer meta wire.minor) wire.encoding
+        (patch_read meta.quality meta.fields [] changes) rest ≡ Err fault
+        → frame_at meta (wires.front_bytes wire ++ (to_le_bytes w16 count ++
+        (changes_bytes changes ++ rest))) ≡ Err fault }
+    ensures behind { (meta : MetaData) (wire : WireFrame) (rest : List ℕ) → IsWireFrame meta wire
+        → are_zero rest ≡ false
+        → frame_at meta (wire_bytes wire ++ rest) ≡ Err faults.Trailing }
+{}
+
+/// Bytes are those of one frame at most.
+pub fn bytes_are_of_one_frame()
+    ensures { (meta : MetaData) (one other : Frame) → IsMeta meta.fields → IsFrame meta one
+        → IsFrame meta other
+        → frame_bytes meta.quality one ≡ frame_bytes meta.quality other → one ≡ other }
+{}
+
+/// What is read is a frame of the data set that it was read for: each value fits its field, and each number its width.
 pub fn what_is_read_fits()
-    ensures { (fields : List Field) (bytes : List ℕ) (message : Message) → All (λ byte. byte < 256) bytes → message_at fields bytes ≡ Ok message → IsMessage fields message }
+    ensures { (meta : MetaData) (bytes : List ℕ) (frame : Frame) → AreBytes bytes
+        → frame_at meta bytes ≡ Ok frame
+        → IsFrame meta frame }
 {}
 
-/// No written frame of a meta has more than 2,048 bytes.
-pub fn a_frame_is_not_too_long()
-    ensures { (fields : List Field) (frame : Frame) → IsMeta fields → IsFrameOf fields frame
-        → length (frame_bytes (message_in fields frame)) ≤ 2048 }
+/// A written frame of a meta has at most 2,048 bytes, and one at least; a keep-alive has at most 12. Zeros alone are no frame.
+pub fn frames_are_not_too_long()
+    ensures long { (meta : MetaData) (frame : Frame) → IsMeta meta.fields → IsFrame meta frame
+        → length (frame_bytes meta.quality frame) ≤ 2048 }
+    ensures some { (quality : Bool) (frame : Frame) → 1 ≤ length (frame_bytes quality frame) }
+    ensures alive { (quality : Bool) (frame : Frame) → frame.content ≡ Alive
+        → length (frame_bytes quality frame) ≤ 12 }
+    ensures zeros { (meta : MetaData) (count : ℕ) (frame : Frame)
+        → ¬ (frame_at meta (replicate count 0) ≡ Ok frame) }
+{}
+
+/// Words of a meta stand for a frame of it, each frame has words, and two that stand for the same are equal.
+pub fn frames_have_one_meaning()
+    ensures meaning { (meta : MetaData) (frame : FrameWords) → IsFrameOf meta frame
+        → IfSome frame.number (λ n. n < 2 ^ 16)
+        → IfSome frame.major (λ n. n < 2 ^ 32) → IfSome frame.minor (λ n. n < 2 ^ 32)
+        → IsFrame meta (frame_in meta.fields frame) }
+    ensures words { (meta : MetaData) (frame : Frame) → IsMeta meta.fields → IsFrame meta frame
+        → IsFrameOf meta (spelled_frame meta.fields frame) }
+    ensures back { (meta : MetaData) (frame : Frame) → IsMeta meta.fields → IsFrame meta frame
+        → frame_in meta.fields (spelled_frame meta.fields frame) ≡ frame }
+    ensures one { (meta : MetaData) (one other : FrameWords) → IsFrameOf meta one
+        → IsFrameOf meta other
+        → frame_in meta.fields one ≡ frame_in meta.fields other → one ≡ other }
 {}

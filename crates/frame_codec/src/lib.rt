@@ -18,8 +18,10 @@ pub use fault::FrameFault;
 pub use frame::{Frame, FrameKind};
 pub use front::{Front, read_front};
 pub use laws::{
-    a_frame_is_not_too_long, bytes_are_of_one_message, what_is_read_fits, written_fronts_are_read,
-    written_is_read,
+    bytes_are_of_one_frame, fewer_bytes_are_short, fields_are_judged_in_their_order,
+    flags_are_judged_first, frames_are_not_too_long, frames_are_read_as_spelled,
+    frames_have_one_meaning, fronts_are_read_as_spelled, grown_frames_are_read_cut,
+    what_is_read_fits, written_frames_are_read, written_fronts_are_read,
 };
 pub use length::MAX_LEN;
 pub use reading::read_frame;

@@ -1,8 +1,10 @@
 //! Reading frames.
-ghost use Rattle.std.specs.Prelude.{◌≡◌, ◌≤◌, length};
-ghost use Rattle.ua_binary.specs.Reading.{rest_of};
-ghost use Rattle.frame_codec.specs.Messages.{IsFrameOf};
-ghost use Rattle.frame_codec.specs.Reading.{are_zero, message_at, GivesFrame, GivesMessage};
+ghost use Rattle.std.specs.Prelude.{◌≡◌, false, OnOk};
+ghost use Rattle.ua_binary.specs.Reading.{ReadsAhead, rest_of};
+ghost use Rattle.frame_codec.specs.Calls.{leaving};
+ghost use Rattle.frame_codec.specs.Contents.{is_newer};
+ghost use Rattle.frame_codec.specs.Reading.{are_zero, message_at, frame_at};
+ghost use Rattle.frame_codec.specs.Words.{IsFrameOf, GivesFrame, frame_in};
 
 use crate::content::read_content_into;
 use crate::fault::FrameFault;
@@ -12,53 +14,89 @@ use dataset_meta::Meta;
 use row_words::Row;
 use ua_binary::Cursor;
 
-fn are_zero(bytes: &[u8]) -> bool
-    ensures { result ≡ are_zero bytes.now }
+/// The frame that the bytes spell, in a dynamic layout, for a data set with this meta. Zeros may follow it, as padding.
+/// Timestamps are read past, and so is the status of the message. Where the data set has no statuses, those that come with
+/// the values are dropped. Where the frame carries a minor version greater than the meta's, so are the values of fields that
+/// the meta doesn't have.
+#[inline(never)]
+#[tactic(auto, unfolding(crate::specs::Reading::frame_at))]
+pub fn read_frame(meta: &Meta, bytes: &[u8]) -> Result<Frame, FrameFault>
+    ensures { GivesFrame meta.now result (frame_at meta.now bytes.now) }
 {
-    bytes.iter().all(|byte| *byte == 0)
+    let mut frame = opening(meta);
+    read_into(meta, bytes, &mut frame)?;
+    Ok(frame)
 }
 
-/// Whether no more than padding is left.
+/// A frame to be read over.
 #[inline(always)]
-fn is_at_end(cursor: &Cursor<'_>) -> bool
-    requires { cursor.now.at ≤ length cursor.now.bytes.now }
-    ensures { result ≡ are_zero (rest_of cursor.now) }
+fn opening(meta: &Meta) -> Frame
+    ensures { IsFrameOf meta.now result }
 {
-    are_zero(&cursor.bytes[cursor.at..])
+    prove!(meta.fields().len() <= 64);
+    Frame {
+        number: None,
+        kind: FrameKind::Whole(Row::opening()),
+        major: None,
+        minor: None,
+    }
 }
 
 /// Reads the frame that the bytes spell in place of another of this meta. The row of a key frame is filled where it stands.
 #[inline(never)]
-#[tactic(auto, unfolding(crate::specs::Reading::message_at))]
+#[tactic(auto, unfolding(crate::specs::Reading::frame_at))]
 fn read_into(meta: &Meta, bytes: &[u8], frame: &mut Frame) -> Result<(), FrameFault>
-    requires { IsFrameOf meta.now.fields frame.old }
-    ensures { GivesMessage meta.now.fields result frame.new (message_at meta.now.fields bytes.now) }
+    requires { IsFrameOf meta.now frame.old }
+    ensures of { OnOk result (IsFrameOf meta.now frame.new) }
+    ensures answer { leaving result (frame_in meta.now.fields frame.new)
+        ≡ frame_at meta.now bytes.now }
 {
     let mut cursor = Cursor { bytes, at: 0 };
-    let front = read_front_in(&mut cursor, false)?;
-    frame.number = front.number;
-    frame.major = front.major;
-    frame.minor = front.minor;
-    read_content_into(&mut cursor, meta, &front, &mut frame.kind)?;
+    read_message(&mut cursor, meta, frame)?;
     if !is_at_end(&cursor) {
         return Err(FrameFault::Trailing);
     }
     Ok(())
 }
 
-/// The frame that the bytes spell, in a dynamic layout, for a data set with this meta. Zeros may follow it, as padding.
-/// Timestamps and statuses are read past.
-#[inline(never)]
-pub fn read_frame(meta: &Meta, bytes: &[u8]) -> Result<Frame, FrameFault>
-    ensures { GivesFrame meta.now.fields result (message_at meta.now.fields bytes.now) }
+#[inline(always)]
+#[tactic(auto, unfolding(crate::specs::Reading::message_at, crate::specs::Reading::behind_front))]
+fn read_message(cursor: &mut Cursor<'_>, meta: &Meta, frame: &mut Frame) -> Result<(), FrameFault>
+    requires { IsFrameOf meta.now frame.old }
+    ensures of { OnOk result (IsFrameOf meta.now frame.new) }
+    ensures answer { ReadsAhead (leaving result (frame_in meta.now.fields frame.new))
+        cursor.old cursor.new (message_at meta.now) }
 {
-    prove!(meta.fields().len() <= 64);
-    let mut frame = Frame {
-        number: None,
-        kind: FrameKind::Whole(Row::opening()),
-        major: None,
-        minor: None,
-    };
-    read_into(meta, bytes, &mut frame)?;
-    Ok(frame)
+    let front = read_front_in(cursor, false)?;
+    let newer = is_newer(meta, front.minor);
+    read_content_into(cursor, meta, newer, &front, &mut frame.kind)?;
+    frame.number = front.number;
+    frame.major = front.major;
+    frame.minor = front.minor;
+    Ok(())
+}
+
+/// Whether the sender's data set has grown.
+#[inline(always)]
+fn is_newer(meta: &Meta, minor: Option<u32>) -> bool
+    ensures { result ≡ is_newer meta.now minor }
+{
+    match minor {
+        None => false,
+        Some(minor) => meta.minor() < minor,
+    }
+}
+
+/// Whether no more than padding is left.
+#[inline(always)]
+fn is_at_end(cursor: &Cursor<'_>) -> bool
+    ensures { result ≡ are_zero (rest_of cursor.now) }
+{
+    are_zero(&cursor.bytes[cursor.at..])
+}
+
+fn are_zero(bytes: &[u8]) -> bool
+    ensures { result ≡ are_zero bytes.now }
+{
+    bytes.iter().all(|byte| *byte == 0)
 }

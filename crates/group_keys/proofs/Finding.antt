@@ -13,13 +13,13 @@ use Rattle.std.specs.List.Sorted.{IsStrictlyIncreasing}
 use Rattle.std.specs.Option.{option_or, option_copied}
 
 -- the element that is found passes, and none before it does
-record IsFirstAt {X : Type 0} (p : X → Bool) (xs : List X) (x : X) (i : ℕ) : Type 0 where
+pub record IsFirstAt {X : Type 0} (p : X → Bool) (xs : List X) (x : X) (i : ℕ) : Type 0 where
   pub within : i < length xs
   pub here : get_or xs i x ≡ x
   pub passes : p x ≡ true
   pub none_before : (k : ℕ) (d : X) → k < i → p (get_or xs k d) ≡ false
 
-found_at : {X : Type 0} (p : X → Bool) (xs : List X) (x : X) → find p xs ≡ Some x → IsFirstAt p xs x (position_or_len p xs)
+pub found_at : {X : Type 0} (p : X → Bool) (xs : List X) (x : X) → find p xs ≡ Some x → IsFirstAt p xs x (position_or_len p xs)
 found_at p xs x found =
     let got = sym (find_at p xs) ∙ found in
     let within = slice_get_within xs _ x got in
@@ -146,7 +146,7 @@ none_passes p xs k d none below =
     ]
 
 -- where none is found, f of no element is the number looked for
-none_equal : {X : Type 0} (f : X → ℕ) (n : ℕ) (xs : List X) → find (λ x. f x == n) xs ≡ None → All (λ x. f x ≢ n) xs
+pub none_equal : {X : Type 0} (f : X → ℕ) (n : ℕ) (xs : List X) → find (λ x. f x == n) xs ≡ None → All (λ x. f x ≢ n) xs
 none_equal f n xs none =
     λ k d below same.
     let fails : eqb (f (get_or xs k d)) n ≡ false = none_passes (λ x. f x == n) xs k d none below in

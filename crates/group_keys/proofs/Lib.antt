@@ -1,3 +1,4 @@
 pub mod Copies
 pub mod Finding
+pub mod Moments
 pub mod Rising

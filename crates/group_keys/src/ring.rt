@@ -74,6 +74,7 @@ impl Ring {
     pub fn key_sets(&self) -> &[KeySet]
         ensures sets { result.now ≡ key_sets self.now }
         ensures ring { IsAccepted (is_long self.now) (key_sets self.now) }
+        ensures few { length result.now ≤ 16 }
     {
         self.keys.as_slice()
     }

@@ -1,67 +1,97 @@
 //! Changes between rows.
-ghost use Rattle.std.specs.Prelude.{◌≡◌, ◌<◌, length, Some, slice_get, not};
-ghost use Rattle.ua_values.specs.declared.value.Value.{Value as AnyValue};
-ghost use Rattle.dataset_meta.specs.Rows.{patched, put_in, differs};
-ghost use Rattle.dataset_meta.specs.SameValues.{same_value};
+ghost use Rattle.std.specs.Prelude.{◌≡◌, ◌≢◌, ◌<◌, true, false, not, length};
+ghost use Rattle.std.specs.List.{HoldsAt};
+ghost use Rattle.dataset_meta.specs.Rows.{patched, differs};
+ghost use Rattle.dataset_meta.specs.SameValues.{same_value, same_data_value};
 ghost use Rattle.row_words.specs.Belonging.{Belongs, row_in};
 ghost use Rattle.row_words.specs.Patches.{IsPatchOf, patch_in, patched_words};
 
 use dataset_meta::Meta;
-use row_words::{Patch, Row};
+use row_words::{Patch, Row, is_scalar};
 
-/// The fields in which two rows differ, with their values in the new one. Of a field its words are compared and copied.
+/// The fields in which two rows differ, in value or in status, with those of the new one.
 pub fn changed(meta: &Meta, old: &Row, new: &Row) -> Patch
-    requires old { Belongs meta.now.fields old.now.words }
-    requires new { Belongs meta.now.fields new.now.words }
-    ensures of { IsPatchOf meta.now.fields result }
-    ensures differ { patch_in meta.now.fields result ≡ differs (row_in meta.now.fields old.now.words) (row_in meta.now.fields new.now.words) }
+    requires old { Belongs meta.now old.now.words }
+    requires new { Belongs meta.now new.now.words }
+    ensures of { IsPatchOf meta.now result }
+    ensures differ { patch_in meta.now.fields result
+        ≡ differs (row_in meta.now.fields old.now.words) (row_in meta.now.fields new.now.words) }
 {
     let fields = meta.fields();
     let mut patch = Patch::empty();
     for index in 0..fields.len() {
         if differs_at(meta, index as u8, old, new) {
-            mark(meta, index as u8, new, &mut patch);
+            patch.mark(meta, index as u8, new);
         }
     }
     patch
 }
 
-/// Whether the words of a field differ.
+/// Gives each field that the patch marks its new value and status, and leaves the others.
+pub fn apply(meta: &Meta, row: &mut Row, patch: &Patch)
+    requires belongs { Belongs meta.now row.old.words }
+    requires of { IsPatchOf meta.now patch.now }
+    ensures belongs { Belongs meta.now row.new.words }
+    ensures patched { row_in meta.now.fields row.new.words
+        ≡ patched (row_in meta.now.fields row.old.words) (patch_in meta.now.fields patch.now) }
+    ensures words { row.new.words ≡ patched_words meta.now.fields patch.now row.old.words }
+{
+    patch.lay(meta, row);
+}
+
+/// Whether two rows differ in any field. Behind the words of the meta both have zeros. Each word is compared, with no branch, so
+/// that several are compared at a time.
+pub fn is_changed(meta: &Meta, old: &Row, new: &Row) -> bool
+    requires old { Belongs meta.now old.now.words }
+    requires new { Belongs meta.now new.now.words }
+    ensures changed { result ≡ true → old.now.words ≢ new.now.words }
+    ensures same { result ≡ false → old.now.words ≡ new.now.words }
+{
+    prove!(meta.words() <= 125);
+    let mut differs = false;
+    for index in 0..meta.words() as usize {
+        differs |= old.words[index] != new.words[index];
+    }
+    differs
+}
+
+#[inline(always)]
 fn differs_at(meta: &Meta, index: u8, old: &Row, new: &Row) -> bool
-    requires old { Belongs meta.now.fields old.now.words }
-    requires new { Belongs meta.now.fields new.now.words }
+    requires old { Belongs meta.now old.now.words }
+    requires new { Belongs meta.now new.now.words }
     requires index { index < length meta.now.fields }
-    ensures { (before after : AnyValue) → slice_get (row_in meta.now.fields old.now.words) index ≡ Some before
-        → slice_get (row_in meta.now.fields new.now.words) index ≡ Some after → result ≡ not (same_value before after) }
+    ensures { HoldsAt (λ before. HoldsAt (λ after. result ≡ not (same_data_value before after))
+        (row_in meta.now.fields new.now.words) index) (row_in meta.now.fields old.now.words) index }
+{
+    if value_differs(meta, index, old, new) {
+        return true;
+    }
+    meta.quality() && old.status(meta, index) != new.status(meta, index)
+}
+
+/// Of scalars their words are compared.
+#[inline(always)]
+fn value_differs(meta: &Meta, index: u8, old: &Row, new: &Row) -> bool
+    requires old { Belongs meta.now old.now.words }
+    requires new { Belongs meta.now new.now.words }
+    requires index { index < length meta.now.fields }
+    ensures { HoldsAt (λ before. HoldsAt (λ after. result ≡ not (same_value before.value after.value))
+        (row_in meta.now.fields new.now.words) index) (row_in meta.now.fields old.now.words) index }
+{
+    if is_scalar(meta.fields()[usize::from(index)].kind) {
+        return old.word(meta, index) != new.word(meta, index);
+    }
+    words_differ(meta, index, old, new)
+}
+
+fn words_differ(meta: &Meta, index: u8, old: &Row, new: &Row) -> bool
+    requires old { Belongs meta.now old.now.words }
+    requires new { Belongs meta.now new.now.words }
+    requires index { index < length meta.now.fields }
+    ensures { HoldsAt (λ before. HoldsAt (λ after. result ≡ not (same_value before.value after.value))
+        (row_in meta.now.fields new.now.words) index) (row_in meta.now.fields old.now.words) index }
 {
     let start = usize::from(meta.start(index));
     let end = start + meta.fields()[usize::from(index)].words() as usize;
     old.words[start..end] != new.words[start..end]
-}
-
-/// Marks the field at this index, with the value that it has in a row.
-fn mark(meta: &Meta, index: u8, row: &Row, patch: &mut Patch)
-    requires belongs { Belongs meta.now.fields row.now.words }
-    requires of { IsPatchOf meta.now.fields patch.old }
-    requires index { index < length meta.now.fields }
-    ensures of { IsPatchOf meta.now.fields patch.new }
-    ensures put { (value : AnyValue) → slice_get (row_in meta.now.fields row.now.words) index ≡ Some value
-        → patch_in meta.now.fields patch.new ≡ put_in (patch_in meta.now.fields patch.old) index value }
-{
-    prove!(usize::from(index) < meta.fields().len());
-    let start = usize::from(meta.start(index));
-    let end = start + meta.fields()[usize::from(index)].words() as usize;
-    patch.row.words[start..end].copy_from_slice(&row.words[start..end]);
-    patch.mask |= 1 << index;
-}
-
-/// Gives each field that the patch marks its new value, and leaves the others.
-pub fn apply(meta: &Meta, row: &mut Row, patch: &Patch)
-    requires belongs { Belongs meta.now.fields row.old.words }
-    requires of { IsPatchOf meta.now.fields patch.now }
-    ensures belongs { Belongs meta.now.fields row.new.words }
-    ensures patched { row_in meta.now.fields row.new.words ≡ patched (row_in meta.now.fields row.old.words) (patch_in meta.now.fields patch.now) }
-    ensures words { row.new.words ≡ patched_words meta.now.fields patch.now row.old.words }
-{
-    patch.lay(meta, row);
 }

@@ -6,5 +6,5 @@ mod laws;
 #[cfg(test)]
 mod tests;
 
-pub use changes::{apply, changed};
+pub use changes::{apply, changed, is_changed};
 pub use laws::changes_give_the_new_row;

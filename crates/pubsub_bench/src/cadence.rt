@@ -2,14 +2,14 @@
 ghost use Rattle.std.specs.Prelude.{◌≡◌, ◌+◌, ◌<◌, IfOk};
 ghost use Rattle.row_words.specs.Belonging.{Belongs};
 ghost use Rattle.row_words.specs.Patches.{IsPatchOf};
-ghost use Rattle.frame_codec.specs.Messages.{IsFrameOf};
+ghost use Rattle.frame_codec.specs.Words.{IsFrameOf};
 ghost use Rattle.dataset_writer.specs.Standing.{HoldsRowOf};
 ghost use Rattle.dataset_reader.specs.Reader.{IsReaderOf};
 
 use crate::metas::{Unmeasured, meta_of, row_of};
 use dataset_meta::Meta;
 use dataset_reader::{Numbering, Outcome, Reader, Took};
-use dataset_writer::{Turn, Writer, WriterSettings};
+use dataset_writer::{Writer, WriterSettings};
 use frame_codec::{Frame, FrameKind};
 use row_words::{Patch, Row};
 use std::alloc::Global;
@@ -17,49 +17,49 @@ use ua_values::{Value, fits};
 
 /// The change of the middle field to this value.
 fn patch_of(meta: &Meta, value: u32) -> Patch
-    ensures { IsPatchOf meta.now.fields result }
+    ensures { IsPatchOf meta.now result }
 {
     let value = Value::UInt32(value);
     let index = meta.fields().len() / 2;
     let field = meta.fields()[index];
     let mut patch = Patch::empty();
-    if fits(&value, field.kind, field.cap) {
-        patch.put(meta, index as u8, &value);
+    if fits(&value, field.kind, field.cap) && !meta.quality() {
+        patch.put(meta, index as u8, &value, 0);
     }
     patch
 }
 
 // What is measured is a call, as that of the writer by hand is.
 #[inline(never)]
-fn turn_once(writer: &mut Writer, meta: &Meta, now: u64, row: &Row) -> Turn
+fn turn_once(writer: &mut Writer, meta: &Meta, now: u64, row: &Row) -> bool
     requires left { 0 < writer.old.left }
-    requires holds { HoldsRowOf meta.now.fields writer.old }
-    requires row { Belongs meta.now.fields row.now.words }
-    ensures holds { HoldsRowOf meta.now.fields writer.new }
+    requires holds { HoldsRowOf meta.now writer.old }
+    requires row { Belongs meta.now row.now.words }
+    ensures holds { HoldsRowOf meta.now writer.new }
     ensures left { writer.new.left + 1 ≡ writer.old.left }
 {
-    writer.turn(meta, now, row, 1, false)
+    writer.answer(meta, now, row, 1, false)
 }
 
 #[inline(never)]
 fn frame_once(reader: &mut Reader, meta: &Meta, frame: &Frame) -> Took
-    requires frame { IsFrameOf meta.now.fields frame.now }
-    requires reader { IsReaderOf meta.now.fields reader.old }
-    ensures { IsReaderOf meta.now.fields reader.new }
+    requires frame { IsFrameOf meta.now frame.now }
+    requires reader { IsReaderOf meta.now reader.old }
+    ensures { IsReaderOf meta.now reader.new }
 {
     reader.frame(meta, frame, None)
 }
 
 /// Takes the turns that are left, all with this row, and answers how many were quiet.
 fn take_turns(writer: &mut Writer, meta: &Meta, row: &Row) -> u64
-    requires holds { HoldsRowOf meta.now.fields writer.old }
-    requires row { Belongs meta.now.fields row.now.words }
+    requires holds { HoldsRowOf meta.now writer.old }
+    requires row { Belongs meta.now row.now.words }
 {
     let mut quiet: u64 = 0;
     let mut now: u64 = 0;
     while writer.left > 0 {
         now = now.wrapping_add(100);
-        if let Turn::Quiet = turn_once(writer, meta, now, row) {
+        if !turn_once(writer, meta, now, row) {
             quiet = quiet.wrapping_add(1);
         }
     }
@@ -68,9 +68,9 @@ fn take_turns(writer: &mut Writer, meta: &Meta, row: &Row) -> u64
 
 /// Gives the reader this frame with the numbers from 1 to `turns`, and answers how often it held it.
 fn take_frames(reader: &mut Reader, meta: &Meta, frame: &mut Frame, turns: u32) -> u64
-    requires frame { IsFrameOf meta.now.fields frame.old }
-    requires reader { IsReaderOf meta.now.fields reader.old }
-    ensures { IsReaderOf meta.now.fields reader.new }
+    requires frame { IsFrameOf meta.now frame.old }
+    requires reader { IsReaderOf meta.now reader.old }
+    ensures { IsReaderOf meta.now reader.new }
 {
     let mut held: u64 = 0;
     for turn in 0..turns {
@@ -94,7 +94,7 @@ fn settings() -> WriterSettings
 }
 
 fn writer(alloc: Global, meta: &Meta, turns: u32) -> Result<Writer, Unmeasured>
-    ensures { IfOk result (HoldsRowOf meta.now.fields) }
+    ensures { IfOk result (HoldsRowOf meta.now) }
 {
     let _ = meta.fields();
     match Writer::new(alloc, settings(), turns) {

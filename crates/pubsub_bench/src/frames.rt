@@ -1,6 +1,5 @@
 //! Frames written and read, each many times.
-ghost use Rattle.std.specs.Prelude.{◌≤◌, length};
-ghost use Rattle.frame_codec.specs.Messages.{IsFrameOf};
+ghost use Rattle.frame_codec.specs.Words.{IsFrameOf};
 
 use crate::metas::{Unmeasured, meta_of, row_of};
 use dataset_meta::Meta;
@@ -11,15 +10,14 @@ use ua_binary::{Pen, Room};
 // What is measured is a call, as that of the codec by hand is; `read_frame` is one by itself.
 #[inline(never)]
 fn write_once(pen: &mut Pen<'_>, meta: &Meta, frame: &Frame) -> Result<(), Room>
-    requires room { pen.old.at ≤ length pen.old.bytes.now }
-    requires frame { IsFrameOf meta.now.fields frame.now }
+    requires { IsFrameOf meta.now frame.now }
 {
     write_frame(pen, meta, frame)
 }
 
 /// Writes the frame `turns` times, and answers its length.
 fn write_often(meta: &Meta, frame: &mut Frame, turns: u32, bytes: &mut [u8]) -> Option<usize>
-    requires { IsFrameOf meta.now.fields frame.old }
+    requires { IsFrameOf meta.now frame.old }
 {
     let mut end = 0;
     for turn in 0..turns {

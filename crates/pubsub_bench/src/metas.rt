@@ -43,14 +43,14 @@ pub fn meta_of(alloc: Global, count: u8) -> Result<Meta, Unmeasured> {
     let Some(name) = name_of(0) else {
         return Err(Unmeasured);
     };
-    match Meta::new(name, fields, 1, 0) {
+    match Meta::new(name, fields, 1, 0, false) {
         Ok(meta) => Ok(meta),
         Err(_) => Err(Unmeasured),
     }
 }
 
 fn opening(meta: &Meta) -> Row
-    ensures { Belongs meta.now.fields result.words }
+    ensures { Belongs meta.now result.words }
 {
     let _ = meta.fields();
     Row::opening()
@@ -58,8 +58,8 @@ fn opening(meta: &Meta) -> Row
 
 /// Sets the field, where it is of the kind UInt32.
 fn set(meta: &Meta, row: &mut Row, index: usize, value: u32)
-    requires { Belongs meta.now.fields row.old.words }
-    ensures { Belongs meta.now.fields row.new.words }
+    requires { Belongs meta.now row.old.words }
+    ensures { Belongs meta.now row.new.words }
 {
     let value = Value::UInt32(value);
     if index < meta.fields().len()
@@ -71,7 +71,7 @@ fn set(meta: &Meta, row: &mut Row, index: usize, value: u32)
 
 /// The row in which each field's value is its index, with the highest bits set.
 pub fn row_of(meta: &Meta) -> Row
-    ensures { Belongs meta.now.fields result.words }
+    ensures { Belongs meta.now result.words }
 {
     let mut row = opening(meta);
     for index in 0..meta.fields().len() {

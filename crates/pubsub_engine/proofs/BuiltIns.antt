@@ -3,7 +3,8 @@ use Rattle.std.proofs.Common.{ℕ, zero, suc, ◌<◌, ◌^◌, [], ◌∷◌, r
 use Rattle.ua_values.specs.declared.value.Value.TheVariants.{UInt32}
 use Rattle.dataset_meta.specs.Metas.{IsMeta, AreDistinct, AreCapped}
 use Rattle.dataset_meta.specs.Rows.{IsPatch}
-use Rattle.pubsub_engine.specs.BuiltIn.{demo_fields}
+use Rattle.pubsub_model.specs.Goods.{good}
+use Rattle.pubsub_engine.specs.BuiltIn.{demo_fields, demo_meta}
 
 distinct : AreDistinct demo_fields
 distinct zero within double = grind arith
@@ -18,5 +19,5 @@ capped = grind (arith)
 pub demo_is_meta : IsMeta demo_fields
 demo_is_meta = record { count = (lit≤ tt, lit≤ tt); distinct = distinct; capped = capped; narrow = lit≤ tt }
 
-pub one_value_fits : (value : ℕ) → value < 2 ^ 32 → IsPatch demo_fields ((0, UInt32 value) ∷ [])
-one_value_fits value small = (lit≤ tt, lit≤ tt, (λ d. record { is_value = small; fits = record { same_kind = refl; within = lit≤ tt } }), tt)
+pub one_value_fits : (value : ℕ) → value < 2 ^ 32 → IsPatch demo_meta ((0, good (UInt32 value)) ∷ [])
+one_value_fits value small = (lit≤ tt, lit≤ tt, (λ d. record { is_value = small; fits = record { same_kind = refl; within = lit≤ tt }; is_status = refl }), tt)

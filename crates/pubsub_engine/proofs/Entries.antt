@@ -6,7 +6,7 @@ use Rattle.std.proofs.lemmas.List.Elements.{filter_map-append}
 use Rattle.std.proofs.lemmas.List.Sums.{sum_by-append, sum_by-cons}
 use Rattle.ua_base.specs.Journal.{Entry, Sent, SendFailed, Got, Empty, Long, ReceiveFailed, Wire, Tells}
 use Rattle.ua_base.proofs.Told.{Tells-refl, Tells-then}
-use Rattle.frame_codec.specs.Messages.{Message}
+use Rattle.frame_codec.specs.Frames.{Frame}
 use Rattle.pubsub_engine.specs.declared.subscriber.Subscriber.{Subscriber}
 use Rattle.pubsub_engine.specs.Steps.{IsPump, send_entry, send_entries}
 use Rattle.pubsub_engine.specs.Datagram.{brought_by}
@@ -28,14 +28,14 @@ count-cons p x xs = sum_by-cons (λ (e : Entry). cond (p e) 1 0) x xs
 pub Takes-none : (r : Subscriber) → Takes [] r r
 Takes-none r = record { read = λ before h. h; taken = omega arith; received = omega arith; broken = omega arith; long = omega arith }
 
-messages-append : (xs ys : List Entry) (before : List Message) → messages_in ys ++ (messages_in xs ++ before) ≡ messages_in (xs ++ ys) ++ before
+messages-append : (xs ys : List Entry) (before : List Frame) → messages_in ys ++ (messages_in xs ++ before) ≡ messages_in (xs ++ ys) ++ before
 messages-append xs ys before =
     sym (append_assoc (messages_in ys) (messages_in xs) before)
-    ∙ ap (λ (l : List Message). l ++ before) (sym (ap reverse (filter_map-append brought_by xs ys) ∙ reverse-append (filter_map brought_by xs) (filter_map brought_by ys)))
+    ∙ ap (λ (l : List Frame). l ++ before) (sym (ap reverse (filter_map-append brought_by xs ys) ∙ reverse-append (filter_map brought_by xs) (filter_map brought_by ys)))
 
 pub Takes-then : (xs ys : List Entry) (a b c : Subscriber) → Takes xs a b → Takes ys b c → Takes (xs ++ ys) a c
 Takes-then xs ys a b c p q = record {
-  read = λ before h. subst (λ (l : List Message). HasRead l c) (messages-append xs ys before) (q.read (messages_in xs ++ before) (p.read before h));
+  read = λ before h. subst (λ (l : List Frame). HasRead l c) (messages-append xs ys before) (q.read (messages_in xs ++ before) (p.read before h));
   taken = omega (arith, p.taken, q.taken, count-append is_taken xs ys);
   received = omega (arith, p.received, q.received, count-append is_got xs ys);
   broken = omega (arith, p.broken, q.broken, count-append is_broken xs ys);
@@ -174,6 +174,6 @@ pub so_full : (count : ℕ) (r s : Subscriber) (a b : Option Wire) → count ≡
 so_full count r s a b is so = (so.entries, pump-full 65536 so.entries so.datagrams (so.count_is ∙ is), so.takes, sym (count-datagrams so.entries so.datagrams ∙ so.count_is ∙ is), so.told)
 
 -- a datagram that was too long
-pub Takes-long : (n : ℕ) (old new : Subscriber) → ((before : List Message) → HasRead before old → HasRead before new) → new.taken ≡ old.taken → new.received ≡ old.received → new.broken ≡ old.broken → new.long ≡ min (old.long + 1) (2 ^ 64 - 1)
+pub Takes-long : (n : ℕ) (old new : Subscriber) → ((before : List Frame) → HasRead before old → HasRead before new) → new.taken ≡ old.taken → new.received ≡ old.received → new.broken ≡ old.broken → new.long ≡ min (old.long + 1) (2 ^ 64 - 1)
     → Takes (Long n ∷ []) old new
 Takes-long n old new read taken received broken long = record { read = read; taken = omega (arith, taken); received = omega (arith, received); broken = omega (arith, broken); long = omega (arith, long) }

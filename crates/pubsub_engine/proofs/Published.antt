@@ -1,6 +1,6 @@
 -- Where each received datagram was sent before, the reader keeps what Records says of the items that came, and what it holds is the row of the version
 -- that the log has at its number.
-use Rattle.std.proofs.Common.{◌≡◌, refl, sym, ap, ◌∙◌, subst, arith, ℕ, zero, suc, ◌+◌, ◌%◌, ◌^◌, ◌<◌, ◌≤◌, Bool, true, false, cond, List, [], ◌∷◌, ◌++◌, map, length, reverse, Option, Some, None, inl, inr, All, lit≤, append_assoc, length-append}
+use Rattle.std.proofs.Common.{◌≡◌, refl, sym, ap, ◌∙◌, subst, arith, ℕ, zero, suc, ◌+◌, ◌%◌, ◌^◌, ◌<◌, ◌≤◌, Bool, true, false, cond, List, [], ◌∷◌, ◌++◌, map, length, reverse, Option, Some, None, Ok, inl, inr, All, append_assoc, length-append}
 use Rattle.std.specs.Prelude.{nat_le, ◌==◌, ◌/◌, find, option_map, filter_map, Contains}
 use Rattle.std.specs.Option.{option_or}
 use Rattle.std.specs.List.{cons_option}
@@ -8,24 +8,24 @@ use Rattle.std.proofs.lemmas.Bool.Decides.{nat_tests}
 use Rattle.std.proofs.lemmas.List.{append-nil, reverse-append}
 use Rattle.std.proofs.lemmas.List.Elements.{All-nil, All-cons, All-head, All-tail, All-append, All-push, All-weaker, All-contains, Contains-append_left, Contains-append_right, Contains-push}
 use Rattle.std.proofs.lemmas.List.Folds.{find-append}
-use Rattle.seq_number.specs.Numbers.{wire, place_from, greatest, IsNear}
+use Rattle.seq_number.specs.Numbers.{number_of_place, place_from, greatest, IsNear}
 use Rattle.ua_base.specs.Journal.{Entry, Sent, SendFailed, Got, Empty, Long, ReceiveFailed, IsHonest}
-use Rattle.ua_values.specs.declared.value.Value.{Value}
+use Rattle.dataset_meta.specs.DataValues.{DataValue}
 use Rattle.dataset_meta.specs.Rows.{cons_if, IsRow}
 use Rattle.pubsub_model.specs.declared.reading.Why.TheVariants.{Jump}
-use Rattle.pubsub_model.specs.Frames.{Frame, Whole}
-use Rattle.pubsub_model.specs.Cadence.{Turn, cadence, is_fresh, next_place, log_of}
+use Rattle.pubsub_model.specs.Frames.{PlacedFrame, Whole}
+use Rattle.pubsub_model.specs.Cadence.{WriterTurn, cadence, is_fresh, next_place, log_of}
 use Rattle.pubsub_model.specs.Records.{Item, Arrival, Came, Cut, at, since_cut, records, is_record, place_in, held_in}
 use Rattle.pubsub_model.proofs.CadenceLaws.{answer-key, length-log_of, log_of-key}
-use Rattle.frame_codec.specs.Messages as messages
-use Rattle.frame_codec.specs.Messages.{Message, IsMessage}
+use Rattle.frame_codec.specs.Frames as frames
+use Rattle.frame_codec.specs.Frames.{Frame, IsFrame}
 use Rattle.frame_codec.specs.Spelling.{frame_bytes}
-use Rattle.frame_codec.specs.Reading.{message_at}
-use Rattle.frame_codec.proofs.MessageLaws.{message_again}
+use Rattle.frame_codec.specs.Reading.{frame_at}
+use Rattle.frame_codec.proofs.ReadingLaws.{written-read}
 use Rattle.dataset_reader.specs.declared.took.Numbering.TheVariants as numberings
 use Rattle.dataset_reader.specs.Kept.{Kept}
-use Rattle.dataset_reader.specs.Keeping.{Keeps, IsRun as IsReading, AreNearInEach, jumps, came_on, with_jumps}
-use Rattle.pubsub_engine.specs.BuiltIn.{demo_fields}
+use Rattle.dataset_reader.specs.Keeping.{Keeps, IsReading, AreNearInEach, jumps, came_on, with_jumps}
+use Rattle.pubsub_engine.specs.BuiltIn.{demo_meta}
 use Rattle.pubsub_engine.specs.Samples.{Sample}
 use Rattle.pubsub_engine.specs.Datagram.{datagram, message_read, has_header, message_carried, brought_by}
 use Rattle.pubsub_engine.specs.Steps.{Step, Tick, Pump, moment_of, IsPump, send_entry, send_entries}
@@ -33,41 +33,45 @@ use Rattle.pubsub_engine.specs.Publishing.{built_in, Deed, Ticked, turns_in, wri
 use Rattle.pubsub_engine.specs.Reading.{messages_in, messages_at, kept_of, kept_at, HeldRow, held_by, arrival_of, arrivals_in, arrivals}
 use Rattle.pubsub_engine.specs.Closing.{version_of, version_at}
 use Rattle.pubsub_engine.specs.Holding.{HasSample, SampleRows, IsPublished}
+use Rattle.pubsub_engine.proofs.BuiltIns.{demo_is_meta}
 use Rattle.pubsub_engine.proofs.Turning.{has_turn}
 
 -- a key frame's message
-abbrev pub key_message : ℕ → List Value → Message
-key_message number row = record { number = Some number; major = None; minor = None; content = messages.Whole row }
+abbrev pub key_message : ℕ → List DataValue → Frame
+key_message number row = record { number = Some number; major = None; minor = None; content = frames.Whole row }
 
 -- a turn makes one datagram: that of the key frame at the next place
-made_is : (ds : List Deed) (turn : Turn) → length (log_of built_in (writer_past ds)) < 2 ^ 16
-    → datagrams_of ds turn ≡ datagram (wire (made_in (turns_in ds))) (key_message (length (log_of built_in (writer_past ds))) turn.row) ∷ []
+made_is : (ds : List Deed) (turn : WriterTurn) → length (log_of built_in (writer_past ds)) < 2 ^ 16
+    → datagrams_of ds turn ≡ datagram (number_of_place (made_in (turns_in ds))) (key_message (length (log_of built_in (writer_past ds))) turn.row) ∷ []
 made_is ds turn few =
     let log = log_of built_in (writer_past ds) in
     let key = answer-key built_in (is_fresh (writer_past ds)) (cadence built_in (writer_past ds)) turn refl in
-    let place : wire (next_place built_in (cadence built_in (writer_past ds))) ≡ length log = omega (arith, length-log_of built_in (writer_past ds)) in
-    ap (datagrams_with (wire (made_in (turns_in ds)))) key
-    ∙ ap (λ (n : ℕ). datagram (wire (made_in (turns_in ds))) (key_message n turn.row) ∷ []) place
+    let place : number_of_place (next_place built_in (cadence built_in (writer_past ds))) ≡ length log = omega (arith, length-log_of built_in (writer_past ds)) in
+    ap (datagrams_with (number_of_place (made_in (turns_in ds)))) key
+    ∙ ap (λ (n : ℕ). datagram (number_of_place (made_in (turns_in ds))) (key_message n turn.row) ∷ []) place
 
 -- ---- what is written is read
 
 ten : (s t : ℕ) (rest : List ℕ) → nat_le 10 (length (113 ∷ 5 ∷ 9 ∷ 1 ∷ 0 ∷ s ∷ t ∷ 1 ∷ 1 ∷ 0 ∷ rest)) ≡ true
 ten s t rest = grind (arith, nat_tests)
 
-starts : (sequence : ℕ) (message : Message) → has_header (datagram sequence message) ≡ true
+starts : (sequence : ℕ) (message : Frame) → has_header (datagram sequence message) ≡ true
 unfolding has_header datagram
-starts sequence message = rw (ten (sequence % 256) (sequence / 256 % 256) (frame_bytes message)) refl
+starts sequence message = rw (ten (sequence % 256) (sequence / 256 % 256) (frame_bytes demo_meta.quality message)) refl
 
-key_fits : (number : ℕ) (row : List Value) → number < 2 ^ 16 → IsRow demo_fields row → IsMessage demo_fields (key_message number row)
+key_fits : (number : ℕ) (row : List DataValue) → number < 2 ^ 16 → IsRow demo_meta row → IsFrame demo_meta (key_message number row)
 key_fits number row small is = record { number = small; major = tt; minor = tt; content = is }
 
-carried-datagram : (sequence number : ℕ) (row : List Value) → number < 2 ^ 16 → IsRow demo_fields row → message_carried (datagram sequence (key_message number row)) ≡ Some (key_message number row)
+key_read : (number : ℕ) (row : List DataValue) → number < 2 ^ 16 → IsRow demo_meta row → frame_at demo_meta (frame_bytes demo_meta.quality (key_message number row)) ≡ Ok (key_message number row)
+key_read number row small is =
+    let message = key_message number row in
+    ap (frame_at demo_meta) (sym (append-nil (frame_bytes demo_meta.quality message))) ∙ written-read demo_meta message 0 demo_is_meta (key_fits number row small is)
+
+carried-datagram : (sequence number : ℕ) (row : List DataValue) → number < 2 ^ 16 → IsRow demo_meta row → message_carried (datagram sequence (key_message number row)) ≡ Some (key_message number row)
 unfolding message_carried datagram
 carried-datagram sequence number row small is =
     let message = key_message number row in
-    rw (starts sequence message)
-    (ap (λ (bytes : List ℕ). message_read (message_at demo_fields bytes)) (sym (append-nil (frame_bytes message)))
-    ∙ ap message_read (message_again demo_fields message 0 (lit≤ tt) (key_fits number row small is)))
+    rw (starts sequence message) (ap message_read (key_read number row small is))
 
 -- ---- the log after one more step
 
@@ -85,7 +89,7 @@ log_case true steps ms closing sample done e =
 log_case false steps ms closing sample done e = rw e (sym (append-nil (log_at steps)))
 
 -- at a tick: the frames as they were, or with the key frame of its turn
-frames_on : Bool → List (ℕ × ℕ) → List Value → List Frame → List Frame
+frames_on : Bool → List (ℕ × ℕ) → List DataValue → List PlacedFrame → List PlacedFrame
 frames_on b log row frames = cond b (Whole (length log) row ∷ frames) frames
 
 frames_case : (b : Bool) (steps : List Step) (ms : ℕ) (closing : Bool) (sample : List Sample) (done : List Bool) → has_turn steps (moment_of steps + ms) closing ≡ b
@@ -98,12 +102,12 @@ frames_case true steps ms closing sample done e =
     rw e (rw key (ap (λ (n : ℕ). Whole n (sampled_in sample).row ∷ frames_at steps) place))
 frames_case false steps ms closing sample done e = rw e refl
 
-still_framed : (b : Bool) (log : List (ℕ × ℕ)) (row : List Value) (frames : List Frame) (frame : Frame) → Contains frames frame → Contains (frames_on b log row frames) frame
+still_framed : (b : Bool) (log : List (ℕ × ℕ)) (row : List DataValue) (frames : List PlacedFrame) (frame : PlacedFrame) → Contains frames frame → Contains (frames_on b log row frames) frame
 unfolding frames_on
 still_framed true log row frames frame there = Contains-append_right (Whole (length log) row ∷ []) frames frame there
 still_framed false log row frames frame there = there
 
-framed_now : (log : List (ℕ × ℕ)) (row : List Value) (frames : List Frame) → Contains (frames_on true log row frames) (Whole (length log) row)
+framed_now : (log : List (ℕ × ℕ)) (row : List DataValue) (frames : List PlacedFrame) → Contains (frames_on true log row frames) (Whole (length log) row)
 unfolding frames_on
 framed_now log row frames = Contains-append_left (Whole (length log) row ∷ []) frames (Whole (length log) row) (Contains-push [] (Whole (length log) row))
 
@@ -128,32 +132,32 @@ places_below (Tick ms closing sample done ∷ before) =
     subst (λ (l : List (ℕ × ℕ)). AreBelow (length l) l) (sym (log_case b before ms closing sample done refl)) (below_on b (log_at before) (sampled_in sample).version (places_below before))
 
 -- no entry has a number at or above the length
-none_at : (log : List (ℕ × ℕ)) (n : ℕ) → n < 65536 → AreBelow n log → find (λ (e : ℕ × ℕ). wire e.0 == n) log ≡ None
+none_at : (log : List (ℕ × ℕ)) (n : ℕ) → n < 65536 → AreBelow n log → find (λ (e : ℕ × ℕ). number_of_place e.0 == n) log ≡ None
 none_at [] n small all = refl
 none_at (e ∷ log) n small all =
     let lt : e.0 < n = All-head (λ (x : ℕ × ℕ). x.0 < n) e log all in
-    let other : (wire e.0 == n) ≡ false = grind (arith, nat_tests) in
+    let other : (number_of_place e.0 == n) ≡ false = grind (arith, nat_tests) in
     rw other (none_at log n small (All-tail (λ (x : ℕ × ℕ). x.0 < n) e log all))
 
 -- the entry of a turn is found at its place
 logged_now : (log : List (ℕ × ℕ)) (version : ℕ) → length log < 65536 → AreBelow (length log) log → version_of (log ++ (length log, version) ∷ []) (length log) ≡ Some version
 logged_now log version small all =
-    let here : (wire (length log) == length log) ≡ true = grind (arith, nat_tests) in
-    let found : find (λ (e : ℕ × ℕ). wire e.0 == length log) (log ++ (length log, version) ∷ []) ≡ Some (length log, version) =
-    find-append (λ (e : ℕ × ℕ). wire e.0 == length log) log ((length log, version) ∷ [])
-    ∙ ap (λ (o : Option (ℕ × ℕ)). option_or o (find (λ (e : ℕ × ℕ). wire e.0 == length log) ((length log, version) ∷ []))) (none_at log (length log) small all)
+    let here : (number_of_place (length log) == length log) ≡ true = grind (arith, nat_tests) in
+    let found : find (λ (e : ℕ × ℕ). number_of_place e.0 == length log) (log ++ (length log, version) ∷ []) ≡ Some (length log, version) =
+    find-append (λ (e : ℕ × ℕ). number_of_place e.0 == length log) log ((length log, version) ∷ [])
+    ∙ ap (λ (o : Option (ℕ × ℕ)). option_or o (find (λ (e : ℕ × ℕ). number_of_place e.0 == length log) ((length log, version) ∷ []))) (none_at log (length log) small all)
     ∙ rw here refl in
     ap (option_map (λ (e : ℕ × ℕ). e.1)) found
 
 -- what is found stays found
-still_found : (log more : List (ℕ × ℕ)) (n version : ℕ) (found : Option (ℕ × ℕ)) → find (λ (e : ℕ × ℕ). wire e.0 == n) log ≡ found → option_map (λ (e : ℕ × ℕ). e.1) found ≡ Some version → version_of (log ++ more) n ≡ Some version
+still_found : (log more : List (ℕ × ℕ)) (n version : ℕ) (found : Option (ℕ × ℕ)) → find (λ (e : ℕ × ℕ). number_of_place e.0 == n) log ≡ found → option_map (λ (e : ℕ × ℕ). e.1) found ≡ Some version → version_of (log ++ more) n ≡ Some version
 still_found log more n version None e h = absurd (cc)
 still_found log more n version (Some x) e h =
-    ap (option_map (λ (e : ℕ × ℕ). e.1)) (find-append (λ (e : ℕ × ℕ). wire e.0 == n) log more ∙ ap (λ (o : Option (ℕ × ℕ)). option_or o (find (λ (e : ℕ × ℕ). wire e.0 == n) more)) e) ∙ h
+    ap (option_map (λ (e : ℕ × ℕ). e.1)) (find-append (λ (e : ℕ × ℕ). number_of_place e.0 == n) log more ∙ ap (λ (o : Option (ℕ × ℕ)). option_or o (find (λ (e : ℕ × ℕ). number_of_place e.0 == n) more)) e) ∙ h
 
 still_logged : (b : Bool) (log : List (ℕ × ℕ)) (v n version : ℕ) → version_of log n ≡ Some version → version_of (log_on b log v) n ≡ Some version
 unfolding log_on
-still_logged b log v n version h = still_found log (cond b ((length log, v) ∷ []) []) n version (find (λ (e : ℕ × ℕ). wire e.0 == n) log) refl h
+still_logged b log v n version h = still_found log (cond b ((length log, v) ∷ []) []) n version (find (λ (e : ℕ × ℕ). number_of_place e.0 == n) log) refl h
 
 longer : (b : Bool) (log : List (ℕ × ℕ)) (version : ℕ) → length log ≤ length (log_on b log version)
 unfolding log_on
@@ -172,7 +176,7 @@ record SentOf (steps : List Step) (bytes : List ℕ) : Type 0 where
   sample : Sample
   small : number < 2 ^ 16
   early : number < length (log_at steps)
-  values : IsRow demo_fields sample.row
+  values : IsRow demo_meta sample.row
   spelled : bytes ≡ datagram sequence (key_message number sample.row)
   framed : Contains (frames_at steps) (Whole number sample.row)
   sampled : HasSample steps sample
@@ -195,7 +199,7 @@ sent_tick ms closing sample done steps bytes s = record {
   spelled = s.spelled;
   framed =
       let b = has_turn steps (moment_of steps + ms) closing in
-      subst (λ (l : List Frame). Contains l (Whole s.number s.sample.row)) (sym (frames_case b steps ms closing sample done refl)) (still_framed b (log_at steps) (sampled_in sample).row (frames_at steps) (Whole s.number s.sample.row) s.framed);
+      subst (λ (l : List PlacedFrame). Contains l (Whole s.number s.sample.row)) (sym (frames_case b steps ms closing sample done refl)) (still_framed b (log_at steps) (sampled_in sample).row (frames_at steps) (Whole s.number s.sample.row) s.framed);
   sampled = inr s.sampled;
   logged =
       let b = has_turn steps (moment_of steps + ms) closing in
@@ -255,22 +259,22 @@ unfolding log_on
 logged_turn log version small all = logged_now log version small all
 
 -- the datagram of a turn
-turn_sent : (steps : List Step) (ms : ℕ) (closing : Bool) (sample : List Sample) (done : List Bool) → IsRow demo_fields (sampled_in sample).row → length (log_at steps) < 65536 → has_turn steps (moment_of steps + ms) closing ≡ true
-    → SentOf (Tick ms closing sample done ∷ steps) (datagram (wire (made_in (turns_in (Ticked (moment_of steps + ms) ∷ deeds steps)))) (key_message (length (log_at steps)) (sampled_in sample).row))
+turn_sent : (steps : List Step) (ms : ℕ) (closing : Bool) (sample : List Sample) (done : List Bool) → IsRow demo_meta (sampled_in sample).row → length (log_at steps) < 65536 → has_turn steps (moment_of steps + ms) closing ≡ true
+    → SentOf (Tick ms closing sample done ∷ steps) (datagram (number_of_place (made_in (turns_in (Ticked (moment_of steps + ms) ∷ deeds steps)))) (key_message (length (log_at steps)) (sampled_in sample).row))
 turn_sent steps ms closing sample done v few turns = record {
-  sequence = wire (made_in (turns_in (Ticked (moment_of steps + ms) ∷ deeds steps)));
+  sequence = number_of_place (made_in (turns_in (Ticked (moment_of steps + ms) ∷ deeds steps)));
   number = length (log_at steps);
   sample = sampled_in sample;
   small = few;
   early = omega (arith, ap length (log_case true steps ms closing sample done turns), length_on (log_at steps) (sampled_in sample).version);
   values = v;
   spelled = refl;
-  framed = subst (λ (l : List Frame). Contains l (Whole (length (log_at steps)) (sampled_in sample).row)) (sym (frames_case true steps ms closing sample done turns)) (framed_now (log_at steps) (sampled_in sample).row (frames_at steps));
+  framed = subst (λ (l : List PlacedFrame). Contains l (Whole (length (log_at steps)) (sampled_in sample).row)) (sym (frames_case true steps ms closing sample done turns)) (framed_now (log_at steps) (sampled_in sample).row (frames_at steps));
   sampled = inl refl;
   logged = ap (λ (l : List (ℕ × ℕ)). version_of l (length (log_at steps))) (log_case true steps ms closing sample done turns) ∙ logged_turn (log_at steps) (sampled_in sample).version few (places_below steps);
 }
 
-tick_sent : (b : Bool) (steps : List Step) (ms : ℕ) (closing : Bool) (sample : List Sample) (done : List Bool) → has_turn steps (moment_of steps + ms) closing ≡ b → IsRow demo_fields (sampled_in sample).row → length (log_at (Tick ms closing sample done ∷ steps)) ≤ 65536
+tick_sent : (b : Bool) (steps : List Step) (ms : ℕ) (closing : Bool) (sample : List Sample) (done : List Bool) → has_turn steps (moment_of steps + ms) closing ≡ b → IsRow demo_meta (sampled_in sample).row → length (log_at (Tick ms closing sample done ∷ steps)) ≤ 65536
     → All (SentEntry (Tick ms closing sample done ∷ steps)) (send_entries (sends_of (Tick ms closing sample done ∷ steps)) done)
 unfolding log_on
 tick_sent true steps ms closing sample done e v few =
@@ -278,9 +282,9 @@ tick_sent true steps ms closing sample done e v few =
     let grown : length (log_at (Tick ms closing sample done ∷ steps)) ≡ length (log_at steps) + 1 = ap length (log_case true steps ms closing sample done e) ∙ length-append (log_at steps) ((length (log_at steps), (sampled_in sample).version) ∷ []) in
     let short : length (log_at steps) < 65536 = omega arith in
     let made = made_is (Ticked now ∷ deeds steps) (turn_at now closing sample) short in
-    let sends : sends_of (Tick ms closing sample done ∷ steps) ≡ datagram (wire (made_in (turns_in (Ticked now ∷ deeds steps)))) (key_message (length (log_at steps)) (sampled_in sample).row) ∷ [] = rw e made in
+    let sends : sends_of (Tick ms closing sample done ∷ steps) ≡ datagram (number_of_place (made_in (turns_in (Ticked now ∷ deeds steps)))) (key_message (length (log_at steps)) (sampled_in sample).row) ∷ [] = rw e made in
     subst (λ (ds : List (List ℕ)). All (SentEntry (Tick ms closing sample done ∷ steps)) (send_entries ds done)) (sym sends)
-    (one_sent (Tick ms closing sample done ∷ steps) (datagram (wire (made_in (turns_in (Ticked now ∷ deeds steps)))) (key_message (length (log_at steps)) (sampled_in sample).row)) done (turn_sent steps ms closing sample done v short e))
+    (one_sent (Tick ms closing sample done ∷ steps) (datagram (number_of_place (made_in (turns_in (Ticked now ∷ deeds steps)))) (key_message (length (log_at steps)) (sampled_in sample).row)) done (turn_sent steps ms closing sample done v short e))
 tick_sent false steps ms closing sample done e v few =
     let sends : sends_of (Tick ms closing sample done ∷ steps) ≡ [] = rw e refl in
     subst (λ (ds : List (List ℕ)). All (SentEntry (Tick ms closing sample done ∷ steps)) (send_entries ds done)) (sym sends) (All-nil (SentEntry (Tick ms closing sample done ∷ steps)))
@@ -335,7 +339,7 @@ all_reversed P (x ∷ xs) all =
     subst (All P) (sym (reverse-append (x ∷ []) xs)) (All-append P (reverse xs) (x ∷ []) (all_reversed P xs (All-tail P x xs all)) (All-cons P x [] (All-head P x xs all) (All-nil P)))
 
 -- a message that was sent with a sample of these steps
-record MessageOf (steps : List Step) (message : Message) : Type 0 where
+record MessageOf (steps : List Step) (message : Frame) : Type 0 where
   number : ℕ
   sample : Sample
   small : number < 2 ^ 16
@@ -348,12 +352,12 @@ record MessageOf (steps : List Step) (message : Message) : Type 0 where
 message_for : (steps : List Step) (bytes : List ℕ) (s : SentOf steps bytes) → MessageOf steps (key_message s.number s.sample.row)
 message_for steps bytes s = record { number = s.number; sample = s.sample; small = s.small; early = s.early; is = refl; framed = s.framed; sampled = s.sampled; logged = s.logged }
 
-brought : (steps : List Step) (x : Entry) (rest : List Message) → GotEntry steps x → All (MessageOf steps) rest → All (MessageOf steps) (cons_option (brought_by x) rest)
+brought : (steps : List Step) (x : Entry) (rest : List Frame) → GotEntry steps x → All (MessageOf steps) rest → All (MessageOf steps) (cons_option (brought_by x) rest)
 brought steps (Sent bytes) rest h all = all
 brought steps SendFailed rest h all = all
 brought steps (Got bytes) rest h all =
     let carried : message_carried bytes ≡ Some (key_message h.number h.sample.row) = ap message_carried h.spelled ∙ carried-datagram h.sequence h.number h.sample.row h.small h.values in
-    subst (λ (o : Option Message). All (MessageOf steps) (cons_option o rest)) (sym carried)
+    subst (λ (o : Option Frame). All (MessageOf steps) (cons_option o rest)) (sym carried)
     (All-cons (MessageOf steps) (key_message h.number h.sample.row) rest (message_for steps bytes h) all)
 brought steps Empty rest h all = all
 brought steps (Long size) rest h all = all
@@ -382,17 +386,17 @@ ArrivalOf steps (Came item) = ItemOf steps item
 ArrivalOf steps (Cut why) = ⊥
 
 -- the item of a message
-abbrev item_with : ℕ → ℕ → List Value → Item
+abbrev item_with : ℕ → ℕ → List DataValue → Item
 item_with moment number row = at moment None (Whole number row)
 
-arrival_is : (moment number : ℕ) (row : List Value) → number < 2 ^ 16 → arrival_of moment (key_message number row) ≡ Some (Came (item_with moment number row))
+arrival_is : (moment number : ℕ) (row : List DataValue) → number < 2 ^ 16 → arrival_of moment (key_message number row) ≡ Some (Came (item_with moment number row))
 arrival_is moment number row small =
     let place : place_from 0 number ≡ number = omega arith in ap (λ (p : ℕ). Some (Came (item_with moment p row))) place
 
-item_for : (steps : List Step) (moment : ℕ) (message : Message) (m : MessageOf steps message) → ItemOf steps (item_with moment m.number m.sample.row)
+item_for : (steps : List Step) (moment : ℕ) (message : Frame) (m : MessageOf steps message) → ItemOf steps (item_with moment m.number m.sample.row)
 item_for steps moment message m = record { number = m.number; sample = m.sample; early = m.early; is = refl; unstamped = refl; framed = m.framed; sampled = m.sampled; logged = m.logged }
 
-arrival_for : (steps : List Step) (moment : ℕ) (message : Message) (m : MessageOf steps message) → arrival_of moment message ≡ Some (Came (item_with moment m.number m.sample.row))
+arrival_for : (steps : List Step) (moment : ℕ) (message : Frame) (m : MessageOf steps message) → arrival_of moment message ≡ Some (Came (item_with moment m.number m.sample.row))
 arrival_for steps moment message m = ap (arrival_of moment) m.is ∙ arrival_is moment m.number m.sample.row m.small
 
 -- What came with these messages in front: the items are those of the steps, and the reader's run goes on.
@@ -400,25 +404,25 @@ record Reads (steps : List Step) (came : List Arrival) (kept : Kept) : Type 0 wh
   items : All (ArrivalOf steps) came
   run : IsReading numberings.Message 1 came kept
 
-read_on : (steps : List Step) (moment : ℕ) (message : Message) (before : List Message) (came : List Arrival) → MessageOf steps message → Reads steps came (kept_of before)
+read_on : (steps : List Step) (moment : ℕ) (message : Frame) (before : List Frame) (came : List Arrival) → MessageOf steps message → Reads steps came (kept_of before)
     → Reads steps (cons_option (arrival_of moment message) came) (kept_of (message ∷ before))
 read_on steps moment message before came m r =
     let item = item_with moment m.number m.sample.row in
     let same = m.is in
-    let number : message.number ≡ Some m.number = ap (λ (x : Message). x.number) same in
-    let small : m.number ≡ wire m.number = let s = m.small in omega arith in
+    let number : message.number ≡ Some m.number = ap (λ (x : Frame). x.number) same in
+    let small : m.number ≡ number_of_place m.number = let s = m.small in omega arith in
     rw (arrival_for steps moment message m) (record {
       items = All-cons (ArrivalOf steps) (Came item) came (item_for steps moment message m) r.items;
       run = (
         kept_of before,
         message,
         r.run,
-        record { version = rw same tt; number = number ∙ ap Some small; content = ap (λ (x : Message). x.content) same; place = tt },
+        record { version = rw same tt; number = number ∙ ap Some small; content = ap (λ (x : Frame). x.content) same; place = tt },
         refl,
       );
     })
 
-reads_on : (steps : List Step) (moment : ℕ) (messages before : List Message) (came : List Arrival) → All (MessageOf steps) messages → Reads steps came (kept_of before)
+reads_on : (steps : List Step) (moment : ℕ) (messages before : List Frame) (came : List Arrival) → All (MessageOf steps) messages → Reads steps came (kept_of before)
     → Reads steps (arrivals_in moment messages ++ came) (kept_of (messages ++ before))
 reads_on steps moment [] before came all r = r
 reads_on steps moment (message ∷ messages) before came all r =
@@ -512,21 +516,21 @@ records_of steps (item ∷ before) all = chosen steps (is_record before item) it
 
 -- the row and the number that a reader keeps of these records
 held_of : (steps : List Step) (held : HeldRow) (kept : Kept) (rs : List Item) → All (ItemOf steps) rs → length (log_at steps) ≤ 16384
-    → kept.row ≡ option_map (λ h. h.row) (held_in rs) → kept.number ≡ option_map (λ h. wire h.place) (held_in rs) → held_by kept ≡ Some held → IsPublished steps held
+    → kept.row ≡ option_map (λ h. h.row) (held_in rs) → kept.number ≡ option_map (λ h. number_of_place h.place) (held_in rs) → held_by kept ≡ Some held → IsPublished steps held
 held_of steps held kept [] all few row number e = let none : held_by kept ≡ None = rw row refl in absurd (cc)
 held_of steps held kept (item ∷ rest) all few row number e =
     let i = All-head (ItemOf steps) item rest all in
-    let whole : held_in (item ∷ rest) ≡ Some (record { place = i.number; row = i.sample.row }) = ap (λ (f : Frame). held_in (at item.moment item.stamp f ∷ rest)) i.is in
+    let whole : held_in (item ∷ rest) ≡ Some (record { place = i.number; row = i.sample.row }) = ap (λ (f : PlacedFrame). held_in (at item.moment item.stamp f ∷ rest)) i.is in
     let row_is : kept.row ≡ Some i.sample.row = row ∙ ap (option_map (λ h. h.row)) whole in
-    let number_is : kept.number ≡ Some (wire i.number) = number ∙ ap (option_map (λ h. wire h.place)) whole in
-    let same : Some (record { number = kept.number; row = i.sample.row }) ≡ Some held = sym (ap (option_map (λ (r : List Value). record { number = kept.number; row = r })) row_is) ∙ e in
+    let number_is : kept.number ≡ Some (number_of_place i.number) = number ∙ ap (option_map (λ h. number_of_place h.place)) whole in
+    let same : Some (record { number = kept.number; row = i.sample.row }) ≡ Some held = sym (ap (option_map (λ (r : List DataValue). record { number = kept.number; row = r })) row_is) ∙ e in
     let is : record { number = kept.number; row = i.sample.row } ≡ held = cc in
     let early = i.early in
-    let wired : wire i.number ≡ i.number = omega (arith, early, few) in
+    let wired : number_of_place i.number ≡ i.number = omega (arith, early, few) in
     record {
       place = i.number;
       number_is = sym (ap (λ (h : HeldRow). h.number) is) ∙ number_is;
-      frame = subst (λ (r : List Value). Contains (frames_at steps) (Whole i.number r)) (ap (λ (h : HeldRow). h.row) is) i.framed;
+      frame = subst (λ (r : List DataValue). Contains (frames_at steps) (Whole i.number r)) (ap (λ (h : HeldRow). h.row) is) i.framed;
       sample = i.sample;
       sampled = i.sampled;
       row_is = sym (ap (λ (h : HeldRow). h.row) is);

@@ -3,7 +3,7 @@ use Rattle.std.proofs.Common.{◌≡◌, ap, ◌∙◌, arith, ℕ, ◌<◌, ◌
 use Rattle.std.specs.Prelude.{reverse, option_map}
 use Rattle.pubsub_model.specs.declared.reading.Break.{Break}
 use Rattle.pubsub_model.specs.declared.reading.Why.{Why}
-use Rattle.ua_values.specs.declared.value.Value.{Value}
+use Rattle.dataset_meta.specs.DataValues.{DataValue}
 use Rattle.dataset_reader.specs.Kept.{Kept}
 use Rattle.dataset_reader.specs.Reader.{kept_by}
 use Rattle.pubsub_engine.specs.BuiltIn.{demo_fields}
@@ -51,14 +51,14 @@ shows_are threads threads' group group' sent sent' writer writer' log log' taken
 
 -- what the end of a reader shows of what it keeps
 pub shows_none : (log : List (ℕ × ℕ)) (kept : Kept) (why : Why) → None ≡ kept.row → Waits why ≡ holding log (held_by kept) why
-shows_none log kept why e = ap (λ (row : Option (List Value)). holding log (option_map (λ r. record { number = kept.number; row = r }) row) why) e
+shows_none log kept why e = ap (λ (row : Option (List DataValue)). holding log (option_map (λ r. record { number = kept.number; row = r }) row) why) e
 
-pub shows_row : (log : List (ℕ × ℕ)) (kept : Kept) (why : Why) (row : List Value) (number version : Option ℕ) → Some row ≡ kept.row → number ≡ kept.number → version ≡ version_at log number
+pub shows_row : (log : List (ℕ × ℕ)) (kept : Kept) (why : Why) (row : List DataValue) (number version : Option ℕ) → Some row ≡ kept.row → number ≡ kept.number → version ≡ version_at log number
     → Holds (record { number = number; row = row }) version ≡ holding log (held_by kept) why
 shows_row log kept why row number version e n v =
     ap (λ (o : Option ℕ). Holds (record { number = number; row = row }) o) v
     ∙ ap (λ (k : Option ℕ). Holds (record { number = k; row = row }) (version_at log k)) n
-    ∙ ap (λ (r : Option (List Value)). holding log (option_map (λ x. record { number = kept.number; row = x }) r) why) e
+    ∙ ap (λ (r : Option (List DataValue)). holding log (option_map (λ x. record { number = kept.number; row = x }) r) why) e
 
 pub shown_is : (steps : List Step) (threads all : List ℕ) (log : List (ℕ × ℕ)) (sent failed : ℕ) (is_failing : Bool) (r : Subscriber) (limit : ℕ) (group writer reader : State) (held : Holding) (broke : ℕ) (recent : List Break)
     → log ≡ log_at steps → held ≡ holding log (held_by (kept_by demo_fields r.reader)) (kept_by demo_fields r.reader).why → broke ≡ (kept_by demo_fields r.reader).breaks → recent ≡ reverse (kept_by demo_fields r.reader).recent

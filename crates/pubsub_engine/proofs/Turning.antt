@@ -5,7 +5,7 @@ use Rattle.std.proofs.lemmas.List.{append-nil}
 use Rattle.std.proofs.lemmas.List.Sums.{sum_by-cons}
 use Rattle.ua_base.specs.Journal.{Wire}
 use Rattle.ua_base.proofs.Told.{Tells-refl}
-use Rattle.pubsub_model.specs.Cadence.{Turn}
+use Rattle.pubsub_model.specs.Cadence.{WriterTurn}
 use Rattle.dataset_writer.specs.declared.writer.Writer.{Writer}
 use Rattle.pubsub_engine.specs.Samples.{Sample}
 use Rattle.pubsub_engine.specs.Steps.{Step, moment_of, send_entries}
@@ -50,7 +50,7 @@ abbrev pub past : List Step → ℕ → List Deed
 past steps now = Ticked now ∷ deeds steps
 
 -- a turn of these steps, as the publisher makes it
-abbrev Made : List Step → Turn → ℕ → Writer → ℕ → ℕ → ℕ → ℕ → ℕ → Bool → Option Wire → Option Wire → Type 0
+abbrev Made : List Step → WriterTurn → ℕ → Writer → ℕ → ℕ → ℕ → ℕ → ℕ → Bool → Option Wire → Option Wire → Type 0
 Made steps turn sequence writer' sequence' sent sent' failed failed' failing' before after =
     Publishes (writer_past (deeds steps)) turn writer' sequence sequence' sent sent' failed failed' failing' before after
 

@@ -14,7 +14,7 @@ abbrev pub demo_fields : List Field
 demo_fields = field_named 97 ∷ field_named 98 ∷ field_named 99 ∷ field_named 100 ∷ []
 
 abbrev pub demo_meta : MetaData
-demo_meta = record { name = codes "demo"; fields = demo_fields; major = 1; minor = 0 }
+demo_meta = record { name = codes "demo"; fields = demo_fields; major = 1; minor = 0; quality = false }
 
 -- what the writer is set to: a key frame at every turn, from number 0 on, without versions
 abbrev pub demo_settings : WriterSettings

@@ -1,6 +1,6 @@
 -- Session run, as a report shows it: what a session is when it is closed.
 use Rattle.std.specs.Prelude.{ℕ, List, [], ◌∷◌, reverse, zip, count_by, find, Bool, false, ◌==◌, Option, Some, None, option_map, if◌then◌else◌}
-use Rattle.seq_number.specs.Numbers.{wire}
+use Rattle.seq_number.specs.Numbers.{number_of_place}
 use Rattle.row_words.specs.Belonging.{row_in}
 use Rattle.pubsub_model.specs.declared.reading.Break.{Break}
 use Rattle.pubsub_model.specs.declared.reading.Why.{Why}
@@ -17,7 +17,7 @@ use Rattle.pubsub_engine.specs.Counts.{counted, is_sent, is_send_failed, is_got,
 
 -- the version of the data frame with this number
 abbrev pub version_of : List (ℕ × ℕ) → ℕ → Option ℕ
-version_of log number = option_map (λ entry. entry.1) (find (λ entry. wire entry.0 == number) log)
+version_of log number = option_map (λ entry. entry.1) (find (λ entry. number_of_place entry.0 == number) log)
 
 -- the same of a number, if there is one
 abbrev pub version_at : List (ℕ × ℕ) → Option ℕ → Option ℕ

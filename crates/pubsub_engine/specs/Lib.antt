@@ -13,3 +13,4 @@ pub mod Standing
 pub mod Taking
 pub mod Alike
 pub mod Holding
+pub mod Props

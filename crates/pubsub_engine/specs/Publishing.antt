@@ -1,12 +1,12 @@
 -- Session run, the publisher: the turns of the writer group with their datagrams, and the journal of the whole session. Lists have the latest first, but for datagrams and entries.
 use Rattle.std.specs.Prelude.{◌≡◌, ⊤, ℕ, ◌+◌, ◌-◌, List, [], ◌∷◌, ◌++◌, length, sum_by, filter_map, Bool, false, ◌||◌, nat_le, not, reverse, Option, Some, None, slice_index_or, if◌then◌else◌}
 use Rattle.std.specs.Option.{option_map_or}
-use Rattle.seq_number.specs.Numbers.{wire}
+use Rattle.seq_number.specs.Numbers.{number_of_place}
 use Rattle.ua_base.specs.Journal.{Entry}
 use Rattle.dataset_meta.specs.Rows.{opening_row, cons_if}
-use Rattle.pubsub_model.specs.Frames.{Frame}
-use Rattle.pubsub_model.specs.Cadence.{Settings, Turn, Deed as WriterDeed, Took, cadence, log_of, frames_of}
-use Rattle.dataset_writer.specs.Sending.{model_settings, latest_answer}
+use Rattle.pubsub_model.specs.Frames.{PlacedFrame}
+use Rattle.pubsub_model.specs.Cadence.{Settings, WriterTurn, WriterDeed, HadTurn, cadence, log_of, frames_of}
+use Rattle.dataset_writer.specs.Turns.{model_settings, latest_answer}
 use Rattle.pubsub_engine.specs.BuiltIn.{demo_fields, demo_settings}
 use Rattle.pubsub_engine.specs.Samples.{Sample}
 use Rattle.pubsub_engine.specs.Datagram.{datagram, demo_message}
@@ -21,7 +21,7 @@ interval = 100
 
 -- a turn of the group: its writer's turn, and the datagrams that it made
 pub record GroupTurn : Type 0 where
-  pub took : Turn
+  pub took : WriterTurn
   pub made : List (List ℕ)
 
 -- what the publisher does: it comes to a moment, and has a turn of its group
@@ -40,7 +40,7 @@ turns_in deeds = filter_map turn_in deeds
 abbrev pub writer_past : List Deed → List WriterDeed
 writer_past [] = []
 writer_past (Ticked moment ∷ before) = writer_past before
-writer_past (Turned turn ∷ before) = Took turn.took ∷ writer_past before
+writer_past (Turned turn ∷ before) = HadTurn turn.took ∷ writer_past before
 
 -- how many datagrams these turns made
 abbrev pub made_in : List GroupTurn → ℕ
@@ -56,21 +56,21 @@ abbrev pub is_due : List Deed → ℕ → Bool
 is_due deeds now = nat_le interval (now - last_moment (turns_in deeds))
 
 -- the datagrams of a writer's answer, from this sequence number on
-abbrev pub datagrams_with : ℕ → Option Frame → List (List ℕ)
+abbrev pub datagrams_with : ℕ → Option PlacedFrame → List (List ℕ)
 datagrams_with sequence answer = option_map_or (λ frame. datagram sequence (demo_message frame) ∷ []) answer []
 
 -- the datagrams of a turn: Cadence's answer, spelled
-abbrev pub datagrams_of : List Deed → Turn → List (List ℕ)
-datagrams_of deeds turn = datagrams_with (wire (made_in (turns_in deeds))) (latest_answer (cadence built_in (Took turn ∷ writer_past deeds)))
+abbrev pub datagrams_of : List Deed → WriterTurn → List (List ℕ)
+datagrams_of deeds turn = datagrams_with (number_of_place (made_in (turns_in deeds))) (latest_answer (cadence built_in (HadTurn turn ∷ writer_past deeds)))
 
 -- what a tick samples of the data set
 abbrev pub sampled_in : List Sample → Sample
 sampled_in sample = slice_index_or sample 0 (record { version = 0; row = opening_row demo_fields })
 
-abbrev pub writer_turn : ℕ → Bool → Sample → Turn
+abbrev pub writer_turn : ℕ → Bool → Sample → WriterTurn
 writer_turn now closing sample = record { moment = now; row = sample.row; version = sample.version; closing = closing }
 
-abbrev pub turn_at : ℕ → Bool → List Sample → Turn
+abbrev pub turn_at : ℕ → Bool → List Sample → WriterTurn
 turn_at now closing sample = writer_turn now closing (sampled_in sample)
 
 -- the group has its turn where it is due, or closing
@@ -96,7 +96,7 @@ abbrev pub sends_of : List Step → List (List ℕ)
 sends_of steps = last_sends (deeds steps)
 
 -- the frames that the writer's turns were answered by
-abbrev pub frames_at : List Step → List Frame
+abbrev pub frames_at : List Step → List PlacedFrame
 frames_at steps = frames_of (cadence built_in (writer_past (deeds steps)))
 
 -- the place and version of each data frame

@@ -3,11 +3,11 @@
 use Rattle.std.specs.Prelude.{ℕ, ◌+◌, List, [], ◌∷◌, ◌++◌, reverse, filter_map, Bool, true, false, ◌||◌, ◌==◌, Option, Some, None, option_map, if◌then◌else◌}
 use Rattle.seq_number.specs.Numbers.{place_from}
 use Rattle.ua_base.specs.Journal.{Entry}
-use Rattle.ua_values.specs.declared.value.Value.{Value}
-use Rattle.pubsub_model.specs.Frames.{Frame, Whole, Change, Alive}
+use Rattle.dataset_meta.specs.DataValues.{DataValue}
+use Rattle.pubsub_model.specs.Frames.{PlacedFrame, Whole, Change, Alive}
 use Rattle.pubsub_model.specs.Records.{Arrival, Came, at}
-use Rattle.frame_codec.specs.Messages as messages
-use Rattle.frame_codec.specs.Messages.{Content, Message}
+use Rattle.frame_codec.specs.Frames as frames
+use Rattle.frame_codec.specs.Frames.{Content, Frame}
 use Rattle.dataset_reader.specs.declared.took.Numbering.TheVariants as numberings
 use Rattle.dataset_reader.specs.declared.took.Outcome.{Outcome}
 use Rattle.dataset_reader.specs.declared.took.Outcome.TheVariants as outcomes
@@ -21,20 +21,20 @@ use Rattle.pubsub_engine.specs.Publishing.{built_in}
 
 -- ---- the plain reading
 
-abbrev pub messages_in : List Entry → List Message
+abbrev pub messages_in : List Entry → List Frame
 messages_in entries = reverse (filter_map brought_by entries)
 
-abbrev pub messages_at : List Step → List Message
+abbrev pub messages_at : List Step → List Frame
 messages_at [] = []
 messages_at (Tick ms closing sample done ∷ before) = messages_at before
 messages_at (Pump entries ∷ before) = messages_in entries ++ messages_at before
 
 -- one step of the reader, which goes by message numbers: what it keeps and answers
-abbrev pub reading_step : Kept → Message → Kept × Took
+abbrev pub reading_step : Kept → Frame → Kept × Took
 reading_step kept message = frame_case numberings.Message demo_meta.major kept message None
 
 -- what the reader keeps of these messages
-abbrev pub kept_of : List Message → Kept
+abbrev pub kept_of : List Frame → Kept
 kept_of [] = fresh
 kept_of (message ∷ before) = (reading_step (kept_of before) message).0
 
@@ -47,7 +47,7 @@ is_held (outcomes.WrongMajor got) = false
 is_held outcomes.Unnumbered = false
 
 -- a message among these was answered Held
-abbrev pub was_held : List Message → Bool
+abbrev pub was_held : List Frame → Bool
 was_held [] = false
 was_held (message ∷ before) = is_held (reading_step (kept_of before) message).1.outcome || was_held before
 
@@ -58,7 +58,7 @@ kept_at steps = kept_of (messages_at steps)
 -- a row that is held, with the number of the message that it was last made of
 pub record HeldRow : Type 0 where
   pub number : Option ℕ
-  pub row : List Value
+  pub row : List DataValue
 
 abbrev pub held_by : Kept → Option HeldRow
 held_by kept = option_map (λ row. record { number = kept.number; row = row }) kept.row
@@ -67,10 +67,10 @@ held_by kept = option_map (λ row. record { number = kept.number; row = row }) k
 
 -- the frame of a message with this number: the places of data frames count from the writer's first number on, and the next place, which a keep-alive tells,
 -- from the one behind it
-abbrev pub frame_at : ℕ → Content → Frame
-frame_at number (messages.Whole row) = Whole (place_from built_in.first_number number) row
-frame_at number (messages.Change patch) = Change (place_from built_in.first_number number) patch
-frame_at number messages.Alive = Alive (place_from (built_in.first_number + 1) number)
+abbrev pub placed_frame : ℕ → Content → PlacedFrame
+placed_frame number (frames.Whole row) = Whole (place_from built_in.first_number number) row
+placed_frame number (frames.Change patch) = Change (place_from built_in.first_number number) patch
+placed_frame number frames.Alive = Alive (place_from (built_in.first_number + 1) number)
 
 -- the data set's major version, or none
 abbrev pub agrees : Option ℕ → Bool
@@ -78,19 +78,19 @@ agrees None = true
 agrees (Some major) = major == demo_meta.major
 
 -- a message without a number gives no item
-abbrev pub numbered_frame : Option ℕ → Content → Option Frame
+abbrev pub numbered_frame : Option ℕ → Content → Option PlacedFrame
 numbered_frame None content = None
-numbered_frame (Some number) content = Some (frame_at number content)
+numbered_frame (Some number) content = Some (placed_frame number content)
 
 -- nor does one of another major version
-abbrev pub frame_of : Message → Option Frame
-frame_of message = if agrees message.major then numbered_frame message.number message.content else None
+abbrev pub placed_of : Frame → Option PlacedFrame
+placed_of message = if agrees message.major then numbered_frame message.number message.content else None
 
-abbrev pub arrival_of : ℕ → Message → Option Arrival
-arrival_of moment message = option_map (λ frame. Came (at moment None frame)) (frame_of message)
+abbrev pub arrival_of : ℕ → Frame → Option Arrival
+arrival_of moment message = option_map (λ frame. Came (at moment None frame)) (placed_of message)
 
 -- the items that these messages, which came at a moment, give
-abbrev pub arrivals_in : ℕ → List Message → List Arrival
+abbrev pub arrivals_in : ℕ → List Frame → List Arrival
 arrivals_in moment messages = filter_map (arrival_of moment) messages
 
 abbrev pub arrivals : List Step → List Arrival

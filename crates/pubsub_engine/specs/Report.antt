@@ -2,7 +2,9 @@
 use Rattle.std.specs.Prelude.{ℕ, List, [], ◌∷◌, ◌++◌, length, Option, Some, None, codes, flat_map, slice_index_or}
 use Rattle.std.specs.Fmt.{decimal}
 use Rattle.ua_values.specs.declared.value.Value.{Value}
+use Rattle.dataset_meta.specs.DataValues.{DataValue}
 use Rattle.ua_values.specs.declared.value.Value.TheVariants.{UInt32}
+use Rattle.pubsub_model.specs.Goods.{good}
 use Rattle.pubsub_model.specs.declared.reading.Break.{Break}
 use Rattle.pubsub_model.specs.declared.reading.Why.{Why}
 use Rattle.pubsub_model.specs.declared.reading.Why.TheVariants.{Start, Gap, Timeout, NewToken, Jump, Restarted}
@@ -48,10 +50,10 @@ abbrev pub number_of : Value → ℕ
 number_of (UInt32 n) = n
 number_of _ = 0
 
-abbrev pub number_text : List Value → ℕ → List ℕ
-number_text row index = decimal (number_of (slice_index_or row index (UInt32 0)))
+abbrev pub number_text : List DataValue → ℕ → List ℕ
+number_text row index = decimal (number_of (slice_index_or row index (good (UInt32 0))).value)
 
-abbrev pub fields_text : List Value → List ℕ
+abbrev pub fields_text : List DataValue → List ℕ
 fields_text row = codes "a=" ++ number_text row 0 ++ codes " b=" ++ number_text row 1 ++ codes " c=" ++ number_text row 2 ++ codes " d=" ++ number_text row 3
 
 -- what a reader holds, or why it waits

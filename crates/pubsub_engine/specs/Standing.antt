@@ -1,12 +1,12 @@
 -- Where a session stands after these steps, over a link that may tell its journal.
 use Rattle.std.specs.Prelude.{◌≡◌, ℕ, List, ◌∷◌, ◌++◌, length, count_by, Option, Some, Bool}
-use Rattle.seq_number.specs.Numbers.{wire}
+use Rattle.seq_number.specs.Numbers.{number_of_place}
 use Rattle.ua_base.specs.Journal.{Wire, Tells}
-use Rattle.frame_codec.specs.Messages.{Message}
+use Rattle.frame_codec.specs.Frames.{Frame}
 use Rattle.dataset_writer.specs.declared.writer.Writer.{Writer}
 use Rattle.dataset_writer.specs.Standing.{IsWriter}
 use Rattle.dataset_reader.specs.Reader.{kept_by}
-use Rattle.pubsub_engine.specs.BuiltIn.{demo_fields, demo_settings}
+use Rattle.pubsub_engine.specs.BuiltIn.{demo_fields, demo_meta, demo_settings}
 use Rattle.pubsub_engine.specs.Samples.{Sample}
 use Rattle.pubsub_engine.specs.declared.subscriber.Subscriber.{Subscriber}
 use Rattle.pubsub_engine.specs.declared.session.Session.{Session}
@@ -20,8 +20,8 @@ use Rattle.pubsub_engine.specs.Closing.{send_failed}
 pub record IsPublisher (steps : List Step) (moment last : ℕ) (writer : Writer) (sequence : ℕ) : Type 0 where
   pub moment_is : moment ≡ moment_of steps
   pub last_is : last ≡ last_moment (turns_in (deeds steps))
-  pub writer_is : IsWriter demo_fields demo_settings (writer_past (deeds steps)) writer
-  pub sequence_is : sequence ≡ wire (made_in (turns_in (deeds steps)))
+  pub writer_is : IsWriter demo_meta demo_settings (writer_past (deeds steps)) writer
+  pub sequence_is : sequence ≡ number_of_place (made_in (turns_in (deeds steps)))
 
 -- and what came of its sends
 pub record HasSent (steps : List Step) (sent failed : ℕ) (is_failing : Bool) : Type 0 where
@@ -38,7 +38,7 @@ pub record Ticks (steps : List Step) (ms : ℕ) (closing : Bool) (sample : List 
   pub told : Tells before after (λ x y. y.journal ≡ x.journal ++ send_entries (sends_of (Tick ms closing sample done ∷ steps)) done)
 
 -- what the subscriber keeps of these messages
-pub record HasRead (messages : List Message) (subscriber : Subscriber) : Type 0 where
+pub record HasRead (messages : List Frame) (subscriber : Subscriber) : Type 0 where
   pub kept : kept_by demo_fields subscriber.reader ≡ kept_of messages
   pub ready : subscriber.ready ≡ was_held messages
 

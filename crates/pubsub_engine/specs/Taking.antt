@@ -1,7 +1,7 @@
 -- What receives do to the subscriber side.
 use Rattle.std.specs.Prelude.{◌≡◌, ◌≤◌, ◌<◌, ◌+◌, List, [], ◌∷◌, ◌++◌, length, count_by}
 use Rattle.ua_base.specs.Journal.{Entry, Sent, SendFailed, Got, Empty, Long, ReceiveFailed}
-use Rattle.frame_codec.specs.Messages.{Message}
+use Rattle.frame_codec.specs.Frames.{Frame}
 use Rattle.pubsub_engine.specs.declared.subscriber.Subscriber.{Subscriber}
 use Rattle.pubsub_engine.specs.Reading.{messages_in}
 use Rattle.pubsub_engine.specs.Counts.{counted, is_got, is_long, is_broken, is_taken}
@@ -18,7 +18,7 @@ IsReceive ReceiveFailed = Unit {0}
 
 -- these receives, in order, lead from old to new
 pub record Takes (entries : List Entry) (old new : Subscriber) : Type 0 where
-  pub read : (before : List Message) → HasRead before old → HasRead (messages_in entries ++ before) new
+  pub read : (before : List Frame) → HasRead before old → HasRead (messages_in entries ++ before) new
   pub taken : counted new.taken ≡ counted (old.taken + count_by is_taken entries)
   pub received : counted new.received ≡ counted (old.received + count_by is_got entries)
   pub broken : counted new.broken ≡ counted (old.broken + count_by is_broken entries)

@@ -28,7 +28,7 @@ pub fn built_in_meta(alloc: Global) -> Result<Meta, NoMemory>
         unreachable!()
     };
     fields_have_one_fault();
-    match Meta::new(name, fields, 1, 0) {
+    match Meta::new(name, fields, 1, 0, false) {
         Ok(meta) => Ok(meta),
         Err(_) => unreachable!(),
     }
@@ -36,7 +36,7 @@ pub fn built_in_meta(alloc: Global) -> Result<Meta, NoMemory>
 
 /// The row of version 0.
 pub(crate) fn opening() -> Row
-    ensures belongs { Belongs demo_fields result.words }
+    ensures belongs { Belongs demo_meta result.words }
     ensures row { row_in demo_fields result.words ≡ opening_row demo_fields }
 {
     Row::opening()

@@ -2,6 +2,7 @@
 ghost use Rattle.std.specs.Prelude.{◌≡◌};
 ghost use Rattle.row_words.specs.Belonging.{Belongs};
 ghost use Rattle.pubsub_engine.specs.BuiltIn.{demo_fields, demo_meta};
+ghost use Rattle.pubsub_engine.specs.Props.{Belongs-prop};
 
 use arrayvec::ArrayVec;
 use dataset_meta::Meta;
@@ -46,7 +47,7 @@ pub struct HeldEnd {
     pub number: Option<u16>,
     pub version: Option<u64>,
     pub row: Row,
-    ghost belongs: { Belongs demo_fields row.words },
+    ghost belongs: { Belongs demo_meta row.words } by { Belongs-prop demo_meta row.words },
 }
 
 /// The reader: what it holds or else why it waits, and its breaks, of which the last eight are kept.

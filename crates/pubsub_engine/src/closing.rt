@@ -4,7 +4,7 @@ ghost use Rattle.ua_base.specs.Journal.{Wire};
 ghost use Rattle.dataset_meta.specs.declared.field.Field.{Field};
 ghost use Rattle.pubsub_model.specs.declared.reading.Why.{Why as AnyWhy};
 ghost use Rattle.dataset_reader.specs.Reader.{kept_by, IsReaderOf};
-ghost use Rattle.pubsub_engine.specs.BuiltIn.{demo_fields};
+ghost use Rattle.pubsub_engine.specs.BuiltIn.{demo_fields, demo_meta};
 ghost use Rattle.pubsub_engine.specs.Reading.{held_by};
 ghost use Rattle.pubsub_engine.specs.Closing.{version_of, version_at, holding, holding_of};
 ghost use Rattle.pubsub_engine.specs.Steps.{Step};
@@ -73,7 +73,7 @@ fn version_at(log: &[(u64, u64)], number: Option<u16>) -> Option<u64>
 
 /// What a reader holds.
 fn held_end(reader: &Reader, log: &[(u64, u64)]) -> Option<HeldEnd>
-    requires { IsReaderOf demo_fields reader.now }
+    requires { IsReaderOf demo_meta reader.now }
     ensures { (why : AnyWhy) → holding_of result why ≡ holding log.now (held_by (kept_by demo_fields reader.now)) why }
 {
     let Some(row) = reader.row() else {

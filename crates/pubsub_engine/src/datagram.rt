@@ -1,7 +1,7 @@
 //! The datagrams of the built-in configuration.
 ghost use Rattle.std.specs.Prelude.{◌≡◌, ◌+◌, ◌≤◌, IsTrue, Some, None, length, take, drop, option_map, if◌then◌else◌};
 ghost use Rattle.ua_binary.specs.Writing.{Puts};
-ghost use Rattle.frame_codec.specs.Messages.{IsFrameOf, message_in};
+ghost use Rattle.frame_codec.specs.Words.{IsFrameOf, frame_in};
 ghost use Rattle.pubsub_engine.specs.BuiltIn.{demo_fields, demo_meta};
 ghost use Rattle.pubsub_engine.specs.Datagram.{header, datagram, has_header};
 
@@ -41,8 +41,8 @@ fn put_header(pen: &mut Pen<'_>, sequence: u16)
 fn put_datagram(pen: &mut Pen<'_>, meta: &Meta, sequence: u16, frame: &Frame)
     requires room { pen.old.at + 2058 ≤ length pen.old.bytes.now }
     requires meta { meta.now ≡ demo_meta }
-    requires frame { IsFrameOf demo_fields frame.now }
-    ensures written { Puts pen.old pen.new (datagram sequence (message_in demo_fields frame.now)) }
+    requires frame { IsFrameOf demo_meta frame.now }
+    ensures written { Puts pen.old pen.new (datagram sequence (frame_in demo_fields frame.now)) }
     ensures short { pen.new.at ≤ pen.old.at + 2058 }
 {
     put_header(pen, sequence);
@@ -56,8 +56,8 @@ fn put_datagram(pen: &mut Pen<'_>, meta: &Meta, sequence: u16, frame: &Frame)
 pub fn write_datagram(buffer: &mut [u8], meta: &Meta, sequence: u16, frame: &Frame) -> usize
     requires long { length buffer.old ≡ 2058 }
     requires meta { meta.now ≡ demo_meta }
-    requires frame { IsFrameOf demo_fields frame.now }
-    ensures written { take result buffer.new ≡ datagram sequence (message_in demo_fields frame.now) }
+    requires frame { IsFrameOf demo_meta frame.now }
+    ensures written { take result buffer.new ≡ datagram sequence (frame_in demo_fields frame.now) }
     ensures within { result ≤ 2058 }
     ensures long { length buffer.new ≡ 2058 }
 {

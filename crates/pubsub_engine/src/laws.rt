@@ -5,9 +5,9 @@ ghost use Rattle.pubsub_engine.specs.Alike.{AreAlike};
 ghost use Rattle.pubsub_engine.specs.Publishing.{journal, frames_at, log_at, IsRun};
 ghost use Rattle.ua_base.specs.Journal.{IsHonest};
 ghost use Rattle.pubsub_model.specs.Records.{since_cut};
-ghost use Rattle.frame_codec.specs.Messages.{IsMessage};
+ghost use Rattle.frame_codec.specs.Frames.{IsFrame};
 ghost use Rattle.dataset_reader.specs.Keeping.{Keeps, AreNearInEach};
-ghost use Rattle.pubsub_engine.specs.BuiltIn.{demo_fields};
+ghost use Rattle.pubsub_engine.specs.BuiltIn.{demo_fields, demo_meta};
 ghost use Rattle.pubsub_engine.specs.Reading.{arrivals, messages_at, kept_at, held_by, HeldRow};
 ghost use Rattle.pubsub_engine.specs.Holding.{SampleRows, IsPublished};
 
@@ -22,7 +22,7 @@ pub fn a_journal_has_one_run()
 /// what *Records* says of these items: key frames, delta frames and keep-alives. A message without a number or of another major
 /// version gives none. Bytes are read as messages of the data set (`what_is_read_fits` of `frame_codec`).
 pub fn near_arrivals_are_kept()
-    ensures { (steps : List Step) → All (IsMessage demo_fields) (messages_at steps) → AreNearInEach (arrivals steps) → Keeps (arrivals steps) (kept_at steps) }
+    ensures { (steps : List Step) → All (IsFrame demo_meta) (messages_at steps) → AreNearInEach (arrivals steps) → Keeps (arrivals steps) (kept_at steps) }
 {
     a_run_keeps_records();
 }

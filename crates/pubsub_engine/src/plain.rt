@@ -1,7 +1,8 @@
 //! A data set that one thread at a time writes and samples.
 ghost use Rattle.std.specs.Prelude.{◌≡◌, ◌≤◌, ◌<◌, ◌+◌, ◌++◌, ◌∷◌, [], IfOk, vec_len, vec_capacity};
 ghost use Rattle.row_words.specs.Belonging.{Belongs, row_in};
-ghost use Rattle.pubsub_engine.specs.BuiltIn.{demo_fields};
+ghost use Rattle.pubsub_engine.specs.BuiltIn.{demo_fields, demo_meta};
+ghost use Rattle.pubsub_engine.specs.Props.{Belongs-prop};
 
 use crate::Sampled;
 use crate::built_in::opening;
@@ -19,7 +20,7 @@ pub struct Plain {
     pub threads: Vec<u8>,
     /// Writes that may still come.
     pub left: u32,
-    ghost belongs: { Belongs demo_fields row.words },
+    ghost belongs: { Belongs demo_meta row.words } by { Belongs-prop demo_meta row.words },
     ghost room: { vec_len threads + left ≤ vec_capacity threads },
 }
 
@@ -46,7 +47,7 @@ impl Plain {
     pub fn write(&mut self, meta: &Meta, thread: u8, patch: &Patch) -> u64
         requires left { 0 < self.old.left }
         requires meta { meta.now ≡ demo_meta }
-        requires patch { IsPatchOf demo_fields patch.now }
+        requires patch { IsPatchOf demo_meta patch.now }
         ensures row { row_in demo_fields self.new.row.words ≡ patched (row_in demo_fields self.old.row.words) (patch_in demo_fields patch.now) }
         ensures threads { self.new.threads.items ≡ self.old.threads.items ++ thread ∷ [] }
         ensures version { result ≡ vec_len self.old.threads + 1 }

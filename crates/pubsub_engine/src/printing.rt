@@ -1,6 +1,7 @@
 //! The report of a closed session.
 ghost use Rattle.std.specs.Prelude.{◌≡◌, ◌++◌, ◌+◌, ◌∷◌, [], ℕ, List, IfOk, IsOk, OnOk, string_bytes, codes, ◌<◌, slice_index_or};
 ghost use Rattle.ua_values.specs.declared.value.Value.TheVariants.{UInt32};
+ghost use Rattle.pubsub_model.specs.Goods.{good};
 ghost use Rattle.row_words.specs.Belonging.{Belongs, row_in};
 ghost use Rattle.pubsub_engine.specs.BuiltIn.{demo_fields, demo_meta};
 ghost use Rattle.pubsub_engine.specs.Report.{state_text, why_text, threads_text, log_text, breaks_text, number_or_dash, number_of, fields_text, held_text, history_line, group_line, writer_line, read_group_line, reader_line, gaps_line, link_line, end_line, report_text};
@@ -88,9 +89,9 @@ fn put_number(out: &mut String, number: Option<u64>) -> Result<(), NoMemory>
 /// The number in a field.
 fn number_at(meta: &Meta, row: &Row, index: u8) -> u32
     requires meta { meta.now ≡ demo_meta }
-    requires row { Belongs demo_fields row.now.words }
+    requires row { Belongs demo_meta row.now.words }
     requires index { index < 4 }
-    ensures { result ≡ number_of (slice_index_or (row_in demo_fields row.now.words) index (UInt32 0)) }
+    ensures { result ≡ number_of (slice_index_or (row_in demo_fields row.now.words) index (good (UInt32 0))).value }
 {
     match row.field(meta, index) {
         Value::UInt32(number) => number,
@@ -100,7 +101,7 @@ fn number_at(meta: &Meta, row: &Row, index: u8) -> u32
 
 fn put_fields(out: &mut String, meta: &Meta, row: &Row) -> Result<(), NoMemory>
     requires meta { meta.now ≡ demo_meta }
-    requires row { Belongs demo_fields row.now.words }
+    requires row { Belongs demo_meta row.now.words }
     ensures { OnOk result (string_bytes out.new ≡ string_bytes out.old ++ fields_text (row_in demo_fields row.now.words)) }
 {
     let a = number_at(meta, row, 0);

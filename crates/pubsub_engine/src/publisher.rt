@@ -1,22 +1,22 @@
 //! The publishing side: the turns of the writer group, and its writer.
-ghost use Rattle.std.specs.Prelude.{◌≡◌, ◌≤◌, ◌<◌, ◌+◌, ◌*◌, ◌-◌, ◌++◌, ◌∷◌, ◌^◌, ◌||◌, take, false, [], IsTrue, IfOk, List, Option, option_map, vec_len, nat_le, if◌then◌else◌};
-ghost use Rattle.seq_number.specs.Numbers.{wire};
+ghost use Rattle.std.specs.Prelude.{◌≡◌, ◌≤◌, ◌<◌, ◌+◌, ◌*◌, ◌-◌, ◌++◌, ◌∷◌, ◌^◌, ◌||◌, take, true, false, [], IsTrue, IfOk, List, Option, option_map, vec_len, nat_le, if◌then◌else◌, IsSome};
+ghost use Rattle.seq_number.specs.Numbers.{number_of_place};
 ghost use Rattle.ua_base.specs.Journal.{Tells};
-ghost use Rattle.pubsub_model.specs.Frames.{Frame as ModelFrame};
-ghost use Rattle.pubsub_model.specs.Cadence.{Deed};
-ghost use Rattle.frame_codec.specs.Messages.{IsFrameOf, message_in};
-ghost use Rattle.dataset_writer.specs.Sending.{message_sent, IsTurnOf};
-ghost use Rattle.dataset_writer.specs.Standing.{IsWriter, HoldsRowOf};
+ghost use Rattle.ua_base.specs.Links.{KeepsLink};
+ghost use Rattle.pubsub_model.specs.Frames.{PlacedFrame};
+ghost use Rattle.pubsub_model.specs.Cadence.{WriterDeed};
+ghost use Rattle.frame_codec.specs.Words.{IsFrameOf, frame_in};
+ghost use Rattle.dataset_writer.specs.Standing.{IsWriter, HoldsRowOf, frame_of_turn, lent};
 ghost use Rattle.pubsub_engine.specs.Steps.{Step};
 ghost use Rattle.pubsub_engine.specs.BuiltIn.{demo_fields, demo_meta, demo_settings};
+ghost use Rattle.pubsub_engine.specs.Props.{HoldsRowOf-prop};
 ghost use Rattle.pubsub_engine.specs.Datagram.{datagram, demo_message};
 ghost use Rattle.pubsub_engine.specs.Samples.{sample_of};
 
 use crate::Sampled;
 use crate::datagram::{DATAGRAM_LEN, write_datagram};
 use dataset_meta::Meta;
-use dataset_writer::{Turn, Writer, WriterSettings};
-use frame_codec::Frame;
+use dataset_writer::{Writer, WriterSettings};
 use std::alloc::Global;
 use ua_base::{Link, NoMemory, Sent, Ticked};
 
@@ -53,7 +53,7 @@ pub struct Publisher {
     buffer: Vec<u8>,
     ghost long: { vec_len buffer ≡ 2058 },
     ghost ordered: { last ≤ moment },
-    ghost belongs: { HoldsRowOf demo_fields writer },
+    ghost belongs: { HoldsRowOf demo_meta writer } by { HoldsRowOf-prop demo_meta writer },
     ghost room: { left ≤ writer.left },
     ghost time: { moment + left * 3600000 < 2 ^ 64 },
 }
@@ -93,7 +93,7 @@ impl Publisher {
         sampled: &Sampled,
         link: &mut L,
     ) -> Ticked
-        requires open { IsTrue (L.is_open link.old) }
+        requires open { IsSome (L.opened_with link.old) }
         requires left { 0 < self.old.left }
         requires short { ms ≤ 3600000 }
         requires meta { meta.now ≡ demo_meta }
@@ -101,11 +101,9 @@ impl Publisher {
             → IsPublisher steps self.old.moment self.old.last self.old.writer self.old.sequence → HasSent steps self.old.sent self.old.failed self.old.failing
             → Ticks steps ms closing (sample_of sampled.now ∷ []) self.new.moment self.new.last self.new.writer self.new.sequence self.new.sent self.new.failed self.new.failing (L.told link.old) (L.told link.new) }
         ensures left { result ≡ Ticked.Done → self.new.left + 1 ≡ self.old.left }
-        ensures memory { result ≡ Ticked.Memory → IsTrue (L.takes_memory link.old) }
+        ensures memory { result ≡ Ticked.Memory → IsTrue L.takes_memory }
         ensures kept { result ≡ Ticked.Memory → (self.new.moment ≡ self.old.moment + ms) × SentNothing self.old.last self.old.sequence self.old.sent self.old.failed self.new.last self.new.sequence self.new.sent self.new.failed }
-        ensures open { L.is_open link.new ≡ L.is_open link.old }
-        ensures memory_stays { L.takes_memory link.new ≡ L.takes_memory link.old }
-        ensures faults { L.faults link.old ≤ L.faults link.new }
+        ensures link { KeepsLink L.opened_with L.faults link.old link.new }
         ensures untold { result ≡ Ticked.Memory → Tells (L.told link.old) (L.told link.new) (λ before after. after.journal ≡ before.journal) }
     {
         self.left -= 1;
@@ -132,24 +130,22 @@ impl Publisher {
         sampled: &Sampled,
         link: &mut L,
     ) -> Ticked
-        requires open { IsTrue (L.is_open link.old) }
+        requires open { IsSome (L.opened_with link.old) }
         requires meta { meta.now ≡ demo_meta }
         requires room { self.old.left < self.old.writer.left }
         requires unfailing { self.old.failing ≡ false }
-        ensures done { result ≡ Ticked.Done → (past : List Deed) → IsWriter demo_fields demo_settings past self.old.writer
+        ensures done { result ≡ Ticked.Done → (past : List WriterDeed) → IsWriter demo_meta demo_settings past self.old.writer
             → Publishes past (writer_turn self.old.moment closing (sample_of sampled.now)) self.new.writer self.old.sequence self.new.sequence self.old.sent self.new.sent self.old.failed self.new.failed self.new.failing (L.told link.old) (L.told link.new) }
         ensures moments { result ≡ Ticked.Done → (self.new.moment ≡ self.old.moment) × (self.new.last ≡ (if closing then self.old.last else self.old.moment)) × (self.new.left ≡ self.old.left) }
-        ensures memory { result ≡ Ticked.Memory → IsTrue (L.takes_memory link.old) }
+        ensures memory { result ≡ Ticked.Memory → IsTrue L.takes_memory }
         ensures kept { result ≡ Ticked.Memory → (self.new.moment ≡ self.old.moment) × SentNothing self.old.last self.old.sequence self.old.sent self.old.failed self.new.last self.new.sequence self.new.sent self.new.failed }
-        ensures open { L.is_open link.new ≡ L.is_open link.old }
-        ensures memory_stays { L.takes_memory link.new ≡ L.takes_memory link.old }
-        ensures faults { L.faults link.old ≤ L.faults link.new }
+        ensures link { KeepsLink L.opened_with L.faults link.old link.new }
         ensures untold { result ≡ Ticked.Memory → Tells (L.told link.old) (L.told link.new) (λ before after. after.journal ≡ before.journal) }
     {
-        let turn = self
+        let sends = self
             .writer
-            .turn(meta, self.moment, &sampled.row, sampled.version, closing);
-        let Ticked::Done = self.send_turn(meta, &turn, link) else {
+            .answer(meta, self.moment, &sampled.row, sampled.version, closing);
+        let Ticked::Done = self.send_turn(meta, sends, link) else {
             return Ticked::Memory;
         };
         self.last = last_turn(closing, self.last, self.moment);
@@ -157,43 +153,41 @@ impl Publisher {
     }
 
     /// Sends what the writer answered its turn, if it is a frame.
-    fn send_turn<L: Link>(&mut self, meta: &Meta, turn: &Turn, link: &mut L) -> Ticked
-        requires open { IsTrue (L.is_open link.old) }
+    fn send_turn<L: Link>(&mut self, meta: &Meta, sends: bool, link: &mut L) -> Ticked
+        requires open { IsSome (L.opened_with link.old) }
         requires meta { meta.now ≡ demo_meta }
-        requires turn { IsTurnOf demo_fields turn.now }
+        requires frame { sends ≡ true → IsFrameOf demo_meta (frame_of_turn self.old.writer) }
         requires unfailing { self.old.failing ≡ false }
-        ensures done { result ≡ Ticked.Done → (answer : Option ModelFrame) → message_sent demo_fields turn.now ≡ option_map demo_message answer
+        ensures done { result ≡ Ticked.Done → (answer : Option PlacedFrame) → option_map (frame_in demo_fields) (lent sends self.old.writer) ≡ option_map demo_message answer
             → SendsAnswer answer self.old.sequence self.new.sequence self.old.sent self.new.sent self.old.failed self.new.failed self.new.failing (L.told link.old) (L.told link.new) }
         ensures others { (self.new.moment ≡ self.old.moment) × (self.new.last ≡ self.old.last) × (self.new.writer ≡ self.old.writer) × (self.new.left ≡ self.old.left) }
-        ensures memory { result ≡ Ticked.Memory → IsTrue (L.takes_memory link.old) }
+        ensures memory { result ≡ Ticked.Memory → IsTrue L.takes_memory }
         ensures kept { result ≡ Ticked.Memory → (self.new.sequence ≡ self.old.sequence) × (self.new.sent ≡ self.old.sent) × (self.new.failed ≡ self.old.failed) }
-        ensures open { L.is_open link.new ≡ L.is_open link.old }
-        ensures memory_stays { L.takes_memory link.new ≡ L.takes_memory link.old }
-        ensures faults { L.faults link.old ≤ L.faults link.new }
+        ensures link { KeepsLink L.opened_with L.faults link.old link.new }
         ensures untold { result ≡ Ticked.Memory → Tells (L.told link.old) (L.told link.new) (λ before after. after.journal ≡ before.journal) }
     {
         let _sequence = self.sequence;
-        match turn {
-            Turn::Send(frame) => self.send_frame(meta, frame, link),
-            Turn::Quiet => Ticked::Done,
+        if sends {
+            self.send_frame(meta, link)
+        } else {
+            Ticked::Done
         }
     }
 
-    /// Sends the datagram of a frame.
-    fn send_frame<L: Link>(&mut self, meta: &Meta, frame: &Frame, link: &mut L) -> Ticked
-        requires open { IsTrue (L.is_open link.old) }
+    /// Sends the datagram of the writer's frame.
+    fn send_frame<L: Link>(&mut self, meta: &Meta, link: &mut L) -> Ticked
+        requires open { IsSome (L.opened_with link.old) }
         requires meta { meta.now ≡ demo_meta }
-        requires frame { IsFrameOf demo_fields frame.now }
-        ensures done { result ≡ Ticked.Done → Sends (datagram self.old.sequence (message_in demo_fields frame.now) ∷ []) self.old.sent self.new.sent self.old.failed self.new.failed self.new.failing (L.told link.old) (L.told link.new) }
-        ensures sequence { result ≡ Ticked.Done → self.new.sequence ≡ wire (self.old.sequence + 1) }
+        requires frame { IsFrameOf demo_meta (frame_of_turn self.old.writer) }
+        ensures done { result ≡ Ticked.Done → Sends (datagram self.old.sequence (frame_in demo_fields (frame_of_turn self.old.writer)) ∷ []) self.old.sent self.new.sent self.old.failed self.new.failed self.new.failing (L.told link.old) (L.told link.new) }
+        ensures sequence { result ≡ Ticked.Done → self.new.sequence ≡ number_of_place (self.old.sequence + 1) }
         ensures others { (self.new.moment ≡ self.old.moment) × (self.new.last ≡ self.old.last) × (self.new.writer ≡ self.old.writer) × (self.new.left ≡ self.old.left) }
-        ensures memory { result ≡ Ticked.Memory → IsTrue (L.takes_memory link.old) }
+        ensures memory { result ≡ Ticked.Memory → IsTrue L.takes_memory }
         ensures kept { result ≡ Ticked.Memory → (self.new.sequence ≡ self.old.sequence) × (self.new.sent ≡ self.old.sent) × (self.new.failed ≡ self.old.failed) }
-        ensures open { L.is_open link.new ≡ L.is_open link.old }
-        ensures memory_stays { L.takes_memory link.new ≡ L.takes_memory link.old }
-        ensures faults { L.faults link.old ≤ L.faults link.new }
+        ensures link { KeepsLink L.opened_with L.faults link.old link.new }
         ensures untold { result ≡ Ticked.Memory → Tells (L.told link.old) (L.told link.new) (λ before after. after.journal ≡ before.journal) }
     {
+        let frame = self.writer.frame();
         let len = write_datagram(&mut self.buffer, meta, self.sequence, frame);
         let Ticked::Done = self.send(len, link) else {
             return Ticked::Memory;
@@ -204,15 +198,13 @@ impl Publisher {
 
     /// Sends the datagram of this length that is in the buffer, and counts how that ended.
     fn send<L: Link>(&mut self, len: usize, link: &mut L) -> Ticked
-        requires open { IsTrue (L.is_open link.old) }
+        requires open { IsSome (L.opened_with link.old) }
         requires within { len ≤ 2058 }
         ensures done { result ≡ Ticked.Done → Sends (take len self.old.buffer.items ∷ []) self.old.sent self.new.sent self.old.failed self.new.failed self.new.failing (L.told link.old) (L.told link.new) }
         ensures others { (self.new.moment ≡ self.old.moment) × (self.new.last ≡ self.old.last) × (self.new.writer ≡ self.old.writer) × (self.new.sequence ≡ self.old.sequence) × (self.new.left ≡ self.old.left) }
-        ensures memory { result ≡ Ticked.Memory → IsTrue (L.takes_memory link.old) }
+        ensures memory { result ≡ Ticked.Memory → IsTrue L.takes_memory }
         ensures kept { result ≡ Ticked.Memory → (self.new.sent ≡ self.old.sent) × (self.new.failed ≡ self.old.failed) }
-        ensures open { L.is_open link.new ≡ L.is_open link.old }
-        ensures memory_stays { L.takes_memory link.new ≡ L.takes_memory link.old }
-        ensures faults { L.faults link.old ≤ L.faults link.new }
+        ensures link { KeepsLink L.opened_with L.faults link.old link.new }
         ensures untold { result ≡ Ticked.Memory → Tells (L.told link.old) (L.told link.new) (λ before after. after.journal ≡ before.journal) }
     {
         match link.send(&self.buffer[..len]) {

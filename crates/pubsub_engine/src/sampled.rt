@@ -1,6 +1,7 @@
 //! What a tick sees of a data set.
 ghost use Rattle.row_words.specs.Belonging.{Belongs};
-ghost use Rattle.pubsub_engine.specs.BuiltIn.{demo_fields};
+ghost use Rattle.pubsub_engine.specs.BuiltIn.{demo_fields, demo_meta};
+ghost use Rattle.pubsub_engine.specs.Props.{Belongs-prop};
 
 use row_words::Row;
 
@@ -9,5 +10,5 @@ use row_words::Row;
 pub struct Sampled {
     pub version: u64,
     pub row: Row,
-    ghost belongs: { Belongs demo_fields row.words },
+    ghost belongs: { Belongs demo_meta row.words } by { Belongs-prop demo_meta row.words },
 }

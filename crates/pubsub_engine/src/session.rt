@@ -1,6 +1,7 @@
 //! A session over a link: samples, ticks and pumps.
-ghost use Rattle.std.specs.Prelude.{◌≡◌, ◌≤◌, ◌<◌, ◌+◌, ◌∷◌, ◌↔◌, [], IsTrue, IfOk, ℕ, List, Bool, Option, Some, count_by, length, vec_len};
+ghost use Rattle.std.specs.Prelude.{◌≡◌, ◌≤◌, ◌<◌, ◌+◌, ◌∷◌, ◌↔◌, [], IsTrue, IfOk, ℕ, List, Bool, Option, Some, count_by, length, vec_len, IsSome};
 ghost use Rattle.ua_base.specs.Journal.{Wire, Entry, Tells};
+ghost use Rattle.ua_base.specs.Links.{KeepsLink};
 ghost use Rattle.row_words.specs.Belonging.{row_in};
 ghost use Rattle.pubsub_engine.specs.BuiltIn.{demo_fields, demo_meta};
 ghost use Rattle.pubsub_engine.specs.Samples.{sample_of};
@@ -65,23 +66,21 @@ impl Session {
     /// A tick with the last sample: the moment rises by `ms` milliseconds, and where the writer group is due,
     /// or the tick is the closing one, it has its turn and its datagrams are sent.
     pub fn tick<L: Link>(&mut self, ms: u64, closing: bool, link: &mut L) -> Ticked
-        requires open { IsTrue (L.is_open link.old) }
+        requires open { IsSome (L.opened_with link.old) }
         requires left { 0 < self.old.publisher.left }
         requires short { ms ≤ 3600000 }
         ensures stands { result ≡ Ticked.Done → (steps : List Step) → Stands steps (L.told link.old) self.old
             → (done : List Bool) × Stands (Tick ms closing (sample_of self.old.sampled ∷ []) done ∷ steps) (L.told link.new) self.new }
         ensures sampled { self.new.sampled ≡ self.old.sampled }
         ensures left { result ≡ Ticked.Done → self.new.publisher.left + 1 ≡ self.old.publisher.left }
-        ensures memory { result ≡ Ticked.Memory → IsTrue (L.takes_memory link.old) }
+        ensures memory { result ≡ Ticked.Memory → IsTrue L.takes_memory }
 
         // After want of memory the moment has risen and the writer has had its turn, and nothing was sent.
         ensures kept { result ≡ Ticked.Memory → (self.new.publisher.moment ≡ self.old.publisher.moment + ms)
             × SentNothing self.old.publisher.last self.old.publisher.sequence self.old.publisher.sent self.old.publisher.failed
             self.new.publisher.last self.new.publisher.sequence self.new.publisher.sent self.new.publisher.failed }
         ensures subscriber { (self.new.subscriber ≡ self.old.subscriber) × (self.new.limit ≡ self.old.limit) }
-        ensures open { L.is_open link.new ≡ L.is_open link.old }
-        ensures memory_stays { L.takes_memory link.new ≡ L.takes_memory link.old }
-        ensures faults { L.faults link.old ≤ L.faults link.new }
+        ensures link { KeepsLink L.opened_with L.faults link.old link.new }
         ensures untold { result ≡ Ticked.Memory → Tells (L.told link.old) (L.told link.new) (λ before after. after.journal ≡ before.journal) }
     {
         self.publisher
@@ -90,15 +89,13 @@ impl Session {
 
     /// Receives what came, until nothing waits, a receive fails or 65,536 datagrams were taken.
     pub fn pump<L: Link>(&mut self, link: &mut L) -> Pumped
-        requires { IsTrue (L.is_open link.old) }
+        requires { IsSome (L.opened_with link.old) }
         ensures stands { (steps : List Step) → Stands steps (L.told link.old) self.old
             → (entries : List Entry) × Stands (Pump entries ∷ steps) (L.told link.new) self.new × (result.taken ≡ count_by is_datagram entries) }
         ensures limit { IsTrue result.limit ↔ (result.taken ≡ 65536) }
         ensures sampled { self.new.sampled ≡ self.old.sampled }
         ensures left { self.new.publisher.left ≡ self.old.publisher.left }
-        ensures open { L.is_open link.new ≡ L.is_open link.old }
-        ensures memory_stays { L.takes_memory link.new ≡ L.takes_memory link.old }
-        ensures faults { L.faults link.old ≤ L.faults link.new }
+        ensures link { KeepsLink L.opened_with L.faults link.old link.new }
     {
         let pumped = self.subscriber.pump(link, &self.meta, &mut self.buffer);
         if pumped.limit {

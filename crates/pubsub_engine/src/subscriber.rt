@@ -1,10 +1,12 @@
 //! The receiving side: datagrams from the link to the reader.
-ghost use Rattle.std.specs.Prelude.{◌≡◌, ◌≤◌, ◌++◌, ◌∷◌, ◌↔◌, [], List, IsTrue, length, count_by};
+ghost use Rattle.std.specs.Prelude.{◌≡◌, ◌≤◌, ◌++◌, ◌∷◌, ◌↔◌, [], List, IsTrue, length, count_by, IsSome};
 ghost use Rattle.ua_base.specs.Journal.{Tells, Entry};
+ghost use Rattle.ua_base.specs.Links.{KeepsLink};
 ghost use Rattle.dataset_reader.specs.declared.took.Numbering.{Numbering as AnyNumbering};
 ghost use Rattle.dataset_reader.specs.Reader.{numbering_of, IsReaderOf};
 ghost use Rattle.pubsub_engine.specs.Steps.{IsPump};
 ghost use Rattle.pubsub_engine.specs.BuiltIn.{demo_fields, demo_meta};
+ghost use Rattle.pubsub_engine.specs.Props.{IsReaderOf-prop};
 ghost use Rattle.pubsub_engine.specs.Reading.{is_held};
 ghost use Rattle.pubsub_engine.specs.Counts.{is_datagram};
 
@@ -32,7 +34,7 @@ pub struct Subscriber {
     /// Datagrams that were too long for the buffer.
     pub long: u64,
     ghost numbered: { numbering_of reader ≡ AnyNumbering.Message },
-    ghost belongs: { IsReaderOf demo_fields reader },
+    ghost belongs: { IsReaderOf demo_meta reader } by { IsReaderOf-prop demo_meta reader },
 }
 
 impl Subscriber {
@@ -74,13 +76,11 @@ impl Subscriber {
     /// One receive. The answer says whether a datagram was taken off the link.
     fn receive<L: Link>(&mut self, link: &mut L, meta: &Meta, buffer: &mut [u8]) -> bool
         requires meta { meta.now ≡ demo_meta }
-        requires open { IsTrue (L.is_open link.old) }
+        requires open { IsSome (L.opened_with link.old) }
         requires room { length buffer.old ≡ 65536 }
         ensures entry { (entry : Entry) × (is_datagram entry ≡ result) × IsReceive entry × TakesOne entry self.old self.new
             × Tells (L.told link.old) (L.told link.new) (λ before after. after.journal ≡ before.journal ++ entry ∷ []) }
-        ensures open { L.is_open link.new ≡ L.is_open link.old }
-        ensures memory_stays { L.takes_memory link.new ≡ L.takes_memory link.old }
-        ensures faults { L.faults link.old ≤ L.faults link.new }
+        ensures link { KeepsLink L.opened_with L.faults link.old link.new }
     {
         match link.receive(buffer) {
             Received::Datagram(len) => {
@@ -102,14 +102,12 @@ impl Subscriber {
     /// Receives until nothing waits, a receive fails or the limit is reached.
     pub fn pump<L: Link>(&mut self, link: &mut L, meta: &Meta, buffer: &mut [u8]) -> Pumped
         requires meta { meta.now ≡ demo_meta }
-        requires open { IsTrue (L.is_open link.old) }
+        requires open { IsSome (L.opened_with link.old) }
         requires room { length buffer.old ≡ 65536 }
         ensures entries { (entries : List Entry) × IsPump 65536 entries × Takes entries self.old self.new
             × (result.taken ≡ count_by is_datagram entries) × (IsTrue result.limit ↔ (result.taken ≡ 65536))
             × Tells (L.told link.old) (L.told link.new) (λ before after. after.journal ≡ before.journal ++ entries) }
-        ensures open { L.is_open link.new ≡ L.is_open link.old }
-        ensures memory_stays { L.takes_memory link.new ≡ L.takes_memory link.old }
-        ensures faults { L.faults link.old ≤ L.faults link.new }
+        ensures link { KeepsLink L.opened_with L.faults link.old link.new }
     {
         for taken in 0..PUMP_LIMIT {
             if !self.receive(link, meta, buffer) {

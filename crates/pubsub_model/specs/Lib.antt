@@ -1,3 +1,4 @@
+pub mod Goods
 pub mod History
 pub mod Frames
 pub mod Cadence

@@ -1,5 +1,5 @@
 -- What a receiver says of a message number, by the list of the numbers that it took, the latest first.
-use Rattle.std.specs.Prelude.{ℕ, ◌+◌, ◌==◌, Bool, List, [], ◌∷◌, max, nat_le, if◌then◌else◌}
+use Rattle.std.specs.Prelude.{◌≡◌, ℕ, ◌+◌, ◌==◌, Bool, List, [], ◌∷◌, max, nat_le, if◌then◌else◌}
 use Rattle.std.specs.List.{list_any}
 use Rattle.replay_window.specs.declared.seen.Seen.{Seen}
 use Rattle.replay_window.specs.declared.seen.Seen.TheVariants.{Fresh, Repeated, TooOld}
@@ -20,3 +20,8 @@ abbrev pub seen : List ℕ → ℕ → Seen
 seen taken number =
     if is_too_old taken number then TooOld (greatest taken)
     else (if is_taken taken number then Repeated else Fresh)
+
+-- each was fresh when it was taken
+abbrev pub WereFresh : List ℕ → Type 0
+WereFresh [] = Unit {0}
+WereFresh (number ∷ taken) = (seen taken number ≡ Fresh) × WereFresh taken

@@ -2,10 +2,15 @@
 #![tactic(auto)]
 
 mod bits;
+mod laws;
 mod seen;
 #[cfg(test)]
 mod tests;
 mod window;
 
+pub use laws::{
+    fresh_numbers_are_new_and_recent, fresh_numbers_are_taken_once,
+    taken_numbers_are_never_fresh_again,
+};
 pub use seen::Seen;
 pub use window::Window;

@@ -5,13 +5,15 @@ use Rattle.std.specs.Int.{bit_at, bit_not, trailing_zeros, w64}
 use Rattle.std.proofs.lemmas.Bool.{cases_eq, cases_lt}
 use Rattle.std.proofs.lemmas.Nat.{and_le_l}
 use Rattle.std.proofs.lemmas.Nat.Bits.{bit_at-trailing_zeros, bit_at_clear_same, bit_at_clear_other, bit_at_above}
-use Rattle.ua_values.specs.declared.value.Value.{Value}
+use Rattle.dataset_meta.specs.DataValues.{DataValue}
+use Rattle.dataset_meta.specs.Metas.{MetaData}
 use Rattle.dataset_meta.specs.declared.field.Field.{Field}
 use Rattle.dataset_meta.specs.Rows.{cons_if, patched}
 use Rattle.row_words.specs.declared.patch.Patch.{Patch}
 use Rattle.row_words.specs.Belonging.{row_in, spelled_row, Belongs}
 use Rattle.row_words.specs.Patches.{marked_from, patch_in, IsPatchOf, patched_words}
-use Rattle.row_words.proofs.FieldLaws.{some_value}
+use Rattle.std.specs.List.{HoldsAt}
+use Rattle.row_words.proofs.FieldLaws.{stands}
 use Rattle.row_words.proofs.PatchLaws.{marked_same, none_marked}
 
 -- the mask without its lowest mark
@@ -51,17 +53,17 @@ lowest left count some fits marks =
     }
 
 -- the first of what is marked, and the rest
-marked_first : (row : List Value) (from k at mask other : ℕ) (value : Value) → at ≡ from + k → slice_get row k ≡ Some value → bit_at mask at ≡ 1 → bit_at other at ≡ 0
+marked_first : (row : List DataValue) (from k at mask other : ℕ) (value : DataValue) → at ≡ from + k → slice_get row k ≡ Some value → bit_at mask at ≡ 1 → bit_at other at ≡ 0
     → ((j : ℕ) → j < at → bit_at mask j ≡ 0) → ((j : ℕ) → j ≢ at → bit_at other j ≡ bit_at mask j) → marked_from from mask row ≡ (at, value) ∷ marked_from from other row
 marked_first [] from k at mask other value is here set gone before same = absurd cc
 marked_first (v ∷ row) from zero at mask other value is here set gone before same =
     let here_at : at ≡ from = omega arith in
     let v_is : v ≡ value = cc in
     ap (λ (bit : ℕ). cons_if (bit == 1) (from, v) (marked_from (from + 1) mask row)) (sym (ap (bit_at mask) here_at) ∙ set)
-    ∙ ap (λ (rest : List (ℕ × Value)). (from, v) ∷ rest) (sym (marked_same row (from + 1) mask other (λ j after. let ne : j ≢ at = omega arith in same j ne)))
+    ∙ ap (λ (rest : List (ℕ × DataValue)). (from, v) ∷ rest) (sym (marked_same row (from + 1) mask other (λ j after. let ne : j ≢ at = omega arith in same j ne)))
     ∙ ap (λ (bit : ℕ). (from, v) ∷ cons_if (bit == 1) (from, v) (marked_from (from + 1) other row)) (sym (sym (ap (bit_at other) here_at) ∙ gone))
     ∙ ap (λ (i : ℕ). (i, v) ∷ marked_from from other (v ∷ row)) (sym here_at)
-    ∙ ap (λ (x : Value). (at, x) ∷ marked_from from other (v ∷ row)) v_is
+    ∙ ap (λ (x : DataValue). (at, x) ∷ marked_from from other (v ∷ row)) v_is
 marked_first (v ∷ row) from (suc k) at mask other value is here set gone before same =
     let ne : from ≢ at = omega arith in
     let unmarked = before from (omega arith) in
@@ -70,14 +72,16 @@ marked_first (v ∷ row) from (suc k) at mask other value is here set gone befor
     ∙ ap (λ (bit : ℕ). (at, value) ∷ cons_if (bit == 1) (from, v) (marked_from (from + 1) other row)) (sym (same from ne ∙ unmarked))
 
 -- one field more is laid in
-pub laid_more : (fields : List Field) (patch : Patch) (left : ℕ) (now after : List ℕ) → IsPatchOf fields patch → Lowest left (length fields)
-    → ((value : Value) → slice_get (row_in fields patch.row.words) (trailing_zeros w64 left) ≡ Some value → row_in fields after ≡ slice_set (row_in fields now) (trailing_zeros w64 left) value)
-    → patched (row_in fields after) (marked_from 0 (later left) (row_in fields patch.row.words)) ≡ patched (row_in fields now) (marked_from 0 left (row_in fields patch.row.words))
-laid_more fields patch left now after of first copied =
-    let some = some_value fields patch.row.words (trailing_zeros w64 left) of.belongs first.within in
-    ap (λ (row : List Value). patched row (marked_from 0 (later left) (row_in fields patch.row.words))) (copied some.0 some.1)
-    ∙ ap (patched (row_in fields now))
-    (sym (marked_first (row_in fields patch.row.words) 0 (trailing_zeros w64 left) (trailing_zeros w64 left) left (later left) some.0 (omega arith) some.1 first.here first.gone first.before first.others))
+pub laid_more : (meta : MetaData) (patch : Patch) (left : ℕ) (now after : List ℕ) → IsPatchOf meta patch → Lowest left (length meta.fields)
+    → HoldsAt (λ x. row_in meta.fields after ≡ slice_set (row_in meta.fields now) (trailing_zeros w64 left) x) (row_in meta.fields patch.row.words) (trailing_zeros w64 left)
+    → patched (row_in meta.fields after) (marked_from 0 (later left) (row_in meta.fields patch.row.words))
+    ≡ patched (row_in meta.fields now) (marked_from 0 left (row_in meta.fields patch.row.words))
+laid_more meta patch left now after of first copied =
+    let s = stands meta patch.row.words (trailing_zeros w64 left) of.belongs first.within in
+    ap (λ (row : List DataValue). patched row (marked_from 0 (later left) (row_in meta.fields patch.row.words)))
+    (copied s.x ∙ ap (slice_set (row_in meta.fields now) (trailing_zeros w64 left)) (s.here s.x))
+    ∙ ap (patched (row_in meta.fields now))
+    (sym (marked_first (row_in meta.fields patch.row.words) 0 (trailing_zeros w64 left) (trailing_zeros w64 left) left (later left) s.x (omega arith) s.read first.here first.gone first.before first.others))
 
 -- nothing is left to be laid in
 pub laid_all : (fields : List Field) (patch : Patch) (before now : List ℕ) (left : ℕ) → left ≡ 0
@@ -89,7 +93,7 @@ laid_all fields patch before now left none so_far =
     ∙ ap (patched (row_in fields now)) (none_marked (row_in fields patch.row.words) 0))
     ∙ so_far
 
-pub words_laid : (fields : List Field) (patch : Patch) (before now : List ℕ) → Belongs fields now → row_in fields now ≡ patched (row_in fields before) (patch_in fields patch)
-    → now ≡ patched_words fields patch before
+pub words_laid : (meta : MetaData) (patch : Patch) (before now : List ℕ) → Belongs meta now → row_in meta.fields now ≡ patched (row_in meta.fields before) (patch_in meta.fields patch)
+    → now ≡ patched_words meta.fields patch before
 unfolding patched_words
-words_laid fields patch before now belongs row = belongs.spelled ∙ ap (spelled_row fields) row
+words_laid meta patch before now belongs row = belongs.spelled ∙ ap (spelled_row meta.fields) row

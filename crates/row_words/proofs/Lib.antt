@@ -1,10 +1,14 @@
 mod DigitLaws
+mod StatusLaws
 mod ValueLaws
-mod RowLaws
+pub mod RowLaws
 mod Loops
 pub mod FieldLaws
+pub mod SettingLaws
 mod OpeningLaws
 pub mod PatchLaws
+pub mod MeaningLaws
 mod ShapeLaws
 mod LayLaws
+mod CutLaws
 pub mod ScalarLaws

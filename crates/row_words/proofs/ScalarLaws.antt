@@ -1,6 +1,6 @@
 -- Scalars, whose values take one word.
-use Rattle.std.proofs.Common.{◌≡◌, ◌≢◌, ℕ, zero, suc, ◌+◌, ◌-◌, ◌^◌, ◌<◌, true, List, [], ◌∷◌, length, take, drop, get_or, set, refl, sym, ap, ◌∙◌, subst, arith, Some}
-use Rattle.std.specs.Prelude.{slice_index, slice_get, slice_set, ◌==◌, if◌then◌else◌, FitsSigned}
+use Rattle.std.proofs.Common.{◌≡◌, ◌≢◌, ℕ, zero, suc, ◌+◌, ◌-◌, ◌^◌, ◌<◌, true, List, [], ◌∷◌, length, take, drop, get_or, set, refl, sym, ap, ◌∙◌, subst, arith}
+use Rattle.std.specs.Prelude.{slice_index, ◌==◌, if◌then◌else◌, FitsSigned}
 use Rattle.std.specs.Int.{w8, w16, w32, w64, cast_signed}
 use Rattle.std.specs.List.{HoldsAt}
 use Rattle.std.proofs.lemmas.Int.{of_z-to_z, ints}
@@ -11,11 +11,12 @@ use Rattle.ua_values.specs.declared.kind.Kind.TheVariants as kinds
 use Rattle.ua_values.specs.Values.{kind_of, size_of, IsValue}
 use Rattle.dataset_meta.specs.declared.field.Field.{Field}
 use Rattle.dataset_meta.specs.Fields.{width, width_of}
-use Rattle.dataset_meta.specs.Metas.{start_of, IsMeta}
-use Rattle.dataset_meta.specs.Rows.{FitsField}
+use Rattle.dataset_meta.specs.Metas.{start_of, IsMeta, MetaData}
 use Rattle.row_words.specs.Words.{is_scalar, IsWordOf, scalar_in, spelled_value, value_in, Spells}
 use Rattle.row_words.specs.Belonging.{row_in, Belongs}
+use Rattle.row_words.specs.Setting.{HasValue, with_value}
 use Rattle.row_words.proofs.ValueLaws.{word_of_scalar}
+use Rattle.row_words.proofs.RowLaws.{FitsIn}
 use Rattle.row_words.proofs.FieldLaws.{ReadsAs, read_part, Wrote, field_written, ends_within}
 
 -- the value in a word is one of the kind
@@ -82,8 +83,8 @@ word_back cap kinds.String word is = absurd is
 word_back cap kinds.ByteString word is = absurd is
 word_back cap kinds.Guid word is = absurd is
 
-pub FitsField-scalar_in : (field : Field) (word : ℕ) → IsWordOf field.kind word → FitsField field (scalar_in field.kind word)
-FitsField-scalar_in field word is = record {
+pub FitsIn-scalar_in : (field : Field) (word : ℕ) → IsWordOf field.kind word → FitsIn field (scalar_in field.kind word)
+FitsIn-scalar_in field word is = record {
   is_value = IsValue-scalar_in field.kind word is;
   fits = record { same_kind = kind_of-scalar_in field.kind word; within = omega (arith, size_of-scalar_in field.kind word) };
 }
@@ -139,29 +140,30 @@ pub start_within : (fields : List Field) (index : ℕ) → IsMeta fields → ind
 start_within [] index meta within scalar = absurd (omega arith)
 start_within (first ∷ fields) index meta within scalar =
     let field = get_or (first ∷ fields) index first in
-    omega (arith, ends_within (first ∷ fields) index field meta within (same_at (first ∷ fields) index first field within), width-scalar field.kind field.cap (scalar first))
+    omega (arith, meta.narrow, ends_within (first ∷ fields) index field meta within (same_at (first ∷ fields) index first field within), width-scalar field.kind field.cap (scalar first))
 
 -- what is read at a scalar field
 pub record ReadsWord (fields : List Field) (words : List ℕ) (index got : ℕ) : Type 0 where
   pub word : HoldsAt (λ field. IsWordOf field.kind got) fields index
-  pub value : HoldsAt (λ field. slice_get (row_in fields words) index ≡ Some (scalar_in field.kind got)) fields index
+  pub value : HoldsAt (λ field. HasValue (row_in fields words) index (scalar_in field.kind got)) fields index
 
-pub word_read : (fields : List Field) (words : List ℕ) (index start : ℕ) → IsMeta fields → Belongs fields words → index < length fields
-    → HoldsAt (λ field. is_scalar field.kind ≡ true) fields index → start ≡ start_of fields index → ReadsWord fields words index (get_or words start 0)
-word_read fields words index start meta belongs within scalar begins = record {
-  word = λ d. subst (IsWordOf (get_or fields index d).kind) (word_is d) (word_of (get_or fields index d).kind (part d) (scalar d) (reads d).spells);
-  value = λ d. (reads d).value ∙ ap Some (value_in-scalar (get_or fields index d).kind (part d) (scalar d) ∙ ap (scalar_in (get_or fields index d).kind) (word_is d));
+pub word_read : (meta : MetaData) (words : List ℕ) (index start : ℕ) → IsMeta meta.fields → Belongs meta words → index < length meta.fields
+    → HoldsAt (λ field. is_scalar field.kind ≡ true) meta.fields index → start ≡ start_of meta.fields index → ReadsWord meta.fields words index (get_or words start 0)
+word_read meta words index start is belongs within scalar begins = record {
+  word = λ d. subst (IsWordOf (get_or meta.fields index d).kind) (word_is d) (word_of (get_or meta.fields index d).kind (part d) (scalar d) (reads d).spells);
+  value = λ d e. (reads d).value e
+      ∙ (value_in-scalar (get_or meta.fields index d).kind (part d) (scalar d) ∙ ap (scalar_in (get_or meta.fields index d).kind) (word_is d));
 }
   where
     part : Field → List ℕ
-    part d = take (width_of (get_or fields index d)) (drop (start_of fields index) words)
+    part d = take (width_of (get_or meta.fields index d)) (drop (start_of meta.fields index) words)
 
-    reads : (d : Field) → ReadsAs fields words index (get_or fields index d) (part d)
-    reads d = read_part fields words index (get_or fields index d) meta belongs within (same_at fields index d (get_or fields index d) within)
+    reads : (d : Field) → ReadsAs meta.fields words index (get_or meta.fields index d) (part d)
+    reads d = read_part meta words index (get_or meta.fields index d) is belongs within (same_at meta.fields index d (get_or meta.fields index d) within)
 
     word_is : (d : Field) → slice_index (part d) 0 ≡ get_or words start 0
-    word_is d = ap (λ (n : ℕ). slice_index (take n (drop (start_of fields index) words)) 0) (width-scalar (get_or fields index d).kind (get_or fields index d).cap (scalar d))
-        ∙ first_of_part words (start_of fields index) ∙ ap (λ (n : ℕ). get_or words n 0) (sym begins)
+    word_is d = ap (λ (n : ℕ). slice_index (take n (drop (start_of meta.fields index) words)) 0) (width-scalar (get_or meta.fields index d).kind (get_or meta.fields index d).cap (scalar d))
+        ∙ first_of_part words (start_of meta.fields index) ∙ ap (λ (n : ℕ). get_or words n 0) (sym begins)
 
 -- one word in place of another
 one_set : (words : List ℕ) (start word : ℕ) → start < length words → put_mid start 1 words (word ∷ []) ≡ set words start word
@@ -169,24 +171,28 @@ one_set [] start word within = absurd (omega arith)
 one_set (old ∷ words) zero word within = refl
 one_set (old ∷ words) (suc start) word within = ap (λ (ws : List ℕ). old ∷ ws) (one_set words start word (omega arith))
 
--- what is written over a scalar field
-pub record WroteWord (fields : List Field) (words : List ℕ) (index word : ℕ) (after : List ℕ) : Type 0 where
-  pub belongs : Belongs fields after
-  pub set : HoldsAt (λ field. row_in fields after ≡ slice_set (row_in fields words) index (scalar_in field.kind word)) fields index
+-- there is a field at each index of one
+some_field : (fields : List Field) (index : ℕ) → index < length fields → Field
+some_field [] index within = absurd (omega arith)
+some_field (first ∷ fields) index within = first
 
-pub word_written : (fields : List Field) (words : List ℕ) (index start word : ℕ) → IsMeta fields → Belongs fields words → index < length fields
-    → HoldsAt (λ field. IsWordOf field.kind word) fields index → start ≡ start_of fields index → WroteWord fields words index word (set words start word)
-word_written [] words index start word meta belongs within is begins = absurd (omega arith)
-word_written (first ∷ fields) words index start word meta belongs within is begins = record { belongs = (wrote first).belongs; set = λ d. (wrote d).set }
+-- what is written over a scalar field
+pub record WroteWord (meta : MetaData) (words : List ℕ) (index word : ℕ) (after : List ℕ) : Type 0 where
+  pub belongs : Belongs meta after
+  pub set : HoldsAt (λ field. row_in meta.fields after ≡ with_value (row_in meta.fields words) index (scalar_in field.kind word)) meta.fields index
+
+pub word_written : (meta : MetaData) (words : List ℕ) (index start word : ℕ) → IsMeta meta.fields → Belongs meta words → index < length meta.fields
+    → HoldsAt (λ field. IsWordOf field.kind word) meta.fields index → start ≡ start_of meta.fields index → WroteWord meta words index word (set words start word)
+word_written meta words index start word is belongs within of begins = record { belongs = (wrote (some_field meta.fields index within)).belongs; set = λ d. (wrote d).set }
   where
-    wrote : (d : Field) → Wrote (first ∷ fields) words index (scalar_in (get_or (first ∷ fields) index d).kind word) (set words start word)
+    wrote : (d : Field) → Wrote meta words index (scalar_in (get_or meta.fields index d).kind word) (set words start word)
     wrote d =
-        let all = first ∷ fields in
+        let all = meta.fields in
         let field = get_or all index d in
-        let scalar = is_scalar-word field.kind word (is d) in
+        let scalar = is_scalar-word field.kind word (of d) in
         let wide : 1 ≡ width_of field = sym (width-scalar field.kind field.cap scalar) in
-        let room : start < length words = omega (arith, begins, belongs.whole, start_within all index meta within (λ e. is_scalar-word (get_or all index e).kind word (is e))) in
+        let room : start < length words = omega (arith, begins, belongs.whole, start_within all index is within (λ e. is_scalar-word (get_or all index e).kind word (of e))) in
         let one : (start + 1) - start ≡ 1 = omega arith in
-        subst (Wrote all words index (scalar_in field.kind word)) (ap (λ (k : ℕ). put_mid start k words (word ∷ [])) one ∙ one_set words start word room)
-        (field_written all words index field (scalar_in field.kind word) start 1 (word ∷ []) meta belongs within (same_at all index d field within) (FitsField-scalar_in field word (is d)) begins wide
-        (word_back field.cap field.kind word (is d)))
+        subst (Wrote meta words index (scalar_in field.kind word)) (ap (λ (k : ℕ). put_mid start k words (word ∷ [])) one ∙ one_set words start word room)
+        (field_written meta words index field (scalar_in field.kind word) start 1 (word ∷ []) is belongs within (same_at all index d field within) (FitsIn-scalar_in field word (of d)) begins wide
+        (word_back field.cap field.kind word (of d)))

@@ -10,6 +10,8 @@ mod reading;
 mod row;
 mod scalar;
 mod statuses;
+#[cfg(test)]
+mod tests;
 mod writing;
 
 pub use laws::{

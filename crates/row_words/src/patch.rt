@@ -45,8 +45,7 @@ impl Patch {
             ≡ put_in (patch_in meta.now.fields self.old) index (record { value = value.now; status = status }) }
     {
         prove!(usize::from(index) < meta.fields().len());
-        self.row.set(meta, index, value);
-        self.row.set_status(meta, index, status);
+        self.row.set_with_status(meta, index, value, status);
         self.mask |= 1 << index;
     }
 

@@ -18,7 +18,7 @@ pub struct Row {
 }
 
 impl Row {
-    ghost use Rattle.std.specs.Prelude.{◌≡◌, ◌<◌, true, List, length, replicate};
+    ghost use Rattle.std.specs.Prelude.{◌≡◌, ◌<◌, true, List, length, replicate, slice_set};
     ghost use Rattle.std.specs.List.{HoldsAt};
     ghost use Rattle.ua_values.specs.Values.{Fits};
     ghost use Rattle.dataset_meta.specs.declared.field.Field.{Field};
@@ -88,8 +88,26 @@ impl Row {
         ensures set { row_in meta.now.fields self.new.words
             ≡ with_status (row_in meta.now.fields self.old.words) index status }
     {
+        prove!(usize::from(index) < meta.fields().len());
         let place = status_place(meta, index);
         self.words[place] = with_status(self.words[place], index, status);
+    }
+
+    /// Sets the value and the status of the field at this index, and leaves the other fields.
+    #[inline(always)]
+    pub fn set_with_status(&mut self, meta: &Meta, index: u8, value: &Value, status: u32)
+        requires belongs { Belongs meta.now self.old.words }
+        requires index { index < length meta.now.fields }
+        requires fits { HoldsAt (λ field. Fits value.now field.kind field.cap) meta.now.fields index }
+        requires status { IsStatus meta.now.quality status }
+        ensures belongs { Belongs meta.now self.new.words }
+        ensures set { row_in meta.now.fields self.new.words
+            ≡ slice_set (row_in meta.now.fields self.old.words) index (record { value = value.now; status = status }) }
+    {
+        self.set(meta, index, value);
+        if meta.quality() {
+            self.set_status(meta, index, status);
+        }
     }
 
     /// The word of the scalar field at this index, which is all that its value takes.
@@ -128,15 +146,13 @@ impl Row {
         ensures row { row_in short.now.fields result.words ≡ row_cut short.now (row_in full.now.fields self.now.words) }
         ensures words { result.words ≡ cut_words short.now full.now self.now.words }
     {
+        prove!(full.fields().len() <= 64);
+        let count = short.fields().len();
+        let start = short.value_words() as usize;
         let mut row = Row::opening();
-        let values = short.value_words() as usize;
-        row.words[..values].copy_from_slice(&self.words[..values]);
-        let statuses = full.value_words() as usize;
-        cut_statuses(
-            &mut row.words[values..],
-            &self.words[statuses..],
-            short.fields().len(),
-        );
+        let (values, statuses) = row.words.split_at_mut(start);
+        values.copy_from_slice(&self.words[..start]);
+        cut_statuses(statuses, &self.words[full.value_words() as usize..], count);
         row
     }
 }

@@ -1,11 +1,6 @@
 pub mod Causes
-pub mod Counted
-pub mod Decimals
-pub mod Gots
 pub mod Honest
-pub mod Journals
-pub mod Named
+pub mod Links
 pub mod Ordinary
 pub mod Outputs
 pub mod Told
-pub mod Written

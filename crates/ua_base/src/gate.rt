@@ -7,13 +7,3 @@ pub trait Gate: Sync {
 
     fn after<R: Wait>(&self, rt: &R, thread: u32, k: u32);
 }
-
-/// A gate that holds nobody.
-#[derive(Clone, Copy)]
-pub struct OpenGate;
-
-impl Gate for OpenGate {
-    fn before<R: Wait>(&self, _rt: &R, _thread: u32, _k: u32) {}
-
-    fn after<R: Wait>(&self, _rt: &R, _thread: u32, _k: u32) {}
-}

@@ -1,13 +1,24 @@
-//! Laws of the outside in memory, each the contract of a function that does nothing.
-ghost use Rattle.std.specs.Prelude.{◌≡◌, Some, Contains};
+//! Laws of journals and of links, each the contract of a function that does nothing.
+ghost use Rattle.std.specs.Prelude.{◌++◌, List, Contains};
 ghost use Rattle.std.specs.List.{All};
-ghost use Rattle.ua_base.specs.declared.memory_link.MemoryLink.{MemoryLink as LinkValue};
-ghost use Rattle.ua_base.specs.Journal.{Wire, Sent, IsHonest};
-ghost use Rattle.ua_base.specs.MemoryLinks.{told_by};
+ghost use Rattle.ua_base.specs.Journal.{Entry, IsHonest, sent_list, received_list};
+ghost use Rattle.ua_base.specs.Links.{KeepsLink};
 
-/// A link in memory delivers only what was sent: each datagram that it tells as received was sent before, and so was
-/// each that waits.
-pub fn a_memory_link_is_honest()
-    ensures received { (link : LinkValue) (wire : Wire) → told_by link ≡ Some wire → IsHonest wire.journal }
-    ensures waiting { (link : LinkValue) (wire : Wire) → told_by link ≡ Some wire → All (λ datagram. Contains wire.journal (Sent datagram)) wire.waiting }
+use crate::Link;
+
+/// Of an honest journal each received datagram is one that was sent.
+pub fn what_was_received_was_sent()
+    ensures { (journal : List Entry) → IsHonest journal
+        → All (Contains (sent_list journal)) (received_list journal) }
+{}
+
+/// A journal that is honest was so at each earlier moment.
+pub fn an_honest_journal_begins_honestly()
+    ensures { (front rest : List Entry) → IsHonest (front ++ rest) → IsHonest front }
+{}
+
+/// What each of two calls in a row keeps of a link, both keep.
+pub fn calls_in_a_row_keep_a_link<L: Link>()
+    ensures { (first next last : L) → KeepsLink L.opened_with L.faults first next
+        → KeepsLink L.opened_with L.faults next last → KeepsLink L.opened_with L.faults first last }
 {}

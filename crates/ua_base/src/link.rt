@@ -1,8 +1,9 @@
 //! Datagrams.
-ghost use Rattle.std.specs.Prelude.{◌≡◌, ◌≢◌, ◌<◌, ◌^◌, List, ℕ, length, Option, Bool, true, IsTrue};
-ghost use Rattle.ua_base.specs.Cause.{HasCause};
+ghost use Rattle.std.specs.Prelude.{◌≡◌, ◌≢◌, ◌<◌, ◌^◌, ℕ, length, Option, Bool, IsTrue, IsSome, Some};
+ghost use Rattle.ua_base.specs.Cause.{HasCause, Rose};
 ghost use Rattle.ua_base.specs.Fates.{AreFates};
 ghost use Rattle.ua_base.specs.Journal.{Wire, Tells};
+ghost use Rattle.ua_base.specs.Links.{Opening, KeepsLink};
 ghost use Rattle.ua_base.specs.Net.{Opens, Sends, Queues, Receives, FitsBuffer};
 
 /// What happens to a datagram on its way. `after` is the number of a later datagram.
@@ -48,46 +49,44 @@ pub enum Received {
 
 /// Sends and receives datagrams of less than 2^32 bytes, once it is open.
 pub trait Link {
+    /// Whether a send may answer want of memory: the same for all links of the type.
+    ghost takes_memory: { Bool };
+
     /// The journal and what waits, where they are told.
     ghost told: { Self → Option Wire };
 
     /// How often the link has failed.
     ghost faults: { Self → ℕ };
 
-    /// Whether sending takes memory. No call changes it.
-    ghost takes_memory: { Self → Bool };
-
-    /// Whether it is open. Sending and receiving leave this.
-    ghost is_open: { Self → Bool };
+    /// What it was opened with; nothing before an opening that was Done.
+    ghost opened_with: { Self → Option Opening };
 
     /// Opens the link at a port. Fates name datagrams by their numbers, counted from 0 by the calls of `send`
-    /// over all openings of the link.
-    /// A link may leave them alone.
+    /// since this opening. A link may leave them alone.
     fn open(&mut self, port: u16, fates: &[(u64, Fate)]) -> Opened
         requires fates { AreFates fates.now }
         ensures empty { Tells (told self.old) (told self.new) (Opens result) }
-        ensures open { result ≡ Opened.Done → IsTrue (is_open self.new) }
-        ensures refused { result ≢ Opened.Done → (told self.new ≡ told self.old) × (is_open self.new ≡ is_open self.old) }
-        ensures memory { takes_memory self.new ≡ takes_memory self.old }
+        ensures opening { result ≡ Opened.Done
+            → opened_with self.new ≡ Some (record { port = port; fates = fates.now }) }
+        ensures refused { result ≢ Opened.Done
+            → (told self.new ≡ told self.old) × (opened_with self.new ≡ opened_with self.old) }
         ensures cause { HasCause (faults self.old) (faults self.new) (result ≡ Opened.Failed) };
 
     /// Each answer but `Memory` is an entry of the journal.
     fn send(&mut self, datagram: &[u8]) -> Sent
-        requires open { IsTrue (is_open self.old) }
+        requires open { IsSome (opened_with self.old) }
         requires short { length datagram.now < 2 ^ 32 }
         ensures entry { Tells (told self.old) (told self.new) (Sends datagram.now result) }
         ensures waiting { Tells (told self.old) (told self.new) (Queues result) }
-        ensures open { is_open self.new ≡ is_open self.old }
-        ensures memory { takes_memory self.new ≡ takes_memory self.old }
-        ensures only_where_taken { result ≡ Sent.Memory → IsTrue (takes_memory self.old) }
-        ensures cause { HasCause (faults self.old) (faults self.new) (result ≡ Sent.Failed) };
+        ensures link { KeepsLink opened_with faults self.old self.new }
+        ensures only_where_taken { result ≡ Sent.Memory → IsTrue takes_memory }
+        ensures cause { result ≡ Sent.Failed → Rose (faults self.old) (faults self.new) };
 
     /// Each answer is an entry of the journal. A datagram stands in the first bytes of `into`.
     fn receive(&mut self, into: &mut [u8]) -> Received
-        requires { IsTrue (is_open self.old) }
+        requires { IsSome (opened_with self.old) }
         ensures entry { Tells (told self.old) (told self.new) (Receives result into.new) }
         ensures sizes { FitsBuffer result into.new }
-        ensures open { is_open self.new ≡ is_open self.old }
-        ensures memory { takes_memory self.new ≡ takes_memory self.old }
-        ensures cause { HasCause (faults self.old) (faults self.new) (result ≡ Received.Failed) };
+        ensures link { KeepsLink opened_with faults self.old self.new }
+        ensures cause { result ≡ Received.Failed → Rose (faults self.old) (faults self.new) };
 }

@@ -1,1 +1,9 @@
+pub mod Blocks
+pub mod DataValues
+pub mod Faults
+pub mod Grammar
 pub mod Laying
+pub mod Masks
+pub mod Parts
+pub mod Spelled
+pub mod Values

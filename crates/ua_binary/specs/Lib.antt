@@ -1,5 +1,7 @@
+pub mod Begins
 pub mod Reading
 pub mod ReadingValues
 pub mod Spelling
 pub mod Types
+pub mod Wire
 pub mod Writing

@@ -1,5 +1,5 @@
 -- Writing from left to right.
-use Rattle.std.specs.Prelude.{◌≡◌, ℕ, ◌+◌, ◌≤◌, ◌<◌, List, ◌++◌, length, take, drop, Result, Ok, Err}
+use Rattle.std.specs.Prelude.{◌≡◌, ℕ, ◌+◌, ◌<◌, List, ◌++◌, length, take, drop, Result, Ok, Err}
 use Rattle.ua_binary.specs.declared.pen.Room.{Room}
 use Rattle.ua_binary.specs.declared.pen.Pen.{Pen}
 

@@ -1,4 +1,4 @@
--- What a header tells (OPC 10000-14, UADP NetworkMessage). Here a text and a list are their bytes.
+-- What a header tells (OPC 10000-14 7.2.4.4, UADP NetworkMessage). Here a text and a list are their bytes.
 use Rattle.std.specs.Prelude.{ℕ, Bool, List, Option, Some, None}
 use Rattle.uadp_header.specs.declared.header.PublisherId.{PublisherId}
 use Rattle.uadp_header.specs.declared.header.PublisherId.TheVariants as publishers

@@ -1,4 +1,4 @@
--- The layout of a NetworkMessage's header (OPC 10000-14, UADP NetworkMessage), part after part.
+-- The layout of a NetworkMessage's header (OPC 10000-14 7.2.4.4, UADP NetworkMessage), part after part.
 use Rattle.std.specs.Prelude.{ℕ, ℤ, pos, negsuc, zero, suc, ◌*◌, ◌/◌, ◌%◌, ◌==◌, Bool, not, ◌&&◌, ◌||◌, nat_lt, List, slice_index, Option, Some, None, Result, Ok, Err, if◌then◌else◌}
 use Rattle.std.specs.Int.{Width, w16, w32, w64, byte_len, from_le_bytes, cast_signed}
 use Rattle.std.specs.Str.{is_utf8}
@@ -98,9 +98,8 @@ abbrev pub no_group : GroupValue
 no_group = record { id = None; version = None; message_number = None; sequence = None }
 
 -- GroupFlags: bit 0 WriterGroupId, 1 GroupVersion, 2 NetworkMessageNumber, 3 SequenceNumber
-unfoldable pub group_header : Format GroupValue
-group_header = do
-  flags ← byte reserved_fault
+unfoldable pub group_numbers : ℕ → Format GroupValue
+group_numbers flags = do
   id ← when (has flags 0x01) (number w16)
   version ← when (has flags 0x02) (number w32)
   message_number ← when (has flags 0x04) (number w16)
@@ -108,7 +107,7 @@ group_header = do
   Told (record { id = id; version = version; message_number = message_number; sequence = sequence })
 
 unfoldable pub group_when : Bool → Format GroupValue
-group_when there = if there then group_header else Told no_group
+group_when there = if there then (byte reserved_fault >>= group_numbers) else Told no_group
 
 -- the PayloadHeader: a count and so many ids of two bytes, or, in a chunk, the id of its writer
 unfoldable pub payload_header : Bool → Format IdsValue
@@ -120,11 +119,12 @@ unfoldable pub ids_when : Bool → Bool → Format IdsValue
 ids_when there chunk = if there then payload_header chunk else Told NoIds
 
 -- the timestamp, its picoseconds, and the promoted fields behind their size
-unfoldable pub extras : ℕ → ℕ → Format (Option (List ℕ))
+unfoldable pub extras : ℕ → ℕ → Format (Unit {0})
 extras extended1 extended2 = do
   timestamp ← when (has extended1 0x20) (block 8)
   picoseconds ← when (has extended1 0x40) (block 2)
-  when (has extended2 0x02) (number w16 >>= block)
+  promoted ← when (has extended2 0x02) (number w16 >>= block)
+  Told tt
 
 -- SecurityFlags: bit 0 signed, 1 encrypted, 2 security footer, 3 force key reset; the footer's size stands last
 unfoldable pub security_header : Format SecurityValue

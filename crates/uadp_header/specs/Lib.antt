@@ -3,3 +3,4 @@ pub mod Headers
 pub mod Layout
 pub mod Spelling
 pub mod Reading
+pub mod Steps

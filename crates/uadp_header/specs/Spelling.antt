@@ -1,6 +1,6 @@
--- The one spelling of a header that a sender writes (OPC 10000-14, UADP NetworkMessage): flags that aren't needed are left out.
-use Rattle.std.specs.Prelude.{◌≡◌, ◌≢◌, ℕ, ◌+◌, ◌*◌, ◌/◌, ◌^◌, ◌<◌, ◌≤◌, ⊤, IsTrue, Bool, true, false, is_some, nat_lt, List, [], ◌∷◌, ◌++◌, length, Option, Some, None, IsSome, IfSome, if◌then◌else◌}
-use Rattle.std.specs.Int.{Width, w16, w32, w64, to_le_bytes}
+-- The one spelling of a header that a sender writes (OPC 10000-14 7.2.4.4, UADP NetworkMessage): flags that aren't needed are left out.
+use Rattle.std.specs.Prelude.{◌≡◌, ◌≢◌, ℕ, ◌+◌, ◌*◌, ◌/◌, ◌^◌, ◌<◌, ◌≤◌, ⊤, Bool, true, false, is_some, nat_lt, List, [], ◌∷◌, ◌++◌, length, Option, Some, None, IsSome, IfSome, if◌then◌else◌}
+use Rattle.std.specs.Int.{w16, w32, w64, to_le_bytes}
 use Rattle.std.specs.Str.{IsUtf8}
 use Rattle.ua_binary.specs.Spelling as binary
 use Rattle.uadp_header.specs.Headers.{PublisherValue, U8, U16, U32, U64, Text, IdsValue, NoIds, ListOf, ChunkOf, SecurityValue, HeaderValue}
@@ -65,20 +65,28 @@ flags_byte ids extended1 = 0x31 + flag ids 0x40 + flag (nat_lt 0 extended1) 0x80
 unfoldable pub flags_bytes : HeaderValue → List ℕ
 flags_bytes h = flags_byte (has_ids h.ids) (extended1_in h) ∷ extended_bytes (extended1_in h) (is_chunk h.ids)
 
--- GroupFlags and the numbers that they tell of; the WriterGroupId is always there
-unfoldable pub group_bytes : Option ℕ → Option ℕ → Option ℕ → Option ℕ → List ℕ
-group_bytes id version message_number sequence =
-    (1 + flag (is_some version) 2 + flag (is_some message_number) 4 + flag (is_some sequence) 8)
-    ∷ optional (to_le_bytes w16) id ++ optional (to_le_bytes w32) version ++ optional (to_le_bytes w16) message_number ++ optional (to_le_bytes w16) sequence
+-- GroupFlags; the WriterGroupId is always there
+abbrev pub group_flags : HeaderValue → ℕ
+group_flags h = 1 + flag (is_some h.version) 2 + flag (is_some h.message_number) 4 + flag (is_some h.sequence) 8
+
+-- GroupFlags and the numbers that they tell of
+unfoldable pub group_bytes : HeaderValue → List ℕ
+group_bytes h =
+    group_flags h ∷ optional (to_le_bytes w16) h.group ++ optional (to_le_bytes w32) h.version
+    ++ optional (to_le_bytes w16) h.message_number ++ optional (to_le_bytes w16) h.sequence
+
+-- SecurityFlags
+abbrev pub security_flags : SecurityValue → ℕ
+security_flags s = flag s.signed 1 + flag s.encrypted 2
 
 -- SecurityFlags, SecurityTokenId, and the nonce behind its length
 unfoldable pub security_bytes : SecurityValue → List ℕ
-security_bytes s = (flag s.signed 1 + flag s.encrypted 2) ∷ to_le_bytes w32 s.token ++ length s.nonce ∷ s.nonce
+security_bytes s = security_flags s ∷ to_le_bytes w32 s.token ++ length s.nonce ∷ s.nonce
 
 unfoldable pub header_bytes : HeaderValue → List ℕ
 header_bytes h =
     flags_bytes h ++ optional publisher_bytes h.publisher ++ optional (λ guid. guid) h.class_id
-    ++ group_bytes h.group h.version h.message_number h.sequence ++ ids_bytes h.ids ++ optional security_bytes h.security
+    ++ group_bytes h ++ ids_bytes h.ids ++ optional security_bytes h.security
 
 -- How many bytes that is: it goes by which parts are there, and by the lengths of a text, of a list of ids and of a nonce. No number counts.
 abbrev pub publisher_len : PublisherValue → ℕ
@@ -103,10 +111,27 @@ extended_len h = flag (nat_lt 0 (extended1_in h)) 1 + flag (is_chunk h.ids) 1
 abbrev pub group_len : HeaderValue → ℕ
 group_len h = 1 + flag (is_some h.group) 2 + flag (is_some h.version) 4 + flag (is_some h.message_number) 2 + flag (is_some h.sequence) 2
 
+abbrev pub security_len : SecurityValue → ℕ
+security_len s = 6 + length s.nonce
+
 unfoldable pub header_len : HeaderValue → ℕ
 header_len h =
     1 + extended_len h + len_if publisher_len h.publisher + flag (is_some h.class_id) 16 + group_len h + ids_len h.ids
-    + len_if (λ security. 6 + length security.nonce) h.security
+    + len_if security_len h.security
+
+-- both have the same parts, with texts, ids and nonces of the same lengths; their numbers may differ
+pub record IsAlike (one other : HeaderValue) : Type 0 where
+  pub type : type_in one.publisher ≡ type_in other.publisher
+  pub publisher : len_if publisher_len one.publisher ≡ len_if publisher_len other.publisher
+  pub class_id : is_some one.class_id ≡ is_some other.class_id
+  pub group : is_some one.group ≡ is_some other.group
+  pub version : is_some one.version ≡ is_some other.version
+  pub message_number : is_some one.message_number ≡ is_some other.message_number
+  pub sequence : is_some one.sequence ≡ is_some other.sequence
+  pub chunk : is_chunk one.ids ≡ is_chunk other.ids
+  pub ids : ids_len one.ids ≡ ids_len other.ids
+  pub secured : is_some one.security ≡ is_some other.security
+  pub security : len_if security_len one.security ≡ len_if security_len other.security
 
 -- a String's length is an Int32
 abbrev pub IsShortText : PublisherValue → Type 0
@@ -159,3 +184,15 @@ pub record IsHeader (h : HeaderValue) : Type 0 where
   pub sequence : IfSome h.sequence (λ n. n < 2 ^ 16)
   pub ids : IsIds h.ids
   pub security : IfSome h.security (λ security. security.token < 2 ^ 32)
+
+-- a sender's header that can be written
+pub record IsWritten (h : HeaderValue) : Type 0 where
+  pub senders : IsSenders h
+  pub header : IsHeader h
+
+-- a header as it is read: a text, ids and a nonce are also as long as their lengths can tell
+pub record IsRead (h : HeaderValue) : Type 0 where
+  pub header : IsHeader h
+  pub text : IfSome h.publisher IsShortText
+  pub ids : AreIds h.ids
+  pub nonce : IfSome h.security (λ security. length security.nonce < 2 ^ 8)

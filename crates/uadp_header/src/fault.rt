@@ -4,7 +4,7 @@ ghost use Rattle.uadp_header.specs.declared.fault.HeaderFault.TheVariants as fau
 
 use ua_binary::Short;
 
-/// The fault of the first part, from left to right, that fails (OPC 10000-14, UADP NetworkMessage).
+/// The fault of the first part, from left to right, that fails (OPC 10000-14 7.2.4.4).
 #[derive(Clone, Copy, Debug, PartialEq, Eq)]
 pub enum HeaderFault {
     /// The bytes end before the header does.
@@ -13,7 +13,7 @@ pub enum HeaderFault {
     Version { got: u8 },
     /// ExtendedFlags2 tells of a discovery message: a probe or an announcement.
     DiscoveryOut,
-    /// ExtendedFlags1 has a PublisherId type that the standard reserves, whether or not the id is there.
+    /// ExtendedFlags1 has a PublisherId type that the standard reserves, even where the id isn't there.
     BadPublisherType,
     /// A message type or a flag that the standard reserves, or a chunk without payload header.
     ReservedBits,

@@ -1,4 +1,4 @@
-//! Headers. Texts and lists are lent by whoever has them: the bytes that a header was read from, or its sender.
+//! Headers. Texts and lists are lent: by the bytes that a header was read from, or by its sender.
 
 /// Who sent a message. A text is UTF-8.
 #[derive(Clone, Copy, Debug, PartialEq, Eq)]
@@ -10,7 +10,7 @@ pub enum PublisherId<'a> {
     Text(&'a str),
 }
 
-/// The ids of the writers whose DataSetMessages are in the payload, as the payload header gives them.
+/// The ids of the writers whose DataSetMessages are in the payload, as the PayloadHeader gives them.
 #[derive(Clone, Copy, Debug, PartialEq, Eq)]
 pub enum Ids<'a> {
     /// There is no payload header.
@@ -36,7 +36,7 @@ pub struct SecurityPart<'a> {
     pub nonce: &'a [u8],
 }
 
-/// What a header tells. Timestamp, picoseconds and promoted fields are read past, and none is ever written.
+/// What a header tells. Timestamp, picoseconds and promoted fields are read past, and never written.
 #[derive(Clone, Copy, Debug, PartialEq, Eq)]
 pub struct Header<'a> {
     pub publisher: Option<PublisherId<'a>>,

@@ -1,8 +1,22 @@
-//! The headers of NetworkMessages (OPC 10000-14, UADP NetworkMessage), as values and as bytes.
+//! The headers of NetworkMessages (OPC 10000-14 7.2.4.4, UADP NetworkMessage), as values and as bytes.
 #![tactic(auto)]
 
 mod fault;
+mod flags;
 mod header;
+mod laws;
+mod length;
+mod reading;
+#[cfg(test)]
+mod tests;
+mod writing;
 
 pub use fault::HeaderFault;
 pub use header::{Header, Ids, PublisherId, SecurityPart};
+pub use laws::{
+    a_length_goes_by_the_parts, bytes_are_of_one_header, bytes_have_one_reading,
+    fewer_bytes_are_short, read_headers_are_headers, reading_is_by_parts, written_headers_are_read,
+};
+pub use length::header_len;
+pub use reading::read_header;
+pub use writing::write_header;

@@ -3,7 +3,7 @@ use Rattle.std.proofs.Common.{◌≡◌, ℕ, ◌-◌, ◌<◌, List, [], length
 use Rattle.std.specs.Prelude.{reverse}
 use Rattle.std.specs.List.{All}
 use Rattle.std.proofs.lemmas.List.{get_or-reverse, length-reverse}
-use Rattle.ua_values.specs.declared.value.Value.{Value}
+use Rattle.dataset_meta.specs.DataValues.{DataValue}
 use Rattle.pubsub_engine.specs.Authored.{IsAuthored}
 use Rattle.uapubsub.specs.declared.script.Line.{Line}
 use Rattle.uapubsub.specs.Playing.{threads_of}
@@ -14,7 +14,7 @@ All-reverse P xs all = λ i d lt.
     let within : i < length xs = omega (arith, lt, length-reverse xs) in
     subst P (sym (get_or-reverse xs i d within)) (all (length xs - 1 - i) d (omega arith))
 
-pub authored : (lines : List Line) (row : List Value) (threads : List ℕ) (answers answers' : List (List ℕ)) → HasWritten lines row threads answers → answers' ≡ answers
+pub authored : (lines : List Line) (row : List DataValue) (threads : List ℕ) (answers answers' : List (List ℕ)) → HasWritten lines row threads answers → answers' ≡ answers
     → IsAuthored answers' (reverse (threads_of lines))
 authored lines row threads answers answers' wrote is =
     let eight : length answers' ≡ 8 = ap length is ∙ wrote.eight in

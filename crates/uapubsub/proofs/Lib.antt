@@ -5,6 +5,7 @@ pub mod PlayingLaws
 pub mod Pieces
 pub mod OneWrite
 pub mod OneTick
+pub mod Decimals
 pub mod EightDones
 pub mod Ending
 pub mod Parts

@@ -3,8 +3,8 @@ use Rattle.std.proofs.Common.{ℕ, ◌+◌, ◌≤◌, Bool, true, false, List, 
 use Rattle.std.specs.Prelude.{reverse, filter_map, ◌||◌}
 use Rattle.std.proofs.lemmas.List.{reverse-reverse}
 use Rattle.dataset_meta.specs.Rows.{cons_if}
-use Rattle.pubsub_model.specs.Frames.{Frame, Whole, Change, Alive}
-use Rattle.pubsub_model.specs.Cadence.{Turn, Answered, cadence, answer, is_fresh, log_entry}
+use Rattle.pubsub_model.specs.Frames.{PlacedFrame, Whole, Change, Alive}
+use Rattle.pubsub_model.specs.Cadence.{WriterTurn, Answered, cadence, answer, is_fresh, log_entry}
 use Rattle.pubsub_engine.specs.Steps.{Step, Tick as TickStep, moment_of}
 use Rattle.pubsub_engine.specs.Publishing.{Deed, Ticked, Turned, GroupTurn, built_in, writer_past, deeds, turn_at, datagrams_of, is_due, log_at}
 use Rattle.uapubsub.specs.declared.script.Line.{Line}
@@ -22,7 +22,7 @@ weaker low high [] le falls = tt
 weaker low high (entry ∷ before) le falls = (omega (arith, le, falls.0), falls.1)
 
 -- one more turn logs its version or nothing
-one_more : (turn : Turn) (a : Option Frame) (before : List Answered) → NeverFalls turn.version (filter_map log_entry before)
+one_more : (turn : Turn) (a : Option PlacedFrame) (before : List Answered) → NeverFalls turn.version (filter_map log_entry before)
     → NeverFalls turn.version (filter_map log_entry (record { turn = turn; answer = a } ∷ before))
 one_more turn None before falls = falls
 one_more turn (Some (Whole place row)) before falls = (omega arith, falls)

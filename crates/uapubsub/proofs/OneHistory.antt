@@ -5,10 +5,10 @@ use mathlib.Core.List.{reverse_aux}
 use Rattle.std.specs.List.{AllByRecursion, AllZip}
 use Rattle.std.proofs.lemmas.List.{get_or_push, get_or_append_left, length-reverse}
 use Rattle.ua_base.specs.Journal.{Wire, IsHonest}
-use Rattle.ua_values.specs.declared.value.Value.{Value}
+use Rattle.dataset_meta.specs.DataValues.{DataValue}
 use Rattle.dataset_meta.specs.Rows.{IsRow, opening_row, patched}
 use Rattle.dataset_meta.proofs.RowLaws.{IsRow-opening, IsRow-patched}
-use Rattle.pubsub_engine.specs.BuiltIn.{demo_fields}
+use Rattle.pubsub_engine.specs.BuiltIn.{demo_fields, demo_meta}
 use Rattle.pubsub_model.specs.History.{last_row}
 use Rattle.pubsub_engine.specs.Samples.{Sample}
 use Rattle.pubsub_engine.specs.Steps.{Step}
@@ -40,11 +40,11 @@ spelled_values (Write thread value ∷ lines) before (text ∷ texts) all values
     spelled_values lines (Write thread value ∷ before) texts all.1 (all.0.0.fits, values)
 spelled_values (Tick ms ∷ lines) before (text ∷ texts) all values = spelled_values lines (Tick ms ∷ before) texts all.1 (tt, values)
 
-last_values : (lines : List Line) → AllByRecursion HasValue lines → IsRow demo_fields (last_row demo_fields (written lines))
-last_values [] values = IsRow-opening demo_fields
+last_values : (lines : List Line) → AllByRecursion HasValue lines → IsRow demo_meta (last_row demo_fields (written lines))
+last_values [] values = IsRow-opening demo_meta.quality demo_fields
 last_values (Tick ms ∷ before) values = last_values before values.1
 last_values (Write thread value ∷ before) values =
-    IsRow-patched demo_fields 0 (last_row demo_fields (written before)) (only_a value) (last_values before values.1) (one_value_fits value values.0)
+    IsRow-patched demo_meta.quality demo_fields 0 (last_row demo_fields (written before)) (only_a value) (last_values before values.1) (one_value_fits value values.0)
 
 played_values : (lines : List Line) (steps : List Step) → IsPlayed lines steps → AllByRecursion HasValue lines → SampleRows steps
 played_values [] steps played values = subst SampleRows (sym played) tt
@@ -65,17 +65,17 @@ count-onto (line ∷ lines) before = omega (arith, count-onto lines (line ∷ be
 
 -- ---- the samples are versions
 
-last_version : (rows : List (List Value)) → last_row demo_fields rows ≡ row_at rows (length rows)
+last_version : (rows : List (List DataValue)) → last_row demo_fields rows ≡ row_at rows (length rows)
 last_version [] = refl
-last_version (row ∷ rows) = sym (ap (λ (l : List (List Value)). get_or l (length rows) (opening_row demo_fields)) (reverse-cons row rows) ∙ get_or_push (reverse rows) row (opening_row demo_fields) (length rows) (length-reverse rows))
+last_version (row ∷ rows) = sym (ap (λ (l : List (List DataValue)). get_or l (length rows) (opening_row demo_fields)) (reverse-cons row rows) ∙ get_or_push (reverse rows) row (opening_row demo_fields) (length rows) (length-reverse rows))
 
-more_rows : (row : List Value) (rows : List (List Value)) (version : ℕ) → version ≤ length rows → row_at rows version ≡ row_at (row ∷ rows) version
+more_rows : (row : List DataValue) (rows : List (List DataValue)) (version : ℕ) → version ≤ length rows → row_at rows version ≡ row_at (row ∷ rows) version
 more_rows row rows zero there = refl
 more_rows row rows (suc version) there =
-    sym (ap (λ (l : List (List Value)). get_or l version (opening_row demo_fields)) (reverse-cons row rows)
+    sym (ap (λ (l : List (List DataValue)). get_or l version (opening_row demo_fields)) (reverse-cons row rows)
     ∙ get_or_append_left (reverse rows) (row ∷ []) (opening_row demo_fields) version (omega (arith, length-reverse rows)))
 
-pub later_write : (row : List Value) (rows : List (List Value)) (sample : Sample) → IsVersion rows sample.version sample.row → IsVersion (row ∷ rows) sample.version sample.row
+pub later_write : (row : List DataValue) (rows : List (List DataValue)) (sample : Sample) → IsVersion rows sample.version sample.row → IsVersion (row ∷ rows) sample.version sample.row
 later_write row rows sample v = record { there = omega (arith, v.there); row_is = v.row_is ∙ more_rows row rows sample.version v.there }
 
 -- the sample after these lines

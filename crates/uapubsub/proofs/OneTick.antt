@@ -4,7 +4,7 @@ use Rattle.std.specs.Prelude.{Result, OnOk}
 use Rattle.std.proofs.lemmas.Result.{on_ok_weaker}
 use Rattle.ua_base.specs.Journal.{Wire, Entry}
 use Rattle.std.proofs.lemmas.List.{length-reverse}
-use Rattle.ua_values.specs.declared.value.Value.{Value}
+use Rattle.dataset_meta.specs.DataValues.{DataValue}
 use Rattle.pubsub_engine.specs.Samples.{Sample}
 use Rattle.uapubsub.specs.declared.script.Line.{Line}
 use Rattle.uapubsub.specs.declared.script.Line.TheVariants.{Write, Tick}
@@ -24,13 +24,13 @@ length-written [] = refl
 length-written (Write thread value ∷ before) = omega (arith, length-written before)
 length-written (Tick ms ∷ before) = length-written before
 
-pub sample_is : (lines : List Line) (row : List Value) (threads : List ℕ) (answers : List (List ℕ)) (sample : Sample) → HasWritten lines row threads answers
+pub sample_is : (lines : List Line) (row : List DataValue) (threads : List ℕ) (answers : List (List ℕ)) (sample : Sample) → HasWritten lines row threads answers
     → sample.version ≡ length threads → sample.row ≡ row → sample ∷ [] ≡ sample_of lines
 sample_is lines row threads answers sample wrote version_e row_e =
     let version : sample.version ≡ length (written lines) =
     version_e ∙ ap length wrote.threads_are ∙ length-reverse (threads_of lines) ∙ sym (length-written lines) in
     ap (λ (v : ℕ). record { version = v; row = sample.row } ∷ []) version
-    ∙ ap (λ (r : List Value). record { version = length (written lines); row = r } ∷ []) (row_e ∙ wrote.row_is)
+    ∙ ap (λ (r : List DataValue). record { version = length (written lines); row = r } ∷ []) (row_e ∙ wrote.row_is)
 
 pub on_ok : {T E P Q : Type 0} (r : Result T E) → OnOk r P → (P → Q) → OnOk r Q
 on_ok r h f = on_ok_weaker r f h

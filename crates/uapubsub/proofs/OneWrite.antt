@@ -6,7 +6,7 @@ use Rattle.std.proofs.lemmas.Bool.Decides.{nat_tests}
 use Rattle.std.proofs.lemmas.List.{reverse-append, length-set, get_or-set_same, get_or-set_other}
 use Rattle.std.proofs.lemmas.List.Elements.{All-cons}
 use Rattle.std.proofs.lemmas.List.Sums.{sum_by-cons}
-use Rattle.ua_values.specs.declared.value.Value.{Value}
+use Rattle.dataset_meta.specs.DataValues.{DataValue}
 use Rattle.dataset_meta.specs.Rows.{patched}
 use Rattle.pubsub_model.specs.History.{places}
 use Rattle.uapubsub.specs.declared.script.Line.{Line}
@@ -60,14 +60,14 @@ placed_more thread other threads answers lt eight placed =
           ∙ sym (more ∙ ap (λ (b : Bool). cond b (places thread 0 (reverse threads) ++ (0 + length (reverse threads) + 1) ∷ []) (places thread 0 (reverse threads))) apart)
     ]
 
-pub wrote_more : (before : List Line) (thread : ℕ) (value : ℕ) (row row' : List Value) (threads threads' : List ℕ) (answers answers' : List (List ℕ)) (version : ℕ)
+pub wrote_more : (before : List Line) (thread : ℕ) (value : ℕ) (row row' : List DataValue) (threads threads' : List ℕ) (answers answers' : List (List ℕ)) (version : ℕ)
     → HasWritten before row threads answers → thread < 8 → row' ≡ patched row (only_a value) → threads' ≡ threads ++ thread ∷ [] → version ≡ length threads + 1
     → answers' ≡ set answers thread (get_or answers thread [] ++ version ∷ []) → HasWritten (Write thread value ∷ before) row' threads' answers'
 wrote_more before thread value row row' threads threads' answers answers' version wrote lt row_e threads_e version_e answers_e =
     let at : version ≡ length (reverse (threads_of before)) + 1 = version_e ∙ ap (λ (l : List ℕ). length l + 1) wrote.threads_are in
     let answers_at = answers_e ∙ ap (λ (v : ℕ). set answers thread (get_or answers thread [] ++ v ∷ [])) at in
     record {
-      row_is = row_e ∙ ap (λ (r : List Value). patched r (only_a value)) wrote.row_is;
+      row_is = row_e ∙ ap (λ (r : List DataValue). patched r (only_a value)) wrote.row_is;
       threads_are = threads_e ∙ ap (λ (l : List ℕ). l ++ thread ∷ []) wrote.threads_are ∙ sym (reverse-cons thread (threads_of before));
       known = All-cons (λ (t : ℕ). t < 8) thread (threads_of before) lt wrote.known;
       eight = ap length answers_e ∙ length-set answers thread (get_or answers thread [] ++ version ∷ []) ∙ wrote.eight;

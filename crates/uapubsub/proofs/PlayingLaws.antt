@@ -8,9 +8,9 @@ use Rattle.std.proofs.lemmas.Bool.Decides.{nat_tests}
 use Rattle.std.proofs.lemmas.List.{get_or_append_left, get_or_push, get_or_past, length_push}
 use Rattle.std.proofs.lemmas.List.Elements.{All-nil, All-cons, All-tail}
 use Rattle.std.proofs.lemmas.List.FromFn.{get_or-map-range_with_len, length-map-range_with_len}
-use Rattle.ua_values.specs.declared.value.Value.{Value}
+use Rattle.dataset_meta.specs.DataValues.{DataValue}
 use Rattle.dataset_meta.specs.Rows.{patched}
-use Rattle.pubsub_engine.specs.BuiltIn.{demo_fields}
+use Rattle.pubsub_engine.specs.BuiltIn.{demo_fields, demo_meta}
 use Rattle.pubsub_model.specs.History.{IsLegal, times_of, legal_rows, last_row, patch_at, no_patch}
 use Rattle.pubsub_model.proofs.HistoryLaws.{times_of-cons}
 use Rattle.uapubsub.specs.declared.script.Line.{Line}
@@ -22,7 +22,7 @@ same_thread : (thread : ℕ) → eqb thread thread ≡ true
 same_thread thread = grind (arith, nat_tests)
 
 -- a thread stands among the writes as often as it has patches
-counts_on : (b : Bool) (n : ℕ) (patches : List (List (ℕ × Value))) (patch : List (ℕ × Value)) → n ≡ length patches → cond b 1 0 + n ≡ length (cond b (patches ++ patch ∷ []) patches)
+counts_on : (b : Bool) (n : ℕ) (patches : List (List (ℕ × DataValue))) (patch : List (ℕ × DataValue)) → n ≡ length patches → cond b 1 0 + n ≡ length (cond b (patches ++ patch ∷ []) patches)
 counts_on true n patches patch e = omega (arith, length_push patches patch, e)
 counts_on false n patches patch e = omega (arith, e)
 
@@ -57,24 +57,24 @@ lines_legal lines all = record {
 }
 
 -- patches that agree where the threads use them make the same rows
-legal_rows-same : (ps qs : List (List (List (ℕ × Value)))) (threads : List ℕ) → ((thread k : ℕ) → k < times_of thread threads → patch_at ps thread k ≡ patch_at qs thread k) → legal_rows demo_fields ps threads ≡ legal_rows demo_fields qs threads
+legal_rows-same : (ps qs : List (List (List (ℕ × DataValue)))) (threads : List ℕ) → ((thread k : ℕ) → k < times_of thread threads → patch_at ps thread k ≡ patch_at qs thread k) → legal_rows demo_fields ps threads ≡ legal_rows demo_fields qs threads
 legal_rows-same ps qs [] same = refl
 legal_rows-same ps qs (thread ∷ before) same =
     let rows = legal_rows-same ps qs before (λ t k lt. same t k (omega (arith, times_of-cons t thread before, lt))) in
     let here : times_of thread before < times_of thread (thread ∷ before) =
     omega (arith, times_of-cons thread thread before, ap {B = ℕ} (λ (b : Bool). cond b 1 0) (same_thread thread)) in
-    ap (λ (p : List (ℕ × Value)). patched (last_row demo_fields (legal_rows demo_fields ps before)) p ∷ legal_rows demo_fields ps before) (same thread (times_of thread before) here)
-    ∙ ap (λ (rs : List (List Value)). patched (last_row demo_fields rs) (patch_at qs thread (times_of thread before)) ∷ rs) rows
+    ap (λ (p : List (ℕ × DataValue)). patched (last_row demo_fields (legal_rows demo_fields ps before)) p ∷ legal_rows demo_fields ps before) (same thread (times_of thread before) here)
+    ∙ ap (λ (rs : List (List DataValue)). patched (last_row demo_fields rs) (patch_at qs thread (times_of thread before)) ∷ rs) rows
 
 -- the k-th patch of one of the eight threads, and of another
 patch_at-thread : (lines : List Line) (thread k : ℕ) → thread < 8 → patch_at (patches_of lines) thread k ≡ get_or (patches_by thread lines) k no_patch
-patch_at-thread lines thread k lt = ap (λ (ps : List (List (ℕ × Value))). get_or ps k no_patch) (patches_of-thread lines thread lt)
+patch_at-thread lines thread k lt = ap (λ (ps : List (List (ℕ × DataValue))). get_or ps k no_patch) (patches_of-thread lines thread lt)
 
 patch_at-other : (lines : List Line) (thread k : ℕ) → 8 ≤ thread → patch_at (patches_of lines) thread k ≡ no_patch
-patch_at-other lines thread k past = ap (λ (ps : List (List (ℕ × Value))). get_or ps k no_patch) (patches_of-other lines thread past)
+patch_at-other lines thread k past = ap (λ (ps : List (List (ℕ × DataValue))). get_or ps k no_patch) (patches_of-other lines thread past)
 
 -- one more write changes no patch before it
-kept_on : (b : Bool) (patches : List (List (ℕ × Value))) (patch : List (ℕ × Value)) (k : ℕ) → k < length patches → get_or patches k no_patch ≡ get_or (cond b (patches ++ patch ∷ []) patches) k no_patch
+kept_on : (b : Bool) (patches : List (List (ℕ × DataValue))) (patch : List (ℕ × DataValue)) (k : ℕ) → k < length patches → get_or patches k no_patch ≡ get_or (cond b (patches ++ patch ∷ []) patches) k no_patch
 kept_on true patches patch k lt = sym (get_or_append_left patches (patch ∷ []) no_patch k lt)
 kept_on false patches patch k lt = refl
 
@@ -89,7 +89,7 @@ patch_kept other value before thread k lt =
     ]
 
 -- and its own patch comes last
-last_on : (b : Bool) (patches : List (List (ℕ × Value))) (patch : List (ℕ × Value)) (k : ℕ) → b ≡ true → k ≡ length patches → get_or (cond b (patches ++ patch ∷ []) patches) k no_patch ≡ patch
+last_on : (b : Bool) (patches : List (List (ℕ × DataValue))) (patch : List (ℕ × DataValue)) (k : ℕ) → b ≡ true → k ≡ length patches → get_or (cond b (patches ++ patch ∷ []) patches) k no_patch ≡ patch
 last_on true patches patch k is at = get_or_push patches patch no_patch k (sym at)
 last_on false patches patch k is at = absurd (cc)
 
@@ -104,8 +104,8 @@ written-legal (Tick ms ∷ before) all = written-legal before all
 written-legal (Write thread value ∷ before) all =
     let rows = written-legal before (All-tail (λ (t : ℕ). t < 8) thread (threads_of before) all)
     ∙ legal_rows-same (patches_of before) (patches_of (Write thread value ∷ before)) (threads_of before) (patch_kept thread value before) in
-    ap (λ (rs : List (List Value)). patched (last_row demo_fields rs) (only_a value) ∷ rs) rows
-    ∙ ap (λ (p : List (ℕ × Value)). let rs = legal_rows demo_fields (patches_of (Write thread value ∷ before)) (threads_of before) in patched (last_row demo_fields rs) p ∷ rs) (sym (patch_last thread value before (all 0 0 (omega arith))))
+    ap (λ (rs : List (List DataValue)). patched (last_row demo_fields rs) (only_a value) ∷ rs) rows
+    ∙ ap (λ (p : List (ℕ × DataValue)). let rs = legal_rows demo_fields (patches_of (Write thread value ∷ before)) (threads_of before) in patched (last_row demo_fields rs) p ∷ rs) (sym (patch_last thread value before (all 0 0 (omega arith))))
 
 -- the writes of a script are made by thread 0
 spelled_threads : (lines before : List Line) (texts : List (List ℕ)) → AllZip Spells lines texts → AreThreads (threads_of before) → AreThreads (threads_of (reverse_aux lines before))

@@ -2,12 +2,12 @@
 use Rattle.std.proofs.Common.{refl, sym, subst, ℕ, ◌+◌, Bool, true, false, List, [], ◌∷◌, length, All}
 use Rattle.std.specs.Prelude.{reverse, ◌||◌}
 use Rattle.std.proofs.lemmas.List.Elements.{All-nil, All-cons, All-weaker}
-use Rattle.ua_values.specs.declared.value.Value.{Value}
+use Rattle.dataset_meta.specs.DataValues.{DataValue}
 use Rattle.dataset_meta.specs.Rows.{cons_if, patched}
 use Rattle.pubsub_model.specs.History.{last_row}
 use Rattle.pubsub_model.specs.Cadence.{Answered, cadence, answer, is_fresh, next_place}
 use Rattle.pubsub_model.proofs.CadenceLaws.{answer-key}
-use Rattle.pubsub_engine.specs.BuiltIn.{demo_fields}
+use Rattle.pubsub_engine.specs.BuiltIn.{demo_fields, demo_meta}
 use Rattle.pubsub_engine.specs.Steps.{Step, Tick as TickStep, moment_of}
 use Rattle.pubsub_engine.specs.Publishing.{Deed, Ticked, Turned, GroupTurn, built_in, writer_past, deeds, turn_at, datagrams_of, is_due}
 use Rattle.uapubsub.specs.declared.script.Line.{Line}
@@ -18,13 +18,13 @@ use Rattle.uapubsub.specs.Play.{IsPlayed, IsSession, sample_of}
 use Rattle.uapubsub.specs.Versions.{IsVersion, StandsFor}
 use Rattle.uapubsub.proofs.OneHistory.{later_write, version_now}
 
-abbrev AllStand : List (List Value) → List Deed → Type 0
+abbrev AllStand : List (List DataValue) → List Deed → Type 0
 AllStand rows past = All (StandsFor rows) (cadence built_in (writer_past past))
 
-later : (row : List Value) (rows : List (List Value)) (a : Answered) → StandsFor rows a → StandsFor (row ∷ rows) a
+later : (row : List DataValue) (rows : List (List DataValue)) (a : Answered) → StandsFor rows a → StandsFor (row ∷ rows) a
 later row rows a stands = (stands.0, stands.1, later_write row rows (record { version = a.turn.version; row = a.turn.row }) stands.2)
 
-turned : (b : Bool) (rows : List (List Value)) (turn : GroupTurn) (past : List Deed) → IsVersion rows turn.took.version turn.took.row → AllStand rows past → AllStand rows (cons_if b (Turned turn) past)
+turned : (b : Bool) (rows : List (List DataValue)) (turn : GroupTurn) (past : List Deed) → IsVersion rows turn.took.version turn.took.row → AllStand rows past → AllStand rows (cons_if b (Turned turn) past)
 turned true rows turn past is all =
     let before = cadence built_in (writer_past past) in
     let fresh = is_fresh (writer_past past) in

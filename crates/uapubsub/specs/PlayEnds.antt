@@ -1,8 +1,9 @@
 -- What the parts of the command `play` give.
-use Rattle.std.specs.Prelude.{List, Option, Result, Ok, Err, Vec, String, string_bytes}
+use Rattle.std.specs.Prelude.{List, [], Option, Result, Ok, Err, Vec, String, string_bytes}
 use Rattle.std.specs.declared.alloc.Global.{Global}
 use Rattle.ua_base.specs.Files.{Told, TellsFile}
 use Rattle.ua_base.specs.Journal.{Wire}
+use Rattle.ua_base.specs.Links.{Opening}
 use Rattle.uapubsub.specs.declared.script.Line.{Line}
 use Rattle.uapubsub.specs.declared.status.Status.{Status}
 use Rattle.uapubsub.specs.declared.status.Status.TheVariants.{Done, BadWords, ScriptRefused, Unread, Unwritten, OutOfMemory, Unopened}
@@ -40,3 +41,7 @@ MakesReport file told (Err OutOfMemory) = Unit {0}
 MakesReport file told (Err Done) = ⊥
 MakesReport file told (Err BadWords) = ⊥
 MakesReport file told (Err Unwritten) = ⊥
+
+-- what the link is opened with: the port of the built-in configuration, and no fates
+abbrev pub built_in_opening : Opening
+built_in_opening = record { port = 0; fates = [] }

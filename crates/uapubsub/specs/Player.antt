@@ -2,10 +2,10 @@
 use Rattle.std.specs.Prelude.{◌≡◌, ◌≤◌, ◌<◌, ℕ, List, [], length, reverse, count_by, Option, slice_index_or}
 use Rattle.std.specs.List.{All}
 use Rattle.ua_base.specs.Journal.{Wire}
-use Rattle.ua_values.specs.declared.value.Value.{Value}
+use Rattle.dataset_meta.specs.DataValues.{DataValue}
 use Rattle.pubsub_model.specs.History.{last_row, places}
 use Rattle.row_words.specs.Belonging.{row_in}
-use Rattle.pubsub_engine.specs.BuiltIn.{demo_fields}
+use Rattle.pubsub_engine.specs.BuiltIn.{demo_fields, demo_meta}
 use Rattle.pubsub_engine.specs.Authored.{answers_of}
 use Rattle.pubsub_engine.specs.Steps.{Step}
 use Rattle.pubsub_engine.specs.Standing.{Stands}
@@ -19,7 +19,7 @@ use Rattle.uapubsub.specs.Play.{IsPlayed}
 use Rattle.uapubsub.specs.Rooms.{rooms_of, Fits}
 
 -- the data set and the threads' answers after these lines
-pub record HasWritten (lines : List Line) (row : List Value) (threads : List ℕ) (answers : List (List ℕ)) : Type 0 where
+pub record HasWritten (lines : List Line) (row : List DataValue) (threads : List ℕ) (answers : List (List ℕ)) : Type 0 where
   pub row_is : row ≡ last_row demo_fields (written lines)
   pub threads_are : threads ≡ reverse (threads_of lines)
   pub known : AreThreads (threads_of lines)

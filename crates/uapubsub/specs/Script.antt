@@ -3,8 +3,9 @@ use Rattle.std.specs.Prelude.{◌≡◌, ◌≤◌, ◌<◌, ◌^◌, ℕ, List,
 use Rattle.std.specs.List.{AllZip, onto_first}
 use Rattle.std.specs.Fmt.{decimal}
 use Rattle.std.specs.declared.alloc.Global.{Global}
-use Rattle.ua_values.specs.declared.value.Value.{Value}
+use Rattle.dataset_meta.specs.DataValues.{DataValue}
 use Rattle.ua_values.specs.declared.value.Value.TheVariants.{UInt32}
+use Rattle.pubsub_model.specs.Goods.{good}
 use Rattle.uapubsub.specs.declared.script.Line.{Line}
 use Rattle.uapubsub.specs.declared.script.Line.TheVariants.{Write, Tick}
 use Rattle.uapubsub.specs.declared.script.ScriptEnd.{ScriptEnd}
@@ -33,8 +34,8 @@ pub record IsTick (ms : ℕ) (text : List ℕ) : Type 0 where
   pub spelling : text ≡ tick_text ms
 
 -- the patch of one value, that of the field a
-abbrev pub only_a : ℕ → List (ℕ × Value)
-only_a value = (0, UInt32 value) ∷ []
+abbrev pub only_a : ℕ → List (ℕ × DataValue)
+only_a value = (0, good (UInt32 value)) ∷ []
 
 -- the line that a text spells
 abbrev pub Spells : Line → List ℕ → Type 0

@@ -53,12 +53,12 @@ fn note(dones: &mut Vec<Done>, thread: u8, version: u64)
 /// The patch of one value, that of the field `a`.
 fn patch_of(meta: &Meta, value: u32) -> Patch
     requires { meta.now ≡ demo_meta }
-    ensures of { IsPatchOf demo_fields result }
+    ensures of { IsPatchOf demo_meta result }
     ensures patch { patch_in demo_fields result ≡ only_a value }
 {
     prove!(meta.fields().len() == 4);
     let mut patch = Patch::empty();
-    patch.put(meta, 0, &Value::UInt32(value));
+    patch.put(meta, 0, &Value::UInt32(value), 0);
     patch
 }
 

@@ -1,13 +1,13 @@
 //! Laws of scripts and of the history that they make, each the contract of a function that does nothing.
-ghost use Rattle.std.specs.Prelude.{◌≡◌, ℕ, List, Some, IfSome, length, reverse, All};
-ghost use Rattle.ua_base.specs.declared.memory_link.MemoryLink.{MemoryLink as LinkValue};
+ghost use Rattle.std.specs.Prelude.{◌≡◌, ℕ, List, [], Some, IfSome, length, reverse, All};
+ghost use Rattle.mem_edge.specs.declared.memory_link.MemoryLink.{MemoryLink as LinkValue};
 ghost use Rattle.ua_base.specs.Journal.{Wire, IsHonest};
-ghost use Rattle.ua_base.specs.MemoryLinks.{told_by};
+ghost use Rattle.mem_edge.specs.MemoryLinks.{told_by, injected_by};
 ghost use Rattle.pubsub_engine.specs.Publishing.{log_at};
 ghost use Rattle.dataset_reader.specs.Keeping.{Keeps};
 ghost use Rattle.pubsub_engine.specs.Reading.{arrivals, kept_at, held_by};
 ghost use Rattle.pubsub_engine.specs.Closing.{version_at};
-ghost use Rattle.pubsub_engine.specs.BuiltIn.{demo_fields};
+ghost use Rattle.pubsub_engine.specs.BuiltIn.{demo_fields, demo_meta};
 ghost use Rattle.uapubsub.specs.declared.script.Line.{Line as LineValue};
 ghost use Rattle.pubsub_model.specs.History.{IsLegal, legal_rows, legal_history, row_of};
 ghost use Rattle.uapubsub.specs.Script.{IsScript};
@@ -56,11 +56,12 @@ pub fn a_held_row_is_a_version()
     a_reader_keeps_records();
 }
 
-/// Over a link in memory both hold with no premise of the journal, since such a link delivers only what was sent.
+/// Over a link in memory without injected datagrams both hold with no premise of the journal, whatever its fates, since
+/// such a link delivers only what was sent.
 pub fn a_held_row_over_memory_is_a_version()
-    ensures held { (bytes : List ℕ) (lines : List LineValue) (link : LinkValue) (wire : Wire) (text : List ℕ) (report : IsReport lines (Some wire) text) → IsScript bytes lines → told_by link ≡ Some wire
+    ensures held { (bytes : List ℕ) (lines : List LineValue) (link : LinkValue) (wire : Wire) (text : List ℕ) (report : IsReport lines (Some wire) text) → IsScript bytes lines → injected_by link ≡ [] → told_by link ≡ Some wire
         → IfSome (held_by (kept_at report.steps)) (λ held. (version : ℕ) × (version_at (log_at report.steps) held.number ≡ Some version) × IsVersion (written (reverse lines)) version held.row) }
-    ensures records { (bytes : List ℕ) (lines : List LineValue) (link : LinkValue) (wire : Wire) (text : List ℕ) (report : IsReport lines (Some wire) text) → IsScript bytes lines → told_by link ≡ Some wire
+    ensures records { (bytes : List ℕ) (lines : List LineValue) (link : LinkValue) (wire : Wire) (text : List ℕ) (report : IsReport lines (Some wire) text) → IsScript bytes lines → injected_by link ≡ [] → told_by link ≡ Some wire
         → Keeps (arrivals report.steps) (kept_at report.steps) }
 {
     a_held_row_is_a_version();

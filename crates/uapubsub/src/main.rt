@@ -2,6 +2,7 @@
 #![tactic(auto)]
 
 mod application;
+mod decimal;
 mod laws;
 mod play;
 mod player;
@@ -21,7 +22,9 @@ use std::process::ExitCode;
 use std::rt::Env;
 use telling::tell;
 use top::top;
-use ua_base::{DirFolder, MemoryLink, OpenGate, Sink, StdSink};
+use mem_edge::{MemoryLink, OpenGate};
+use ua_base::Sink;
+use udp_edge::{DirFolder, StdSink};
 use words::Word;
 
 /// The words after the program's name.

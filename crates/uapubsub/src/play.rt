@@ -1,8 +1,8 @@
 //! The command `play`.
-ghost use Rattle.std.specs.Prelude.{◌≡◌, ◌≢◌, ◌≤◌, ◌⊎◌, ℕ, List};
+ghost use Rattle.std.specs.Prelude.{◌≡◌, ◌≢◌, ◌≤◌, ◌⊎◌, ℕ, List, Some, OnOk};
 ghost use Rattle.ua_base.specs.Cause.{Rose};
 ghost use Rattle.uapubsub.specs.Play.{Plays};
-ghost use Rattle.uapubsub.specs.PlayEnds.{ReadsScript, Performs, MakesReport};
+ghost use Rattle.uapubsub.specs.PlayEnds.{ReadsScript, Performs, MakesReport, built_in_opening};
 ghost use Rattle.uapubsub.specs.Player.{IsPlayable};
 
 use crate::player::Player;
@@ -42,9 +42,9 @@ fn read<F: Folder>(alloc: Global, name: &str, folder: &mut F) -> Result<Vec<Line
 fn perform<A: Link>(alloc: Global, lines: &[Line], lab: &mut A) -> Result<String, Status>
     requires { IsPlayable lines.now }
     ensures report { Performs lines.now (A.told lab.new) result }
+    ensures opened { OnOk result (A.opened_with lab.new ≡ Some built_in_opening) }
     ensures unopened { result ≡ Err Status.Unopened → Rose (A.faults lab.old) (A.faults lab.new) }
-    ensures unused { result ≡ Err Status.Unopened → (A.told lab.new ≡ A.told lab.old) × (A.is_open lab.new ≡ A.is_open lab.old) }
-    ensures memory_stays { A.takes_memory lab.new ≡ A.takes_memory lab.old }
+    ensures unused { result ≡ Err Status.Unopened → (A.told lab.new ≡ A.told lab.old) × (A.opened_with lab.new ≡ A.opened_with lab.old) }
     ensures link_faults { A.faults lab.old ≤ A.faults lab.new }
 {
     let mut player = Player::open(alloc, lines)?;
@@ -65,11 +65,11 @@ fn report_of<F: Folder, A: Link>(
     lab: &mut A,
 ) -> Result<String, Status>
     ensures report { MakesReport (F.tells folder.old name.now) (A.told lab.new) result }
+    ensures opened { OnOk result (A.opened_with lab.new ≡ Some built_in_opening) }
     ensures unread { result ≡ Err Status.Unread → Rose (F.faults folder.old) (F.faults folder.new) }
     ensures folder_faults { F.faults folder.old ≤ F.faults folder.new }
     ensures unopened { result ≡ Err Status.Unopened → Rose (A.faults lab.old) (A.faults lab.new) }
-    ensures unused { result ≡ Err Status.Unopened → (A.told lab.new ≡ A.told lab.old) × (A.is_open lab.new ≡ A.is_open lab.old) }
-    ensures memory_stays { A.takes_memory lab.new ≡ A.takes_memory lab.old }
+    ensures unused { result ≡ Err Status.Unopened → (A.told lab.new ≡ A.told lab.old) × (A.opened_with lab.new ≡ A.opened_with lab.old) }
     ensures link_faults { A.faults lab.old ≤ A.faults lab.new }
     ensures unlinked { (result ≡ Err Status.ScriptRefused) ⊎ (result ≡ Err Status.Unread) → lab.new ≡ lab.old }
     ensures files { (other : List ℕ) → F.tells folder.new other ≡ F.tells folder.old other }
@@ -87,13 +87,13 @@ pub fn play<F: Folder, A: Link, K: Sink>(
     out: &mut K,
 ) -> Status
     ensures plays { Plays result (F.tells folder.old name.now) (A.told lab.new) (K.written out.old) (K.written out.new) }
+    ensures opened { (result ≡ Status.Done) ⊎ (result ≡ Status.Unwritten) → A.opened_with lab.new ≡ Some built_in_opening }
     ensures unread { result ≡ Status.Unread → Rose (F.faults folder.old) (F.faults folder.new) }
     ensures unwritten { result ≡ Status.Unwritten → Rose (K.faults out.old) (K.faults out.new) }
     ensures folder_faults { F.faults folder.old ≤ F.faults folder.new }
     ensures out_faults { K.faults out.old ≤ K.faults out.new }
     ensures unopened { result ≡ Status.Unopened → Rose (A.faults lab.old) (A.faults lab.new) }
-    ensures unused { result ≡ Status.Unopened → (A.told lab.new ≡ A.told lab.old) × (A.is_open lab.new ≡ A.is_open lab.old) }
-    ensures memory_stays { A.takes_memory lab.new ≡ A.takes_memory lab.old }
+    ensures unused { result ≡ Status.Unopened → (A.told lab.new ≡ A.told lab.old) × (A.opened_with lab.new ≡ A.opened_with lab.old) }
     ensures link_faults { A.faults lab.old ≤ A.faults lab.new }
     ensures unlinked { (result ≡ Status.ScriptRefused) ⊎ (result ≡ Status.Unread) → lab.new ≡ lab.old }
     ensures silent { result ≢ Status.Done → result ≢ Status.Unwritten → out.new ≡ out.old }

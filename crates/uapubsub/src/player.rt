@@ -1,7 +1,8 @@
 //! The session of a script, played line by line.
-ghost use Rattle.std.specs.Prelude.{◌≡◌, ◌≤◌, ◌<◌, ◌+◌, ◌∷◌, [], ℕ, List, Bool, Option, Some, IsTrue, OnOk, OnErr, IfOk, length, reverse, string_bytes};
+ghost use Rattle.std.specs.Prelude.{◌≡◌, ◌≤◌, ◌<◌, ◌+◌, ◌∷◌, [], ℕ, List, Bool, Option, Some, IsTrue, OnOk, OnErr, IfOk, length, reverse, string_bytes, IsSome};
 ghost use Rattle.std.specs.List.{All};
 ghost use Rattle.ua_base.specs.Journal.{Wire, Entry};
+ghost use Rattle.ua_base.specs.Links.{KeepsLink};
 ghost use Rattle.pubsub_engine.specs.Steps.{Step, Tick, Pump};
 ghost use Rattle.pubsub_engine.specs.Standing.{Stands};
 ghost use Rattle.uapubsub.specs.declared.script.Line.{Line as LineValue};
@@ -38,7 +39,7 @@ impl Player {
 
     /// A sample, a tick with it, and a pump.
     fn tick<L: Link>(&mut self, ms: u32, closing: bool, link: &mut L) -> Result<(), NoMemory>
-        requires open { IsTrue (L.is_open link.old) }
+        requires open { IsSome (L.opened_with link.old) }
         requires left { 0 < self.old.session.publisher.left }
         requires short { ms ≤ 3600000 }
         ensures stands { OnOk result ((before : List LineValue) (steps : List Step) → Wrote before self.old.application → Stands steps (L.told link.old) self.old.session
@@ -46,10 +47,8 @@ impl Player {
         ensures application { self.new.application ≡ self.old.application }
         ensures sampled { OnOk result (self.new.session.sampled.version ≡ length self.old.application.plain.threads.items) }
         ensures left { OnOk result (self.new.session.publisher.left + 1 ≡ self.old.session.publisher.left) }
-        ensures open { L.is_open link.new ≡ L.is_open link.old }
-        ensures memory { OnErr result (IsTrue (L.takes_memory link.old)) }
-        ensures memory_stays { L.takes_memory link.new ≡ L.takes_memory link.old }
-        ensures faults { L.faults link.old ≤ L.faults link.new }
+        ensures memory { OnErr result (IsTrue L.takes_memory) }
+        ensures link { KeepsLink L.opened_with L.faults link.old link.new }
     {
         self.session.sample(&self.application.plain);
         match self.session.tick(ms as u64, closing, link) {
@@ -62,15 +61,13 @@ impl Player {
 
     /// Plays one line.
     fn play_line<L: Link>(&mut self, line: &Line, link: &mut L) -> Result<(), NoMemory>
-        requires open { IsTrue (L.is_open link.old) }
+        requires open { IsSome (L.opened_with link.old) }
         requires playable { IsPlayableLine line.now }
         requires room { CanPlay (line.now ∷ []) self.old }
         ensures played { OnOk result ((before : List LineValue) → HasPlayed before (L.told link.old) self.old → HasPlayed (line.now ∷ before) (L.told link.new) self.new) }
         ensures room { OnOk result ((rest : List LineValue) → CanPlay (line.now ∷ rest) self.old → CanPlay rest self.new) }
-        ensures open { L.is_open link.new ≡ L.is_open link.old }
-        ensures memory { OnErr result (IsTrue (L.takes_memory link.old)) }
-        ensures memory_stays { L.takes_memory link.new ≡ L.takes_memory link.old }
-        ensures faults { L.faults link.old ≤ L.faults link.new }
+        ensures memory { OnErr result (IsTrue L.takes_memory) }
+        ensures link { KeepsLink L.opened_with L.faults link.old link.new }
     {
         match *line {
             Line::Write { thread, value } => {
@@ -83,15 +80,13 @@ impl Player {
 
     /// Plays the lines in order.
     pub fn play<L: Link>(&mut self, lines: &[Line], link: &mut L) -> Result<(), NoMemory>
-        requires open { IsTrue (L.is_open link.old) }
+        requires open { IsSome (L.opened_with link.old) }
         requires playable { All IsPlayableLine lines.now }
         requires room { CanPlay lines.now self.old }
         ensures played { OnOk result (HasPlayed [] (L.told link.old) self.old → HasPlayed (reverse lines.now) (L.told link.new) self.new) }
         ensures room { OnOk result (CanPlay [] self.new) }
-        ensures open { L.is_open link.new ≡ L.is_open link.old }
-        ensures memory { OnErr result (IsTrue (L.takes_memory link.old)) }
-        ensures memory_stays { L.takes_memory link.new ≡ L.takes_memory link.old }
-        ensures faults { L.faults link.old ≤ L.faults link.new }
+        ensures memory { OnErr result (IsTrue L.takes_memory) }
+        ensures link { KeepsLink L.opened_with L.faults link.old link.new }
     {
         for line in lines {
             self.play_line(line, link)?;
@@ -101,11 +96,10 @@ impl Player {
 
     /// The closing tick with its pump, and the report.
     pub fn close<L: Link>(mut self, alloc: Global, link: &mut L) -> Result<String, NoMemory>
-        requires open { IsTrue (L.is_open link.old) }
+        requires open { IsSome (L.opened_with link.old) }
         requires room { CanPlay [] self }
         ensures report { IfOk result (λ text. (lines : List LineValue) → HasPlayed (reverse lines) (L.told link.old) self → IsReport lines (L.told link.new) (string_bytes text)) }
-        ensures memory_stays { L.takes_memory link.new ≡ L.takes_memory link.old }
-        ensures faults { L.faults link.old ≤ L.faults link.new }
+        ensures link { KeepsLink L.opened_with L.faults link.old link.new }
     {
         self.tick(0, true, link)?;
         let closed = self.session.close(alloc, &self.application.dones)?;

@@ -5,8 +5,8 @@ ghost use Rattle.uapubsub.specs.declared.script.Line.{Line as LineValue};
 ghost use Rattle.uapubsub.specs.declared.script.ScriptEnd.TheVariants.{Memory};
 ghost use Rattle.uapubsub.specs.Script.{text_lines, IsTick, IsWrite, Spells, IsText, IsScript, Reads, is_tick, is_write, is_by};
 
+use crate::decimal::decimal_number;
 use std::alloc::{AllocError, AllocFailed, Global};
-use ua_base::decimal_number;
 
 /// A script may have so many ticks.
 const MAX_TICKS: usize = 4_096;

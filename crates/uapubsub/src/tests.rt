@@ -5,7 +5,7 @@ use std::alloc::Global;
 use std::sync::Wait;
 use std::test::Fail;
 use std::thread::Threads;
-use ua_base::{MemoryFolder, MemoryLink, MemorySink, Name, OpenGate};
+use mem_edge::{MemoryFolder, MemoryLink, MemorySink, Name, OpenGate};
 
 const USAGE: &str =
     "usage: uapubsub check --config FILE | play SCRIPT [--config FILE] | run SCRIPT [--config FILE] | load N\n";

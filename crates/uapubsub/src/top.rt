@@ -6,6 +6,7 @@ ghost use Rattle.uapubsub.specs.Words.{script_of};
 ghost use Rattle.uapubsub.specs.Script.{IsScript};
 ghost use Rattle.uapubsub.specs.Play.{IsRefused};
 ghost use Rattle.uapubsub.specs.Ends.{PlaysAs, TellsAs, IsQuiet};
+ghost use Rattle.uapubsub.specs.PlayEnds.{built_in_opening};
 
 use crate::play::play;
 use crate::status::Status;
@@ -38,6 +39,9 @@ pub fn top<R: Threads + Wait + Sync, F: Folder, A: Link, B: Link, G: Gate, K: Si
     ensures refused { (script bytes : List ℕ) → script_of words.now ≡ Some script → F.tells folder.old script ≡ Some (Some bytes)
         → result ≢ 5 → result ≢ 7 → (result ≡ 4) ↔ IsRefused bytes }
 
+    // Where the session was played, its link was opened at port 0 and without fates.
+    ensures opened { (result ≡ 0) ⊎ (result ≡ 6) → A.opened_with lab.new ≡ Some built_in_opening }
+
     // An answer of a fault comes only where the count of faults of its object rose in this call.
     ensures unread { result ≡ 5 → Rose (F.faults folder.old) (F.faults folder.new) }
     ensures unwritten { result ≡ 6 → Rose (K.faults out.old) (K.faults out.new) }
@@ -55,11 +59,10 @@ pub fn top<R: Threads + Wait + Sync, F: Folder, A: Link, B: Link, G: Gate, K: Si
     ensures untouched { result ≡ 2 → folder.new ≡ folder.old }
     ensures files { (name : List ℕ) → F.tells folder.new name ≡ F.tells folder.old name }
     ensures unlinked { (result ≡ 2) ⊎ (result ≡ 4) ⊎ (result ≡ 5) → lab.new ≡ lab.old }
-    ensures unused { result ≡ 8 → (A.told lab.new ≡ A.told lab.old) × (A.is_open lab.new ≡ A.is_open lab.old) }
+    ensures unused { result ≡ 8 → (A.told lab.new ≡ A.told lab.old) × (A.opened_with lab.new ≡ A.opened_with lab.old) }
     ensures silent { result ≢ 0 → result ≢ 6 → out.new ≡ out.old }
     ensures told { TellsAs result (script_of words.now) (E.written err.old) (E.written err.new) (E.faults err.old) (E.faults err.new) }
     ensures wire { wire.new ≡ wire.old }
-    ensures memory_stays { A.takes_memory lab.new ≡ A.takes_memory lab.old }
 
     // No count of faults falls.
     ensures folder_faults { F.faults folder.old ≤ F.faults folder.new }

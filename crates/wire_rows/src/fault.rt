@@ -1,5 +1,6 @@
 //! Why a line is no row.
 use std::alloc::{AllocError, AllocFailed};
+use std::fmt;
 
 /// Why a line is no row.
 #[derive(Clone, Copy, Debug, Drop)]
@@ -25,6 +26,12 @@ impl From<AllocError> for RowFault {
 
 impl<T: Drop> From<AllocFailed<T>> for RowFault {
     fn from(_: AllocFailed<T>) -> RowFault {
+        RowFault::Memory
+    }
+}
+
+impl From<fmt::Error> for RowFault {
+    fn from(_: fmt::Error) -> RowFault {
         RowFault::Memory
     }
 }

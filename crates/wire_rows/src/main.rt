@@ -4,11 +4,19 @@
 
 mod bench;
 mod fault;
+mod frames;
+mod header_parts;
+mod headers;
+mod joiners;
 mod metas;
+mod parsed;
 mod row;
+mod security;
+mod senders;
 mod shown;
 mod timers;
 mod values;
+mod windows;
 
 use bench::Bench;
 use row::Row;

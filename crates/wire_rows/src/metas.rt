@@ -1,10 +1,11 @@
 //! Rows of `dataset_meta`.
 use crate::bench::Answer;
 use crate::fault::RowFault;
+use crate::parsed::kind_of;
 use crate::row::Row;
 use dataset_meta::{Field, Meta, MetaFault, Name32};
 use std::alloc::Global;
-use ua_values::Kind;
+use std::fmt::{self, Write};
 
 /// `name BYTES`: whether the bytes are a name of a data set or a field
 pub fn name(alloc: Global, row: &mut Row) -> Answer {
@@ -18,15 +19,73 @@ pub fn name(alloc: Global, row: &mut Row) -> Answer {
 
 /// `meta FIELD ..`, a field as NAME:KIND or NAME:KIND:CAP: the words of a row, or the fault
 pub fn meta(alloc: Global, row: &mut Row) -> Answer {
-    let mut fields = Vec::new(alloc);
-    for word in row.words() {
-        fields.push(field_of(word)?)?;
-    }
-    let answer = match new_meta(fields, 1, 0, false)? {
+    let answer = match new_meta(fields_of(alloc, row)?, 1, 0, false)? {
         Ok(meta) => format!(in alloc; "{} words", meta.words())?,
         Err(fault) => format!(in alloc; "{fault:?}")?,
     };
     Ok(Some(answer))
+}
+
+/// `told MAJOR MINOR QUALITY FIELD ..`: what the meta tells
+pub fn told(alloc: Global, row: &mut Row) -> Answer {
+    let (major, minor) = (row.u32()?, row.u32()?);
+    let quality = row.word()? == "true";
+    let Ok(meta) = new_meta(fields_of(alloc, row)?, major, minor, quality)? else {
+        return Err(RowFault::Condition);
+    };
+    let mut told = format!(in alloc; "{} {} {}:", meta.major(), meta.minor(), meta.quality())?;
+    for (index, field) in meta.fields().iter().enumerate() {
+        let at = meta.start(index as u8);
+        write!(told, " {}@{at}+{}", Letters(&field.name), field.words())?;
+    }
+    write!(
+        told,
+        ", {} words of values, {} in all",
+        meta.value_words(),
+        meta.words()
+    )?;
+    Ok(Some(told))
+}
+
+/// A name as text.
+#[derive(Clone, Copy)]
+struct Letters<'a>(&'a Name32);
+
+impl fmt::Display for Letters<'_> {
+    fn fmt<W: fmt::Write>(&self, f: &mut fmt::Formatter<W>) -> fmt::Result {
+        for byte in self.0.as_bytes() {
+            f.write_char(char::from(*byte))?;
+        }
+        Ok(())
+    }
+}
+
+fn fields_of(alloc: Global, row: &mut Row) -> Result<Vec<Field>, RowFault> {
+    let mut fields = Vec::new(alloc);
+    for word in row.words() {
+        fields.push(field_of(word)?)?;
+    }
+    Ok(fields)
+}
+
+/// A data set in one word: its version and its fields, as `1.0/a:UInt32/b:String:60`, and `1.0+quality/..` where it has quality.
+pub fn data_set(alloc: Global, word: &str) -> Result<Meta, RowFault> {
+    let (version, rest) = word.split_once('/').ok_or(RowFault::Missing)?;
+    let (version, quality) = match version.split_once('+') {
+        Some((version, _)) => (version, true),
+        None => (version, false),
+    };
+    let (major, minor) = version.split_once('.').ok_or(RowFault::Missing)?;
+    let major = major.parse::<u32>().map_err(|_| RowFault::Number)?;
+    let minor = minor.parse::<u32>().map_err(|_| RowFault::Number)?;
+    let mut fields = Vec::new(alloc);
+    for field in rest.split('/') {
+        fields.push(field_of(field)?)?;
+    }
+    match new_meta(fields, major, minor, quality)? {
+        Ok(meta) => Ok(meta),
+        Err(_) => Err(RowFault::Condition),
+    }
 }
 
 fn new_meta(
@@ -49,27 +108,5 @@ fn field_of(word: &str) -> Result<Field, RowFault> {
         name: Name32::new(name.as_bytes()).ok_or(RowFault::Condition)?,
         kind: kind_of(kind)?,
         cap,
-    })
-}
-
-fn kind_of(word: &str) -> Result<Kind, RowFault> {
-    Ok(match word {
-        "Boolean" => Kind::Boolean,
-        "SByte" => Kind::SByte,
-        "Byte" => Kind::Byte,
-        "Int16" => Kind::Int16,
-        "UInt16" => Kind::UInt16,
-        "Int32" => Kind::Int32,
-        "UInt32" => Kind::UInt32,
-        "Int64" => Kind::Int64,
-        "UInt64" => Kind::UInt64,
-        "Float" => Kind::Float,
-        "Double" => Kind::Double,
-        "String" => Kind::String,
-        "DateTime" => Kind::DateTime,
-        "Guid" => Kind::Guid,
-        "ByteString" => Kind::ByteString,
-        "StatusCode" => Kind::StatusCode,
-        _ => return Err(RowFault::Missing),
     })
 }

@@ -4,132 +4,17 @@ ghost use Rattle.std.specs.Prelude.{◌≡◌, ◌+◌, ◌<◌, ◌^◌, [], �
 ghost use Rattle.std.specs.List.{list_any};
 ghost use Rattle.std.specs.Option.{option_map_or};
 ghost use Rattle.ua_values.specs.declared.value.Value.TheVariants.{UInt32};
+ghost use Rattle.pubsub_model.specs.Goods.{good};
 ghost use Rattle.seq_number.specs.Numbers.{number_of_place, greatest};
 ghost use Rattle.pubsub_model.specs.Frames.{is_whole, is_silent, carried, published};
-ghost use Rattle.pubsub_model.specs.Records.{Came, Cut, place_in, since_cut, cut_reason, is_record, records, breaks_with, breaks_of, from_whole, is_nothing, last_with, held_in, held, why, break_with, breaks, row_of, unnumbered_row};
+ghost use Rattle.pubsub_model.specs.Records.{Came, Cut, place_in, since_cut, cut_reason, is_record, records, breaks_with, breaks_of, from_whole, is_nothing, last_with, held_in, held, why, break_with, breaks, row_alone, unnumbered_row};
 ghost use Rattle.dataset_reader.specs.Keeping.{stamps, jumps, with_jumps};
 
+mod item;
+
 use crate::{Break, Why};
+pub use item::{Arrival, Held, Item};
 use std::alloc::{AllocError, Global};
-use std::marker::Model;
-
-/// A frame that came: with a value a key frame or a delta frame, and with none a keep-alive, which tells of the next place.
-#[derive(Drop)]
-pub struct Item {
-    pub stamp: Option<u32>,
-    pub place: u32,
-    pub value: Option<u32>,
-    pub whole: bool,
-}
-
-impl Model for Item {
-    ghost use Rattle.std.specs.Prelude.{[], ◌∷◌, if◌then◌else◌};
-    ghost use Rattle.std.specs.Option.{option_map_or};
-    ghost use Rattle.ua_values.specs.declared.value.Value.TheVariants.{UInt32};
-    ghost use Rattle.pubsub_model.specs.Frames.{Whole, Change, Alive};
-    ghost use Rattle.pubsub_model.specs.Records.{Item as ModelItem, at};
-
-    ghost Value = { ModelItem };
-
-    ghost view = { λ i. at 0 i.stamp (option_map_or (λ v. if i.whole then Whole i.place (UInt32 v ∷ []) else Change i.place ((0, UInt32 v) ∷ [])) i.value (Alive i.place)) };
-}
-
-/// What came, or with no item a cut.
-#[derive(Drop)]
-pub struct Arrival {
-    pub came: Option<Item>,
-    pub cut: Why,
-}
-
-impl Model for Arrival {
-    ghost use Rattle.std.specs.Option.{option_map_or};
-    ghost use Rattle.pubsub_model.specs.Records.{Arrival as ModelArrival, Came, Cut};
-
-    ghost Value = { ModelArrival };
-
-    ghost view = { λ a. option_map_or Came a.came (Cut a.cut) };
-}
-
-/// What is held: with no value an empty row.
-#[derive(Drop)]
-pub struct Held {
-    pub place: u64,
-    pub value: Option<u32>,
-}
-
-impl Model for Held {
-    ghost use Rattle.std.specs.Prelude.{[], ◌∷◌};
-    ghost use Rattle.std.specs.Option.{option_map_or};
-    ghost use Rattle.ua_values.specs.declared.value.Value.TheVariants.{UInt32};
-    ghost use Rattle.pubsub_model.specs.Records.{Held as ModelHeld};
-
-    ghost Value = { ModelHeld };
-
-    ghost view = { λ h. record { place = h.place; row = option_map_or (λ v. UInt32 v ∷ []) h.value [] } };
-}
-
-impl Item {
-    fn copied(&self) -> Item
-        ensures { result ≡ self.now }
-    {
-        Item {
-            stamp: self.stamp,
-            place: self.place,
-            value: self.value,
-            whole: self.whole,
-        }
-    }
-
-    fn stamp(&self) -> Option<u32>
-        ensures { result ≡ self.now.stamp }
-    {
-        self.stamp
-    }
-
-    fn place_in(&self) -> u64
-        ensures place { result ≡ place_in self.now }
-        ensures few { result < 2 ^ 32 }
-    {
-        let place = u64::from(self.place);
-        if self.value.is_none() {
-            return place.saturating_sub(1);
-        }
-        place
-    }
-
-    fn carried(&self) -> u16
-        ensures { result ≡ carried self.now.frame }
-    {
-        (self.place % 65536) as u16
-    }
-
-    fn is_whole(&self) -> bool
-        ensures { result ≡ is_whole self.now.frame }
-    {
-        self.value.is_some() && self.whole
-    }
-
-    fn is_silent(&self) -> bool
-        ensures { result ≡ is_silent self.now.frame }
-    {
-        self.value.is_none()
-    }
-}
-
-impl Arrival {
-    fn copied(&self) -> Arrival
-        ensures { result ≡ self.now }
-    {
-        let came = match &self.came {
-            Some(item) => Some(item.copied()),
-            None => None,
-        };
-        Arrival {
-            came,
-            cut: self.cut,
-        }
-    }
-}
 
 fn came(item: &Item) -> Arrival
     ensures { result ≡ Came item.now }
@@ -257,7 +142,7 @@ fn from_whole(alloc: Global, records: &[Item]) -> Result<Vec<Item>, AllocError>
 
 /// The value of the row that the last of these frames publishes.
 fn published(records: &[Item]) -> Option<u32>
-    ensures { published (map (λ i. i.frame) records.now) ≡ option_map_or (λ v. UInt32 v ∷ []) result [] }
+    ensures { published (map (λ i. i.frame) records.now) ≡ option_map_or (λ v. good (UInt32 v) ∷ []) result [] }
 {
     let [item, before @ ..] = records else {
         return None;
@@ -411,7 +296,7 @@ pub fn with_jumps(alloc: Global, arrivals: &[Arrival]) -> Result<Vec<Arrival>, A
 }
 
 fn last_whole(items: &[Item]) -> Option<u32>
-    ensures { option_map (λ v. UInt32 v ∷ []) result ≡ row_of (find (λ item. is_whole item.frame) items.now) }
+    ensures { option_map (λ v. good (UInt32 v) ∷ []) result ≡ row_alone (find (λ item. is_whole item.frame) items.now) }
 {
     let [item, before @ ..] = items else {
         return None;
@@ -424,7 +309,7 @@ fn last_whole(items: &[Item]) -> Option<u32>
 
 /// The value that a reader with no numbering holds.
 pub fn unnumbered(alloc: Global, arrivals: &[Arrival]) -> Result<Option<u32>, AllocError>
-    ensures { IfOk result (λ found. option_map (λ v. UInt32 v ∷ []) found ≡ unnumbered_row arrivals.now) }
+    ensures { IfOk result (λ found. option_map (λ v. good (UInt32 v) ∷ []) found ≡ unnumbered_row arrivals.now) }
 {
     let items = since_cut(alloc, arrivals)?;
     Ok(last_whole(&items))

@@ -1,10 +1,11 @@
 //! The cadence by its definition: a slow program with a function for each definition. Lists have the latest first.
 ghost use Rattle.std.specs.Prelude.{◌≡◌, ◌<◌, ◌≤◌, ◌+◌, ◌^◌, [], ◌∷◌, length, reverse, filter_map, IfOk};
 ghost use Rattle.ua_values.specs.declared.value.Value.TheVariants.{UInt32};
+ghost use Rattle.pubsub_model.specs.Goods.{good};
 ghost use Rattle.dataset_meta.specs.Rows.{differs, cons_if};
 ghost use Rattle.pubsub_model.specs.Frames.{is_whole, is_silent};
 ghost use Rattle.pubsub_model.specs.Cadence.{is_key, is_data, is_any, turns_since, last_turn, next_place, is_key_due, quiet_answer, change_answer, answer, is_fresh, cadence, log_entry};
-ghost use Rattle.dataset_writer.specs.Sending.{model_settings};
+ghost use Rattle.dataset_writer.specs.Turns.{model_settings};
 
 use crate::WriterSettings;
 use std::alloc::{AllocError, Global};
@@ -12,36 +13,37 @@ use std::marker::Model;
 
 /// A turn of a data set with one number.
 #[derive(Drop)]
-pub struct Took {
+pub struct PastTurn {
     pub moment: u64,
     pub value: u32,
     pub version: u64,
     pub closing: bool,
 }
 
-impl Model for Took {
+impl Model for PastTurn {
     ghost use Rattle.std.specs.Prelude.{[], ◌∷◌};
     ghost use Rattle.ua_values.specs.declared.value.Value.TheVariants.{UInt32};
-    ghost use Rattle.pubsub_model.specs.Cadence.{Turn};
+    ghost use Rattle.pubsub_model.specs.Goods.{good};
+    ghost use Rattle.pubsub_model.specs.Cadence.{WriterTurn};
 
-    ghost Value = { Turn };
+    ghost Value = { WriterTurn };
 
-    ghost view = { λ t. record { moment = t.moment; row = UInt32 t.value ∷ []; version = t.version; closing = t.closing } };
+    ghost view = { λ t. record { moment = t.moment; row = good (UInt32 t.value) ∷ []; version = t.version; closing = t.closing } };
 }
 
 /// A turn, or with none a refresh.
 #[derive(Drop)]
 pub struct Deed {
-    pub took: Option<Took>,
+    pub took: Option<PastTurn>,
 }
 
 impl Model for Deed {
     ghost use Rattle.std.specs.Option.{option_map_or};
-    ghost use Rattle.pubsub_model.specs.Cadence.{Deed as ModelDeed, Took as ModelTook, Refreshed};
+    ghost use Rattle.pubsub_model.specs.Cadence.{WriterDeed, HadTurn, Refreshed};
 
-    ghost Value = { ModelDeed };
+    ghost Value = { WriterDeed };
 
-    ghost view = { λ d. option_map_or ModelTook d.took Refreshed };
+    ghost view = { λ d. option_map_or HadTurn d.took Refreshed };
 }
 
 /// A frame: with a value a key frame or a delta frame, and with none a keep-alive.
@@ -56,17 +58,18 @@ impl Model for Frame {
     ghost use Rattle.std.specs.Prelude.{[], ◌∷◌, if◌then◌else◌};
     ghost use Rattle.std.specs.Option.{option_map_or};
     ghost use Rattle.ua_values.specs.declared.value.Value.TheVariants.{UInt32};
-    ghost use Rattle.pubsub_model.specs.Frames.{Frame as ModelFrame, Whole, Change, Alive};
+    ghost use Rattle.pubsub_model.specs.Goods.{good};
+    ghost use Rattle.pubsub_model.specs.Frames.{PlacedFrame, Whole, Change, Alive};
 
-    ghost Value = { ModelFrame };
+    ghost Value = { PlacedFrame };
 
-    ghost view = { λ f. option_map_or (λ v. if f.whole then Whole f.place (UInt32 v ∷ []) else Change f.place ((0, UInt32 v) ∷ [])) f.value (Alive f.place) };
+    ghost view = { λ f. option_map_or (λ v. if f.whole then Whole f.place (good (UInt32 v) ∷ []) else Change f.place ((0, good (UInt32 v)) ∷ [])) f.value (Alive f.place) };
 }
 
 /// A turn with its answer.
 #[derive(Drop)]
 pub struct Answered {
-    pub turn: Took,
+    pub turn: PastTurn,
     pub answer: Option<Frame>,
 }
 
@@ -78,17 +81,17 @@ impl Model for Answered {
     ghost view = { λ a. record { turn = a.turn; answer = a.answer } };
 }
 
-impl Took {
+impl PastTurn {
     fn value(&self) -> u32
-        ensures { self.now.row ≡ UInt32 result ∷ [] }
+        ensures { self.now.row ≡ good (UInt32 result) ∷ [] }
     {
         self.value
     }
 
-    fn copied(&self) -> Took
+    fn copied(&self) -> PastTurn
         ensures { result ≡ self.now }
     {
-        Took {
+        PastTurn {
             moment: self.moment,
             value: self.value,
             version: self.version,
@@ -143,7 +146,7 @@ impl Answered {
     }
 
     fn value(&self) -> u32
-        ensures { self.now.turn.row ≡ UInt32 result ∷ [] }
+        ensures { self.now.turn.row ≡ good (UInt32 result) ∷ [] }
     {
         self.turn.value()
     }
@@ -187,7 +190,7 @@ fn last_moment(before: &[Answered]) -> u64
 
 /// Whether a value differs from that of the last data frame, if there is one.
 fn changes(before: &[Answered], value: u32) -> bool
-    ensures { differs (last_turn is_data before.now).row (UInt32 value ∷ []) ≡ cons_if result (0, UInt32 value) [] }
+    ensures { differs (last_turn is_data before.now).row (good (UInt32 value) ∷ []) ≡ cons_if result (0, good (UInt32 value)) [] }
 {
     let [answered, rest @ ..] = before else {
         return false;
@@ -206,14 +209,14 @@ fn place_after(settings: &WriterSettings, before: &[Answered]) -> u64
     u64::from(settings.first_number) + data as u64
 }
 
-fn is_due(settings: &WriterSettings, fresh: bool, before: &[Answered], turn: &Took) -> bool
+fn is_due(settings: &WriterSettings, fresh: bool, before: &[Answered], turn: &PastTurn) -> bool
     requires { length before.now < 2 ^ 32 }
     ensures { result ≡ is_key_due (model_settings settings.now) fresh before.now turn.now }
 {
     fresh || turn.closing || u64::from(settings.key_frame_count) <= turns_since_key(before)
 }
 
-fn quiet(settings: &WriterSettings, before: &[Answered], turn: &Took) -> Option<Frame>
+fn quiet(settings: &WriterSettings, before: &[Answered], turn: &PastTurn) -> Option<Frame>
     requires { length before.now < 2 ^ 32 }
     ensures { result ≡ quiet_answer (model_settings settings.now) before.now turn.now }
 {
@@ -228,7 +231,7 @@ fn quiet(settings: &WriterSettings, before: &[Answered], turn: &Took) -> Option<
     })
 }
 
-fn change(settings: &WriterSettings, before: &[Answered], turn: &Took) -> Option<Frame>
+fn change(settings: &WriterSettings, before: &[Answered], turn: &PastTurn) -> Option<Frame>
     requires { length before.now < 2 ^ 32 }
     ensures { result ≡ change_answer (model_settings settings.now) before.now turn.now (differs (last_turn is_data before.now).row turn.now.row) }
 {
@@ -247,7 +250,7 @@ fn answer_of(
     settings: &WriterSettings,
     fresh: bool,
     before: &[Answered],
-    turn: &Took,
+    turn: &PastTurn,
 ) -> Option<Frame>
     requires { length before.now < 2 ^ 32 }
     ensures { result ≡ answer (model_settings settings.now) fresh before.now turn.now }

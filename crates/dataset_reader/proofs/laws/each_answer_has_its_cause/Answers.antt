@@ -3,4 +3,4 @@ use Rattle.dataset_reader.proofs.AnswerLaws.{frame-tells, begins-frame}
 use Rattle.dataset_reader.proofs.laws.each_answer_has_its_cause.Goals as goal
 
 pub returns : goal.returns
-returns c = record { tells = frame-tells; fresh = λ none. refl; frame = begins-frame; cut = λ kept why none. refl }
+returns c = record { cause = frame-tells; fresh = λ none. refl; frame = begins-frame; cut = λ kept why none. refl }

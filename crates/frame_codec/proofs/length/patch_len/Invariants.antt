@@ -6,6 +6,6 @@ use Rattle.frame_codec.proofs.length.patch_len.Given as goal
 
 abbrev pub invariant-loop-index : goal.invariant-loop-index
 invariant-loop-index l = record {
-  so_far : l.len ≡ length (changes_bytes (marked_from 0 l.patch.mask (take l.index (row_in l.meta.fields l.patch.row.words))));
-  small : l.len ≤ 263 * l.index;
+  so_far : l.len ≡ length (changes_bytes l.meta.quality (marked_from 0 l.patch.mask (take l.index (row_in l.meta.fields l.patch.row.words))));
+  small : l.len ≤ 268 * l.index;
 }

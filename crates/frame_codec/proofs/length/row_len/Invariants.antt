@@ -5,6 +5,6 @@ use Rattle.frame_codec.proofs.length.row_len.Given as goal
 
 abbrev pub invariant-loop-index : goal.invariant-loop-index
 invariant-loop-index l = record {
-  so_far : l.len ≡ length (values_bytes (take l.index (row_in l.meta.fields l.row.words)));
-  small : l.len ≤ 261 * l.index;
+  so_far : l.len ≡ length (values_bytes l.meta.quality (take l.index (row_in l.meta.fields l.row.words)));
+  small : l.len ≤ 266 * l.index;
 }

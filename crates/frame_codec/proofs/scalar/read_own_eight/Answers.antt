@@ -4,4 +4,7 @@ use Rattle.frame_codec.proofs.ScalarLaws.{eight_read}
 use Rattle.frame_codec.proofs.scalar.read_own_eight.Goals as goal
 
 pub returns-clause-read : goal.returns-clause-read
-returns-clause-read c = eight_read (record {}) c.args.field.now (rest_of c.args.cursor.now) c.in-Ok.bytes (rest_of c.read_array.new.self) c.from_le_bytes.result c.in-Ok.ensures.answer (search rules) (search rules) c.from_le_bytes.ensures c.from_le_bytes.type_inv
+returns-clause-read c = record {
+  answer = eight_read (record {}) c.args.kind (rest_of c.args.cursor.now) c.in-Ok.bytes (rest_of c.read_array.new.self) c.from_le_bytes.result c.in-Ok.ensures.answer (search rules) (search rules) c.from_le_bytes.ensures;
+  same_bytes = c.in-Ok.ensures.same_bytes;
+}

@@ -15,7 +15,7 @@ returns-in-Whole c =
     let row = row_in fields c.in-Whole.row.words in
     let count : length c.fields.result.now ≡ length row = ap (λ (all : List Field). length all) c.fields.ensures.fields ∙ sym (length-row_in fields c.in-Whole.row.words) in
     rw c.in-Whole.is
-    (subst (λ (n : ℕ). Puts c.args.pen.now c.put_row.new.pen (to_le_bytes w16 n ++ values_bytes row)) count
+    (subst (λ (n : ℕ). Puts c.args.pen.now c.put_row.new.pen (to_le_bytes w16 n ++ values_bytes c.args.meta.now.quality row)) count
     (Puts-then c.args.pen.now c.put_u16.new.self c.put_row.new.pen _ _ c.put_u16.ensures c.put_row.ensures))
 
 pub returns-in-Change : goal.returns-in-Change
@@ -24,8 +24,8 @@ returns-in-Change c =
     let fields = c.args.meta.now.fields in
     let patch = c.in-Change.patch in
     let row = row_in fields patch.row.words in
-    let of : IsPatchOf fields patch = rw c.in-Change.is at c.requires.of in
+    let of : IsPatchOf c.args.meta.now patch = rw c.in-Change.is at c.requires.of in
     let below = subst (λ (n : ℕ). patch.mask < 2 ^ n) (sym (length-row_in fields patch.row.words)) of.marks in
     rw c.in-Change.is
-    (subst (λ (n : ℕ). Puts c.args.pen.now c.put_patch.new.pen (to_le_bytes w16 n ++ changes_bytes (patch_in fields patch))) (count_ones-marked row patch.mask below)
+    (subst (λ (n : ℕ). Puts c.args.pen.now c.put_patch.new.pen (to_le_bytes w16 n ++ changes_bytes c.args.meta.now.quality (patch_in fields patch))) (count_ones-marked row patch.mask below)
     (Puts-then c.args.pen.now c.put_u16-in-Change.new.self c.put_patch.new.pen _ _ c.put_u16-in-Change.ensures c.put_patch.ensures))

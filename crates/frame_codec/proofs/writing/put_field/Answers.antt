@@ -1,7 +1,22 @@
-use Rattle.std.proofs.Common.{rules}
-use Rattle.ua_binary.specs.Spelling.{variant}
-use Rattle.frame_codec.proofs.Laid.{Puts-lent}
+use Rattle.std.proofs.Common.{◌≡◌, get_or}
+use Rattle.dataset_meta.specs.DataValues.{DataValue}
+use Rattle.row_words.specs.Belonging.{row_in}
+use Rattle.row_words.specs.Words.{scalar_in}
+use Rattle.frame_codec.proofs.Laid.{word_room}
 use Rattle.frame_codec.proofs.writing.put_field.Goals as goal
 
-pub returns-else-has_eight_bytes : goal.returns-else-has_eight_bytes
-returns-else-has_eight_bytes c = λ value here. Puts-lent c.args.pen.now c.put_any.new.pen _ _ (variant value) (c.put_any.ensures value here) (first_of (assumption c, search rules))
+pub put_four-requires-clause-room : goal.put_four-requires-clause-room
+put_four-requires-clause-room c =
+    let fields = c.args.meta.now.fields in
+    let field = c.index-fields-from.result in
+    let at : field ≡ get_or fields c.args.index field = rw (c.fields.ensures.fields, c.from.ensures) at c.index-fields-from.is in
+    let d : DataValue = record { value = scalar_in field.kind c.word.result; status = 0 } in
+    word_room fields (row_in fields c.args.row.now.words) c.args.index c.word.result field c.args.pen.now d at c.word.ensures.value c.requires.room
+
+pub put_eight-requires-clause-room : goal.put_eight-requires-clause-room
+put_eight-requires-clause-room c =
+    let fields = c.args.meta.now.fields in
+    let field = c.index-fields-from.result in
+    let at : field ≡ get_or fields c.args.index field = rw (c.fields.ensures.fields, c.from.ensures) at c.index-fields-from.is in
+    let d : DataValue = record { value = scalar_in field.kind c.word-then-has_eight_bytes.result; status = 0 } in
+    word_room fields (row_in fields c.args.row.now.words) c.args.index c.word-then-has_eight_bytes.result field c.args.pen.now d at c.word-then-has_eight_bytes.ensures.value c.requires.room

@@ -7,4 +7,4 @@ use Rattle.frame_codec.proofs.writing.put_patch.Given as goal
 
 -- the changes so far stand behind one another
 abbrev pub invariant-loop-index : goal.invariant-loop-index
-invariant-loop-index l = Puts l.fn.pen l.pen (changes_bytes (marked_from 0 l.patch.mask (take l.index (row_in l.meta.fields l.patch.row.words))))
+invariant-loop-index l = Puts l.fn.pen l.pen (changes_bytes l.meta.quality (marked_from 0 l.patch.mask (take l.index (row_in l.meta.fields l.patch.row.words))))

@@ -6,6 +6,6 @@ use Rattle.key_delta.proofs.changes.changed.Given as goal
 
 abbrev pub invariant-loop-index : goal.invariant-loop-index
 invariant-loop-index l = record {
-  of : IsPatchOf l.meta.fields l.patch;
+  of : IsPatchOf l.meta l.patch;
   differ : patch_in l.meta.fields l.patch ≡ upto l.index (row_in l.meta.fields l.old.words) (row_in l.meta.fields l.new.words);
 }

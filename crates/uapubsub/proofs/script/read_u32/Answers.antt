@@ -1,5 +1,5 @@
 use Rattle.std.proofs.Common.{◌≡◌, arith}
-use Rattle.ua_base.proofs.Decimals.{decimal_unique}
+use Rattle.uapubsub.proofs.Decimals.{decimal_unique}
 use Rattle.uapubsub.proofs.script.read_u32.Goals as goal
 
 pub returns-in-Err-clause-number : goal.returns-in-Err-clause-number

@@ -1,4 +1,5 @@
-use Rattle.std.proofs.Common.{◌≡◌, ◌<◌, refl, arith, ◌∙◌}
+use Rattle.std.proofs.Common.{◌≡◌, ◌<◌, refl, arith}
+use Rattle.ua_base.proofs.Links.{KeepsLink-then, stays_open}
 use Rattle.pubsub_engine.proofs.Entries.{so_more, so_ended, so_full, within_limit}
 use Rattle.pubsub_engine.proofs.subscriber.Subscriber.pump.Goals as goal
 
@@ -8,12 +9,13 @@ returns-then-not-receive-clause-entries g c =
     let p = so_ended c.loop-taken.taken c.args.self.now c.loop-taken.self c.receive.new.self _ _ _ few c.loop-taken.invariant.run c.if-not-receive.ensures.entry in
     (p.0, p.1, p.2, p.3, within_limit c.loop-taken.taken few, p.4)
 
+pub receive-requires-clause-open : goal.receive-requires-clause-open
+receive-requires-clause-open g c = stays_open g.L.Link.opened_with g.L.Link.faults c.args.link.now c.loop-taken.link c.loop-taken.invariant.link c.requires.open
+
 pub loop-taken-preserved : goal.loop-taken-preserved
 loop-taken-preserved g c = record {
   run = so_more c.loop-taken.taken c.args.self.now c.loop-taken.self c.receive.new.self _ _ _ c.loop-taken.invariant.run c.if-not-receive.ensures.entry;
-  stays = c.receive.ensures.open ∙ c.loop-taken.invariant.stays;
-  memory = c.receive.ensures.memory_stays ∙ c.loop-taken.invariant.memory;
-  later = omega (arith, c.receive.ensures.faults, c.loop-taken.invariant.later);
+  link = KeepsLink-then g.L.Link.opened_with g.L.Link.faults c.args.link.now c.loop-taken.link c.receive.new.link c.loop-taken.invariant.link c.receive.ensures.link;
 }
 
 pub returns-clause-entries : goal.returns-clause-entries

@@ -15,7 +15,7 @@ loop-left-preserved c =
     record {
       marks = omega (arith, first.fewer, c.loop-left.invariant.marks);
       belongs = c.copy_field.ensures.belongs;
-      laid = laid_more fields c.args.self.now c.loop-left.left c.loop-left.row.words c.copy_field.new.to.words c.requires.of first c.copy_field.ensures.copied ∙ c.loop-left.invariant.laid;
+      laid = laid_more c.args.meta.now c.args.self.now c.loop-left.left c.loop-left.row.words c.copy_field.new.to.words c.requires.of first c.copy_field.ensures.copied ∙ c.loop-left.invariant.laid;
     }
 
 pub returns-clause-patched : goal.returns-clause-patched
@@ -24,5 +24,5 @@ returns-clause-patched c =
 
 pub returns-clause-words : goal.returns-clause-words
 returns-clause-words c =
-    words_laid c.args.meta.now.fields c.args.self.now c.args.row.now.words c.loop-left.row.words c.loop-left.invariant.belongs
+    words_laid c.args.meta.now c.args.self.now c.args.row.now.words c.loop-left.row.words c.loop-left.invariant.belongs
     (laid_all c.args.meta.now.fields c.args.self.now c.args.row.now.words c.loop-left.row.words c.loop-left.left c.loop-left-test.false c.loop-left.invariant.laid)

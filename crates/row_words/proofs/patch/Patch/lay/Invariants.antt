@@ -8,7 +8,7 @@ use Rattle.row_words.proofs.patch.Patch.lay.Given as goal
 abbrev pub invariant-loop-left : goal.invariant-loop-left
 invariant-loop-left l = record {
   marks : l.left < 2 ^ length l.meta.fields;
-  belongs : Belongs l.meta.fields l.row.words;
+  belongs : Belongs l.meta l.row.words;
   laid : patched (row_in l.meta.fields l.row.words) (marked_from 0 l.left (row_in l.meta.fields l.self.row.words)) ≡ patched (row_in l.meta.fields l.initial.row.words) (marked_from 0 l.self.mask (row_in l.meta.fields l.self.row.words));
 }
 

@@ -1,0 +1,6 @@
+pub mod Cover
+pub mod Chunks
+pub mod Joining
+pub mod Joiners
+pub mod Joins
+pub mod Spelling

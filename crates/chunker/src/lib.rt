@@ -1,0 +1,21 @@
+//! Messages in chunks: a message cut into chunks, and chunks joined into a message (OPC 10000-14, the chunked
+//! NetworkMessage).
+#![tactic(auto)]
+
+mod cover;
+mod cutting;
+mod joiner;
+mod laws;
+mod payload;
+#[cfg(test)]
+mod tests;
+
+pub use cutting::cut;
+pub use joiner::{Joined, Joiner, MESSAGE_BYTES};
+pub use laws::{
+    a_written_chunk_is_read_whatever_follows, chunks_of_a_cut_give_the_message_once,
+    chunks_that_cover_a_message_give_it_back, each_chunk_of_a_cut_can_be_written,
+    each_chunk_of_a_cut_is_of_its_message, each_near_chunk_joins, near_chunks_join,
+    refused_chunks_change_nothing,
+};
+pub use payload::{CHUNK_FRONT_BYTES, ChunkFault, ChunkPayload, read_chunk, write_chunk};

@@ -1,0 +1,9 @@
+pub mod Comes
+pub mod Counted
+pub mod Determined
+pub mod Filters
+pub mod Honesty
+pub mod Kept
+pub mod Named
+pub mod Opened
+pub mod Waiting

@@ -1,0 +1,14 @@
+pub mod Calls
+pub mod Contents
+pub mod Holds
+pub mod Lines
+pub mod Marks
+pub mod MemoryFiles
+pub mod MemoryFolders
+pub mod MemoryLinks
+pub mod MemorySinks
+pub mod Names
+pub mod Plans
+pub mod Queueing
+pub mod Runs
+pub mod Sends

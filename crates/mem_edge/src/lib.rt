@@ -1,0 +1,25 @@
+//! The outside in memory: files, what is written, and a link whose datagrams are lost, repeated, held back or
+//! injected as it is told.
+#![tactic(auto)]
+
+mod calls;
+mod gate;
+mod laws;
+mod line;
+mod mark;
+mod memory_folder;
+mod memory_link;
+mod memory_sink;
+mod name;
+mod plan;
+mod timetable;
+
+pub use gate::OpenGate;
+pub use laws::{a_journal_is_determined_by_its_calls, a_memory_link_is_honest};
+pub use memory_folder::MemoryFolder;
+pub use memory_link::MemoryLink;
+pub use memory_sink::MemorySink;
+pub use name::Name;
+
+#[cfg(test)]
+mod tests;

@@ -1,0 +1,78 @@
+-- What the list of accepted pairs says of the highest token and of the numbers under a token.
+use Rattle.std.proofs.Common.{◌≡◌, ℕ, ◌<◌, ◌≤◌, true, false, List, [], ◌∷◌, refl, sym, ◌∙◌, ap, subst, arith, ◌==◌, Option, Some, None, eqb, eqb-true}
+use Rattle.std.specs.Option.{option_eq}
+use Rattle.std.proofs.lemmas.Bool.Decides.{nat_tests}
+use Rattle.replay_window.specs.Taken.{seen}
+use Rattle.replay_window.specs.Window.{IsWindowOf}
+use Rattle.replay_window.specs.declared.seen.Seen.TheVariants.{Fresh}
+use Rattle.replay_window.specs.declared.window.Window.{Window}
+use Rattle.message_guard.specs.Acceptance.{Accepted, highest, numbers_of}
+use Rattle.message_guard.specs.declared.guard.Guard.{Guard}
+use Rattle.message_guard.specs.declared.mode.Mode.{Mode}
+use Rattle.message_guard.specs.declared.mode.Mode.TheVariants as modes
+use Rattle.message_guard.specs.declared.pass.Pass1.{Pass1}
+use Rattle.message_guard.specs.Guards.{high_in, IsGuardOf}
+use Rattle.message_guard.specs.Modes.{is_secured}
+use Rattle.message_guard.specs.Opening.{accepts}
+
+-- no number was accepted under a token above the highest
+pub none_above : (accepted : Accepted) (token : ℕ) → highest accepted < token → numbers_of accepted token ≡ []
+none_above [] token above = refl
+none_above (pair ∷ before) token above =
+    let rest : numbers_of before token ≡ [] = none_above before token (omega arith) in
+    let other : (pair.0 == token) ≡ false = grind (arith, nat_tests) in
+    rw other rest
+
+-- nor under a token that isn't below the highest, and isn't it
+pub none_under : (accepted : Accepted) (token : ℕ) → (high_in accepted ≡ Some token → ⊥)
+    → ((high : ℕ) → high_in accepted ≡ Some high → high ≤ token) → numbers_of accepted token ≡ []
+none_under [] token other below = refl
+none_under (pair ∷ before) token other below =
+    let top = highest (pair ∷ before) in
+    let bound : top ≤ token = below top refl in
+    let differs : top ≡ token → ⊥ = λ same. other (ap Some same) in
+    none_above (pair ∷ before) token (omega (arith, differs))
+
+pub fresh_of_none : (number : ℕ) → seen [] number ≡ Fresh
+fresh_of_none number = grind (arith, nat_tests)
+
+-- the highest token, where one was accepted
+pub high_is : (accepted : Accepted) (token : ℕ) → high_in accepted ≡ Some token → highest accepted ≡ token
+high_is [] token is = cc
+high_is (pair ∷ before) token is = cc
+
+pub high_or_zero : (accepted : Accepted) → high_in accepted ≡ None → highest accepted ≡ 0
+high_or_zero [] is = refl
+high_or_zero (pair ∷ before) is = cc
+
+-- the numbers under the token of a pair that is accepted next
+pub numbers_next : (accepted : Accepted) (token number : ℕ) → numbers_of ((token, number) ∷ accepted) token ≡ number ∷ numbers_of accepted token
+numbers_next accepted token number =
+    let same : (token == token) ≡ true = grind (arith, nat_tests) in
+    rw same refl
+
+-- the highest token once a pair is accepted whose token isn't below it
+pub highest_next : (accepted : Accepted) (token number : ℕ) → ((high : ℕ) → high_in accepted ≡ Some high → high ≤ token)
+    → highest ((token, number) ∷ accepted) ≡ token
+highest_next [] token number below = omega arith
+highest_next (pair ∷ before) token number below = let bound = below (highest (pair ∷ before)) refl in omega (arith, bound)
+
+-- the window under the next pair's token: the old one, or a new one
+pub window_next : (accepted : Accepted) (token number : ℕ) (window : Window)
+    → ((high : ℕ) → high_in accepted ≡ Some high → high ≤ token) → IsWindowOf (number ∷ numbers_of accepted token) window
+    → IsWindowOf (numbers_of ((token, number) ∷ accepted) (highest ((token, number) ∷ accepted))) window
+window_next accepted token number window below is =
+    let by_token : numbers_of ((token, number) ∷ accepted) (highest ((token, number) ∷ accepted)) ≡ number ∷ numbers_of accepted token =
+    ap (λ (t : ℕ). numbers_of ((token, number) ∷ accepted) t) (highest_next accepted token number below) ∙ numbers_next accepted token number in
+    subst (λ (taken : List ℕ). IsWindowOf taken window) (sym by_token) is
+
+pub some_from_eq : (o : Option ℕ) (n : ℕ) → option_eq eqb o (Some n) ≡ true → o ≡ Some n
+some_from_eq None n e = cc
+some_from_eq (Some m) n e = ap Some (eqb-true m n e)
+
+-- where the mode isn't None the pair is accepted
+pub accepts_pair : (mode : Mode) (pass : Pass1) (accepted : Accepted) (guard : Guard) → is_secured mode ≡ true
+    → IsGuardOf ((pass.token, pass.number) ∷ accepted) guard → IsGuardOf (accepts mode pass accepted) guard
+accepts_pair modes.None pass accepted guard e is = cc
+accepts_pair modes.Sign pass accepted guard e is = is
+accepts_pair modes.Encrypt pass accepted guard e is = is

@@ -1,0 +1,7 @@
+pub mod Modes
+pub mod Protection
+pub mod Acceptance
+pub mod Opening
+pub mod Senders
+pub mod Guards
+pub mod Opened

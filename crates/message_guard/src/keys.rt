@@ -1,0 +1,87 @@
+ghost use Rattle.std.specs.Prelude.{◌≡◌, ◌++◌, ◌⊎◌, ⊤, length};
+ghost use Rattle.message_guard.specs.Protection.{keys_in, covered, cipher_key, message_nonce};
+
+use crate::Mode;
+use aes_ctr::{Key, Key128, Key256, apply_stream};
+use group_keys::KeySet;
+use hmac_sign::SigningKey;
+
+/// The keys of a token, made ready once: the AES key expanded, the pads of the signing key hashed.
+#[derive(Drop)]
+pub struct TokenKeys {
+    pub token: u32,
+    pub nonce: [u8; 4],
+    pub signing: SigningKey,
+    pub encrypting: Key,
+}
+
+impl TokenKeys {
+    /// The keys of the set.
+    pub fn new(set: &KeySet) -> TokenKeys
+        requires { (length set.now.encrypting.items ≡ 16) ⊎ (length set.now.encrypting.items ≡ 32) }
+        ensures { result ≡ keys_in set.now }
+    {
+        TokenKeys {
+            token: set.token,
+            nonce: set.nonce,
+            signing: SigningKey::new(&set.signing),
+            encrypting: cipher_key(set.encrypting.as_slice()),
+        }
+    }
+
+    /// Adds the stream of a message to its payload, where the mode encrypts.
+    pub fn cover(&self, mode: Mode, nonce: &[u8; 8], first_block: u32, payload: &mut [u8])
+        ensures { payload.new ≡ covered mode self.now nonce.now first_block payload.old }
+    {
+        if mode.encrypts() {
+            let front = front_of(&self.nonce, nonce);
+            apply_stream(&self.encrypting, &front, first_block, payload);
+        }
+    }
+}
+
+impl Default for TokenKeys {
+    ghost is_default = { λ _. ⊤ };
+
+    fn default() -> TokenKeys {
+        TokenKeys {
+            token: 0,
+            nonce: [0; 4],
+            signing: SigningKey::new(&[0; 32]),
+            encrypting: Key::Short(Key128::new(&[0; 16])),
+        }
+    }
+}
+
+/// The nonce of a message.
+pub fn message_nonce(random: &[u8; 4], number: u32) -> [u8; 8]
+    ensures { result ≡ message_nonce random.now number }
+{
+    let [a, b, c, d] = *random;
+    let [e, f, g, h] = number.to_le_bytes();
+    [a, b, c, d, e, f, g, h]
+}
+
+fn cipher_key(bytes: &[u8]) -> Key
+    requires { (length bytes.now ≡ 16) ⊎ (length bytes.now ≡ 32) }
+    ensures { result ≡ cipher_key bytes.now }
+{
+    if bytes.len() == 32 {
+        let mut key = [0; 32];
+        key.copy_from_slice(bytes);
+        Key::Long(Key256::new(&key))
+    } else {
+        let mut key = [0; 16];
+        key.copy_from_slice(bytes);
+        Key::Short(Key128::new(&key))
+    }
+}
+
+// The first 12 bytes of each counter block.
+fn front_of(key_nonce: &[u8; 4], nonce: &[u8; 8]) -> [u8; 12]
+    ensures { result ≡ key_nonce.now ++ nonce.now }
+{
+    let [a, b, c, d] = *key_nonce;
+    let [e, f, g, h, i, j, k, l] = *nonce;
+    [a, b, c, d, e, f, g, h, i, j, k, l]
+}

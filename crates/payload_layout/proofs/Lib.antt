@@ -1,0 +1,6 @@
+pub mod Again
+pub mod Filled
+pub mod Greedy
+pub mod Laid
+pub mod Packs
+pub mod Pieces

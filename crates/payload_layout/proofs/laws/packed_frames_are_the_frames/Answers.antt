@@ -1,0 +1,6 @@
+use Rattle.std.proofs.Common.{length}
+use Rattle.payload_layout.proofs.Packs.{packs-frames}
+use Rattle.payload_layout.proofs.laws.packed_frames_are_the_frames.Goals as goal
+
+pub returns : goal.returns
+returns c = λ room frames. packs-frames length room frames

@@ -1,0 +1,6 @@
+use Rattle.std.proofs.Common.{length}
+use Rattle.payload_layout.proofs.Greedy.{packs-full}
+use Rattle.payload_layout.proofs.laws.packs_are_filled.Goals as goal
+
+pub returns : goal.returns
+returns c = λ room frames before pack next after. packs-full length room frames before pack next after

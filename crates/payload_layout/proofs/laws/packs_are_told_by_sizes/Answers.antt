@@ -1,0 +1,6 @@
+use Rattle.std.proofs.Common.{length}
+use Rattle.payload_layout.proofs.Packs.{packs-sized}
+use Rattle.payload_layout.proofs.laws.packs_are_told_by_sizes.Goals as goal
+
+pub returns : goal.returns
+returns c = λ room frames. packs-sized length room frames

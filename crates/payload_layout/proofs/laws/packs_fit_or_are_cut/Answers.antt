@@ -1,0 +1,6 @@
+use Rattle.std.proofs.Common.{length}
+use Rattle.payload_layout.proofs.Packs.{packs-sound}
+use Rattle.payload_layout.proofs.laws.packs_fit_or_are_cut.Goals as goal
+
+pub returns : goal.returns
+returns c = λ room frames. packs-sound length room frames

@@ -1,0 +1,69 @@
+//! Laws of headers, each the contract of a function that does nothing.
+ghost use Rattle.std.specs.Prelude.{◌≡◌, ◌+◌, ◌++◌, ◌<◌, ◌^◌, ◌↔◌, ◌⊎◌, ℕ, List, length, take, All, Some, Ok, Err};
+ghost use Rattle.uadp_header.specs.declared.fault.HeaderFault.{HeaderFault as AnyFault};
+ghost use Rattle.uadp_header.specs.declared.fault.HeaderFault.TheVariants as faults;
+ghost use Rattle.uadp_header.specs.Formats.{Spells, Fails};
+ghost use Rattle.uadp_header.specs.Headers.{HeaderValue, SecurityValue};
+ghost use Rattle.uadp_header.specs.Layout.{header, header_at};
+ghost use Rattle.uadp_header.specs.Reading.{BeginsWith, IsSecured};
+ghost use Rattle.uadp_header.specs.Spelling.{IsWritten, IsAlike, IsHeader, IsRead, header_bytes, header_len};
+
+/// A sender's header, whatever follows it, is read as itself, and up to where its spelling ends.
+pub fn written_headers_are_read()
+    ensures read { (one : HeaderValue) (rest : List ℕ) → IsWritten one
+        → header_at (header_bytes one ++ rest) ≡ Ok (one, rest) }
+    ensures begins { (one : HeaderValue) (rest : List ℕ) → IsWritten one
+        → BeginsWith (header_bytes one ++ rest) one (header_len one) }
+{}
+
+/// A written header is as long as its parts tell, and the lengths of its text, ids and nonce: headers
+/// that differ in their numbers alone have the same length.
+pub fn a_length_goes_by_the_parts()
+    ensures len { (one : HeaderValue) → IsHeader one → length (header_bytes one) ≡ header_len one }
+    ensures alike { (one other : HeaderValue) → IsAlike one other → header_len one ≡ header_len other }
+{}
+
+/// Bytes begin with the spelling of one sender's header at most.
+pub fn bytes_are_of_one_header()
+    ensures { (one other : HeaderValue) (rest after : List ℕ) → IsWritten one → IsWritten other
+        → header_bytes one ++ rest ≡ header_bytes other ++ after → (one ≡ other) × (rest ≡ after) }
+{}
+
+/// Bytes are read as a header exactly where the parts of a header stand in front of the rest, and
+/// refused exactly where the first of its parts stand there and the next one fails.
+pub fn reading_is_by_parts()
+    ensures headers { (bytes rest : List ℕ) (one : HeaderValue)
+        → (header_at bytes ≡ Ok (one, rest)) ↔ Spells header bytes one rest }
+    ensures faults { (bytes : List ℕ) (fault : AnyFault)
+        → (header_at bytes ≡ Err fault) ↔ Fails header bytes fault }
+{}
+
+/// Bytes begin with one header and one payload, or have one fault.
+pub fn bytes_have_one_reading()
+    ensures some { (bytes : List ℕ)
+        → ((read : HeaderValue × List ℕ) × Spells header bytes read.0 read.1)
+        ⊎ ((fault : AnyFault) × Fails header bytes fault) }
+    ensures one_header { (bytes rest after : List ℕ) (one other : HeaderValue)
+        → Spells header bytes one rest → Spells header bytes other after
+        → (one ≡ other) × (rest ≡ after) }
+    ensures one_fault { (bytes : List ℕ) (one other : AnyFault)
+        → Fails header bytes one → Fails header bytes other → one ≡ other }
+    ensures never_both { (bytes rest : List ℕ) (one : HeaderValue) (fault : AnyFault)
+        → Spells header bytes one rest → ¬ (Fails header bytes fault) }
+{}
+
+/// What is read of bytes is a header: each number is of its type, a text is UTF-8, and a list of ids
+/// and a nonce are as long as their one byte of length can tell.
+pub fn read_headers_are_headers()
+    ensures header { (bytes rest : List ℕ) (one : HeaderValue) → All (λ byte. byte < 256) bytes
+        → header_at bytes ≡ Ok (one, rest) → IsRead one }
+    ensures nonce { (bytes : List ℕ) (security : SecurityValue) (payload : ℕ) → All (λ byte. byte < 256) bytes
+        → IsSecured bytes (Some security) payload → length security.nonce < 2 ^ 8 }
+{}
+
+/// Of the bytes that a header is read from, fewer are Short.
+pub fn fewer_bytes_are_short()
+    ensures { (bytes rest : List ℕ) (one : HeaderValue) (len : ℕ)
+        → header_at bytes ≡ Ok (one, rest) → len + length rest < length bytes
+        → header_at (take len bytes) ≡ Err faults.Short }
+{}

@@ -1,0 +1,4 @@
+pub mod DirFolders
+pub mod StdSinks
+pub mod Streams
+pub mod UdpLinks

@@ -1,0 +1,197 @@
+//! Datagrams over a socket of this machine.
+ghost use Rattle.std.specs.Prelude.{◌≡◌, ◌≢◌, ◌<◌, ◌^◌, IsTrue, IsSome, IfOk, Some, None, false, true, length, vec_len};
+ghost use Rattle.ua_base.specs.Cause.{HasCause, Rose, counted_if};
+ghost use Rattle.ua_base.specs.Fates.{AreFates};
+ghost use Rattle.ua_base.specs.Journal.{Tells};
+ghost use Rattle.ua_base.specs.Links.{KeepsLink};
+ghost use Rattle.ua_base.specs.Net.{Opens, Sends, Queues, Receives, FitsBuffer};
+
+use std::alloc::{AllocError, Global};
+use std::io::{self, ErrorKind};
+use std::net::{Ipv4Addr, Net, SocketAddr, UdpSocket};
+use std::time::Duration;
+use ua_base::{Fate, Link, Opened, Received, Sent};
+
+/// How long a receive waits.
+const WAIT_MS: u64 = 10;
+
+/// One byte more than a receive asks for, so that a longer datagram is told from one that fills the buffer.
+const BUFFER_BYTES: usize = 65_537;
+
+/// The open socket, its own address, and what it was opened with.
+#[derive(Drop)]
+pub struct Bound {
+    socket: UdpSocket,
+    to: SocketAddr,
+    port: u16,
+    fates: Vec<(u64, Fate)>,
+}
+
+/// What a datagram is received in first: more bytes than any datagram has.
+#[derive(Drop)]
+pub struct Buffer {
+    bytes: Vec<u8>,
+    ghost small: { vec_len bytes < 2 ^ 32 },
+}
+
+/// A socket of 127.0.0.1 that sends to itself. It tells neither its journal nor what waits, and leaves fates alone.
+#[derive(Drop)]
+pub struct UdpLink<'a, R: Net> {
+    rt: &'a R,
+    alloc: Global,
+    bound: Option<Bound>,
+    buffer: Buffer,
+    faults: u64,
+}
+
+impl<'a, R: Net> UdpLink<'a, R> {
+    ghost use Rattle.udp_edge.specs.UdpLinks.{opened_by, faults_of};
+
+    pub fn new(rt: &'a R, alloc: Global) -> UdpLink<'a, R>
+        ensures closed { opened_by result ≡ None }
+        ensures faults { faults_of result ≡ 0 }
+    {
+        UdpLink {
+            rt,
+            alloc,
+            bound: None,
+            buffer: Buffer {
+                bytes: Vec::new(alloc),
+            },
+            faults: 0,
+        }
+    }
+}
+
+// A socket of this machine at the port, where 0 lets the machine choose, and its address.
+fn bind<R: Net>(rt: &R, port: u16) -> io::Result<(UdpSocket, SocketAddr)> {
+    let socket = UdpSocket::bind(rt, SocketAddr::from((Ipv4Addr::LOCALHOST, port)))?;
+    socket.set_read_timeout(Some(Duration::from_millis(WAIT_MS)))?;
+    let to = socket.local_addr()?;
+    Ok((socket, to))
+}
+
+// The memory of an open link.
+fn memory(alloc: Global, fates: &[(u64, Fate)]) -> Result<(Vec<(u64, Fate)>, Buffer), AllocError>
+    ensures { IfOk result (λ taken. taken.0.items ≡ fates.now) }
+{
+    Ok((
+        Vec::from_slice(alloc, fates)?,
+        Buffer {
+            bytes: vec![in alloc; 0u8; BUFFER_BYTES]?,
+        },
+    ))
+}
+
+impl<R: Net> Link for UdpLink<'_, R> {
+    ghost use Rattle.udp_edge.specs.UdpLinks.{told_by, opened_by, faults_of};
+
+    ghost takes_memory = { false };
+
+    ghost told = { λ l. told_by l };
+
+    ghost faults = { λ l. faults_of l };
+
+    ghost opened_with = { λ l. opened_by l };
+
+    fn open(&mut self, port: u16, fates: &[(u64, Fate)]) -> Opened
+        requires fates { AreFates fates.now }
+
+        ensures empty { Tells (told_by self.old) (told_by self.new) (Opens result) }
+        ensures opening { result ≡ Opened.Done
+            → opened_by self.new ≡ Some (record { port = port; fates = fates.now }) }
+        ensures refused { result ≢ Opened.Done
+            → (told_by self.new ≡ told_by self.old) × (opened_by self.new ≡ opened_by self.old) }
+        ensures cause { HasCause (faults_of self.old) (faults_of self.new) (result ≡ Opened.Failed) }
+
+        ensures failed { result ≡ Opened.Failed → faults_of self.new ≡ counted_if true (faults_of self.old) }
+        ensures others { result ≢ Opened.Failed → faults_of self.new ≡ faults_of self.old }
+    {
+        let Ok((fates, buffer)) = memory(self.alloc, fates) else {
+            return Opened::Memory;
+        };
+        let Ok((socket, to)) = bind(self.rt, port) else {
+            self.faults = self.faults.saturating_add(1);
+            return Opened::Failed;
+        };
+        self.bound = Some(Bound {
+            socket,
+            to,
+            port,
+            fates,
+        });
+        self.buffer = buffer;
+        Opened::Done
+    }
+
+    /// A datagram of which the system sends a part is a fault too.
+    fn send(&mut self, datagram: &[u8]) -> Sent
+        requires open { IsSome (opened_by self.old) }
+        requires short { length datagram.now < 2 ^ 32 }
+
+        ensures entry { Tells (told_by self.old) (told_by self.new) (Sends datagram.now result) }
+        ensures waiting { Tells (told_by self.old) (told_by self.new) (Queues result) }
+        ensures link { KeepsLink opened_by faults_of self.old self.new }
+        ensures only_where_taken { result ≡ Sent.Memory → IsTrue false }
+        ensures cause { result ≡ Sent.Failed → Rose (faults_of self.old) (faults_of self.new) }
+
+        ensures failed { result ≡ Sent.Failed → faults_of self.new ≡ counted_if true (faults_of self.old) }
+        ensures done { result ≡ Sent.Done → faults_of self.new ≡ faults_of self.old }
+    {
+        let Some(bound) = &self.bound else {
+            unreachable!()
+        };
+        match bound.socket.send_to(datagram, bound.to) {
+            Ok(count) if count == datagram.len() => Sent::Done,
+            _ => {
+                self.faults = self.faults.saturating_add(1);
+                Sent::Failed
+            }
+        }
+    }
+
+    /// Waits at most 10 ms.
+    fn receive(&mut self, into: &mut [u8]) -> Received
+        requires { IsSome (opened_by self.old) }
+
+        ensures entry { Tells (told_by self.old) (told_by self.new) (Receives result into.new) }
+        ensures sizes { FitsBuffer result into.new }
+        ensures link { KeepsLink opened_by faults_of self.old self.new }
+        ensures cause { result ≡ Received.Failed → Rose (faults_of self.old) (faults_of self.new) }
+
+        ensures failed { result ≡ Received.Failed → faults_of self.new ≡ counted_if true (faults_of self.old) }
+        ensures others { result ≢ Received.Failed → faults_of self.new ≡ faults_of self.old }
+    {
+        let Some(bound) = &self.bound else {
+            unreachable!()
+        };
+        match take(&bound.socket, &mut self.buffer.bytes, into) {
+            Received::Failed => {
+                self.faults = self.faults.saturating_add(1);
+                Received::Failed
+            }
+            received => received,
+        }
+    }
+}
+
+// Receives a datagram by way of a buffer that it doesn't fill.
+fn take(socket: &UdpSocket, buffer: &mut [u8], into: &mut [u8]) -> Received
+    requires { length buffer.old < 2 ^ 32 }
+    ensures { FitsBuffer result into.new }
+{
+    match socket.recv(buffer) {
+        Ok(count) if count > into.len() => Received::Long(count as u32),
+        Ok(count) => {
+            into[..count].copy_from_slice(&buffer[..count]);
+            Received::Datagram(count as u32)
+        }
+        Err(error) if is_timeout(error.kind()) => Received::Nothing,
+        Err(_) => Received::Failed,
+    }
+}
+
+// Whether a read ended because nothing came in time.
+fn is_timeout(kind: ErrorKind) -> bool {
+    matches!(kind, ErrorKind::WouldBlock | ErrorKind::TimedOut)
+}

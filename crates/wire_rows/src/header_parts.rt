@@ -1,0 +1,171 @@
+//! Headers from words.
+use crate::fault::RowFault;
+use crate::row::{Row, bytes_of};
+use std::alloc::Global;
+use uadp_header::{Header, Ids, PublisherId, SecurityPart};
+
+/// The parts of a header, with the memory that a `Header` lends.
+#[derive(Drop)]
+pub struct HeaderParts {
+    publisher: Option<Publisher>,
+    class_id: Option<[u8; 16]>,
+    group: Option<u16>,
+    version: Option<u32>,
+    message_number: Option<u16>,
+    sequence: Option<u16>,
+    ids: WriterIds,
+    security: Option<Security>,
+}
+
+#[derive(Drop)]
+enum Publisher {
+    U8(u8),
+    U16(u16),
+    U32(u32),
+    U64(u64),
+    Text(Vec<u8>),
+}
+
+#[derive(Drop)]
+enum WriterIds {
+    None,
+    List(Vec<u8>),
+    Chunk(u16),
+}
+
+#[derive(Drop)]
+struct Security {
+    signed: bool,
+    encrypted: bool,
+    footer: bool,
+    reset: bool,
+    token: u32,
+    nonce: Vec<u8>,
+}
+
+impl HeaderParts {
+    /// The parts that the words name: `id=u8:N`, `u16`, `u32`, `u64` or `text:BYTES`, `class=BYTES`, `group=N`, `version=N`,
+    /// `number=N`, `sequence=N`, `ids=list:BYTES` or `ids=chunk:N`, and `security=FLAGS:TOKEN:NONCE` with the flags of s, e, f, r.
+    pub fn parse(alloc: Global, row: &Row) -> Result<HeaderParts, RowFault> {
+        let mut parts = HeaderParts {
+            publisher: None,
+            class_id: None,
+            group: None,
+            version: None,
+            message_number: None,
+            sequence: None,
+            ids: WriterIds::None,
+            security: None,
+        };
+        for word in row.words() {
+            let (part, text) = word.split_once('=').ok_or(RowFault::Missing)?;
+            parts.take(alloc, part, text)?;
+        }
+        Ok(parts)
+    }
+
+    fn take(&mut self, alloc: Global, part: &str, text: &str) -> Result<(), RowFault> {
+        match part {
+            "id" => self.publisher = Some(publisher_of(alloc, text)?),
+            "class" => self.class_id = bytes_of(alloc, text)?.first_chunk::<16>().copied(),
+            "group" => self.group = Some(number16(text)?),
+            "version" => self.version = Some(number32(text)?),
+            "number" => self.message_number = Some(number16(text)?),
+            "sequence" => self.sequence = Some(number16(text)?),
+            "ids" => self.ids = ids_of(alloc, text)?,
+            "security" => self.security = Some(security_of(alloc, text)?),
+            _ => return Err(RowFault::Missing),
+        }
+        Ok(())
+    }
+
+    pub fn header(&self) -> Header<'_> {
+        Header {
+            publisher: self.publisher.as_ref().map(Publisher::id),
+            class_id: self.class_id,
+            group: self.group,
+            version: self.version,
+            message_number: self.message_number,
+            sequence: self.sequence,
+            ids: self.ids.ids(),
+            security: self.security.as_ref().map(Security::part),
+        }
+    }
+}
+
+impl Publisher {
+    fn id(&self) -> PublisherId<'_> {
+        match self {
+            Publisher::U8(id) => PublisherId::U8(*id),
+            Publisher::U16(id) => PublisherId::U16(*id),
+            Publisher::U32(id) => PublisherId::U32(*id),
+            Publisher::U64(id) => PublisherId::U64(*id),
+            Publisher::Text(bytes) => PublisherId::Text(str::from_utf8(bytes).unwrap_or("")),
+        }
+    }
+}
+
+impl WriterIds {
+    fn ids(&self) -> Ids<'_> {
+        match self {
+            WriterIds::None => Ids::None,
+            WriterIds::List(bytes) => Ids::List(bytes),
+            WriterIds::Chunk(id) => Ids::Chunk(*id),
+        }
+    }
+}
+
+impl Security {
+    fn part(&self) -> SecurityPart<'_> {
+        SecurityPart {
+            signed: self.signed,
+            encrypted: self.encrypted,
+            footer: self.footer,
+            reset: self.reset,
+            token: self.token,
+            nonce: &self.nonce,
+        }
+    }
+}
+
+fn publisher_of(alloc: Global, text: &str) -> Result<Publisher, RowFault> {
+    let (kind, id) = text.split_once(':').ok_or(RowFault::Missing)?;
+    match kind {
+        "u8" => Ok(Publisher::U8(id.parse::<u8>().map_err(|_| RowFault::Number)?)),
+        "u16" => Ok(Publisher::U16(number16(id)?)),
+        "u32" => Ok(Publisher::U32(number32(id)?)),
+        "u64" => Ok(Publisher::U64(id.parse::<u64>().map_err(|_| RowFault::Number)?)),
+        "text" => Ok(Publisher::Text(bytes_of(alloc, id)?)),
+        _ => Err(RowFault::Missing),
+    }
+}
+
+fn ids_of(alloc: Global, text: &str) -> Result<WriterIds, RowFault> {
+    let (kind, ids) = text.split_once(':').ok_or(RowFault::Missing)?;
+    match kind {
+        "list" => Ok(WriterIds::List(bytes_of(alloc, ids)?)),
+        "chunk" => Ok(WriterIds::Chunk(number16(ids)?)),
+        _ => Err(RowFault::Missing),
+    }
+}
+
+fn security_of(alloc: Global, text: &str) -> Result<Security, RowFault> {
+    let (flags, rest) = text.split_once(':').ok_or(RowFault::Missing)?;
+    let (token, nonce) = rest.split_once(':').ok_or(RowFault::Missing)?;
+    Ok(Security {
+        signed: flags.contains('s'),
+        encrypted: flags.contains('e'),
+        footer: flags.contains('f'),
+        reset: flags.contains('r'),
+        token: number32(token)?,
+        nonce: bytes_of(alloc, nonce)?,
+    })
+}
+
+fn number16(text: &str) -> Result<u16, RowFault> {
+    text.parse::<u16>().map_err(|_| RowFault::Number)
+}
+
+fn number32(text: &str) -> Result<u32, RowFault> {
+    text.parse::<u32>().map_err(|_| RowFault::Number)
+}

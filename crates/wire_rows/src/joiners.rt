@@ -1,0 +1,109 @@
+//! Rows of `chunker`.
+use crate::bench::Answer;
+use crate::fault::RowFault;
+use crate::row::Row;
+use crate::shown::Hex;
+use chunker::{
+    ChunkPayload, Joined, Joiner, cut as cut_one, read_chunk as read_one, write_chunk as write_one,
+};
+use std::alloc::Global;
+use ua_binary::Pen;
+
+/// `cut TOTAL ROOM K`: the chunk's offset and how many bytes it has
+pub fn cut(alloc: Global, row: &mut Row) -> Answer {
+    let (total, room, k) = (row.u32()?, row.u32()?, row.u32()?);
+    if room == 0 || u64::from(k) * u64::from(room) >= u64::from(total) {
+        return Err(RowFault::Condition);
+    }
+    let (offset, len) = cut_one(total, room, k);
+    Ok(Some(format!(in alloc; "{offset} {len}")?))
+}
+
+/// `read_chunk BYTES`: number, offset, total and the data, or the fault
+pub fn read_chunk(alloc: Global, row: &mut Row) -> Answer {
+    let bytes = row.bytes(alloc)?;
+    let answer = match read_one(&bytes) {
+        Ok(chunk) => {
+            let (number, offset, total) = (chunk.number, chunk.offset, chunk.total);
+            format!(in alloc; "{number} {offset} {total} {}", Hex(chunk.data))?
+        }
+        Err(fault) => format!(in alloc; "{fault:?}")?,
+    };
+    Ok(Some(answer))
+}
+
+/// `write_chunk NUMBER OFFSET TOTAL ROOM BYTES`: what is written into so much room, or Room
+pub fn write_chunk(alloc: Global, row: &mut Row) -> Answer {
+    let (number, offset, total) = (row.u16()?, row.u32()?, row.u32()?);
+    let mut room = [0; 512];
+    let len = usize::from(row.u16()?).min(512);
+    let data = row.bytes(alloc)?;
+    if data.len() > 512 {
+        return Err(RowFault::Condition);
+    }
+    let chunk = ChunkPayload {
+        number,
+        offset,
+        total,
+        data: &data,
+    };
+    let mut pen = Pen {
+        bytes: &mut room[..len],
+        at: 0,
+    };
+    let done = write_one(&mut pen, &chunk).is_ok();
+    let at = pen.at;
+    if !done || at > room.len() {
+        return Ok(Some(format!(in alloc; "Room")?));
+    }
+    Ok(Some(format!(in alloc; "{}", Hex(&room[..at]))?))
+}
+
+/// The joiner that the lines speak of.
+#[derive(Drop)]
+pub struct JoinerRows {
+    joiner: Joiner,
+}
+
+impl JoinerRows {
+    pub fn new() -> JoinerRows {
+        JoinerRows {
+            joiner: Joiner::new(),
+        }
+    }
+
+    /// `joiner`: a new one
+    pub fn anew(&mut self) -> Answer {
+        self.joiner = Joiner::new();
+        Ok(None)
+    }
+
+    /// `joiner_clear`
+    pub fn clear(&mut self) -> Answer {
+        self.joiner.clear();
+        Ok(None)
+    }
+
+    /// `chunk NUMBER OFFSET TOTAL BYTES`: what it makes of its message
+    pub fn chunk(&mut self, alloc: Global, row: &mut Row) -> Answer {
+        let (number, offset, total) = (row.u16()?, row.u32()?, row.u32()?);
+        let part = row.bytes(alloc)?;
+        let answer = match self.joiner.chunk(number, offset, total, &part) {
+            Joined::Whole(len) => format!(in alloc; "whole {len}")?,
+            Joined::Part => format!(in alloc; "part")?,
+            Joined::Older => format!(in alloc; "older")?,
+            Joined::TooLong { total } => format!(in alloc; "toolong {total}")?,
+            Joined::BadRange { offset, total } => format!(in alloc; "badrange {offset} {total}")?,
+            Joined::Differs { first, now } => format!(in alloc; "differs {first} {now}")?,
+        };
+        Ok(Some(answer))
+    }
+
+    /// `joined_is BYTES`: whether these are the bytes of the whole message
+    pub fn is(&self, alloc: Global, row: &mut Row) -> Answer {
+        let bytes = row.bytes(alloc)?;
+        let same = self.joiner.bytes() == bytes.as_slice();
+        let answer = if same { "yes" } else { "no" };
+        Ok(Some(format!(in alloc; "{answer}")?))
+    }
+}

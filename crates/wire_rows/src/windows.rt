@@ -1,0 +1,49 @@
+//! Rows of `replay_window`.
+use crate::bench::Answer;
+use crate::row::Row;
+use replay_window::{Seen, Window};
+use std::alloc::Global;
+
+/// The window that the lines speak of.
+#[derive(Drop)]
+pub struct WindowRows {
+    window: Window,
+}
+
+impl WindowRows {
+    pub fn new() -> WindowRows {
+        WindowRows {
+            window: Window::new(),
+        }
+    }
+
+    /// `window`: a new one
+    pub fn anew(&mut self) -> Answer {
+        self.window = Window::new();
+        Ok(None)
+    }
+
+    /// `number_seen N`: fresh, repeated, or old and the greatest number taken
+    pub fn test(&self, alloc: Global, row: &mut Row) -> Answer {
+        let answer = match self.window.test(row.u32()?) {
+            Seen::Fresh => format!(in alloc; "fresh")?,
+            Seen::Repeated => format!(in alloc; "repeated")?,
+            Seen::TooOld { high } => format!(in alloc; "old {high}")?,
+        };
+        Ok(Some(answer))
+    }
+
+    /// `number_taken N`: the same, and the number is taken where it is fresh
+    pub fn take(&mut self, alloc: Global, row: &mut Row) -> Answer {
+        let number = row.u32()?;
+        let answer = match self.window.test(number) {
+            Seen::Fresh => {
+                self.window.take(number);
+                format!(in alloc; "fresh")?
+            }
+            Seen::Repeated => format!(in alloc; "repeated")?,
+            Seen::TooOld { high } => format!(in alloc; "old {high}")?,
+        };
+        Ok(Some(answer))
+    }
+}
