@@ -5,6 +5,7 @@
 mod bench;
 mod fault;
 mod frames;
+mod guards;
 mod header_parts;
 mod headers;
 mod joiners;
