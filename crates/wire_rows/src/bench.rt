@@ -5,7 +5,7 @@ use crate::joiners::{self, JoinerRows};
 use crate::row::Row;
 use crate::timers::TimerRows;
 use crate::windows::WindowRows;
-use crate::{frames, headers, metas, security, values};
+use crate::{frames, headers, metas, payloads, security, values};
 use std::alloc::Global;
 
 /// What is kept from line to line: the machines that the calls speak of.
@@ -54,6 +54,9 @@ impl Bench {
             "read_front" => frames::read_front(alloc, row),
             "read_header" => headers::read_header(alloc, row),
             "spell_header" => headers::spell_header(alloc, row),
+            "plan" => payloads::plan(alloc, row),
+            "split" => payloads::split(alloc, row),
+            "write_sizes" => payloads::write_sizes(alloc, row),
             "block128" => security::block128(alloc, row),
             "block256" => security::block256(alloc, row),
             "stream128" => security::stream128(alloc, row),

@@ -11,6 +11,7 @@ mod headers;
 mod joiners;
 mod metas;
 mod parsed;
+mod payloads;
 mod row;
 mod security;
 mod senders;
