@@ -1,10 +1,11 @@
 //! The calls by their names, and what is kept from line to line.
 use crate::fault::RowFault;
+use crate::guards::GuardRows;
 use crate::joiners::{self, JoinerRows};
 use crate::row::Row;
 use crate::timers::TimerRows;
 use crate::windows::WindowRows;
-use crate::{frames, headers, metas, security, values};
+use crate::{frames, headers, metas, payloads, security, values};
 use std::alloc::Global;
 
 /// What is kept from line to line: the machines that the calls speak of.
@@ -14,6 +15,7 @@ pub struct Bench {
     timer: TimerRows,
     joiner: JoinerRows,
     window: WindowRows,
+    guards: GuardRows,
 }
 
 /// What a call prints, where it answers anything.
@@ -26,6 +28,7 @@ impl Bench {
             timer: TimerRows::new(),
             joiner: JoinerRows::new(),
             window: WindowRows::new(),
+            guards: GuardRows::new(),
         }
     }
 
@@ -51,6 +54,9 @@ impl Bench {
             "read_front" => frames::read_front(alloc, row),
             "read_header" => headers::read_header(alloc, row),
             "spell_header" => headers::spell_header(alloc, row),
+            "plan" => payloads::plan(alloc, row),
+            "split" => payloads::split(alloc, row),
+            "write_sizes" => payloads::write_sizes(alloc, row),
             "block128" => security::block128(alloc, row),
             "block256" => security::block256(alloc, row),
             "stream128" => security::stream128(alloc, row),
@@ -79,6 +85,24 @@ impl Bench {
             "seen" => self.timer.seen(row),
             "clear" => self.timer.clear(),
             "due" => self.timer.due(alloc, row),
+            call => self.guarded(call, row),
+        }
+    }
+
+    /// The calls of senders and guards.
+    fn guarded(&mut self, call: &str, row: &mut Row) -> Answer {
+        let alloc = self.alloc;
+        match call {
+            "keysets" => self.guards.keysets(),
+            "keyset" => self.guards.keyset(alloc, row),
+            "sender" => self.guards.sender(row),
+            "turn" => self.guards.turn(alloc, row),
+            "spent" => self.guards.spent(alloc),
+            "front" => self.guards.front(alloc, row),
+            "protect" => self.guards.protect(alloc, row),
+            "guard" => self.guards.guard(row),
+            "test" => self.guards.test(alloc, row),
+            "open" => self.guards.open(alloc, row),
             _ => Err(RowFault::Call),
         }
     }

@@ -5,11 +5,13 @@
 mod bench;
 mod fault;
 mod frames;
+mod guards;
 mod header_parts;
 mod headers;
 mod joiners;
 mod metas;
 mod parsed;
+mod payloads;
 mod row;
 mod security;
 mod senders;

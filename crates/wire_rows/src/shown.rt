@@ -20,6 +20,19 @@ impl fmt::Display for Hex<'_> {
     }
 }
 
+/// Bytes as pairs of hexadecimal digits without spaces, or `-` where there are none.
+#[derive(Clone, Copy)]
+pub struct Digits<'a>(pub &'a [u8]);
+
+impl fmt::Display for Digits<'_> {
+    fn fmt<W: fmt::Write>(&self, f: &mut fmt::Formatter<W>) -> fmt::Result {
+        if self.0.is_empty() {
+            return f.write_str("-");
+        }
+        write_digits(f, self.0)
+    }
+}
+
 /// A value: its kind, and then its number, or its bytes.
 #[derive(Clone, Copy)]
 pub struct Shown<'a>(pub &'a Value);

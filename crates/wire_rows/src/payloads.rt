@@ -1,0 +1,90 @@
+//! Rows of `payload_layout`.
+use crate::bench::Answer;
+use crate::fault::RowFault;
+use crate::row::Row;
+use crate::shown::Hex;
+use arrayvec::ArrayVec;
+use payload_layout::{
+    Packs, Parts, plan as plan_packs, split as split_parts, write_sizes as write_list,
+};
+use std::alloc::Global;
+use std::fmt::Write;
+use ua_binary::Pen;
+
+/// `plan ROOM SIZE ..`: the packs, each with how many frames it has, and `cut` behind one that is to be cut
+pub fn plan(alloc: Global, row: &mut Row) -> Answer {
+    let room = row.u32()?;
+    let sizes = sizes_of(row)?;
+    let mut packs = Packs::new();
+    plan_packs(&sizes, room, &mut packs);
+    let mut text = String::new(alloc);
+    for pack in packs.iter() {
+        let before = if text.is_empty() { "" } else { ", " };
+        let cut = if pack.chunked { " cut" } else { "" };
+        write!(text, "{before}{}{cut}", pack.count)?;
+    }
+    named(alloc, text)
+}
+
+/// `split COUNT BYTES`: the parts as START-END, or BadSizes
+pub fn split(alloc: Global, row: &mut Row) -> Answer {
+    let Ok(count) = u8::try_from(row.u16()?) else {
+        return Err(RowFault::Number);
+    };
+    let bytes = row.bytes(alloc)?;
+    let mut parts = Parts::new();
+    if split_parts(&bytes, count, &mut parts).is_err() {
+        let left = if parts.is_empty() { "" } else { " left" };
+        return Ok(Some(format!(in alloc; "BadSizes{left}")?));
+    }
+    let mut text = String::new(alloc);
+    for part in parts.iter() {
+        let before = if text.is_empty() { "" } else { ", " };
+        write!(text, "{before}{}-{}", part.start, part.end)?;
+    }
+    named(alloc, text)
+}
+
+/// `write_sizes ROOM SIZE ..`: the bytes written into so much room, or Room
+pub fn write_sizes(alloc: Global, row: &mut Row) -> Answer {
+    let mut room = [0xaa; 64];
+    let len = usize::from(row.u16()?).min(64);
+    let sizes = sizes_of(row)?;
+    let mut pen = Pen {
+        bytes: &mut room[..len],
+        at: 0,
+    };
+    let done = write_list(&mut pen, &sizes).is_ok();
+    let at = pen.at;
+    if !done || at > room.len() {
+        let moved = if room.iter().all(|byte| *byte == 0xaa) {
+            ""
+        } else {
+            " moved"
+        };
+        return Ok(Some(format!(in alloc; "Room{moved}")?));
+    }
+    if at == 0 {
+        return Ok(Some(format!(in alloc; "nothing")?));
+    }
+    Ok(Some(format!(in alloc; "{}", Hex(&room[..at]))?))
+}
+
+fn named(alloc: Global, text: String) -> Answer {
+    if text.is_empty() {
+        return Ok(Some(format!(in alloc; "none")?));
+    }
+    Ok(Some(text))
+}
+
+/// The sizes that are left in the line, at most 16.
+fn sizes_of(row: &Row) -> Result<ArrayVec<u16, 16>, RowFault> {
+    let mut sizes = ArrayVec::new();
+    for word in row.words() {
+        if sizes.is_full() {
+            return Err(RowFault::Condition);
+        }
+        sizes.push(word.parse::<u16>().map_err(|_| RowFault::Number)?);
+    }
+    Ok(sizes)
+}
