@@ -22,7 +22,7 @@ weaker low high [] le falls = tt
 weaker low high (entry ∷ before) le falls = (omega (arith, le, falls.0), falls.1)
 
 -- one more turn logs its version or nothing
-one_more : (turn : Turn) (a : Option PlacedFrame) (before : List Answered) → NeverFalls turn.version (filter_map log_entry before)
+one_more : (turn : WriterTurn) (a : Option PlacedFrame) (before : List Answered) → NeverFalls turn.version (filter_map log_entry before)
     → NeverFalls turn.version (filter_map log_entry (record { turn = turn; answer = a } ∷ before))
 one_more turn None before falls = falls
 one_more turn (Some (Whole place row)) before falls = (omega arith, falls)
