@@ -1,4 +1,7 @@
 //! Rows of `message_guard`.
+ghost use Rattle.std.specs.Prelude.{IsTrue, IfOk};
+ghost use Rattle.message_guard.specs.Modes.{is_secured};
+
 use crate::bench::Answer;
 use crate::fault::RowFault;
 use crate::row::Row;
@@ -165,11 +168,20 @@ impl GuardRows {
 /// A datagram with what its header says.
 #[derive(Drop)]
 struct Asked {
-    flags: Option<[bool; 4]>,
+    flags: Option<Flags>,
     token: u32,
     nonce: Vec<u8>,
     payload: usize,
     datagram: Vec<u8>,
+}
+
+/// The flags of a security header.
+#[derive(Clone, Copy)]
+struct Flags {
+    signed: bool,
+    encrypted: bool,
+    footer: bool,
+    reset: bool,
 }
 
 impl Asked {
@@ -198,30 +210,32 @@ impl Asked {
     }
 
     fn test(&self, guard: &Guard) -> Result<Pass1, OpenFault> {
-        match self.flags {
-            Some([signed, encrypted, footer, reset]) => {
-                let part = SecurityPart {
-                    signed,
-                    encrypted,
-                    footer,
-                    reset,
-                    token: self.token,
-                    nonce: &self.nonce,
-                };
-                guard.test(Some(&part), &self.datagram, self.payload)
-            }
-            None => guard.test(None, &self.datagram, self.payload),
-        }
+        let Some(flags) = self.flags else {
+            return guard.test(None, &self.datagram, self.payload);
+        };
+        let part = SecurityPart {
+            signed: flags.signed,
+            encrypted: flags.encrypted,
+            footer: flags.footer,
+            reset: flags.reset,
+            token: self.token,
+            nonce: &self.nonce,
+        };
+        guard.test(Some(&part), &self.datagram, self.payload)
     }
 }
 
 /// The letters `s`, `e`, `f` and `r`, or none where there is no security header.
-fn flags_of(word: &str) -> Option<[bool; 4]> {
+fn flags_of(word: &str) -> Option<Flags> {
     if word == "-" {
         return None;
     }
-    let has = |letter: char| word.contains(letter);
-    Some([has('s'), has('e'), has('f'), has('r')])
+    Some(Flags {
+        signed: word.contains('s'),
+        encrypted: word.contains('e'),
+        footer: word.contains('f'),
+        reset: word.contains('r'),
+    })
 }
 
 fn mode_of(word: &str) -> Result<Mode, RowFault> {
@@ -233,7 +247,9 @@ fn mode_of(word: &str) -> Result<Mode, RowFault> {
     }
 }
 
-fn secured(row: &mut Row) -> Result<Mode, RowFault> {
+fn secured(row: &mut Row) -> Result<Mode, RowFault>
+    ensures { IfOk result (λ mode. IsTrue (is_secured mode)) }
+{
     match row.word()? {
         "sign" => Ok(Mode::Sign),
         "encrypt" => Ok(Mode::Encrypt),
