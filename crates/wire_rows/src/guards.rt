@@ -1,5 +1,6 @@
 //! Rows of `message_guard`.
-ghost use Rattle.std.specs.Prelude.{IsTrue, IfOk};
+ghost use Rattle.std.specs.Prelude.{◌≤◌, IsTrue, IfOk, length};
+ghost use Rattle.message_guard.specs.Guards.{IsPassOf};
 ghost use Rattle.message_guard.specs.Modes.{is_secured};
 
 use crate::bench::Answer;
@@ -185,7 +186,9 @@ struct Flags {
 }
 
 impl Asked {
-    fn read(alloc: Global, row: &mut Row) -> Result<Asked, RowFault> {
+    fn read(alloc: Global, row: &mut Row) -> Result<Asked, RowFault>
+        ensures { IfOk result (λ asked. asked.payload ≤ length asked.datagram.items) }
+    {
         let flags = flags_of(row.word()?);
         let token = match flags {
             Some(_) => row.u32()?,
@@ -209,7 +212,12 @@ impl Asked {
         })
     }
 
-    fn test(&self, guard: &Guard) -> Result<Pass1, OpenFault> {
+    fn test(&self, guard: &Guard) -> Result<Pass1, OpenFault>
+        requires { self.now.payload ≤ length self.now.datagram.items }
+        ensures pass { IfOk result (IsPassOf guard.now) }
+        ensures order { IfOk result (λ pass. self.now.payload ≤ pass.end) }
+        ensures within { IfOk result (λ pass. pass.end ≤ length self.now.datagram.items) }
+    {
         let Some(flags) = self.flags else {
             return guard.test(None, &self.datagram, self.payload);
         };
