@@ -14,6 +14,7 @@ mod tests;
 mod top;
 mod words;
 
+use mem_edge::{MemoryLink, OpenGate};
 use status::Status;
 use std::alloc::Global;
 use std::env;
@@ -22,7 +23,6 @@ use std::process::ExitCode;
 use std::rt::Env;
 use telling::tell;
 use top::top;
-use mem_edge::{MemoryLink, OpenGate};
 use ua_base::Sink;
 use udp_edge::{DirFolder, StdSink};
 use words::Word;

@@ -1,11 +1,11 @@
 //! Whole runs over an outside in memory.
 use crate::top::top;
 use crate::words::Word;
+use mem_edge::{MemoryFolder, MemoryLink, MemorySink, Name, OpenGate};
 use std::alloc::Global;
 use std::sync::Wait;
 use std::test::Fail;
 use std::thread::Threads;
-use mem_edge::{MemoryFolder, MemoryLink, MemorySink, Name, OpenGate};
 
 const USAGE: &str =
     "usage: uapubsub check --config FILE | play SCRIPT [--config FILE] | run SCRIPT [--config FILE] | load N\n";

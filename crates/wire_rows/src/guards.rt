@@ -1,4 +1,8 @@
 //! Rows of `message_guard`.
+ghost use Rattle.std.specs.Prelude.{◌≤◌, IsTrue, IfOk, length};
+ghost use Rattle.message_guard.specs.Guards.{IsPassOf};
+ghost use Rattle.message_guard.specs.Modes.{is_secured};
+
 use crate::bench::Answer;
 use crate::fault::RowFault;
 use crate::row::Row;
@@ -165,15 +169,26 @@ impl GuardRows {
 /// A datagram with what its header says.
 #[derive(Drop)]
 struct Asked {
-    flags: Option<[bool; 4]>,
+    flags: Option<Flags>,
     token: u32,
     nonce: Vec<u8>,
     payload: usize,
     datagram: Vec<u8>,
 }
 
+/// The flags of a security header.
+#[derive(Clone, Copy)]
+struct Flags {
+    signed: bool,
+    encrypted: bool,
+    footer: bool,
+    reset: bool,
+}
+
 impl Asked {
-    fn read(alloc: Global, row: &mut Row) -> Result<Asked, RowFault> {
+    fn read(alloc: Global, row: &mut Row) -> Result<Asked, RowFault>
+        ensures { IfOk result (λ asked. asked.payload ≤ length asked.datagram.items) }
+    {
         let flags = flags_of(row.word()?);
         let token = match flags {
             Some(_) => row.u32()?,
@@ -197,31 +212,38 @@ impl Asked {
         })
     }
 
-    fn test(&self, guard: &Guard) -> Result<Pass1, OpenFault> {
-        match self.flags {
-            Some([signed, encrypted, footer, reset]) => {
-                let part = SecurityPart {
-                    signed,
-                    encrypted,
-                    footer,
-                    reset,
-                    token: self.token,
-                    nonce: &self.nonce,
-                };
-                guard.test(Some(&part), &self.datagram, self.payload)
-            }
-            None => guard.test(None, &self.datagram, self.payload),
-        }
+    fn test(&self, guard: &Guard) -> Result<Pass1, OpenFault>
+        requires { self.now.payload ≤ length self.now.datagram.items }
+        ensures pass { IfOk result (IsPassOf guard.now) }
+        ensures order { IfOk result (λ pass. self.now.payload ≤ pass.end) }
+        ensures within { IfOk result (λ pass. pass.end ≤ length self.now.datagram.items) }
+    {
+        let Some(flags) = self.flags else {
+            return guard.test(None, &self.datagram, self.payload);
+        };
+        let part = SecurityPart {
+            signed: flags.signed,
+            encrypted: flags.encrypted,
+            footer: flags.footer,
+            reset: flags.reset,
+            token: self.token,
+            nonce: &self.nonce,
+        };
+        guard.test(Some(&part), &self.datagram, self.payload)
     }
 }
 
 /// The letters `s`, `e`, `f` and `r`, or none where there is no security header.
-fn flags_of(word: &str) -> Option<[bool; 4]> {
+fn flags_of(word: &str) -> Option<Flags> {
     if word == "-" {
         return None;
     }
-    let has = |letter: char| word.contains(letter);
-    Some([has('s'), has('e'), has('f'), has('r')])
+    Some(Flags {
+        signed: word.contains('s'),
+        encrypted: word.contains('e'),
+        footer: word.contains('f'),
+        reset: word.contains('r'),
+    })
 }
 
 fn mode_of(word: &str) -> Result<Mode, RowFault> {
@@ -233,7 +255,9 @@ fn mode_of(word: &str) -> Result<Mode, RowFault> {
     }
 }
 
-fn secured(row: &mut Row) -> Result<Mode, RowFault> {
+fn secured(row: &mut Row) -> Result<Mode, RowFault>
+    ensures { IfOk result (λ mode. IsTrue (is_secured mode)) }
+{
     match row.word()? {
         "sign" => Ok(Mode::Sign),
         "encrypt" => Ok(Mode::Encrypt),
