@@ -18,7 +18,7 @@ use Rattle.dataset_meta.specs.DataValues.{DataValue}
 use Rattle.frame_codec.specs.declared.fault.FrameFault.{FrameFault}
 use Rattle.frame_codec.specs.declared.fault.FrameFault.TheVariants.{Short, BadValue}
 use Rattle.frame_codec.specs.Contents.{in_frame, good, value_at, suits, kept, given, field_at, present, surplus_at, row_at, surpluses_at}
-use Rattle.frame_codec.specs.Wire.{WireField, AsVariant, AsDataValue, IsWireField, field_bytes, field_read, values_bytes, IsForField, AreValues, value_read, row_read}
+use Rattle.frame_codec.specs.Wire.{WireField, AsVariant, AsDataValue, IsWireField, field_bytes, field_read, wire_values_bytes, IsForField, AreValues, value_read, row_read}
 use Rattle.frame_codec.proofs.Grammars.{Choice, either_grammar, judged_grammar, framed_grammar}
 use Rattle.frame_codec.proofs.FlagLaws.{both}
 
@@ -207,7 +207,7 @@ pub record SpellsRow (quality : Bool) (encoding : ℕ) (fields : List Field) (ro
   pub values : List WireField
   pub are : AreValues false encoding fields values
   pub meaning : row_read quality fields values ≡ row
-  pub spelled : text ≡ values_bytes values
+  pub spelled : text ≡ wire_values_bytes values
 
 RestJoined : Bool → ℕ → List Field → DataValue → List DataValue → List ℕ → Type 0
 RestJoined quality encoding fields x = Joined (List DataValue) (List DataValue) (SpellsRow quality encoding fields) (λ row. Done (x ∷ row))
@@ -228,21 +228,21 @@ row_there quality encoding field fields row text j =
     }
 
 row_here : (quality : Bool) (encoding : ℕ) (field : Field) (fields : List Field) (row : List DataValue) (text : List ℕ) (values : List WireField) → AreValues false encoding (field ∷ fields) values
-    → row_read quality (field ∷ fields) values ≡ row → text ≡ values_bytes values → RowJoined quality encoding field fields row text
+    → row_read quality (field ∷ fields) values ≡ row → text ≡ wire_values_bytes values → RowJoined quality encoding field fields row text
 unfolding RestJoined RowJoined
 row_here quality encoding field fields row text [] are meaning spelled = absurd are
 row_here quality encoding field fields row text (wire ∷ values) are meaning spelled = record {
   first = value_read quality field wire;
   front = field_bytes wire;
-  back = values_bytes values;
+  back = wire_values_bytes values;
   spells_first = record { wire = wire; is_for = are.0; meaning = refl; spelled = refl };
   spells = record {
     first = row_read quality fields values;
-    front = values_bytes values;
+    front = wire_values_bytes values;
     back = [];
     spells_first = record { values = values; are = are.1; meaning = refl; spelled = refl };
     spells = (sym meaning, refl);
-    split = sym (append-nil (values_bytes values));
+    split = sym (append-nil (wire_values_bytes values));
   };
   split = spelled;
 }
@@ -255,7 +255,7 @@ pub row_grammar : (quality : Bool) (encoding : ℕ) (fields : List Field) → Is
 unfolding RestJoined RowJoined
 row_grammar quality encoding [] =
     same_grammar (List DataValue) FrameFault Short (Done []) (SpellsRow quality encoding []) (λ bytes. Ok ([], bytes)) (λ row text d. record { values = []; are = tt; meaning = sym d.0; spelled = d.1 })
-    (λ row text s. (sym s.meaning, s.spelled ∙ ap values_bytes (no_values encoding s.values s.are))) (done_grammar (List DataValue) FrameFault Short [])
+    (λ row text s. (sym s.meaning, s.spelled ∙ ap wire_values_bytes (no_values encoding s.values s.are))) (done_grammar (List DataValue) FrameFault Short [])
 row_grammar quality encoding (field ∷ fields) =
     same_grammar (List DataValue) FrameFault Short (RowJoined quality encoding field fields) (SpellsRow quality encoding (field ∷ fields)) (row_at quality encoding (field ∷ fields)) (row_there quality encoding field fields)
     (λ row text s. row_here quality encoding field fields row text s.values s.are s.meaning s.spelled)
@@ -271,15 +271,15 @@ pub record SpellsSurpluses (encoding count : ℕ) (done : Unit {0}) (text : List
   pub values : List WireField
   pub counted : length values ≡ count
   pub are : AreValues true encoding [] values
-  pub spelled : text ≡ values_bytes values
+  pub spelled : text ≡ wire_values_bytes values
 
-surpluses_here : (encoding count : ℕ) (done : Unit {0}) (text : List ℕ) (values : List WireField) → length values ≡ suc count → AreValues true encoding [] values → text ≡ values_bytes values
+surpluses_here : (encoding count : ℕ) (done : Unit {0}) (text : List ℕ) (values : List WireField) → length values ≡ suc count → AreValues true encoding [] values → text ≡ wire_values_bytes values
     → Joined (Unit {0}) (Unit {0}) (SpellsSurplus encoding) (λ _. SpellsSurpluses encoding count) done text
 surpluses_here encoding count done text [] counted are spelled = absurd (omega (arith, counted))
 surpluses_here encoding count done text (wire ∷ values) counted are spelled = record {
   first = tt;
   front = field_bytes wire;
-  back = values_bytes values;
+  back = wire_values_bytes values;
   spells_first = record { wire = wire; is_wire = are.0.is_wire; present = are.0.present; spelled = refl };
   spells = record { values = values; counted = omega (arith, counted); are = are.1; spelled = refl };
   split = spelled;
@@ -292,7 +292,7 @@ none_left (wire ∷ values) none = absurd (omega (arith, none))
 pub surpluses_grammar : (encoding count : ℕ) → IsGrammar (Unit {0}) FrameFault Short (SpellsSurpluses encoding count) (surpluses_at encoding count)
 surpluses_grammar encoding zero =
     same_grammar (Unit {0}) FrameFault Short (Done tt) (SpellsSurpluses encoding 0) (λ bytes. Ok (tt, bytes)) (λ done text d. record { values = []; counted = refl; are = tt; spelled = d.1 })
-    (λ done text s. (refl, s.spelled ∙ ap values_bytes (none_left s.values s.counted))) (done_grammar (Unit {0}) FrameFault Short tt)
+    (λ done text s. (refl, s.spelled ∙ ap wire_values_bytes (none_left s.values s.counted))) (done_grammar (Unit {0}) FrameFault Short tt)
 surpluses_grammar encoding (suc count) =
     same_grammar (Unit {0}) FrameFault Short (Joined (Unit {0}) (Unit {0}) (SpellsSurplus encoding) (λ _. SpellsSurpluses encoding count)) (SpellsSurpluses encoding (suc count)) (surpluses_at encoding (suc count)) there
     (λ done text s. surpluses_here encoding count done text s.values s.counted s.are s.spelled)

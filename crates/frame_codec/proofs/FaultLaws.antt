@@ -15,7 +15,7 @@ use Rattle.frame_codec.specs.Frames.{Content, Whole, Change, Frame}
 use Rattle.frame_codec.specs.Fronts.{encoding_in, fault_in_flags1, fault_in_flags2, flags1_at, flags2_at, front_at}
 use Rattle.frame_codec.specs.Contents.{field_at, surplus_at, row_at, surpluses_at, is_newer, is_count, counted_at, whole_at, change_at, changes_at, patch_at, content_at}
 use Rattle.frame_codec.specs.Reading.{frame_with, behind_front, message_at, are_zero, ended, frame_at}
-use Rattle.frame_codec.specs.Wire.{WireFront, IsWireFront, front_bytes, front_read, WireField, field_bytes, values_bytes, change_bytes, changes_bytes, AreValues, AreChanges, value_read, row_read, put_read, patch_read, WireFrame, IsWireFrame, wire_bytes, frame_read}
+use Rattle.frame_codec.specs.Wire.{WireFront, IsWireFront, wire_front_bytes, front_read, WireField, field_bytes, wire_values_bytes, wire_change_bytes, wire_changes_bytes, AreValues, AreChanges, value_read, row_read, put_read, patch_read, WireFrame, IsWireFrame, wire_bytes, frame_read}
 use Rattle.frame_codec.proofs.FrontLaws.{front_grammar}
 use Rattle.frame_codec.proofs.ContentGrammar.{field_grammar, surplus_grammar, row_grammar}
 use Rattle.frame_codec.proofs.PatchGrammar.{change_grammar}
@@ -43,18 +43,18 @@ content_in_frame meta front read =
     message >>= ended
 
 behind : (meta : MetaData) (wire : WireFront) (rest : List ℕ) → IsWireFront false wire
-    → frame_at meta (front_bytes wire ++ rest) ≡ content_in_frame meta (front_read wire) (content_at meta (is_newer meta wire.minor) wire.encoding wire.kind rest)
+    → frame_at meta (wire_front_bytes wire ++ rest) ≡ content_in_frame meta (front_read wire) (content_at meta (is_newer meta wire.minor) wire.encoding wire.kind rest)
 unfolding frame_at message_at behind_front content_in_frame
 behind meta wire rest is =
-    let front : front_at false (front_bytes wire ++ rest) ≡ Ok (front_read wire, rest) = (front_grammar false).again (front_read wire) (front_bytes wire) rest (record { wire = wire; is_wire = is; tells = refl; split = refl }) in
+    let front : front_at false (wire_front_bytes wire ++ rest) ≡ Ok (front_read wire, rest) = (front_grammar false).again (front_read wire) (wire_front_bytes wire) rest (record { wire = wire; is_wire = is; tells = refl; split = refl }) in
     rw front refl
 
 pub content-refused : (meta : MetaData) (wire : WireFront) (rest : List ℕ) (fault : FrameFault) → IsWireFront false wire → content_at meta (is_newer meta wire.minor) wire.encoding wire.kind rest ≡ Err fault
-    → frame_at meta (front_bytes wire ++ rest) ≡ Err fault
+    → frame_at meta (wire_front_bytes wire ++ rest) ≡ Err fault
 unfolding content_in_frame
 content-refused meta wire rest fault is refused = behind meta wire rest is ∙ ap (content_in_frame meta (front_read wire)) refused
 
-count_read : (count : ℕ) (rest : List ℕ) → count < 2 ^ 16 → number_at Short w16 (to_le_bytes w16 count ++ rest) ≡ Ok (count, rest)
+pub count_read : (count : ℕ) (rest : List ℕ) → count < 2 ^ 16 → number_at Short w16 (to_le_bytes w16 count ++ rest) ≡ Ok (count, rest)
 count_read count rest few = (number_grammar FrameFault Short w16 16 coded16).again count (to_le_bytes w16 count) rest (few, refl)
 
 key_content : (meta : MetaData) (newer : Bool) (encoding kind : ℕ) (rest : List ℕ) (fault : FrameFault) → kind ≡ 0 → whole_at meta newer encoding rest ≡ Err fault → content_at meta newer encoding kind rest ≡ Err fault
@@ -79,15 +79,15 @@ whole_refused meta newer encoding count rest fault few right refused = rw (count
 
 -- a value behind those of the fields before its own
 row_refused : (quality : Bool) (encoding : ℕ) (before after : List Field) (field : Field) (values : List WireField) (rest : List ℕ) (fault : FrameFault) → AreValues false encoding before values
-    → field_at quality encoding field rest ≡ Err fault → row_at quality encoding (before ++ field ∷ after) (values_bytes values ++ rest) ≡ Err fault
+    → field_at quality encoding field rest ≡ Err fault → row_at quality encoding (before ++ field ∷ after) (wire_values_bytes values ++ rest) ≡ Err fault
 row_refused quality encoding [] after field [] rest fault are refused =
     ap (λ (r : Result (DataValue × List ℕ) FrameFault). r >>= λ value. row_at quality encoding after value.1 >>= λ row. Ok (value.0 ∷ row.0, row.1)) refused
 row_refused quality encoding [] after field (wire ∷ values) rest fault are refused = absurd (let e : Path Bool false true = are.0.grown in cc)
 row_refused quality encoding (first ∷ before) after field [] rest fault are refused = absurd are
 row_refused quality encoding (first ∷ before) after field (wire ∷ values) rest fault are refused =
-    ap (row_at quality encoding (first ∷ (before ++ field ∷ after))) (append_assoc (field_bytes wire) (values_bytes values) rest)
+    ap (row_at quality encoding (first ∷ (before ++ field ∷ after))) (append_assoc (field_bytes wire) (wire_values_bytes values) rest)
     ∙ ap (λ (r : Result (DataValue × List ℕ) FrameFault). r >>= λ value. row_at quality encoding (before ++ field ∷ after) value.1 >>= λ row. Ok (value.0 ∷ row.0, row.1))
-    ((field_grammar quality encoding first).again (value_read quality first wire) (field_bytes wire) (values_bytes values ++ rest) (record { wire = wire; is_for = are.0; meaning = refl; spelled = refl }))
+    ((field_grammar quality encoding first).again (value_read quality first wire) (field_bytes wire) (wire_values_bytes values ++ rest) (record { wire = wire; is_for = are.0; meaning = refl; spelled = refl }))
     ∙ ap (λ (r : Result (List DataValue × List ℕ) FrameFault). r >>= λ row. Ok (value_read quality first wire ∷ row.0, row.1)) (row_refused quality encoding before after field values rest fault are.1 refused)
 
 counted_refused : (quality : Bool) (encoding : ℕ) (fields : List Field) (count : ℕ) (bytes : List ℕ) (fault : FrameFault) → row_at quality encoding fields bytes ≡ Err fault → counted_at quality encoding fields count bytes ≡ Err fault
@@ -96,32 +96,32 @@ counted_refused quality encoding fields count bytes fault refused =
 
 -- a surplus value behind others
 surpluses_refused : (encoding count : ℕ) (values : List WireField) (rest : List ℕ) (fault : FrameFault) → AreValues true encoding [] values → length values < count → surplus_at encoding rest ≡ Err fault
-    → surpluses_at encoding count (values_bytes values ++ rest) ≡ Err fault
+    → surpluses_at encoding count (wire_values_bytes values ++ rest) ≡ Err fault
 surpluses_refused encoding zero values rest fault are few refused = absurd (omega (arith, few))
 surpluses_refused encoding (suc count) [] rest fault are few refused = ap (λ (r : Result (Unit {0} × List ℕ) FrameFault). r >>= λ value. surpluses_at encoding count value.1) refused
 surpluses_refused encoding (suc count) (wire ∷ values) rest fault are few refused =
-    ap (surpluses_at encoding (suc count)) (append_assoc (field_bytes wire) (values_bytes values) rest)
+    ap (surpluses_at encoding (suc count)) (append_assoc (field_bytes wire) (wire_values_bytes values) rest)
     ∙ ap (λ (r : Result (Unit {0} × List ℕ) FrameFault). r >>= λ value. surpluses_at encoding count value.1)
-    ((surplus_grammar encoding).again tt (field_bytes wire) (values_bytes values ++ rest) (record { wire = wire; is_wire = are.0.is_wire; present = are.0.present; spelled = refl }))
+    ((surplus_grammar encoding).again tt (field_bytes wire) (wire_values_bytes values ++ rest) (record { wire = wire; is_wire = are.0.is_wire; present = are.0.present; spelled = refl }))
     ∙ surpluses_refused encoding count values rest fault are.1 (omega (arith, few)) refused
 
 counted_surplus : (quality : Bool) (encoding : ℕ) (fields : List Field) (count : ℕ) (values more : List WireField) (rest : List ℕ) (fault : FrameFault) → AreValues false encoding fields values → AreValues true encoding [] more
-    → length more < count - length fields → surplus_at encoding rest ≡ Err fault → counted_at quality encoding fields count (values_bytes values ++ (values_bytes more ++ rest)) ≡ Err fault
+    → length more < count - length fields → surplus_at encoding rest ≡ Err fault → counted_at quality encoding fields count (wire_values_bytes values ++ (wire_values_bytes more ++ rest)) ≡ Err fault
 counted_surplus quality encoding fields count values more rest fault are more_are few refused =
     ap (λ (r : Result (List DataValue × List ℕ) FrameFault). r >>= λ row. surpluses_at encoding (count - length fields) row.1 >>= λ rest. Ok (row.0, rest.1))
-    ((row_grammar quality encoding fields).again (row_read quality fields values) (values_bytes values) (values_bytes more ++ rest) (record { values = values; are = are; meaning = refl; spelled = refl }))
+    ((row_grammar quality encoding fields).again (row_read quality fields values) (wire_values_bytes values) (wire_values_bytes more ++ rest) (record { values = values; are = are; meaning = refl; spelled = refl }))
     ∙ ap (λ (r : Result (Unit {0} × List ℕ) FrameFault). r >>= λ left. Ok (row_read quality fields values, left.1)) (surpluses_refused encoding (count - length fields) more rest fault more_are few refused)
 
 -- a change behind others
 changes_refused : (meta : MetaData) (newer : Bool) (encoding count : ℕ) (patch : List (ℕ × DataValue)) (changes : List (ℕ × WireField)) (rest : List ℕ) (fault : FrameFault) → AreChanges newer encoding meta.fields changes → length changes < count
-    → change_at meta newer encoding (patch_read meta.quality meta.fields patch changes) rest ≡ Err fault → changes_at meta newer encoding count patch (changes_bytes changes ++ rest) ≡ Err fault
+    → change_at meta newer encoding (patch_read meta.quality meta.fields patch changes) rest ≡ Err fault → changes_at meta newer encoding count patch (wire_changes_bytes changes ++ rest) ≡ Err fault
 changes_refused meta newer encoding zero patch changes rest fault are few refused = absurd (omega (arith, few))
 changes_refused meta newer encoding (suc count) patch [] rest fault are few refused =
     ap (λ (r : Result (List (ℕ × DataValue) × List ℕ) FrameFault). r >>= λ change. changes_at meta newer encoding count change.0 change.1) refused
 changes_refused meta newer encoding (suc count) patch (change ∷ changes) rest fault are few refused =
-    ap (changes_at meta newer encoding (suc count) patch) (append_assoc (change_bytes change) (changes_bytes changes) rest)
+    ap (changes_at meta newer encoding (suc count) patch) (append_assoc (wire_change_bytes change) (wire_changes_bytes changes) rest)
     ∙ ap (λ (r : Result (List (ℕ × DataValue) × List ℕ) FrameFault). r >>= λ read. changes_at meta newer encoding count read.0 read.1)
-    ((change_grammar meta newer encoding patch).again (put_read meta.quality patch change.0 (slice_get meta.fields change.0) change.1) (change_bytes change) (changes_bytes changes ++ rest)
+    ((change_grammar meta newer encoding patch).again (put_read meta.quality patch change.0 (slice_get meta.fields change.0) change.1) (wire_change_bytes change) (wire_changes_bytes changes ++ rest)
     (record { index = change.0; wire = change.1; small = are.0; is_for = are.1; meaning = refl; spelled = refl }))
     ∙ changes_refused meta newer encoding count _ changes rest fault are.2 (omega (arith, few)) refused
 
@@ -131,20 +131,20 @@ patch_refused meta newer encoding count rest fault few refused = rw (count_read 
 
 -- the laws, of whole messages
 pub count-refused : (meta : MetaData) (wire : WireFront) (count : ℕ) (rest : List ℕ) → IsWireFront false wire → wire.kind ≡ 0 → count < 2 ^ 16 → is_count (is_newer meta wire.minor) (length meta.fields) count ≡ false
-    → frame_at meta (front_bytes wire ++ (to_le_bytes w16 count ++ rest)) ≡ Err (WrongCount count)
+    → frame_at meta (wire_front_bytes wire ++ (to_le_bytes w16 count ++ rest)) ≡ Err (WrongCount count)
 count-refused meta wire count rest is key few wrong =
     content-refused meta wire _ (WrongCount count) is (key_content meta (is_newer meta wire.minor) wire.encoding wire.kind _ (WrongCount count) key (wrong_count meta (is_newer meta wire.minor) wire.encoding count rest few wrong))
 
 pub value-refused : (meta : MetaData) (wire : WireFront) (count : ℕ) (before after : List Field) (field : Field) (values : List WireField) (rest : List ℕ) (fault : FrameFault) → IsWireFront false wire → wire.kind ≡ 0 → count < 2 ^ 16
     → is_count (is_newer meta wire.minor) (length meta.fields) count ≡ true → meta.fields ≡ before ++ field ∷ after → AreValues false wire.encoding before values → field_at meta.quality wire.encoding field rest ≡ Err fault
-    → frame_at meta (front_bytes wire ++ (to_le_bytes w16 count ++ (values_bytes values ++ rest))) ≡ Err fault
+    → frame_at meta (wire_front_bytes wire ++ (to_le_bytes w16 count ++ (wire_values_bytes values ++ rest))) ≡ Err fault
 value-refused meta wire count before after field values rest fault is key few right whole are refused =
     content-refused meta wire _ fault is (key_content meta (is_newer meta wire.minor) wire.encoding wire.kind _ fault key (whole_refused meta (is_newer meta wire.minor) wire.encoding count _ fault few right
-    (counted_refused meta.quality wire.encoding meta.fields count _ fault (ap (λ (fields : List Field). row_at meta.quality wire.encoding fields (values_bytes values ++ rest)) whole ∙ row_refused meta.quality wire.encoding before after field values rest fault are refused))))
+    (counted_refused meta.quality wire.encoding meta.fields count _ fault (ap (λ (fields : List Field). row_at meta.quality wire.encoding fields (wire_values_bytes values ++ rest)) whole ∙ row_refused meta.quality wire.encoding before after field values rest fault are refused))))
 
 pub surplus-refused : (meta : MetaData) (wire : WireFront) (count : ℕ) (values more : List WireField) (rest : List ℕ) (fault : FrameFault) → IsWireFront false wire → wire.kind ≡ 0 → count < 2 ^ 16
     → is_count (is_newer meta wire.minor) (length meta.fields) count ≡ true → AreValues false wire.encoding meta.fields values → AreValues true wire.encoding [] more → length more < count - length meta.fields → surplus_at wire.encoding rest ≡ Err fault
-    → frame_at meta (front_bytes wire ++ (to_le_bytes w16 count ++ (values_bytes values ++ (values_bytes more ++ rest)))) ≡ Err fault
+    → frame_at meta (wire_front_bytes wire ++ (to_le_bytes w16 count ++ (wire_values_bytes values ++ (wire_values_bytes more ++ rest)))) ≡ Err fault
 surplus-refused meta wire count values more rest fault is key few right are more_are left refused =
     content-refused meta wire _ fault is (key_content meta (is_newer meta wire.minor) wire.encoding wire.kind _ fault key (whole_refused meta (is_newer meta wire.minor) wire.encoding count _ fault few right
     (counted_surplus meta.quality wire.encoding meta.fields count values more rest fault are more_are left refused)))
@@ -152,7 +152,7 @@ surplus-refused meta wire count values more rest fault is key few right are more
 pub change-refused : (meta : MetaData) (wire : WireFront) (count : ℕ) (changes : List (ℕ × WireField)) (rest : List ℕ) (fault : FrameFault) → IsWireFront false wire → wire.kind ≡ 1 → count < 2 ^ 16
     → AreChanges (is_newer meta wire.minor) wire.encoding meta.fields changes → length changes < count
     → change_at meta (is_newer meta wire.minor) wire.encoding (patch_read meta.quality meta.fields [] changes) rest ≡ Err fault
-    → frame_at meta (front_bytes wire ++ (to_le_bytes w16 count ++ (changes_bytes changes ++ rest))) ≡ Err fault
+    → frame_at meta (wire_front_bytes wire ++ (to_le_bytes w16 count ++ (wire_changes_bytes changes ++ rest))) ≡ Err fault
 change-refused meta wire count changes rest fault is delta few are left refused =
     content-refused meta wire _ fault is (delta_content meta (is_newer meta wire.minor) wire.encoding wire.kind _ fault delta (patch_refused meta (is_newer meta wire.minor) wire.encoding count _ fault few
     (changes_refused meta (is_newer meta wire.minor) wire.encoding count [] changes rest fault are left refused)))

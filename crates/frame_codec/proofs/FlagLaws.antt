@@ -1,5 +1,5 @@
 -- The flags of a message tell what it has, and nothing else.
-use Rattle.std.proofs.Common.{◌≡◌, ℕ, zero, suc, ◌+◌, ◌*◌, ◌<◌, Bool, true, false, not, refl, arith}
+use Rattle.std.proofs.Common.{◌≡◌, ℕ, zero, suc, ◌+◌, ◌*◌, ◌%◌, ◌<◌, Bool, true, false, not, refl, arith}
 use Rattle.std.specs.Prelude.{◌==◌, ◌&&◌, ◌||◌, nat_lt}
 use Rattle.std.specs.Bool.{beq}
 use Rattle.std.proofs.lemmas.Bool.{eqb-true, eqb-false, ltb-true}
@@ -173,4 +173,31 @@ told2 kind timestamp picoseconds below =
       picoseconds = same_bool (has flags 0x20) picoseconds p2.1;
       free = same_bool (has flags 0xc0) false p3.1;
       small = ltb-true flags 256 p4.1;
+    }
+
+-- ---- bits as numbers
+
+-- a byte is odd where its lowest bit is set, 128 at least where its highest is, and 64 at least where one of the two highest is
+is_number : ℕ → Bool
+is_number flags = beq (has flags 0x01) (flags % 2 == 1) && beq (has flags 0x80) (nat_lt 127 flags) && beq (has flags 0xc0) (nat_lt 63 flags)
+
+all_number : all_below 256 is_number ≡ true
+unfolding all_below is_number
+all_number = refl
+
+-- what the bits of a byte say of it
+pub record BitsTell (flags : ℕ) : Type 0 where
+  pub odd : has flags 0x01 ≡ (flags % 2 == 1)
+  pub high : has flags 0x80 ≡ nat_lt 127 flags
+  pub highest : has flags 0xc0 ≡ nat_lt 63 flags
+
+pub bits-tell : (flags : ℕ) → flags < 256 → BitsTell flags
+unfolding is_number
+bits-tell flags small =
+    let p2 = both _ (beq (has flags 0xc0) (nat_lt 63 flags)) (below_all 256 flags is_number all_number small) in
+    let p1 = both (beq (has flags 0x01) (flags % 2 == 1)) (beq (has flags 0x80) (nat_lt 127 flags)) p2.0 in
+    record {
+      odd = same_bool (has flags 0x01) (flags % 2 == 1) p1.0;
+      high = same_bool (has flags 0x80) (nat_lt 127 flags) p1.1;
+      highest = same_bool (has flags 0xc0) (nat_lt 63 flags) p2.1;
     }

@@ -10,7 +10,7 @@ use Rattle.frame_codec.specs.Frames.{Content, Whole, Change, Alive, Frame}
 use Rattle.frame_codec.specs.Fronts.{front_at}
 use Rattle.frame_codec.specs.Contents.{is_newer, whole_at, patch_at, content_at}
 use Rattle.frame_codec.specs.Reading.{frame_with, behind_front, message_at}
-use Rattle.frame_codec.specs.Wire.{is_kind, front_bytes, front_read, WireContent, Key, Delta, KeepAlive, kind_number, content_bytes, IsWireContent, content_read, WireFrame, wire_bytes, IsWireFrame, frame_read}
+use Rattle.frame_codec.specs.Wire.{is_kind, wire_front_bytes, front_read, WireContent, Key, Delta, KeepAlive, kind_number, wire_content_bytes, IsWireContent, content_read, WireFrame, wire_bytes, IsWireFrame, frame_read}
 use Rattle.frame_codec.proofs.FrontLaws.{SpellsFront, front_grammar, kind_small}
 use Rattle.frame_codec.proofs.WholeGrammar.{SpellsWhole, whole_grammar}
 use Rattle.frame_codec.proofs.PatchGrammar.{SpellsPatch, patch_grammar}
@@ -20,26 +20,26 @@ pub record SpellsContent (meta : MetaData) (newer : Bool) (encoding kind : ℕ) 
   pub is_wire : IsWireContent meta newer encoding wire
   pub same_kind : kind ≡ kind_number wire
   pub meaning : content_read meta wire ≡ content
-  pub spelled : text ≡ content_bytes wire
+  pub spelled : text ≡ wire_content_bytes wire
 
 zero_one : {A : Type 0} (n : ℕ) → 0 ≡ suc n → A
 zero_one n e = absurd (omega (arith, e))
 
-key_only : (meta : MetaData) (newer : Bool) (encoding : ℕ) (content : Content) (text : List ℕ) (wire : WireContent) → IsWireContent meta newer encoding wire → 0 ≡ kind_number wire → content_read meta wire ≡ content → text ≡ content_bytes wire
+key_only : (meta : MetaData) (newer : Bool) (encoding : ℕ) (content : Content) (text : List ℕ) (wire : WireContent) → IsWireContent meta newer encoding wire → 0 ≡ kind_number wire → content_read meta wire ≡ content → text ≡ wire_content_bytes wire
     → Made (List DataValue) Content (SpellsWhole meta newer encoding) Whole content text
 key_only meta newer encoding content text (Key values) is same meaning spelled =
     record { found = _; spells = record { values = values; few = is.0; are = is.1; meaning = refl; spelled = spelled }; is = sym meaning }
 key_only meta newer encoding content text (Delta changes) is same meaning spelled = absurd (omega (arith, same))
 key_only meta newer encoding content text KeepAlive is same meaning spelled = absurd (omega (arith, same))
 
-delta_only : (meta : MetaData) (newer : Bool) (encoding : ℕ) (content : Content) (text : List ℕ) (wire : WireContent) → IsWireContent meta newer encoding wire → 1 ≡ kind_number wire → content_read meta wire ≡ content → text ≡ content_bytes wire
+delta_only : (meta : MetaData) (newer : Bool) (encoding : ℕ) (content : Content) (text : List ℕ) (wire : WireContent) → IsWireContent meta newer encoding wire → 1 ≡ kind_number wire → content_read meta wire ≡ content → text ≡ wire_content_bytes wire
     → Made (List (ℕ × DataValue)) Content (SpellsPatch meta newer encoding) Change content text
 delta_only meta newer encoding content text (Key values) is same meaning spelled = absurd (omega (arith, same))
 delta_only meta newer encoding content text (Delta changes) is same meaning spelled =
     record { found = _; spells = record { changes = changes; few = is.0; are = is.1; meaning = refl; spelled = spelled }; is = sym meaning }
 delta_only meta newer encoding content text KeepAlive is same meaning spelled = absurd (omega (arith, same))
 
-alive_only : (meta : MetaData) (newer : Bool) (encoding : ℕ) (content : Content) (text : List ℕ) (wire : WireContent) → 3 ≡ kind_number wire → content_read meta wire ≡ content → text ≡ content_bytes wire → Done Alive content text
+alive_only : (meta : MetaData) (newer : Bool) (encoding : ℕ) (content : Content) (text : List ℕ) (wire : WireContent) → 3 ≡ kind_number wire → content_read meta wire ≡ content → text ≡ wire_content_bytes wire → Done Alive content text
 alive_only meta newer encoding content text (Key values) same meaning spelled = absurd (omega (arith, same))
 alive_only meta newer encoding content text (Delta changes) same meaning spelled = absurd (omega (arith, same))
 alive_only meta newer encoding content text KeepAlive same meaning spelled = (sym meaning, spelled)
@@ -97,14 +97,14 @@ message_grammar meta =
             content = subst (λ (front : Front). IsWireContent meta (is_newer meta front.minor) front.encoding c.wire) (sym f.tells) c.is_wire;
           };
           meaning = ap (λ (front : Front). frame_with front (content_read meta c.wire)) f.tells ∙ ap (frame_with j.first) c.meaning ∙ sym m.is;
-          spelled = j.split ∙ ap (λ (l : List ℕ). l ++ j.back) f.split ∙ ap (λ (l : List ℕ). front_bytes f.wire ++ l) c.spelled;
+          spelled = j.split ∙ ap (λ (l : List ℕ). l ++ j.back) f.split ∙ ap (λ (l : List ℕ). wire_front_bytes f.wire ++ l) c.spelled;
         }
 
     here : (frame : Frame) (text : List ℕ) → SpellsFrame meta frame text → MessageJoined meta frame text
     here frame text s = record {
       first = front_read s.wire.front;
-      front = front_bytes s.wire.front;
-      back = content_bytes s.wire.content;
+      front = wire_front_bytes s.wire.front;
+      back = wire_content_bytes s.wire.content;
       spells_first = record { wire = s.wire.front; is_wire = s.is_wire.front; tells = refl; split = refl };
       spells = record {
         found = content_read meta s.wire.content;

@@ -11,7 +11,7 @@ use Rattle.frame_codec.specs.declared.fault.FrameFault.{FrameFault}
 use Rattle.frame_codec.specs.declared.fault.FrameFault.TheVariants.{Short, BadEncoding, NotValid, EventOut, ReservedBits}
 use Rattle.frame_codec.specs.declared.front.Front.{Front}
 use Rattle.frame_codec.specs.Fronts.{encoding_in, kind_in, is_encoding, fault_in_flags1, fault_in_flags2, flags1_at, flags2_at, parts_at, front_at}
-use Rattle.frame_codec.specs.Wire.{WireFront, IsWireFront, is_kind, flags1, flags2, flags2_bytes, front_bytes, front_read}
+use Rattle.frame_codec.specs.Wire.{WireFront, IsWireFront, is_kind, wire_flags1, wire_flags2, flags2_bytes, wire_front_bytes, front_read}
 use Rattle.frame_codec.proofs.Grammars.{Choice}
 use Rattle.frame_codec.proofs.FlagLaws.{code1, code2, decoded1, decoded2, told1, told2}
 use Rattle.frame_codec.proofs.FrontGrammar.{SpellsFlags, flags1_grammar, SpellsFlags2, flags2_grammar, SpellsParts, parts_grammar}
@@ -21,7 +21,7 @@ pub record SpellsFront (fixed : Bool) (front : Front) (text : List ℕ) : Type 0
   pub wire : WireFront
   pub is_wire : IsWireFront fixed wire
   pub tells : front_read wire ≡ front
-  pub split : text ≡ front_bytes wire
+  pub split : text ≡ wire_front_bytes wire
 
 no : {A : Type 0} {x : A} → Path (Option A) (Some x) None → ⊥
 no e = cc
@@ -161,7 +161,7 @@ extended_back flags extended text small passes plain split = by_flag (has flags 
     by_flag false plain split = (plain refl, split)
 
 pub front_grammar : (fixed : Bool) → IsGrammar Front FrameFault Short (SpellsFront fixed) (front_at fixed)
-unfolding front_at FrontJoined ExtendedJoined wire_with front_bytes
+unfolding front_at FrontJoined ExtendedJoined wire_with wire_front_bytes
 front_grammar fixed =
     same_grammar Front FrameFault Short (FrontJoined fixed) (SpellsFront fixed) (front_at fixed) there here
     (then_grammar ℕ Front FrameFault Short (λ flags. SpellsFlags (fault_in_flags1 fixed flags) flags) ExtendedJoined (flags1_at fixed) (λ flags rest. flags2_at flags rest >>= λ extended. parts_at flags extended.0 extended.1) (flags1_grammar fixed)
@@ -176,8 +176,8 @@ front_grammar fixed =
         let wire = wire_with flags extended front k.back s in
         let pass1 = flags1_pass fixed flags j.spells_first.passes in
         let x = extended_is flags extended k.front k.spells_first in
-        let first : flags1 wire ≡ flags = sym (decoded1 flags j.spells_first.is_byte pass1.0 ∙ code1_of (encoding_in flags) (has flags 0x80) s.has_number s.times.has_status s.has_major s.has_minor) in
-        let second : flags2 wire ≡ extended = sym (x.code ∙ code2_of (kind_in extended) s.times.has_timestamp s.times.has_picoseconds) in
+        let first : wire_flags1 wire ≡ flags = sym (decoded1 flags j.spells_first.is_byte pass1.0 ∙ code1_of (encoding_in flags) (has flags 0x80) s.has_number s.times.has_status s.has_major s.has_minor) in
+        let second : wire_flags2 wire ≡ extended = sym (x.code ∙ code2_of (kind_in extended) s.times.has_timestamp s.times.has_picoseconds) in
         record {
           wire = wire;
           is_wire = record {
@@ -193,7 +193,7 @@ front_grammar fixed =
             minor = s.minor_is;
           };
           tells = sym s.tells;
-          split = whole flags extended (flags1 wire) (flags2 wire) (has flags 0x80) _ _ _ _ _ _ j.front j.back k.front k.back s.past text j.split j.spells_first.split k.split x.bytes s.split s.times.split first second;
+          split = whole flags extended (wire_flags1 wire) (wire_flags2 wire) (has flags 0x80) _ _ _ _ _ _ j.front j.back k.front k.back s.past text j.split j.spells_first.split k.split x.bytes s.split s.times.split first second;
         }
       where
         whole : (flags extended one two : ℕ) (there : Bool) (n t p u a i : List ℕ) (front back middle parts past text : List ℕ) → text ≡ front ++ back → front ≡ flags ∷ [] → back ≡ middle ++ parts
@@ -207,8 +207,8 @@ front_grammar fixed =
     here front text s =
         let wire = s.wire in
         let is = s.is_wire in
-        let flags = flags1 wire in
-        let extended = flags2 wire in
+        let flags = wire_flags1 wire in
+        let extended = wire_flags2 wire in
         let t1 = told1 wire.encoding (is_some wire.number) (is_some wire.status) (is_some wire.major) (is_some wire.minor) wire.extended (encoding_small fixed wire.encoding is.encoding) in
         let t2 = told2 wire.kind (is_some wire.timestamp) (is_some wire.picoseconds) (kind_small wire.kind is.kind).0 in
         let middle = flags2_bytes wire in

@@ -20,20 +20,20 @@ use Rattle.ua_binary.proofs.Laying.{Puts-then}
 use Rattle.dataset_meta.specs.declared.field.Field.{Field}
 use Rattle.dataset_meta.specs.DataValues.{DataValue}
 use Rattle.dataset_meta.specs.Rows.{cons_if}
-use Rattle.row_words.specs.Belonging.{row_of, row_in}
+use Rattle.row_words.specs.Belonging.{row_with, row_in}
 use Rattle.row_words.specs.Words.{scalar_in}
 use Rattle.row_words.specs.Setting.{HasValue, HasStatus}
 use Rattle.row_words.specs.Patches.{marked_from}
 use Rattle.row_words.proofs.FieldLaws.{StandsAt, stands_at}
 use Rattle.frame_codec.specs.Spelling.{status_if, value_bytes, values_bytes, change_bytes, changes_bytes}
 
-length-row_of : (fields : List Field) (words statuses : List ℕ) → length (row_of fields words statuses) ≡ length fields
-length-row_of [] words statuses = refl
-length-row_of (field ∷ fields) words statuses = ap suc (length-row_of fields _ _)
+length-row_with : (fields : List Field) (words statuses : List ℕ) → length (row_with fields words statuses) ≡ length fields
+length-row_with [] words statuses = refl
+length-row_with (field ∷ fields) words statuses = ap suc (length-row_with fields _ _)
 
 pub length-row_in : (fields : List Field) (words : List ℕ) → length (row_in fields words) ≡ length fields
 unfolding row_in
-length-row_in fields words = length-row_of fields words _
+length-row_in fields words = length-row_with fields words _
 
 -- what holds of the one at an index
 pub at_stands : (P : DataValue → Type 0) (row : List DataValue) (i : ℕ) (s : StandsAt row i) → HoldsAt P row i → P s.x

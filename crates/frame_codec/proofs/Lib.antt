@@ -10,6 +10,9 @@ pub mod WrittenLaws
 pub mod FitLaws
 pub mod ReadingLaws
 pub mod FaultLaws
+pub mod FlagFaultLaws
+pub mod RefusalLaws
+pub mod LayoutLaws
 pub mod RowReading
 pub mod ScalarLaws
 pub mod Setting

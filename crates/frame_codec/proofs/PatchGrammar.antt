@@ -12,7 +12,7 @@ use Rattle.dataset_meta.specs.Rows.{put_in}
 use Rattle.frame_codec.specs.declared.fault.FrameFault.{FrameFault}
 use Rattle.frame_codec.specs.declared.fault.FrameFault.TheVariants.{Short, BadIndex}
 use Rattle.frame_codec.specs.Contents.{field_at, surplus_at, put_at, change_at, changes_at, patch_at}
-use Rattle.frame_codec.specs.Wire.{WireField, field_bytes, change_bytes, changes_bytes, IsFor, AreChanges, put_read, patch_read}
+use Rattle.frame_codec.specs.Wire.{WireField, field_bytes, wire_change_bytes, wire_changes_bytes, IsFor, AreChanges, put_read, patch_read}
 use Rattle.frame_codec.proofs.ContentGrammar.{SpellsField, field_grammar, SpellsSurplus, surplus_grammar}
 
 -- a patch
@@ -64,7 +64,7 @@ pub record SpellsChange (meta : MetaData) (newer : Bool) (encoding : ℕ) (patch
   pub small : index < 2 ^ 16
   pub is_for : IsFor newer encoding (slice_get meta.fields index) wire
   pub meaning : put_read meta.quality patch index (slice_get meta.fields index) wire ≡ result
-  pub spelled : text ≡ change_bytes (index, wire)
+  pub spelled : text ≡ wire_change_bytes (index, wire)
 
 PutIn : MetaData → Bool → ℕ → List (ℕ × DataValue) → ℕ → List (ℕ × DataValue) → List ℕ → Type 0
 PutIn meta newer encoding patch index = SpellsPut meta.quality newer encoding patch index (slice_get meta.fields index)
@@ -101,7 +101,7 @@ pub record SpellsChanges (meta : MetaData) (newer : Bool) (encoding count : ℕ)
   pub counted : length changes ≡ count
   pub are : AreChanges newer encoding meta.fields changes
   pub meaning : patch_read meta.quality meta.fields patch changes ≡ result
-  pub spelled : text ≡ changes_bytes changes
+  pub spelled : text ≡ wire_changes_bytes changes
 
 none_left : (changes : List (ℕ × WireField)) → length changes ≡ 0 → changes ≡ []
 none_left [] none = refl
@@ -111,13 +111,13 @@ ChangesJoined : MetaData → Bool → ℕ → ℕ → List (ℕ × DataValue) �
 ChangesJoined meta newer encoding count patch = Joined Changes Changes (SpellsChange meta newer encoding patch) (SpellsChanges meta newer encoding count)
 
 changes_here : (meta : MetaData) (newer : Bool) (encoding count : ℕ) (patch result : List (ℕ × DataValue)) (text : List ℕ) (changes : List (ℕ × WireField)) → length changes ≡ suc count
-    → AreChanges newer encoding meta.fields changes → patch_read meta.quality meta.fields patch changes ≡ result → text ≡ changes_bytes changes → ChangesJoined meta newer encoding count patch result text
+    → AreChanges newer encoding meta.fields changes → patch_read meta.quality meta.fields patch changes ≡ result → text ≡ wire_changes_bytes changes → ChangesJoined meta newer encoding count patch result text
 unfolding ChangesJoined
 changes_here meta newer encoding count patch result text [] counted are meaning spelled = absurd (omega (arith, counted))
 changes_here meta newer encoding count patch result text (change ∷ changes) counted are meaning spelled = record {
   first = put_read meta.quality patch change.0 (slice_get meta.fields change.0) change.1;
-  front = change_bytes change;
-  back = changes_bytes changes;
+  front = wire_change_bytes change;
+  back = wire_changes_bytes changes;
   spells_first = record { index = change.0; wire = change.1; small = are.0; is_for = are.1; meaning = refl; spelled = refl };
   spells = record { changes = changes; counted = omega (arith, counted); are = are.2; meaning = meaning; spelled = refl };
   split = spelled;
@@ -127,7 +127,7 @@ pub changes_grammar : (meta : MetaData) (newer : Bool) (encoding count : ℕ) (p
 unfolding ChangesJoined
 changes_grammar meta newer encoding zero patch =
     same_grammar Changes FrameFault Short (Done patch) (SpellsChanges meta newer encoding 0 patch) (λ bytes. Ok (patch, bytes)) (λ result text d. record { changes = []; counted = refl; are = tt; meaning = sym d.0; spelled = d.1 })
-    (λ result text s. (sym s.meaning ∙ ap (patch_read meta.quality meta.fields patch) (none_left s.changes s.counted), s.spelled ∙ ap changes_bytes (none_left s.changes s.counted))) (done_grammar Changes FrameFault Short patch)
+    (λ result text s. (sym s.meaning ∙ ap (patch_read meta.quality meta.fields patch) (none_left s.changes s.counted), s.spelled ∙ ap wire_changes_bytes (none_left s.changes s.counted))) (done_grammar Changes FrameFault Short patch)
 changes_grammar meta newer encoding (suc count) patch =
     same_grammar Changes FrameFault Short (ChangesJoined meta newer encoding count patch) (SpellsChanges meta newer encoding (suc count) patch) (changes_at meta newer encoding (suc count) patch)
     (λ result text j. record {
@@ -135,7 +135,7 @@ changes_grammar meta newer encoding (suc count) patch =
       counted = ap suc j.spells.counted;
       are = (j.spells_first.small, j.spells_first.is_for, j.spells.are);
       meaning = ap (λ (p : List (ℕ × DataValue)). patch_read meta.quality meta.fields p j.spells.changes) j.spells_first.meaning ∙ j.spells.meaning;
-      spelled = j.split ∙ ap (λ (l : List ℕ). l ++ j.back) j.spells_first.spelled ∙ ap (λ (l : List ℕ). change_bytes (j.spells_first.index, j.spells_first.wire) ++ l) j.spells.spelled;
+      spelled = j.split ∙ ap (λ (l : List ℕ). l ++ j.back) j.spells_first.spelled ∙ ap (λ (l : List ℕ). wire_change_bytes (j.spells_first.index, j.spells_first.wire) ++ l) j.spells.spelled;
     })
     (λ result text s. changes_here meta newer encoding count patch result text s.changes s.counted s.are s.meaning s.spelled)
     (then_grammar Changes Changes FrameFault Short (SpellsChange meta newer encoding patch) (SpellsChanges meta newer encoding count) (change_at meta newer encoding patch) (λ before rest. changes_at meta newer encoding count before rest) (change_grammar meta newer encoding patch)
@@ -146,7 +146,7 @@ pub record SpellsPatch (meta : MetaData) (newer : Bool) (encoding : ℕ) (patch 
   pub few : length changes < 2 ^ 16
   pub are : AreChanges newer encoding meta.fields changes
   pub meaning : patch_read meta.quality meta.fields [] changes ≡ patch
-  pub spelled : text ≡ to_le_bytes w16 (length changes) ++ changes_bytes changes
+  pub spelled : text ≡ to_le_bytes w16 (length changes) ++ wire_changes_bytes changes
 
 AllChanges : MetaData → Bool → ℕ → ℕ → List (ℕ × DataValue) → List ℕ → Type 0
 AllChanges meta newer encoding count = SpellsChanges meta newer encoding count []
@@ -168,7 +168,7 @@ patch_grammar meta newer encoding =
     (λ patch text s. record {
       first = length s.changes;
       front = to_le_bytes w16 (length s.changes);
-      back = changes_bytes s.changes;
+      back = wire_changes_bytes s.changes;
       spells_first = (s.few, refl);
       spells = record { changes = s.changes; counted = refl; are = s.are; meaning = s.meaning; spelled = refl };
       split = s.spelled;

@@ -15,7 +15,7 @@ use Rattle.frame_codec.specs.Contents.{is_newer}
 use Rattle.frame_codec.specs.Reading.{message_at, are_zero, ended, frame_at}
 use Rattle.frame_codec.specs.Spelling.{is_key, frame_bytes}
 use Rattle.frame_codec.specs.Spelling as written
-use Rattle.frame_codec.specs.Wire.{WireFront, IsWireFront, front_bytes, front_read, WireFrame, IsWireFrame, wire_bytes, frame_read}
+use Rattle.frame_codec.specs.Wire.{WireFront, IsWireFront, wire_front_bytes, front_read, WireFrame, IsWireFrame, wire_bytes, frame_read}
 use Rattle.frame_codec.specs.Begins.{BeginsWithFront, IsSpelled, raw_front}
 use Rattle.frame_codec.proofs.FrontLaws.{front_grammar}
 use Rattle.frame_codec.proofs.FrameGrammar.{SpellsFrame, message_grammar}
@@ -74,7 +74,7 @@ pub front-spelled : (fixed : Bool) (bytes rest : List ℕ) (front : Front) → A
 front-spelled fixed bytes rest front all = (
   λ e. let s = (front_grammar fixed).back bytes rest front all e in
       record { wire = s.spells.wire; is_wire = s.spells.is_wire; meaning = s.spells.tells; split = s.split ∙ ap (λ (l : List ℕ). l ++ rest) s.spells.split },
-  λ s. ap (front_at fixed) s.split ∙ (front_grammar fixed).again front (front_bytes s.wire) rest (record { wire = s.wire; is_wire = s.is_wire; tells = s.meaning; split = refl }),
+  λ s. ap (front_at fixed) s.split ∙ (front_grammar fixed).again front (wire_front_bytes s.wire) rest (record { wire = s.wire; is_wire = s.is_wire; tells = s.meaning; split = refl }),
 )
 
 -- what is written
@@ -101,8 +101,8 @@ pub one-frame : (meta : MetaData) (one other : Frame) → IsMeta meta.fields →
 one-frame meta one other is_meta is_one is_other same =
     ok_once (sym (written-read meta one 0 is_meta is_one) ∙ ap (λ (bytes : List ℕ). frame_at meta (bytes ++ [])) same ∙ written-read meta other 0 is_meta is_other)
 
-pub front-few : (fixed : Bool) (wire : WireFront) (len : ℕ) → IsWireFront fixed wire → len < length (front_bytes wire) → front_at fixed (take len (front_bytes wire)) ≡ Err Short
-front-few fixed wire len is below = (front_grammar fixed).fewer (front_read wire) (front_bytes wire) len (record { wire = wire; is_wire = is; tells = refl; split = refl }) below
+pub front-few : (fixed : Bool) (wire : WireFront) (len : ℕ) → IsWireFront fixed wire → len < length (wire_front_bytes wire) → front_at fixed (take len (wire_front_bytes wire)) ≡ Err Short
+front-few fixed wire len is below = (front_grammar fixed).fewer (front_read wire) (wire_front_bytes wire) len (record { wire = wire; is_wire = is; tells = refl; split = refl }) below
 
 pub message-few : (meta : MetaData) (wire : WireFrame) (len : ℕ) → IsWireFrame meta wire → len < length (wire_bytes wire) → frame_at meta (take len (wire_bytes wire)) ≡ Err Short
 message-few meta wire len is below = few-short meta (frame_read meta wire) (wire_bytes wire) len (record { wire = wire; is_wire = is; meaning = refl; spelled = refl }) below
@@ -126,7 +126,7 @@ raw_allowed Alive no_delta = refl
 pub raw-front-read : (meta : MetaData) (frame : Frame) (rest : List ℕ) → IsFrame meta frame → ((patch : List (ℕ × DataValue)) → ¬ (frame.content ≡ Change patch)) → front_at true (written.front_bytes 1 frame ++ rest) ≡ Ok (raw_front frame, rest)
 raw-front-read meta frame rest is no_delta =
     ap (λ (bytes : List ℕ). front_at true (bytes ++ rest)) (sym (front-written 1 frame))
-    ∙ (front_grammar true).again (raw_front frame) (front_bytes (wire_front 1 frame)) rest (record {
+    ∙ (front_grammar true).again (raw_front frame) (wire_front_bytes (wire_front 1 frame)) rest (record {
       wire = wire_front 1 frame;
       is_wire = front-fits true 1 frame refl (raw_allowed frame.content no_delta) is.number is.major is.minor;
       tells = ap (λ (kind : ℕ). record { valid = true; encoding = 1; kind = kind; number = frame.number; major = frame.major; minor = frame.minor }) (raw_kind frame.content no_delta);

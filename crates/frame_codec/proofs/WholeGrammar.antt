@@ -13,7 +13,7 @@ use Rattle.dataset_meta.specs.Metas.{MetaData}
 use Rattle.frame_codec.specs.declared.fault.FrameFault.{FrameFault}
 use Rattle.frame_codec.specs.declared.fault.FrameFault.TheVariants.{Short, WrongCount}
 use Rattle.frame_codec.specs.Contents.{row_at, surpluses_at, is_count, counted_at, whole_at}
-use Rattle.frame_codec.specs.Wire.{WireField, field_bytes, values_bytes, AreValues, value_read, row_read}
+use Rattle.frame_codec.specs.Wire.{WireField, field_bytes, wire_values_bytes, AreValues, value_read, row_read}
 use Rattle.frame_codec.proofs.Grammars.{Choice, either_grammar}
 use Rattle.frame_codec.proofs.ContentGrammar.{SpellsRow, row_grammar, SpellsSurpluses, surpluses_grammar}
 
@@ -22,7 +22,7 @@ pub record SpellsWhole (meta : MetaData) (newer : Bool) (encoding : ℕ) (row : 
   pub few : length values < 2 ^ 16
   pub are : AreValues newer encoding meta.fields values
   pub meaning : row_read meta.quality meta.fields values ≡ row
-  pub spelled : text ≡ to_le_bytes w16 (length values) ++ values_bytes values
+  pub spelled : text ≡ to_le_bytes w16 (length values) ++ wire_values_bytes values
 
 -- the values of the fields, and the surplus ones
 record Apart (newer : Bool) (encoding : ℕ) (fields : List Field) (values : List WireField) : Type 0 where
@@ -132,14 +132,14 @@ whole_grammar meta newer encoding =
         let s = c.spells.spells_first in
         let counts = count_tells newer (length meta.fields) count is in
         let long : length (r.values ++ s.values) ≡ count = omega (arith, length-append r.values s.values, length_are encoding meta.fields r.values r.are, s.counted, counts.enough) in
-        let behind : c.back ≡ values_bytes s.values = sym (alone c.spells.front c.spells.back c.back c.spells.split c.spells.spells.1) ∙ s.spelled in
+        let behind : c.back ≡ wire_values_bytes s.values = sym (alone c.spells.front c.spells.back c.back c.spells.split c.spells.spells.1) ∙ s.spelled in
         record {
           values = r.values ++ s.values;
           few = omega (arith, long, number.0);
           are = join_values newer encoding meta.fields r.values s.values r.are (surplus_are newer encoding (length meta.fields) count s.values counts s.counted s.are);
           meaning = row-joined meta.quality encoding meta.fields r.values s.values r.are ∙ r.meaning ∙ sym c.spells.spells.0;
-          spelled = split ∙ ap (λ (l : List ℕ). l ++ back) number.1 ∙ ap (λ (l : List ℕ). to_le_bytes w16 count ++ l) (c.split ∙ ap (λ (l : List ℕ). l ++ c.back) r.spelled ∙ ap (λ (l : List ℕ). values_bytes r.values ++ l) behind ∙ sym (flat_map-append field_bytes r.values s.values))
-              ∙ ap (λ (n : ℕ). to_le_bytes w16 n ++ values_bytes (r.values ++ s.values)) (sym long);
+          spelled = split ∙ ap (λ (l : List ℕ). l ++ back) number.1 ∙ ap (λ (l : List ℕ). to_le_bytes w16 count ++ l) (c.split ∙ ap (λ (l : List ℕ). l ++ c.back) r.spelled ∙ ap (λ (l : List ℕ). wire_values_bytes r.values ++ l) behind ∙ sym (flat_map-append field_bytes r.values s.values))
+              ∙ ap (λ (n : ℕ). to_le_bytes w16 n ++ wire_values_bytes (r.values ++ s.values)) (sym long);
         }
 
     by_count : (row : List DataValue) (text front back : List ℕ) (count : ℕ) → IsNumber w16 16 count front → text ≡ front ++ back → (b : Bool) → is_count newer (length meta.fields) count ≡ b → Choice b (Counted meta encoding count row back) ⊥ → SpellsWhole meta newer encoding row text
@@ -158,22 +158,22 @@ whole_grammar meta newer encoding =
         record {
           first = count;
           front = to_le_bytes w16 count;
-          back = values_bytes s.values;
+          back = wire_values_bytes s.values;
           spells_first = (s.few, refl);
-          spells = subst (λ (b : Bool). Choice b (Counted meta encoding count row (values_bytes s.values)) ⊥) (sym is) (record {
+          spells = subst (λ (b : Bool). Choice b (Counted meta encoding count row (wire_values_bytes s.values)) ⊥) (sym is) (record {
             first = row_read meta.quality meta.fields a.front;
-            front = values_bytes a.front;
-            back = values_bytes a.back;
+            front = wire_values_bytes a.front;
+            back = wire_values_bytes a.back;
             spells_first = record { values = a.front; are = a.front_are; meaning = refl; spelled = refl };
             spells = record {
               first = tt;
-              front = values_bytes a.back;
+              front = wire_values_bytes a.back;
               back = [];
               spells_first = record { values = a.back; counted = omega (arith, long); are = any newer encoding a.back a.back_are; spelled = refl };
               spells = (sym row_is, refl);
-              split = sym (append-nil (values_bytes a.back));
+              split = sym (append-nil (wire_values_bytes a.back));
             };
-            split = ap values_bytes a.whole ∙ flat_map-append field_bytes a.front a.back;
+            split = ap wire_values_bytes a.whole ∙ flat_map-append field_bytes a.front a.back;
           });
           split = s.spelled;
         }

@@ -18,7 +18,7 @@ use Rattle.frame_codec.specs.Contents.{is_newer}
 use Rattle.frame_codec.specs.Fronts.{is_encoding}
 use Rattle.frame_codec.specs.Spelling.{is_key, status_if, value_bytes, encoding_of, frame_bytes}
 use Rattle.frame_codec.specs.Spelling as written
-use Rattle.frame_codec.specs.Wire.{WireFront, IsWireFront, is_kind, WireField, AsVariant, AsDataValue, field_bytes, values_bytes, changes_bytes, WireContent, Key, Delta, KeepAlive, kind_number, content_bytes, IsForField, IsSurplus, AreValues, IsFor, AreChanges, IsWireContent, value_read, row_read, put_read, patch_read, content_read, wire_bytes, front_bytes}
+use Rattle.frame_codec.specs.Wire.{WireFront, IsWireFront, is_kind, WireField, AsVariant, AsDataValue, field_bytes, wire_values_bytes, wire_changes_bytes, WireContent, Key, Delta, KeepAlive, kind_number, wire_content_bytes, IsForField, IsSurplus, AreValues, IsFor, AreChanges, IsWireContent, value_read, row_read, put_read, patch_read, content_read, wire_bytes, wire_front_bytes}
 use Rattle.frame_codec.proofs.FrameGrammar.{SpellsFrame}
 
 -- a value with its status, as it is written
@@ -83,11 +83,11 @@ wire_row : Bool → List DataValue → List WireField
 wire_row quality [] = []
 wire_row quality (x ∷ row) = wire_field quality x ∷ wire_row quality row
 
-row-written : (quality : Bool) (row : List DataValue) → values_bytes (wire_row quality row) ≡ written.values_bytes quality row
+row-written : (quality : Bool) (row : List DataValue) → wire_values_bytes (wire_row quality row) ≡ written.values_bytes quality row
 unfolding wire_row
 row-written quality [] = refl
 row-written quality (x ∷ row) =
-    ap (λ (l : List ℕ). l ++ values_bytes (wire_row quality row)) (field-written quality x) ∙ ap (λ (l : List ℕ). value_bytes quality x ++ l) (row-written quality row)
+    ap (λ (l : List ℕ). l ++ wire_values_bytes (wire_row quality row)) (field-written quality x) ∙ ap (λ (l : List ℕ). value_bytes quality x ++ l) (row-written quality row)
 
 length-wire_row : (quality : Bool) (row : List DataValue) → length (wire_row quality row) ≡ length row
 unfolding wire_row
@@ -131,11 +131,11 @@ wire_patch : Bool → List (ℕ × DataValue) → List (ℕ × WireField)
 wire_patch quality [] = []
 wire_patch quality (change ∷ patch) = wire_change quality change ∷ wire_patch quality patch
 
-patch-written : (quality : Bool) (patch : List (ℕ × DataValue)) → changes_bytes (wire_patch quality patch) ≡ written.changes_bytes quality patch
+patch-written : (quality : Bool) (patch : List (ℕ × DataValue)) → wire_changes_bytes (wire_patch quality patch) ≡ written.changes_bytes quality patch
 unfolding wire_patch wire_change
 patch-written quality [] = refl
 patch-written quality (change ∷ patch) =
-    ap (λ (l : List ℕ). (to_le_bytes w16 change.0 ++ l) ++ changes_bytes (wire_patch quality patch)) (field-written quality change.1)
+    ap (λ (l : List ℕ). (to_le_bytes w16 change.0 ++ l) ++ wire_changes_bytes (wire_patch quality patch)) (field-written quality change.1)
     ∙ ap (λ (l : List ℕ). written.change_bytes quality change ++ l) (patch-written quality patch)
 
 length-wire_patch : (quality : Bool) (patch : List (ℕ × DataValue)) → length (wire_patch quality patch) ≡ length patch
@@ -276,8 +276,8 @@ wire_front encoding frame = record {
 three_nil : (a b c d : List ℕ) → (((((a ++ b) ++ []) ++ []) ++ []) ++ c) ++ d ≡ ((a ++ b) ++ c) ++ d
 three_nil a b c d = simp append-nil refl
 
-pub front-written : (encoding : ℕ) (frame : Frame) → front_bytes (wire_front encoding frame) ≡ written.front_bytes encoding frame
-unfolding front_bytes written.front_bytes
+pub front-written : (encoding : ℕ) (frame : Frame) → wire_front_bytes (wire_front encoding frame) ≡ written.front_bytes encoding frame
+unfolding wire_front_bytes written.front_bytes
 front-written encoding frame = by_content frame.content
   where
     same_bytes : (a b c d : ℕ) (two : List ℕ) → (a + 0 + b + c + d) ∷ two ++ optional (to_le_bytes w16) frame.number ++ [] ++ [] ++ [] ++ optional (to_le_bytes w32) frame.major ++ optional (to_le_bytes w32) frame.minor
@@ -286,7 +286,7 @@ front-written encoding frame = by_content frame.content
         let sum : a + 0 + b + c + d ≡ a + b + c + d = omega arith in
         rw sum (ap (λ (l : List ℕ). (a + b + c + d) ∷ l) (three_nil two (optional (to_le_bytes w16) frame.number) (optional (to_le_bytes w32) frame.major) (optional (to_le_bytes w32) frame.minor)))
 
-    by_content : (content : Content) → front_bytes (wire_front encoding (record { number = frame.number; major = frame.major; minor = frame.minor; content = content })) ≡ written.front_bytes encoding (record { number = frame.number; major = frame.major; minor = frame.minor; content = content })
+    by_content : (content : Content) → wire_front_bytes (wire_front encoding (record { number = frame.number; major = frame.major; minor = frame.minor; content = content })) ≡ written.front_bytes encoding (record { number = frame.number; major = frame.major; minor = frame.minor; content = content })
     by_content (Whole row) = same_bytes (1 + 2 * encoding + flag (is_some frame.number) 8) (flag (is_some frame.major) 32) (flag (is_some frame.minor) 64) 0 []
     by_content (Change patch) = same_bytes (1 + 2 * encoding + flag (is_some frame.number) 8) (flag (is_some frame.major) 32) (flag (is_some frame.minor) 64) 128 (1 ∷ [])
     by_content Alive = same_bytes (1 + 2 * encoding + flag (is_some frame.number) 8) (flag (is_some frame.major) 32) (flag (is_some frame.minor) 64) 128 (3 ∷ [])
@@ -322,12 +322,12 @@ wire_content quality (Whole row) = Key (wire_row quality row)
 wire_content quality (Change patch) = Delta (wire_patch quality patch)
 wire_content quality Alive = KeepAlive
 
-content-written : (quality : Bool) (content : Content) → content_bytes (wire_content quality content) ≡ written.content_bytes quality content
+content-written : (quality : Bool) (content : Content) → wire_content_bytes (wire_content quality content) ≡ written.content_bytes quality content
 unfolding wire_content
 content-written quality (Whole row) =
-    ap (λ (n : ℕ). to_le_bytes w16 n ++ values_bytes (wire_row quality row)) (length-wire_row quality row) ∙ ap (λ (l : List ℕ). to_le_bytes w16 (length row) ++ l) (row-written quality row)
+    ap (λ (n : ℕ). to_le_bytes w16 n ++ wire_values_bytes (wire_row quality row)) (length-wire_row quality row) ∙ ap (λ (l : List ℕ). to_le_bytes w16 (length row) ++ l) (row-written quality row)
 content-written quality (Change patch) =
-    ap (λ (n : ℕ). to_le_bytes w16 n ++ changes_bytes (wire_patch quality patch)) (length-wire_patch quality patch) ∙ ap (λ (l : List ℕ). to_le_bytes w16 (length patch) ++ l) (patch-written quality patch)
+    ap (λ (n : ℕ). to_le_bytes w16 n ++ wire_changes_bytes (wire_patch quality patch)) (length-wire_patch quality patch) ∙ ap (λ (l : List ℕ). to_le_bytes w16 (length patch) ++ l) (patch-written quality patch)
 content-written quality Alive = refl
 
 same_kind : (quality : Bool) (content : Content) → kind_of content ≡ kind_number (wire_content quality content)
@@ -396,7 +396,7 @@ frame-spelled short full frame grown few may is =
         content = content-fits short full (is_newer short frame.minor) frame.content grown few may is.content;
       };
       meaning = ap (λ (content : Content). record { number = frame.number; major = frame.major; minor = frame.minor; content = content }) (content-read short full frame.content grown is.content);
-      spelled = ap (λ (l : List ℕ). l ++ written.content_bytes full.quality frame.content) (sym (front-written encoding frame)) ∙ ap (λ (l : List ℕ). front_bytes (wire_front encoding frame) ++ l) (sym (content-written full.quality frame.content));
+      spelled = ap (λ (l : List ℕ). l ++ written.content_bytes full.quality frame.content) (sym (front-written encoding frame)) ∙ ap (λ (l : List ℕ). wire_front_bytes (wire_front encoding frame) ++ l) (sym (content-written full.quality frame.content));
     }
 
 -- a frame cut to all of its fields

@@ -4,14 +4,15 @@ use Rattle.dataset_meta.specs.Metas.{MetaData}
 use Rattle.frame_codec.specs.declared.front.Front.{Front}
 use Rattle.frame_codec.specs.Frames.{Frame}
 use Rattle.frame_codec.specs.Spelling.{is_key}
-use Rattle.frame_codec.specs.Wire.{WireFront, IsWireFront, front_bytes, front_read, WireFrame, IsWireFrame, wire_bytes, frame_read}
+use Rattle.frame_codec.specs.Wire.{WireFront, IsWireFront, wire_front_bytes, front_read, WireFrame, IsWireFrame, wire_bytes, frame_read}
 
 -- a front that tells this stands in front of this rest
-pub record BeginsWithFront (fixed : Bool) (bytes : List ℕ) (front : Front) (rest : List ℕ) : Type 0 where
+pub record BeginsWithFront (fixed : Bool) (bytes : List ℕ) (front : Front)
+    (rest : List ℕ) : Type 0 where
   pub wire : WireFront
   pub is_wire : IsWireFront fixed wire
   pub meaning : front_read wire ≡ front
-  pub split : bytes ≡ front_bytes wire ++ rest
+  pub split : bytes ≡ wire_front_bytes wire ++ rest
 
 -- a message that is this frame, and zeros
 pub record IsSpelled (meta : MetaData) (bytes : List ℕ) (frame : Frame) : Type 0 where

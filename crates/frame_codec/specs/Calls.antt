@@ -28,7 +28,8 @@ abbrev pub meaning : List Field → Result FrameKind FrameFault → Result Conte
 meaning fields (Ok kind) = Ok (content_in fields kind)
 meaning fields (Err fault) = Err fault
 
-abbrev pub patch_meaning : List Field → Result Patch FrameFault → Result (List (ℕ × DataValue)) FrameFault
+abbrev pub patch_meaning : List Field → Result Patch FrameFault
+    → Result (List (ℕ × DataValue)) FrameFault
 patch_meaning fields (Ok patch) = Ok (patch_in fields patch)
 patch_meaning fields (Err fault) = Err fault
 
@@ -38,8 +39,10 @@ kept_if quality (Ok value) status = Ok (kept quality value status)
 kept_if quality (Err fault) status = Err fault
 
 -- the value of a field, set at an index of a row
-unfoldable pub set_at : Bool → ℕ → Field → ℕ → List DataValue → List ℕ → Result (List DataValue × List ℕ) FrameFault
-set_at quality encoding field index row bytes = field_at quality encoding field bytes >>= λ x. Ok (slice_set row index x.0, x.1)
+unfoldable pub set_at : Bool → ℕ → Field → ℕ → List DataValue → List ℕ
+    → Result (List DataValue × List ℕ) FrameFault
+set_at quality encoding field index row bytes =
+    field_at quality encoding field bytes >>= λ x. Ok (slice_set row index x.0, x.1)
 
 -- a scalar with this word, and this status
 abbrev pub measured_in : Kind → ℕ → ℕ → Measured
@@ -48,7 +51,8 @@ measured_in kind word status = record { value = Some (scalar_in kind word); stat
 -- a DataValue with this mask, whose value ends here, has this status, and ends there
 abbrev pub EndsDataValue : ℕ → ℕ → List ℕ → List ℕ → Type 0
 EndsDataValue mask status here there =
-    (value : Value) (bytes : List ℕ) → variant_at bytes ≡ Ok (value, here) → data_value_at (mask ∷ bytes) ≡ Ok (record { value = Some value; status = status }, there)
+    (value : Value) (bytes : List ℕ) → variant_at bytes ≡ Ok (value, here)
+    → data_value_at (mask ∷ bytes) ≡ Ok (record { value = Some value; status = status }, there)
 
 -- the bytes of a scalar's word, without its type
 abbrev pub scalar_bytes : Kind → ℕ → List ℕ

@@ -1,4 +1,4 @@
--- How the fields of a DataSetMessage are read, from left to right (OPC 10000-14, Data Key Frame and Data Delta Frame).
+-- How the fields of a DataSetMessage are read, from left to right (OPC 10000-14 7.2.4.5, Data Key Frame and Data Delta Frame).
 use Rattle.std.specs.Prelude.{ℕ, zero, suc, ◌-◌, ◌==◌, ◌&&◌, ◌||◌, Bool, false, nat_lt, nat_le, List, [], ◌∷◌, length, slice_get, Option, Some, None, Result, Ok, Err, if◌then◌else◌}
 use Rattle.std.specs.Int.{w16}
 use Rattle.ua_values.specs.declared.value.Value.{Value}
@@ -41,7 +41,8 @@ value_at encoding bytes =
 
 -- the value is of the field's kind, and a text or a blob has at most `cap` bytes
 abbrev pub suits : Field → Value → Bool
-suits field value = type_of (kind_of value) == type_of field.kind && nat_le (size_of value) field.cap
+suits field value =
+    type_of (kind_of value) == type_of field.kind && nat_le (size_of value) field.cap
 
 -- a data set without statuses drops them
 abbrev pub kept : Bool → Value → ℕ → DataValue
@@ -50,7 +51,8 @@ kept quality value status = record { value = value; status = if quality then sta
 -- what a field is given, if that suits it
 abbrev pub given : Bool → Field → Option Value → ℕ → Result DataValue FrameFault
 given quality field None status = Err BadValue
-given quality field (Some value) status = if suits field value then Ok (kept quality value status) else Err BadValue
+given quality field (Some value) status =
+    if suits field value then Ok (kept quality value status) else Err BadValue
 
 -- the value of a field; it is judged once it is read
 unfoldable pub field_at : Bool → ℕ → Field → List ℕ → Result (DataValue × List ℕ) FrameFault
@@ -95,7 +97,8 @@ abbrev pub is_count : Bool → ℕ → ℕ → Bool
 is_count newer fields count = count == fields || (newer && nat_lt fields count)
 
 -- the values of the fields, and then the surplus ones
-abbrev pub counted_at : Bool → ℕ → List Field → ℕ → List ℕ → Result (List DataValue × List ℕ) FrameFault
+abbrev pub counted_at : Bool → ℕ → List Field → ℕ → List ℕ
+    → Result (List DataValue × List ℕ) FrameFault
 counted_at quality encoding fields count bytes = do
   row ← row_at quality encoding fields bytes
   rest ← surpluses_at encoding (count - length fields) row.1
@@ -105,34 +108,44 @@ counted_at quality encoding fields count bytes = do
 unfoldable pub whole_at : MetaData → Bool → ℕ → List ℕ → Result (List DataValue × List ℕ) FrameFault
 whole_at meta newer encoding bytes = do
   count ← number_at Short w16 bytes
-  if is_count newer (length meta.fields) count.0 then counted_at meta.quality encoding meta.fields count.0 count.1 else Err (WrongCount count.0)
+  if is_count newer (length meta.fields) count.0
+      then counted_at meta.quality encoding meta.fields count.0 count.1
+      else Err (WrongCount count.0)
 
 -- the patch with the value of this field too; of two values of one field the later counts
-abbrev pub put_at : Bool → Bool → ℕ → List (ℕ × DataValue) → ℕ → Option Field → List ℕ → Result (List (ℕ × DataValue) × List ℕ) FrameFault
-put_at quality newer encoding patch index (Some field) bytes = field_at quality encoding field bytes >>= λ value. Ok (put_in patch index value.0, value.1)
+abbrev pub put_at : Bool → Bool → ℕ → List (ℕ × DataValue) → ℕ → Option Field → List ℕ
+    → Result (List (ℕ × DataValue) × List ℕ) FrameFault
+put_at quality newer encoding patch index (Some field) bytes =
+    field_at quality encoding field bytes >>= λ value. Ok (put_in patch index value.0, value.1)
 put_at quality newer encoding patch index None bytes =
-    if newer then (surplus_at encoding bytes >>= λ value. Ok (patch, value.1)) else Err (BadIndex index)
+    if newer then (surplus_at encoding bytes >>= λ value. Ok (patch, value.1))
+    else Err (BadIndex index)
 
 -- an index and a value
-unfoldable pub change_at : MetaData → Bool → ℕ → List (ℕ × DataValue) → List ℕ → Result (List (ℕ × DataValue) × List ℕ) FrameFault
+unfoldable pub change_at : MetaData → Bool → ℕ → List (ℕ × DataValue) → List ℕ
+    → Result (List (ℕ × DataValue) × List ℕ) FrameFault
 change_at meta newer encoding patch bytes = do
   index ← number_at Short w16 bytes
   put_at meta.quality newer encoding patch index.0 (slice_get meta.fields index.0) index.1
 
-abbrev pub changes_at : MetaData → Bool → ℕ → ℕ → List (ℕ × DataValue) → List ℕ → Result (List (ℕ × DataValue) × List ℕ) FrameFault
+abbrev pub changes_at : MetaData → Bool → ℕ → ℕ → List (ℕ × DataValue) → List ℕ
+    → Result (List (ℕ × DataValue) × List ℕ) FrameFault
 changes_at meta newer encoding zero patch bytes = Ok (patch, bytes)
 changes_at meta newer encoding (suc count) patch bytes = do
   change ← change_at meta newer encoding patch bytes
   changes_at meta newer encoding count change.0 change.1
 
 -- a delta frame: a count, and so many indexes with their values
-unfoldable pub patch_at : MetaData → Bool → ℕ → List ℕ → Result (List (ℕ × DataValue) × List ℕ) FrameFault
+unfoldable pub patch_at : MetaData → Bool → ℕ → List ℕ
+    → Result (List (ℕ × DataValue) × List ℕ) FrameFault
 patch_at meta newer encoding bytes = do
   count ← number_at Short w16 bytes
   changes_at meta newer encoding count.0 [] count.1
 
 -- by the kind of message: 0 is a key frame, 1 a delta frame, and 3, which alone is left, a keep-alive
 unfoldable pub content_at : MetaData → Bool → ℕ → ℕ → List ℕ → Result (Content × List ℕ) FrameFault
-content_at meta newer encoding zero bytes = whole_at meta newer encoding bytes >>= λ row. Ok (Whole row.0, row.1)
-content_at meta newer encoding (suc zero) bytes = patch_at meta newer encoding bytes >>= λ patch. Ok (Change patch.0, patch.1)
+content_at meta newer encoding zero bytes =
+    whole_at meta newer encoding bytes >>= λ row. Ok (Whole row.0, row.1)
+content_at meta newer encoding (suc zero) bytes =
+    patch_at meta newer encoding bytes >>= λ patch. Ok (Change patch.0, patch.1)
 content_at meta newer encoding (suc (suc kind)) bytes = Ok (Alive, bytes)

@@ -1,4 +1,4 @@
--- Frames: DataSetMessages (OPC 10000-14, UADP DataSetMessage), for a data set with this meta.
+-- Frames: DataSetMessages (OPC 10000-14 7.2.4.5, UADP DataSetMessage), for a data set with this meta.
 use Rattle.std.specs.Prelude.{ℕ, ◌^◌, ◌<◌, ⊤, List, Option, IfSome}
 use Rattle.dataset_meta.specs.DataValues.{DataValue}
 use Rattle.dataset_meta.specs.Metas.{MetaData}
@@ -36,4 +36,10 @@ content_cut short (Change patch) = Change (patch_cut short patch)
 content_cut short Alive = Alive
 
 abbrev pub frame_cut : MetaData → Frame → Frame
-frame_cut short frame = record { number = frame.number; major = frame.major; minor = frame.minor; content = content_cut short frame.content }
+frame_cut short frame =
+    record {
+      number = frame.number;
+      major = frame.major;
+      minor = frame.minor;
+      content = content_cut short frame.content;
+    }

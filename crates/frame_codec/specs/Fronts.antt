@@ -1,4 +1,4 @@
--- How the front of a DataSetMessage is read, from left to right: all that stands before the count of fields (OPC 10000-14, UADP DataSetMessage header).
+-- How the front of a DataSetMessage is read, from left to right: all that stands before the count of fields (OPC 10000-14 7.2.4.5, UADP DataSetMessage header).
 use Rattle.std.specs.Prelude.{ℕ, ◌/◌, ◌%◌, ◌==◌, Bool, true, not, ◌&&◌, ◌||◌, nat_lt, List, Option, Some, None, Result, Ok, Err, if◌then◌else◌}
 use Rattle.std.specs.Int.{w16, w32}
 use Rattle.ua_binary.specs.Reading.{◌>>=◌, byte_at, bytes_at, number_at, part_at, skipped}
@@ -21,7 +21,10 @@ is_encoding fixed encoding = encoding == 0 || encoding == 2 || (fixed && encodin
 
 -- what DataSetFlags1 is refused for
 abbrev pub fault_in_flags1 : Bool → ℕ → Option FrameFault
-fault_in_flags1 fixed flags = if not (has flags 0x01) then Some NotValid else if is_encoding fixed (encoding_in flags) then None else Some BadEncoding
+fault_in_flags1 fixed flags =
+    if not (has flags 0x01) then Some NotValid
+    else if is_encoding fixed (encoding_in flags) then None
+    else Some BadEncoding
 
 -- what DataSetFlags2 is refused for, with this field encoding
 abbrev pub fault_in_flags2 : ℕ → ℕ → Option FrameFault
@@ -44,7 +47,8 @@ flags1_at fixed bytes = do
 unfoldable pub flags2_at : ℕ → List ℕ → Result (ℕ × List ℕ) FrameFault
 flags2_at flags bytes =
     if has flags 0x80
-    then (byte_at Short bytes >>= λ extended. passing (fault_in_flags2 (encoding_in flags) extended.0) extended)
+    then (byte_at Short bytes
+    >>= λ extended. passing (fault_in_flags2 (encoding_in flags) extended.0) extended)
     else Ok (0, bytes)
 
 -- the timestamp, its picoseconds and the status, which are read past
@@ -61,7 +65,17 @@ parts_at flags extended bytes = do
   times ← times_past flags extended number.1
   major ← part_at (has flags 0x20) (number_at Short w32) times.1
   minor ← part_at (has flags 0x40) (number_at Short w32) major.1
-  Ok (record { valid = true; encoding = encoding_in flags; kind = kind_in extended; number = number.0; major = major.0; minor = minor.0 }, minor.1)
+  Ok (
+    record {
+      valid = true;
+      encoding = encoding_in flags;
+      kind = kind_in extended;
+      number = number.0;
+      major = major.0;
+      minor = minor.0;
+    },
+    minor.1,
+  )
 
 -- the front of a message, in a fixed layout or in a dynamic one
 unfoldable pub front_at : Bool → List ℕ → Result (Front × List ℕ) FrameFault

@@ -6,5 +6,6 @@ pub mod Fronts
 pub mod Contents
 pub mod Reading
 pub mod Wire
+pub mod Refusals
 pub mod Begins
 pub mod Calls

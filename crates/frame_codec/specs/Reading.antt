@@ -11,7 +11,8 @@ use Rattle.frame_codec.specs.Fronts.{front_at}
 use Rattle.frame_codec.specs.Contents.{is_newer, content_at}
 
 abbrev pub frame_with : Front → Content → Frame
-frame_with front content = record { number = front.number; major = front.major; minor = front.minor; content = content }
+frame_with front content =
+    record { number = front.number; major = front.major; minor = front.minor; content = content }
 
 -- the frame whose front this is
 unfoldable pub behind_front : MetaData → Front → List ℕ → Result (Frame × List ℕ) FrameFault

@@ -1,4 +1,4 @@
--- The one spelling of a frame that is written (OPC 10000-14, UADP DataSetMessage header): no timestamp, picoseconds or status of the message, and DataSetFlags2 only where it isn't a key frame. Numbers are little-endian.
+-- The one spelling of a frame that is written (OPC 10000-14 7.2.4.5, UADP DataSetMessage header): no timestamp, picoseconds or status of the message, and DataSetFlags2 only where it isn't a key frame. Numbers are little-endian.
 use Rattle.std.specs.Prelude.{ℕ, ◌+◌, ◌*◌, ◌==◌, Bool, true, false, List, [], ◌∷◌, ◌++◌, length, Option, Some, None, is_some, if◌then◌else◌}
 use Rattle.std.specs.List.{flat_map}
 use Rattle.std.specs.Int.{w16, w32, to_le_bytes}
@@ -15,7 +15,8 @@ is_key Alive = false
 -- DataSetFlags1: bit 0 valid, bits 1 and 2 the field encoding, bit 3 a sequence number, bits 5 and 6 a major and a minor version, bit 7 DataSetFlags2
 abbrev pub flags1 : ℕ → Frame → ℕ
 flags1 encoding frame =
-    1 + 2 * encoding + flag (is_some frame.number) 8 + flag (is_some frame.major) 32 + flag (is_some frame.minor) 64
+    1 + 2 * encoding + flag (is_some frame.number) 8 + flag (is_some frame.major) 32
+    + flag (is_some frame.minor) 64
     + (if is_key frame.content then 0 else 128)
 
 -- DataSetFlags2: 1 is a delta frame, 3 a keep-alive
@@ -27,7 +28,8 @@ flags2 Alive = 3 ∷ []
 -- all that stands before the count of fields
 unfoldable pub front_bytes : ℕ → Frame → List ℕ
 front_bytes encoding frame =
-    flags1 encoding frame ∷ flags2 frame.content ++ optional (to_le_bytes w16) frame.number ++ optional (to_le_bytes w32) frame.major
+    flags1 encoding frame ∷ flags2 frame.content ++ optional (to_le_bytes w16) frame.number
+    ++ optional (to_le_bytes w32) frame.major
     ++ optional (to_le_bytes w32) frame.minor
 
 -- Good is left out
@@ -62,4 +64,5 @@ encoding_of quality Alive = 0
 
 -- the whole message, for a data set that has statuses or not
 unfoldable pub frame_bytes : Bool → Frame → List ℕ
-frame_bytes quality frame = front_bytes (encoding_of quality frame.content) frame ++ content_bytes quality frame.content
+frame_bytes quality frame =
+    front_bytes (encoding_of quality frame.content) frame ++ content_bytes quality frame.content

@@ -17,7 +17,13 @@ content_in fields (kinds.Change patch) = Change (patch_in fields patch)
 content_in fields kinds.Alive = Alive
 
 abbrev pub frame_in : List Field → FrameWords → Frame
-frame_in fields frame = record { number = frame.number; major = frame.major; minor = frame.minor; content = content_in fields frame.kind }
+frame_in fields frame =
+    record {
+      number = frame.number;
+      major = frame.major;
+      minor = frame.minor;
+      content = content_in fields frame.kind;
+    }
 
 -- the words are those of a row, or of a patch, of this meta
 abbrev pub IsKindOf : MetaData → FrameKind → Type 0
@@ -35,7 +41,13 @@ spelled_kind fields (Change patch) = kinds.Change (spelled_patch fields patch)
 spelled_kind fields Alive = kinds.Alive
 
 abbrev pub spelled_frame : List Field → Frame → FrameWords
-spelled_frame fields frame = record { number = frame.number; kind = spelled_kind fields frame.content; major = frame.major; minor = frame.minor }
+spelled_frame fields frame =
+    record {
+      number = frame.number;
+      kind = spelled_kind fields frame.content;
+      major = frame.major;
+      minor = frame.minor;
+    }
 
 -- the frame that a call answers is one of this meta, and stands for what is read
 abbrev pub GivesFrame : MetaData → Result FrameWords FrameFault → Result Frame FrameFault → Type 0

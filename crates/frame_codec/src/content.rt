@@ -1,5 +1,5 @@
 //! The fields of a DataSetMessage, read.
-ghost use Rattle.std.specs.Prelude.{◌≡◌, ◌<◌, ℕ, Bool, false, Some, length, slice_set, OnOk, IfOk, if◌then◌else◌};
+ghost use Rattle.std.specs.Prelude.{◌≡◌, ◌<◌, ℕ, Bool, true, false, Some, length, slice_set, OnOk, IfOk, if◌then◌else◌};
 ghost use Rattle.std.specs.List.{HoldsAt};
 ghost use Rattle.ua_values.specs.Values.{Fits};
 ghost use Rattle.ua_binary.specs.Reading.{ReadsAhead};
@@ -12,11 +12,11 @@ ghost use Rattle.frame_codec.specs.Contents.{kept, given, value_at, surplus_at, 
 ghost use Rattle.frame_codec.specs.Words.{IsKindOf, content_in};
 
 use crate::fault::FrameFault;
-use crate::flags::{DELTA, KEY, VARIANT};
+use crate::flags::{DATA_VALUE, DELTA, KEY, VARIANT};
 use crate::frame::FrameKind;
 use crate::front::Front;
 use crate::length::field_count;
-use crate::scalar::read_own;
+use crate::scalar::{Own, read_own};
 use dataset_meta::{Field, Meta};
 use row_words::{Patch, Row};
 use ua_binary::{Cursor, Measured, read_data_value, read_variant};
@@ -136,20 +136,90 @@ fn read_counted(
     read_surpluses(cursor, encoding, surplus)
 }
 
-/// The values of the fields. The cursor is kept apart until the last is read, so that it need not be stored for each.
+/// The values of the fields. DataValues for a data set with statuses, and Variants for one without, have a loop each.
+#[inline(always)]
 fn read_row(
     cursor: &mut Cursor<'_>,
     meta: &Meta,
     encoding: u8,
     row: &mut Row,
 ) -> Result<(), FrameFault>
-    requires { Belongs meta.now row.old.words }
+    requires row { Belongs meta.now row.old.words }
+    ensures belongs { OnOk result (Belongs meta.now row.new.words) }
+    ensures answer { ReadsAhead (leaving result (row_in meta.now.fields row.new.words))
+        cursor.old cursor.new (row_at meta.now.quality encoding meta.now.fields) }
+{
+    if meta.quality() {
+        if encoding == DATA_VALUE {
+            read_data_values(cursor, meta, row)
+        } else {
+            read_others(cursor, meta, encoding, row)
+        }
+    } else if encoding == VARIANT {
+        read_variants(cursor, meta, row)
+    } else {
+        read_others(cursor, meta, encoding, row)
+    }
+}
+
+/// The same of DataValues, for a data set with statuses. Each loop is a function of its own, which keeps it short.
+#[inline(never)]
+fn read_data_values(cursor: &mut Cursor<'_>, meta: &Meta, row: &mut Row) -> Result<(), FrameFault>
+    requires quality { meta.now.quality ≡ true }
+    requires row { Belongs meta.now row.old.words }
+    ensures belongs { OnOk result (Belongs meta.now row.new.words) }
+    ensures answer { ReadsAhead (leaving result (row_in meta.now.fields row.new.words))
+        cursor.old cursor.new (row_at meta.now.quality DATA_VALUE meta.now.fields) }
+{
+    read_apart(cursor, meta, DATA_VALUE, true, row)
+}
+
+/// The same of Variants, for a data set without statuses.
+#[inline(never)]
+fn read_variants(cursor: &mut Cursor<'_>, meta: &Meta, row: &mut Row) -> Result<(), FrameFault>
+    requires plain { meta.now.quality ≡ false }
+    requires row { Belongs meta.now row.old.words }
+    ensures belongs { OnOk result (Belongs meta.now row.new.words) }
+    ensures answer { ReadsAhead (leaving result (row_in meta.now.fields row.new.words))
+        cursor.old cursor.new (row_at meta.now.quality VARIANT meta.now.fields) }
+{
+    read_apart(cursor, meta, VARIANT, false, row)
+}
+
+/// The same of values that come otherwise than a writer with this meta sends them.
+#[inline(never)]
+fn read_others(
+    cursor: &mut Cursor<'_>,
+    meta: &Meta,
+    encoding: u8,
+    row: &mut Row,
+) -> Result<(), FrameFault>
+    requires row { Belongs meta.now row.old.words }
+    ensures belongs { OnOk result (Belongs meta.now row.new.words) }
+    ensures answer { ReadsAhead (leaving result (row_in meta.now.fields row.new.words))
+        cursor.old cursor.new (row_at meta.now.quality encoding meta.now.fields) }
+{
+    read_apart(cursor, meta, encoding, meta.quality(), row)
+}
+
+/// The same where it is known whether the data set has statuses. The cursor is kept apart until the last value is read, so that
+/// it need not be stored for each.
+#[inline(always)]
+fn read_apart(
+    cursor: &mut Cursor<'_>,
+    meta: &Meta,
+    encoding: u8,
+    quality: bool,
+    row: &mut Row,
+) -> Result<(), FrameFault>
+    requires quality { quality ≡ meta.now.quality }
+    requires row { Belongs meta.now row.old.words }
     ensures belongs { OnOk result (Belongs meta.now row.new.words) }
     ensures answer { ReadsAhead (leaving result (row_in meta.now.fields row.new.words))
         cursor.old cursor.new (row_at meta.now.quality encoding meta.now.fields) }
 {
     let mut lent = *cursor;
-    read_values(&mut lent, meta, encoding, row)?;
+    read_values(&mut lent, meta, encoding, quality, row)?;
     *cursor = lent;
     Ok(())
 }
@@ -160,15 +230,17 @@ fn read_values(
     cursor: &mut Cursor<'_>,
     meta: &Meta,
     encoding: u8,
+    quality: bool,
     row: &mut Row,
 ) -> Result<(), FrameFault>
-    requires { Belongs meta.now row.old.words }
+    requires quality { quality ≡ meta.now.quality }
+    requires row { Belongs meta.now row.old.words }
     ensures belongs { OnOk result (Belongs meta.now row.new.words) }
     ensures answer { ReadsAhead (leaving result (row_in meta.now.fields row.new.words))
         cursor.old cursor.new (row_at meta.now.quality encoding meta.now.fields) }
 {
     for index in 0..field_count(meta) {
-        read_into(cursor, meta, index, encoding, row)?;
+        read_into(cursor, meta, index, encoding, quality, row)?;
     }
     Ok(())
 }
@@ -181,8 +253,10 @@ fn read_into(
     meta: &Meta,
     index: u8,
     encoding: u8,
+    quality: bool,
     row: &mut Row,
 ) -> Result<(), FrameFault>
+    requires quality { quality ≡ meta.now.quality }
     requires row { Belongs meta.now row.old.words }
     requires index { index < length meta.now.fields }
     ensures belongs { OnOk result (Belongs meta.now row.new.words) }
@@ -195,7 +269,7 @@ fn read_into(
     let field = &meta.fields()[usize::from(index)];
     match read_own(cursor, field, encoding) {
         Some(own) => {
-            set_word(meta, row, index, own.word, own.status);
+            set_word(meta, row, index, own, quality);
             Ok(())
         }
         None => read_lent_into(cursor, meta, index, encoding, row),
@@ -296,20 +370,21 @@ fn set_value(meta: &Meta, row: &mut Row, index: u8, value: &Value, status: u32)
     }
 }
 
-/// The same of a scalar with this word.
+/// The same of a scalar of the field's own kind.
 #[inline(always)]
-fn set_word(meta: &Meta, row: &mut Row, index: u8, word: u64, status: u32)
+fn set_word(meta: &Meta, row: &mut Row, index: u8, own: Own, quality: bool)
+    requires quality { quality ≡ meta.now.quality }
     requires row { Belongs meta.now row.old.words }
     requires index { index < length meta.now.fields }
-    requires word { HoldsAt (λ field. IsWordOf field.kind word) meta.now.fields index }
+    requires word { HoldsAt (λ field. IsWordOf field.kind own.word) meta.now.fields index }
     ensures belongs { Belongs meta.now row.new.words }
     ensures set { HoldsAt (λ field. row_in meta.now.fields row.new.words
         ≡ slice_set (row_in meta.now.fields row.old.words) index (kept meta.now.quality
-        (scalar_in field.kind word) status)) meta.now.fields index }
+        (scalar_in field.kind own.word) own.status)) meta.now.fields index }
 {
-    row.set_word(meta, index, word);
-    if meta.quality() {
-        row.set_status(meta, index, status);
+    row.set_word(meta, index, own.word);
+    if quality {
+        row.set_status(meta, index, own.status);
     }
 }
 

@@ -5,28 +5,32 @@ ghost use Rattle.frame_codec.specs.Contents.{fault_of};
 
 use ua_binary::{Short, ValueFault};
 
-/// The first fault from left to right.
+/// The first fault from left to right. Of one byte of flags NotValid is judged first, then BadEncoding, then EventOut, and
+/// ReservedBits last (OPC 10000-14 7.2.4.5, UADP DataSetMessage).
 #[derive(Clone, Copy, Debug, PartialEq, Eq)]
 pub enum FrameFault {
     /// The bytes end before the frame does.
     Short,
-    /// Field encoding 3, or RawData outside a fixed layout or in a delta frame.
+    /// Field encoding 3, or RawData outside a fixed layout or in a delta frame. It is judged before the kind of message and the
+    /// reserved flags.
     BadEncoding,
     /// A value's type byte is of no kind, or a DataValue's mask has a reserved bit.
     KindOut,
     /// A value that doesn't fit its field, a text that isn't UTF-8, a bad length, or a DataValue without a value.
     BadValue,
-    /// A delta frame's index is no field's.
+    /// A delta frame's index is no field's, and the frame carries no minor version greater than the meta's. With a greater one
+    /// the value is read and dropped.
     BadIndex { got: u16 },
-    /// A key frame's count isn't the number of fields.
+    /// A key frame's count is less than the number of fields, or it is greater, and the frame carries no minor version greater
+    /// than the meta's. With a greater one the surplus values are read and dropped.
     WrongCount { got: u16 },
     /// A byte after the end isn't 0.
     Trailing,
-    /// The message says that it isn't valid.
+    /// The message says that it isn't valid. It is judged first.
     NotValid,
-    /// An event.
+    /// An event. It is judged before the reserved flags.
     EventOut,
-    /// A kind of message that the standard reserves, or a reserved flag.
+    /// A kind of message that the standard reserves, or a reserved flag of DataSetFlags2. It is judged last of the flags.
     ReservedBits,
 }
 

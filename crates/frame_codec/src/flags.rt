@@ -1,4 +1,4 @@
-//! The flags of a DataSetMessage, and what they are refused for (OPC 10000-14, UADP DataSetMessage header).
+//! The flags of a DataSetMessage, and what they are refused for (OPC 10000-14 7.2.4.5, UADP DataSetMessage header).
 ghost use Rattle.std.specs.Prelude.{◌≡◌};
 ghost use Rattle.frame_codec.specs.Fronts.{encoding_in, kind_in, is_encoding, fault_in_flags1, fault_in_flags2};
 

@@ -21,8 +21,11 @@ pub struct Front {
     pub encoding: u8,
     /// The kind of message: 0 key frame, 1 delta frame, 3 keep-alive.
     pub kind: u8,
+    /// The DataSetMessageSequenceNumber.
     pub number: Option<u16>,
+    /// The major version of the configuration that the sender has.
     pub major: Option<u32>,
+    /// Its minor version.
     pub minor: Option<u32>,
 }
 

@@ -1,7 +1,7 @@
 //! Laws of DataSetMessages, each the contract of a function that does nothing.
-ghost use Rattle.std.specs.Prelude.{◌≡◌, ◌++◌, ◌∷◌, ◌-◌, ◌<◌, ◌≤◌, ◌^◌, ◌↔◌, ℕ, Bool, true, false, List, [], length, take, Option, Some, None, Ok, Err, IfSome, replicate};
+ghost use Rattle.std.specs.Prelude.{◌≡◌, ◌≢◌, ◌++◌, ◌∷◌, ◌-◌, ◌/◌, ◌%◌, ◌<◌, ◌≤◌, ◌^◌, ◌↔◌, ℕ, Bool, true, false, List, [], length, take, Option, Some, None, Ok, Err, IfSome, replicate, slice_get};
 ghost use Rattle.std.specs.Int.{w16, to_le_bytes};
-ghost use Rattle.ua_binary.specs.ReadingValues.{has};
+ghost use Rattle.ua_binary.specs.ReadingValues.{has, variant_at};
 ghost use Rattle.ua_binary.specs.Wire.{AreBytes};
 ghost use Rattle.dataset_meta.specs.declared.field.Field.{Field};
 ghost use Rattle.dataset_meta.specs.DataValues.{DataValue};
@@ -15,9 +15,9 @@ ghost use Rattle.frame_codec.specs.Contents.{field_at, surplus_at, change_at, is
 ghost use Rattle.frame_codec.specs.Frames.{Frame, Change, Alive, IsFrame, frame_cut};
 ghost use Rattle.frame_codec.specs.Fronts.{encoding_in, fault_in_flags1, fault_in_flags2, front_at};
 ghost use Rattle.frame_codec.specs.Reading.{are_zero, frame_at};
+ghost use Rattle.frame_codec.specs.Refusals.{HasFlags2, IsOwnFault, RefusesVariant, RefusesDataValue, RefusesSurplus};
 ghost use Rattle.frame_codec.specs.Spelling.{front_bytes, frame_bytes};
-ghost use Rattle.frame_codec.specs.Wire.{WireFront, IsWireFront, WireField, values_bytes, changes_bytes, AreValues, AreChanges, patch_read, WireFrame, IsWireFrame, wire_bytes};
-ghost use Rattle.frame_codec.specs.Wire as wires;
+ghost use Rattle.frame_codec.specs.Wire.{is_field_encoding, WireFront, IsWireFront, wire_front_bytes, WireField, wire_values_bytes, wire_changes_bytes, AreValues, AreChanges, patch_read, WireFrame, IsWireFrame, wire_bytes};
 ghost use Rattle.frame_codec.specs.Words.{IsFrameOf, GivesFrame, frame_in, spelled_frame};
 
 /// Bytes are read as a frame exactly where one of the messages that are this frame stands there, with zeros behind it,
@@ -69,8 +69,8 @@ pub fn fewer_bytes_are_short()
         → len < length (wire_bytes wire)
         → frame_at meta (take len (wire_bytes wire)) ≡ Err faults.Short }
     ensures fronts { (fixed : Bool) (wire : WireFront) (len : ℕ) → IsWireFront fixed wire
-        → len < length (wires.front_bytes wire)
-        → front_at fixed (take len (wires.front_bytes wire)) ≡ Err faults.Short }
+        → len < length (wire_front_bytes wire)
+        → front_at fixed (take len (wire_front_bytes wire)) ≡ Err faults.Short }
     ensures written { (meta : MetaData) (frame : Frame) (len : ℕ) → IsMeta meta.fields
         → IsFrame meta frame
         → len < length (frame_bytes meta.quality frame)
@@ -91,6 +91,29 @@ pub fn flags_are_judged_first()
         → frame_at meta bytes ≡ Err fault }
 {}
 
+/// An even DataSetFlags1 isn't valid; an odd one has a field encoding of the layout. Behind it a delta frame of RawData is a
+/// BadEncoding, an event is an event whatever its other bits are, and then each other kind, and bits 6 and 7, are reserved.
+pub fn flags_are_refused_by_their_bits()
+    ensures not_valid { (fixed : Bool) (flags : ℕ) (rest : List ℕ) → flags < 256
+        → flags % 2 ≡ 0 → front_at fixed (flags ∷ rest) ≡ Err faults.NotValid }
+    ensures encoding { (fixed : Bool) (flags : ℕ) (rest : List ℕ) → flags < 256
+        → flags % 2 ≡ 1 → is_field_encoding fixed (flags / 2 % 4) ≡ false
+        → front_at fixed (flags ∷ rest) ≡ Err faults.BadEncoding }
+    ensures raw_delta { (fixed : Bool) (flags extended : ℕ) (rest : List ℕ)
+        → HasFlags2 fixed flags → flags / 2 % 4 ≡ 1 → extended % 16 ≡ 1
+        → front_at fixed (flags ∷ extended ∷ rest) ≡ Err faults.BadEncoding }
+    ensures event { (fixed : Bool) (flags extended : ℕ) (rest : List ℕ)
+        → HasFlags2 fixed flags → extended % 16 ≡ 2
+        → front_at fixed (flags ∷ extended ∷ rest) ≡ Err faults.EventOut }
+    ensures kind { (fixed : Bool) (flags extended : ℕ) (rest : List ℕ)
+        → HasFlags2 fixed flags → 4 ≤ extended % 16
+        → front_at fixed (flags ∷ extended ∷ rest) ≡ Err faults.ReservedBits }
+    ensures bits { (fixed : Bool) (flags extended : ℕ) (rest : List ℕ)
+        → HasFlags2 fixed flags → extended < 256 → 64 ≤ extended → extended % 16 ≢ 2
+        → ¬ ((flags / 2 % 4 ≡ 1) × (extended % 16 ≡ 1))
+        → front_at fixed (flags ∷ extended ∷ rest) ≡ Err faults.ReservedBits }
+{}
+
 /// Behind a right front each fault of the fields is named at the first part that has it: the count of a key frame, a value
 /// behind right ones, a surplus value behind right ones, an index or a value of a delta frame behind right ones; and last a
 /// byte behind the message that isn't 0.
@@ -98,7 +121,7 @@ pub fn fields_are_judged_in_their_order()
     ensures count { (meta : MetaData) (wire : WireFront) (count : ℕ) (rest : List ℕ)
         → IsWireFront false wire → wire.kind ≡ 0
         → count < 2 ^ 16 → is_count (is_newer meta wire.minor) (length meta.fields) count ≡ false
-        → frame_at meta (wires.front_bytes wire ++ (to_le_bytes w16 count ++ rest))
+        → frame_at meta (wire_front_bytes wire ++ (to_le_bytes w16 count ++ rest))
         ≡ Err (faults.WrongCount count) }
     ensures value { (meta : MetaData) (wire : WireFront) (count : ℕ) (before after : List Field)
         (field : Field)
@@ -108,16 +131,16 @@ pub fn fields_are_judged_in_their_order()
         → meta.fields ≡ before ++ field ∷ after
         → AreValues false wire.encoding before values
         → field_at meta.quality wire.encoding field rest ≡ Err fault
-        → frame_at meta (wires.front_bytes wire ++ (to_le_bytes w16 count ++
-        (values_bytes values ++ rest))) ≡ Err fault }
+        → frame_at meta (wire_front_bytes wire ++ (to_le_bytes w16 count ++
+        (wire_values_bytes values ++ rest))) ≡ Err fault }
     ensures surplus { (meta : MetaData) (wire : WireFront) (count : ℕ)
         (values more : List WireField) (rest : List ℕ)
         (fault : FrameFault) → IsWireFront false wire → wire.kind ≡ 0 → count < 2 ^ 16
         → is_count (is_newer meta wire.minor) (length meta.fields) count ≡ true
         → AreValues false wire.encoding meta.fields values → AreValues true wire.encoding [] more
         → length more < count - length meta.fields → surplus_at wire.encoding rest ≡ Err fault
-        → frame_at meta (wires.front_bytes wire ++ (to_le_bytes w16 count ++
-        (values_bytes values ++ (values_bytes more ++ rest))))
+        → frame_at meta (wire_front_bytes wire ++ (to_le_bytes w16 count ++
+        (wire_values_bytes values ++ (wire_values_bytes more ++ rest))))
         ≡ Err fault }
     ensures change { (meta : MetaData) (wire : WireFront) (count : ℕ) (changes : List
         (ℕ × WireField)) (rest : List ℕ)
@@ -126,11 +149,54 @@ pub fn fields_are_judged_in_their_order()
         → length changes < count
         → change_at meta (is_newer meta wire.minor) wire.encoding
         (patch_read meta.quality meta.fields [] changes) rest ≡ Err fault
-        → frame_at meta (wires.front_bytes wire ++ (to_le_bytes w16 count ++
-        (changes_bytes changes ++ rest))) ≡ Err fault }
+        → frame_at meta (wire_front_bytes wire ++ (to_le_bytes w16 count ++
+        (wire_changes_bytes changes ++ rest))) ≡ Err fault }
     ensures behind { (meta : MetaData) (wire : WireFrame) (rest : List ℕ) → IsWireFrame meta wire
         → are_zero rest ≡ false
         → frame_at meta (wire_bytes wire ++ rest) ≡ Err faults.Trailing }
+{}
+
+/// What stands in the place of a field's value is refused for its own first fault, and else with BadValue where a DataValue has
+/// no value or the value doesn't fit the field, and for nothing else. A value that is no field's is refused for its own first
+/// fault, and with BadValue where a DataValue has none.
+pub fn values_are_refused_for_their_own_fault()
+    ensures variants { (quality : Bool) (field : Field) (bytes : List ℕ) (fault : FrameFault)
+        → (field_at quality 0 field bytes ≡ Err fault) ↔ RefusesVariant field bytes fault }
+    ensures data_values { (quality : Bool) (field : Field) (bytes : List ℕ) (fault : FrameFault)
+        → (field_at quality 2 field bytes ≡ Err fault) ↔ RefusesDataValue field bytes fault }
+    ensures surplus_variants { (bytes : List ℕ) (fault : FrameFault)
+        → (surplus_at 0 bytes ≡ Err fault) ↔ IsOwnFault (variant_at bytes) fault }
+    ensures surplus_data_values { (bytes : List ℕ) (fault : FrameFault)
+        → (surplus_at 2 bytes ≡ Err fault) ↔ RefusesSurplus bytes fault }
+{}
+
+/// A change of a delta frame is its index and a value. An index that is no field's is a BadIndex, of that index, where the frame
+/// carries no greater minor version than the meta's. Else the value is judged, of a field or as a surplus one.
+pub fn indexes_are_judged_by_the_fields()
+    ensures short { (meta : MetaData) (newer : Bool) (encoding : ℕ) (patch : List (ℕ × DataValue))
+        (bytes : List ℕ) → length bytes < 2
+        → change_at meta newer encoding patch bytes ≡ Err faults.Short }
+    ensures out { (meta : MetaData) (encoding index : ℕ) (patch : List (ℕ × DataValue))
+        (rest : List ℕ) → index < 2 ^ 16 → length meta.fields ≤ index
+        → change_at meta false encoding patch (to_le_bytes w16 index ++ rest)
+        ≡ Err (faults.BadIndex index) }
+    ensures field { (meta : MetaData) (newer : Bool) (encoding index : ℕ)
+        (patch : List (ℕ × DataValue)) (field : Field) (rest : List ℕ) (fault : FrameFault)
+        → index < 2 ^ 16 → slice_get meta.fields index ≡ Some field
+        → field_at meta.quality encoding field rest ≡ Err fault
+        → change_at meta newer encoding patch (to_le_bytes w16 index ++ rest) ≡ Err fault }
+    ensures surplus { (meta : MetaData) (encoding index : ℕ) (patch : List (ℕ × DataValue))
+        (rest : List ℕ) (fault : FrameFault) → index < 2 ^ 16 → length meta.fields ≤ index
+        → surplus_at encoding rest ≡ Err fault
+        → change_at meta true encoding patch (to_le_bytes w16 index ++ rest) ≡ Err fault }
+{}
+
+/// A front is read in a fixed layout as in a dynamic one, faults and all, but for RawData, which stands in a fixed layout alone.
+pub fn layouts_differ_in_raw_data_alone()
+    ensures answers { (flags : ℕ) (rest : List ℕ) → encoding_in flags ≢ 1
+        → front_at true (flags ∷ rest) ≡ front_at false (flags ∷ rest) }
+    ensures fronts { (bytes rest : List ℕ) (front : AnyFront) → AreBytes bytes → front.encoding ≢ 1
+        → (front_at true bytes ≡ Ok (front, rest)) ↔ (front_at false bytes ≡ Ok (front, rest)) }
 {}
 
 /// Bytes are those of one frame at most.

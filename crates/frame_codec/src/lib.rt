@@ -1,4 +1,4 @@
-//! DataSetMessages of any data set as bytes: key frames, delta frames and keep-alives (OPC 10000-14, UADP DataSetMessage).
+//! DataSetMessages of any data set as bytes: key frames, delta frames and keep-alives (OPC 10000-14 7.2.4.5, UADP DataSetMessage).
 #![tactic(auto)]
 
 mod content;
@@ -10,8 +10,6 @@ mod laws;
 mod length;
 mod reading;
 mod scalar;
-#[cfg(test)]
-mod tests;
 mod writing;
 
 pub use fault::FrameFault;
@@ -19,9 +17,11 @@ pub use frame::{Frame, FrameKind};
 pub use front::{Front, read_front};
 pub use laws::{
     bytes_are_of_one_frame, fewer_bytes_are_short, fields_are_judged_in_their_order,
-    flags_are_judged_first, frames_are_not_too_long, frames_are_read_as_spelled,
-    frames_have_one_meaning, fronts_are_read_as_spelled, grown_frames_are_read_cut,
-    what_is_read_fits, written_frames_are_read, written_fronts_are_read,
+    flags_are_judged_first, flags_are_refused_by_their_bits, frames_are_not_too_long,
+    frames_are_read_as_spelled, frames_have_one_meaning, fronts_are_read_as_spelled,
+    grown_frames_are_read_cut, indexes_are_judged_by_the_fields, layouts_differ_in_raw_data_alone,
+    values_are_refused_for_their_own_fault, what_is_read_fits, written_frames_are_read,
+    written_fronts_are_read,
 };
 pub use length::MAX_LEN;
 pub use reading::read_frame;

@@ -28,18 +28,22 @@ pub fn read_frame(meta: &Meta, bytes: &[u8]) -> Result<Frame, FrameFault>
     Ok(frame)
 }
 
-/// A frame to be read over.
+/// A frame to be read over, whose row is zeros.
+static OPENING: Frame = Frame {
+    number: None,
+    kind: FrameKind::Whole(Row { words: [0; 125] }),
+    major: None,
+    minor: None,
+};
+
+/// The same for this meta. It is copied whole, since a frame that is made is copied part by part.
 #[inline(always)]
 fn opening(meta: &Meta) -> Frame
     ensures { IsFrameOf meta.now result }
 {
     prove!(meta.fields().len() <= 64);
-    Frame {
-        number: None,
-        kind: FrameKind::Whole(Row::opening()),
-        major: None,
-        minor: None,
-    }
+    let _ = Row::opening();
+    OPENING
 }
 
 /// Reads the frame that the bytes spell in place of another of this meta. The row of a key frame is filled where it stands.

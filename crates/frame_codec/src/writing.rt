@@ -4,12 +4,13 @@ ghost use Rattle.std.specs.Int.{w16, w32, to_le_bytes};
 ghost use Rattle.std.specs.List.{HoldsAt};
 ghost use Rattle.ua_binary.specs.Spelling.{variant};
 ghost use Rattle.ua_binary.specs.Wire.{flag, optional};
-ghost use Rattle.ua_binary.specs.Writing.{Puts, Writes};
+ghost use Rattle.ua_binary.specs.Writing.{Puts, Writes, laid};
 ghost use Rattle.dataset_meta.specs.declared.field.Field.{Field as AnyField};
 ghost use Rattle.row_words.specs.Words.{IsWordOf, scalar_in};
 ghost use Rattle.row_words.specs.Belonging.{Belongs, row_in};
 ghost use Rattle.row_words.specs.Patches.{IsPatchOf, patch_in};
 ghost use Rattle.frame_codec.specs.Calls.{scalar_bytes, has_four_bytes, has_eight_bytes};
+ghost use Rattle.frame_codec.specs.declared.length.TheConstants.{MAX_LEN};
 ghost use Rattle.frame_codec.specs.Spelling.{flags1, flags2, front_bytes, value_bytes, values_bytes, change_bytes, changes_bytes, content_bytes, encoding_of, frame_bytes};
 ghost use Rattle.frame_codec.specs.Words.{IsKindOf, IsFrameOf, content_in, frame_in};
 
@@ -22,16 +23,17 @@ use crate::length::{MAX_LEN, field_count, frame_len, front_len, is_marked};
 use crate::scalar::{has_eight_bytes, has_four_bytes};
 use dataset_meta::Meta;
 use row_words::{Patch, Row, is_scalar};
+use std::mem;
 use ua_binary::{Pen, Room, number_of, put_variant};
 use ua_values::Kind;
 
-/// Writes a frame (OPC 10000-14, UADP DataSetMessage): its fields are DataValues where the data set has statuses, of which
+/// Writes a frame (OPC 10000-14 7.2.4.5, UADP DataSetMessage): its fields are DataValues where the data set has statuses, of which
 /// Good is left out, and Variants elsewhere.
 pub fn write_frame(pen: &mut Pen<'_>, meta: &Meta, frame: &Frame) -> Result<(), Room>
     requires { IsFrameOf meta.now frame.now }
     ensures written { Writes result pen.old pen.new (frame_bytes meta.now.quality
         (frame_in meta.now.fields frame.now)) }
-    ensures short { OnOk result (pen.new.at ≤ pen.old.at + 2048) }
+    ensures short { OnOk result (pen.new.at ≤ pen.old.at + MAX_LEN) }
 {
     if !has_room(pen, meta, frame) {
         return Err(Room);
@@ -42,8 +44,8 @@ pub fn write_frame(pen: &mut Pen<'_>, meta: &Meta, frame: &Frame) -> Result<(), 
 }
 
 /// Writes the front of a frame of a fixed layout, whose field encoding is RawData: all that stands before the count of fields
-/// (OPC 10000-14, UADP DataSetMessage header). Its first byte is 0x0b, or 0x6b with both versions, where the frame is a
-/// numbered key frame.
+/// (OPC 10000-14 7.2.4.5, UADP DataSetMessage header). Its first byte is 0x0b, or 0x6b with both versions, where the frame is a
+/// numbered key frame. A delta frame isn't for a fixed layout: `read_front` refuses its front as a BadEncoding.
 pub fn write_front(pen: &mut Pen<'_>, frame: &Frame) -> Result<(), Room>
     ensures { (fields : List AnyField)
         → Writes result pen.old pen.new (front_bytes 1 (frame_in fields frame.now)) }
@@ -181,7 +183,7 @@ fn put_content(pen: &mut Pen<'_>, meta: &Meta, kind: &FrameKind)
     }
 }
 
-/// Writes the values of a row one behind another.
+/// Writes the values of a row one behind another. DataValues and Variants have a loop each.
 fn put_row(pen: &mut Pen<'_>, meta: &Meta, row: &Row)
     requires belongs { Belongs meta.now row.now.words }
     requires room { pen.old.at + length (values_bytes meta.now.quality
@@ -189,9 +191,56 @@ fn put_row(pen: &mut Pen<'_>, meta: &Meta, row: &Row)
     ensures { Puts pen.old pen.new (values_bytes meta.now.quality
         (row_in meta.now.fields row.now.words)) }
 {
-    for index in 0..field_count(meta) {
-        put_value(pen, meta, row, index);
+    if meta.quality() {
+        put_apart(pen, meta, row, true);
+    } else {
+        put_apart(pen, meta, row, false);
     }
+}
+
+/// The same where it is known whether the data set has statuses. The pen is taken out of its place until the last value is
+/// written, so that its place need not be stored for each.
+#[inline(always)]
+fn put_apart(pen: &mut Pen<'_>, meta: &Meta, row: &Row, quality: bool)
+    requires quality { quality ≡ meta.now.quality }
+    requires belongs { Belongs meta.now row.now.words }
+    requires room { pen.old.at + length (values_bytes meta.now.quality
+        (row_in meta.now.fields row.now.words)) ≤ length pen.old.bytes.now }
+    ensures { Puts pen.old pen.new (values_bytes meta.now.quality
+        (row_in meta.now.fields row.now.words)) }
+{
+    let mut apart = taken(pen);
+    put_values(&mut apart, meta, row, quality);
+    *pen = apart;
+}
+
+/// The same with a pen that stands apart.
+#[inline(always)]
+fn put_values(pen: &mut Pen<'_>, meta: &Meta, row: &Row, quality: bool)
+    requires quality { quality ≡ meta.now.quality }
+    requires belongs { Belongs meta.now row.now.words }
+    requires room { pen.old.at + length (values_bytes meta.now.quality
+        (row_in meta.now.fields row.now.words)) ≤ length pen.old.bytes.now }
+    ensures { Puts pen.old pen.new (values_bytes meta.now.quality
+        (row_in meta.now.fields row.now.words)) }
+{
+    for index in 0..field_count(meta) {
+        put_value(pen, meta, row, index, quality);
+    }
+}
+
+/// Takes the pen out of its place.
+#[inline(always)]
+fn taken<'a>(pen: &mut Pen<'a>) -> Pen<'a>
+    ensures { result ≡ pen.old }
+{
+    mem::replace(
+        pen,
+        Pen {
+            bytes: &mut [],
+            at: 0,
+        },
+    )
 }
 
 /// Writes each marked field with its index.
@@ -221,12 +270,13 @@ fn put_change(pen: &mut Pen<'_>, meta: &Meta, row: &Row, index: u8)
         (row_in meta.now.fields row.now.words) index }
 {
     pen.put_u16(u16::from(index));
-    put_value(pen, meta, row, index);
+    put_value(pen, meta, row, index, meta.quality());
 }
 
 /// Writes the value of the field at this index.
 #[inline(always)]
-fn put_value(pen: &mut Pen<'_>, meta: &Meta, row: &Row, index: u8)
+fn put_value(pen: &mut Pen<'_>, meta: &Meta, row: &Row, index: u8, quality: bool)
+    requires quality { quality ≡ meta.now.quality }
     requires belongs { Belongs meta.now row.now.words }
     requires index { index < length meta.now.fields }
     requires room { HoldsAt (λ x. pen.old.at + length (value_bytes meta.now.quality x)
@@ -234,7 +284,7 @@ fn put_value(pen: &mut Pen<'_>, meta: &Meta, row: &Row, index: u8)
     ensures { HoldsAt (λ x. Puts pen.old pen.new (value_bytes meta.now.quality x))
         (row_in meta.now.fields row.now.words) index }
 {
-    if meta.quality() {
+    if quality {
         put_data_value(pen, meta, row, index);
     } else {
         put_field(pen, meta, row, index);
@@ -279,19 +329,53 @@ fn put_field(pen: &mut Pen<'_>, meta: &Meta, row: &Row, index: u8)
     } else if has_eight_bytes(field.kind) {
         put_eight(pen, field.kind, row.word(meta, index));
     } else {
-        put_any(pen, meta, row, index);
+        put_lent(pen, meta, row, index);
     }
 }
 
-/// The same of any value. Of a scalar no more than its word is copied.
-#[inline(never)]
-fn put_any(pen: &mut Pen<'_>, meta: &Meta, row: &Row, index: u8)
+/// The same of any value. The bytes are lent, and not the pen, so that it need not stand in memory.
+#[inline(always)]
+fn put_lent(pen: &mut Pen<'_>, meta: &Meta, row: &Row, index: u8)
     requires belongs { Belongs meta.now row.now.words }
     requires index { index < length meta.now.fields }
     requires room { HoldsAt (λ x. pen.old.at + length (variant x.value)
         ≤ length pen.old.bytes.now) (row_in meta.now.fields row.now.words) index }
     ensures { HoldsAt (λ x. Puts pen.old pen.new (variant x.value))
         (row_in meta.now.fields row.now.words) index }
+{
+    pen.at = put_at(&mut *pen.bytes, pen.at, meta, row, index);
+}
+
+/// The same into these bytes from `at` on. It answers where the value ends.
+#[inline(never)]
+fn put_at(bytes: &mut [u8], at: usize, meta: &Meta, row: &Row, index: u8) -> usize
+    requires within { at ≤ length bytes.old }
+    requires belongs { Belongs meta.now row.now.words }
+    requires index { index < length meta.now.fields }
+    requires room { HoldsAt (λ x. at + length (variant x.value) ≤ length bytes.old)
+        (row_in meta.now.fields row.now.words) index }
+    ensures written { HoldsAt (λ x. bytes.new ≡ laid bytes.old at (variant x.value))
+        (row_in meta.now.fields row.now.words) index }
+    ensures end { HoldsAt (λ x. result ≡ at + length (variant x.value))
+        (row_in meta.now.fields row.now.words) index }
+    ensures within { result ≤ length bytes.new }
+    ensures same_length { length bytes.new ≡ length bytes.old }
+{
+    let mut pen = Pen { bytes, at };
+    put_any(&mut pen, meta, row, index);
+    pen.at
+}
+
+/// The same by a pen over the bytes. Of a scalar no more than its word is copied.
+#[inline(always)]
+fn put_any(pen: &mut Pen<'_>, meta: &Meta, row: &Row, index: u8)
+    requires belongs { Belongs meta.now row.now.words }
+    requires index { index < length meta.now.fields }
+    requires room { HoldsAt (λ x. pen.old.at + length (variant x.value)
+        ≤ length pen.old.bytes.now) (row_in meta.now.fields row.now.words) index }
+    ensures put { HoldsAt (λ x. Puts pen.old pen.new (variant x.value))
+        (row_in meta.now.fields row.now.words) index }
+    ensures loan { pen.new.bytes.ghost_name ≡ pen.old.bytes.ghost_name }
 {
     let field = &meta.fields()[usize::from(index)];
     if is_scalar(field.kind) {
@@ -308,8 +392,9 @@ fn put_whole_value(pen: &mut Pen<'_>, meta: &Meta, row: &Row, index: u8)
     requires index { index < length meta.now.fields }
     requires room { HoldsAt (λ x. pen.old.at + length (variant x.value)
         ≤ length pen.old.bytes.now) (row_in meta.now.fields row.now.words) index }
-    ensures { HoldsAt (λ x. Puts pen.old pen.new (variant x.value))
+    ensures put { HoldsAt (λ x. Puts pen.old pen.new (variant x.value))
         (row_in meta.now.fields row.now.words) index }
+    ensures loan { pen.new.bytes.ghost_name ≡ pen.old.bytes.ghost_name }
 {
     put_variant(pen, &row.field(meta, index));
 }

@@ -75,7 +75,8 @@ fn value_differs(meta: &Meta, index: u8, old: &Row, new: &Row) -> bool
     requires old { Belongs meta.now old.now.words }
     requires new { Belongs meta.now new.now.words }
     requires index { index < length meta.now.fields }
-    ensures { HoldsAt (λ before. HoldsAt (λ after. result ≡ not (same_value before.value after.value))
+    ensures { HoldsAt (λ before. HoldsAt (λ after. result
+        ≡ not (same_value before.value after.value))
         (row_in meta.now.fields new.now.words) index) (row_in meta.now.fields old.now.words) index }
 {
     if is_scalar(meta.fields()[usize::from(index)].kind) {
@@ -88,7 +89,8 @@ fn words_differ(meta: &Meta, index: u8, old: &Row, new: &Row) -> bool
     requires old { Belongs meta.now old.now.words }
     requires new { Belongs meta.now new.now.words }
     requires index { index < length meta.now.fields }
-    ensures { HoldsAt (λ before. HoldsAt (λ after. result ≡ not (same_value before.value after.value))
+    ensures { HoldsAt (λ before. HoldsAt (λ after. result
+        ≡ not (same_value before.value after.value))
         (row_in meta.now.fields new.now.words) index) (row_in meta.now.fields old.now.words) index }
 {
     let start = usize::from(meta.start(index));

@@ -3,8 +3,6 @@
 
 mod changes;
 mod laws;
-#[cfg(test)]
-mod tests;
 
 pub use changes::{apply, changed, is_changed};
 pub use laws::changes_give_the_new_row;

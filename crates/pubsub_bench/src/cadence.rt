@@ -57,7 +57,7 @@ fn take_turns(writer: &mut Writer, meta: &Meta, row: &Row) -> u64
 {
     let mut quiet: u64 = 0;
     let mut now: u64 = 0;
-    while writer.left > 0 {
+    while writer.left() > 0 {
         now = now.wrapping_add(100);
         if !turn_once(writer, meta, now, row) {
             quiet = quiet.wrapping_add(1);
@@ -104,7 +104,7 @@ fn writer(alloc: Global, meta: &Meta, turns: u32) -> Result<Writer, Unmeasured>
 }
 
 fn quiet(alloc: Global, fields: u8, turns: u32) -> Result<u64, Unmeasured> {
-    let meta = meta_of(alloc, fields)?;
+    let meta = meta_of(alloc, fields, false)?;
     let row = row_of(&meta);
     let mut writer = writer(alloc, &meta, turns)?;
     Ok(take_turns(&mut writer, &meta, &row))
@@ -132,7 +132,7 @@ fn held(alloc: Global, fields: u8, turns: u32) -> Result<u64, Unmeasured> {
     if fields > 64 {
         return Err(Unmeasured);
     }
-    let meta = meta_of(alloc, fields)?;
+    let meta = meta_of(alloc, fields, false)?;
     let mut reader = Reader::new(Numbering::Message);
     let _ = frame_once(
         &mut reader,

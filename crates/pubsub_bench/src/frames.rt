@@ -37,10 +37,11 @@ fn write_often(meta: &Meta, frame: &mut Frame, turns: u32, bytes: &mut [u8]) -> 
 fn write(
     alloc: Global,
     fields: u8,
+    quality: bool,
     turns: u32,
     bytes: &mut [u8],
 ) -> Result<Option<usize>, Unmeasured> {
-    let meta = meta_of(alloc, fields)?;
+    let meta = meta_of(alloc, fields, quality)?;
     let mut frame = Frame {
         number: Some(0),
         kind: FrameKind::Whole(row_of(&meta)),
@@ -52,16 +53,40 @@ fn write(
 
 /// Writes the key frame of so many fields `turns` times, and answers its length; 0 where nothing is measured.
 #[unsafe(no_mangle)]
-pub extern "C" fn bench_write(alloc: Global, fields: u8, turns: u32, bytes: &mut [u8]) -> usize {
-    match write(alloc, fields, turns, bytes) {
+pub extern "C" fn bench_write(
+    alloc: Global,
+    fields: u8,
+    quality: bool,
+    turns: u32,
+    bytes: &mut [u8],
+) -> usize {
+    match write(alloc, fields, quality, turns, bytes) {
         Ok(end) => end.unwrap_or(0),
         Err(_) => 0,
     }
 }
 
-fn read(alloc: Global, fields: u8, turns: u32, bytes: &[u8]) -> Result<u64, Unmeasured> {
-    let meta = meta_of(alloc, fields)?;
-    let mut sum: u64 = 0;
+/// The word with the statuses of the third field and the fourth.
+fn statuses(meta: &Meta, bytes: &[u8]) -> Result<u64, Unmeasured> {
+    prove!(meta.fields().len() <= 64);
+    match read_frame(meta, bytes) {
+        Ok(frame) => match frame.kind {
+            FrameKind::Whole(row) => Ok(row.words[meta.fields().len() + 1]),
+            _ => Err(Unmeasured),
+        },
+        Err(_) => Err(Unmeasured),
+    }
+}
+
+fn read(
+    alloc: Global,
+    fields: u8,
+    quality: bool,
+    turns: u32,
+    bytes: &[u8],
+) -> Result<u64, Unmeasured> {
+    let meta = meta_of(alloc, fields, quality)?;
+    let mut sum = statuses(&meta, bytes)?;
     for _ in 0..turns {
         let Ok(frame) = read_frame(&meta, bytes) else {
             return Err(Unmeasured);
@@ -73,9 +98,15 @@ fn read(alloc: Global, fields: u8, turns: u32, bytes: &[u8]) -> Result<u64, Unme
     Ok(sum)
 }
 
-/// Reads the bytes as a key frame of so many fields `turns` times, and answers the sum of the first fields; 0 where nothing
-/// is measured.
+/// Reads the bytes as a key frame of so many fields `turns` times, and answers the sum of the first fields, and once of the
+/// statuses of the third and the fourth; 0 where nothing is measured.
 #[unsafe(no_mangle)]
-pub extern "C" fn bench_read(alloc: Global, fields: u8, turns: u32, bytes: &[u8]) -> u64 {
-    read(alloc, fields, turns, bytes).unwrap_or(0)
+pub extern "C" fn bench_read(
+    alloc: Global,
+    fields: u8,
+    quality: bool,
+    turns: u32,
+    bytes: &[u8],
+) -> u64 {
+    read(alloc, fields, quality, turns, bytes).unwrap_or(0)
 }

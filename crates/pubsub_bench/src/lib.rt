@@ -1,5 +1,5 @@
 //! The calls of this repository that bench/frames and bench/cadence measure from Rust. The data sets have so many fields of
-//! the kind UInt32.
+//! the kind UInt32, with statuses or without.
 #![tactic(auto)]
 
 mod cadence;

@@ -1,4 +1,4 @@
-//! The data sets that are measured: so many fields of the kind UInt32.
+//! The data sets that are measured: so many fields of the kind UInt32, with statuses or without.
 ghost use Rattle.row_words.specs.Belonging.{Belongs};
 
 use dataset_meta::{Field, Meta, Name32};
@@ -28,7 +28,7 @@ fn name_of(number: u8) -> Option<Name32> {
 }
 
 /// The meta of so many UInt32 fields.
-pub fn meta_of(alloc: Global, count: u8) -> Result<Meta, Unmeasured> {
+pub fn meta_of(alloc: Global, count: u8, quality: bool) -> Result<Meta, Unmeasured> {
     let mut fields = Vec::new(alloc);
     for number in 0..count {
         let Some(name) = name_of(number) else {
@@ -43,7 +43,7 @@ pub fn meta_of(alloc: Global, count: u8) -> Result<Meta, Unmeasured> {
     let Some(name) = name_of(0) else {
         return Err(Unmeasured);
     };
-    match Meta::new(name, fields, 1, 0, false) {
+    match Meta::new(name, fields, 1, 0, quality) {
         Ok(meta) => Ok(meta),
         Err(_) => Err(Unmeasured),
     }
@@ -56,7 +56,12 @@ fn opening(meta: &Meta) -> Row
     Row::opening()
 }
 
-/// Sets the field, where it is of the kind UInt32.
+/// A status with the severity Uncertain at every fourth field, and Good, which is 0, at the others.
+fn status_of(index: usize) -> u32 {
+    if index % 4 == 3 { 0x4000_0000 } else { 0 }
+}
+
+/// Sets the field, where it is of the kind UInt32, and its status, where the data set has statuses.
 fn set(meta: &Meta, row: &mut Row, index: usize, value: u32)
     requires { Belongs meta.now row.old.words }
     ensures { Belongs meta.now row.new.words }
@@ -66,6 +71,9 @@ fn set(meta: &Meta, row: &mut Row, index: usize, value: u32)
         && fits(&value, meta.fields()[index].kind, meta.fields()[index].cap)
     {
         row.set(meta, index as u8, &value);
+        if meta.quality() {
+            row.set_status(meta, index as u8, status_of(index));
+        }
     }
 }
 

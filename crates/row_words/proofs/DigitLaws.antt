@@ -8,7 +8,7 @@ use Rattle.std.specs.List.{All}
 use Rattle.std.proofs.Math.Nat.{add-mul-mod_self_left, add-mul-div_left, zero-mod, zero-div, mod-eq_of_lt, div-eq_of_lt}
 use Rattle.std.proofs.lemmas.List.{append-nil, replicate-append-replicate, take_all, drop_all, drop-drop}
 use Rattle.std.proofs.lemmas.List.Elements.{All-head, All-tail, All-take, All-drop}
-use Rattle.row_words.specs.Digits.{number_of, digits_of, grouped}
+use Rattle.row_words.specs.Digits.{from_digits, digits_of, grouped}
 
 pub length-digits_of : (base count n : ℕ) → length (digits_of base count n) ≡ count
 length-digits_of base zero n = refl
@@ -30,17 +30,17 @@ others base digit rest below =
     add-mul-div_left digit rest some ∙ omega (arith, none)
 
 -- the digits are those that the number was made of, and zeros
-pub digits_of-number_of : (base count : ℕ) (xs : List ℕ) → All (λ x. x < base) xs → length xs ≤ count
-    → digits_of base count (number_of base xs) ≡ xs ++ replicate (count - length xs) 0
-digits_of-number_of base count [] all few =
+pub digits_of-from_digits : (base count : ℕ) (xs : List ℕ) → All (λ x. x < base) xs → length xs ≤ count
+    → digits_of base count (from_digits base xs) ≡ xs ++ replicate (count - length xs) 0
+digits_of-from_digits base count [] all few =
     let all_left : count ≡ count - 0 = omega arith in digits_of-zero base count ∙ ap (λ (n : ℕ). replicate n 0) all_left
-digits_of-number_of base zero (x ∷ xs) all few = absurd (omega arith)
-digits_of-number_of base (suc count) (x ∷ xs) all few =
+digits_of-from_digits base zero (x ∷ xs) all few = absurd (omega arith)
+digits_of-from_digits base (suc count) (x ∷ xs) all few =
     let below : x < base = All-head (λ (y : ℕ). y < base) x xs all in
     let left : suc count - length (x ∷ xs) ≡ count - length xs = omega arith in
-    ap (λ (d : ℕ). d ∷ digits_of base count ((x + base * number_of base xs) / base)) (lowest base x (number_of base xs) below)
-    ∙ ap (λ (n : ℕ). x ∷ digits_of base count n) (others base x (number_of base xs) below)
-    ∙ ap (λ (ds : List ℕ). x ∷ ds) (digits_of-number_of base count xs (All-tail (λ (y : ℕ). y < base) x xs all) (omega arith))
+    ap (λ (d : ℕ). d ∷ digits_of base count ((x + base * from_digits base xs) / base)) (lowest base x (from_digits base xs) below)
+    ∙ ap (λ (n : ℕ). x ∷ digits_of base count n) (others base x (from_digits base xs) below)
+    ∙ ap (λ (ds : List ℕ). x ∷ ds) (digits_of-from_digits base count xs (All-tail (λ (y : ℕ). y < base) x xs all) (omega arith))
     ∙ ap (λ (n : ℕ). x ∷ (xs ++ replicate n 0)) (sym left)
 
 pub length-grouped : (base size count : ℕ) (xs : List ℕ) → length (grouped base size count xs) ≡ count
@@ -80,7 +80,7 @@ digits_in-grouped base size zero [] all few =
 digits_in-grouped base size zero (x ∷ xs) all few = absurd (omega arith)
 digits_in-grouped base size (suc count) xs all few =
     let next : size * suc count ≡ size + size * count = omega arith in
-    let first = digits_of-number_of base size (take size xs) (All-take (λ (y : ℕ). y < base) size xs all) (omega (arith, length-take size xs)) in
+    let first = digits_of-from_digits base size (take size xs) (All-take (λ (y : ℕ). y < base) size xs all) (omega (arith, length-take size xs)) in
     let rest = digits_in-grouped base size count (drop size xs) (All-drop (λ (y : ℕ). y < base) size xs all) (omega (arith, length-drop size xs)) in
     ap (λ (front : List ℕ). front ++ flat_map (digits_of base size) (grouped base size count (drop size xs))) first
     ∙ ap (λ (back : List ℕ). (take size xs ++ replicate (size - length (take size xs)) 0) ++ back) rest
@@ -89,28 +89,28 @@ digits_in-grouped base size (suc count) xs all few =
 
 -- one group more
 pub grouped_more : (base size count : ℕ) (xs : List ℕ)
-    → grouped base size (count + 1) xs ≡ grouped base size count xs ++ number_of base (take size (drop (size * count) xs)) ∷ []
+    → grouped base size (count + 1) xs ≡ grouped base size count xs ++ from_digits base (take size (drop (size * count) xs)) ∷ []
 grouped_more base size zero xs =
     let none : size * 0 ≡ 0 = omega arith in
-    ap (λ (n : ℕ). number_of base (take size (drop n xs)) ∷ []) (sym none)
+    ap (λ (n : ℕ). from_digits base (take size (drop n xs)) ∷ []) (sym none)
 grouped_more base size (suc count) xs =
     let next : size + size * count ≡ size * suc count = omega arith in
     let one : suc count + 1 ≡ suc (count + 1) = omega arith in
     ap (λ (n : ℕ). grouped base size n xs) one
-    ∙ ap (λ (rest : List ℕ). number_of base (take size xs) ∷ rest)
+    ∙ ap (λ (rest : List ℕ). from_digits base (take size xs) ∷ rest)
     (grouped_more base size count (drop size xs)
-    ∙ ap (λ (back : List ℕ). grouped base size count (drop size xs) ++ number_of base (take size back) ∷ [])
+    ∙ ap (λ (back : List ℕ). grouped base size count (drop size xs) ++ from_digits base (take size back) ∷ [])
     (drop-drop (size * count) size xs ∙ ap (λ (n : ℕ). drop n xs) next))
 
 -- zeros give nothing
-pub number_of-zeros : (base : ℕ) (xs : List ℕ) (n : ℕ) → number_of base (xs ++ replicate n 0) ≡ number_of base xs
-number_of-zeros base [] zero = refl
-number_of-zeros base [] (suc n) = ap (λ (r : ℕ). 0 + base * r) (number_of-zeros base [] n) ∙ omega arith
-number_of-zeros base (x ∷ xs) n = ap (λ (r : ℕ). x + base * r) (number_of-zeros base xs n)
+pub from_digits-zeros : (base : ℕ) (xs : List ℕ) (n : ℕ) → from_digits base (xs ++ replicate n 0) ≡ from_digits base xs
+from_digits-zeros base [] zero = refl
+from_digits-zeros base [] (suc n) = ap (λ (r : ℕ). 0 + base * r) (from_digits-zeros base [] n) ∙ omega arith
+from_digits-zeros base (x ∷ xs) n = ap (λ (r : ℕ). x + base * r) (from_digits-zeros base xs n)
 
 pub grouped-nil : (base size count : ℕ) → grouped base size count [] ≡ replicate count 0
 grouped-nil base size zero = refl
 grouped-nil base size (suc count) =
-    ap (λ (xs : List ℕ). number_of base xs ∷ grouped base size count (drop size [])) (take-nil size)
+    ap (λ (xs : List ℕ). from_digits base xs ∷ grouped base size count (drop size [])) (take-nil size)
     ∙ ap (λ (xs : List ℕ). 0 ∷ grouped base size count xs) (drop_all size [] (omega arith))
     ∙ ap (λ (xs : List ℕ). 0 ∷ xs) (grouped-nil base size count)

@@ -8,9 +8,9 @@ use Rattle.std.proofs.lemmas.List.{take_min, drop_min, take_more_set, take_more,
 use Rattle.std.proofs.lemmas.Grind.{flat_map-append}
 use Rattle.std.proofs.lemmas.Slice.{take-put_mid}
 use borrow.Rule.Slice.PartMut.{put_mid}
-use Rattle.row_words.specs.Digits.{number_of, digits_of, grouped}
+use Rattle.row_words.specs.Digits.{from_digits, digits_of, grouped}
 use Rattle.row_words.specs.Words.{unpacked, bytes_in, HasBytes}
-use Rattle.row_words.proofs.DigitLaws.{grouped_more, number_of-zeros}
+use Rattle.row_words.proofs.DigitLaws.{grouped_more, from_digits-zeros}
 
 take_least : {X : Type 0} (n : ℕ) (xs : List X) → take (min (length xs) n) xs ≡ take n xs
 take_least n xs = ap (λ (m : ℕ). take m xs) (min_comm (length xs) n) ∙ take_min n xs
@@ -20,7 +20,7 @@ drop_least n xs = ap (λ (m : ℕ). drop m xs) (min_comm (length xs) n) ∙ drop
 
 -- one word more
 pub filled_more : (base size : ℕ) (words xs : List ℕ) (i w : ℕ) → i < length words → take i words ≡ grouped base size i xs
-    → w ≡ number_of base (take size (drop (size * i) xs)) → take (i + 1) (set words i w) ≡ grouped base size (i + 1) xs
+    → w ≡ from_digits base (take size (drop (size * i) xs)) → take (i + 1) (set words i w) ≡ grouped base size (i + 1) xs
 filled_more base size words xs i w within filled is =
     take_more_set words i w within ∙ ap (λ (front : List ℕ). front ++ w ∷ []) filled
     ∙ ap (λ (n : ℕ). grouped base size i xs ++ n ∷ []) is ∙ sym (grouped_more base size i xs)
@@ -55,18 +55,18 @@ pub digits_of-le : (n : ℕ) → digits_of 256 8 n ≡ to_le_bytes w64 n
 digits_of-le n = ap (digits_of 256 8) (sym (div-one n)) ∙ low_first 8 0 n
 
 -- std's number of eight bytes is theirs
-number_of_eight : (bytes : List ℕ) → length bytes ≡ 8 → from_le_bytes w64 bytes ≡ number_of 256 bytes
+number_of_eight : (bytes : List ℕ) → length bytes ≡ 8 → from_le_bytes w64 bytes ≡ from_digits 256 bytes
 number_of_eight (a ∷ b ∷ c ∷ d ∷ e ∷ f ∷ g ∷ h ∷ []) long = omega arith
 number_of_eight _ long = absurd (omega arith)
 
-pub number_of_front : (bytes room : List ℕ) → length bytes ≤ 8 → room ≡ replicate 8 0 → from_le_bytes w64 (bytes ++ drop (length bytes) room) ≡ number_of 256 bytes
+pub number_of_front : (bytes room : List ℕ) → length bytes ≤ 8 → room ≡ replicate 8 0 → from_le_bytes w64 (bytes ++ drop (length bytes) room) ≡ from_digits 256 bytes
 number_of_front bytes room few empty =
     let behind : drop (length bytes) room ≡ replicate (8 - length bytes) 0 = ap (drop (length bytes)) empty ∙ drop-replicate (length bytes) 8 0 in
     let long : length (bytes ++ replicate (8 - length bytes) 0) ≡ 8 =
     length-append bytes (replicate (8 - length bytes) 0) ∙ omega (arith, length-replicate {A = ℕ} (8 - length bytes) 0) in
     ap (λ (back : List ℕ). from_le_bytes w64 (bytes ++ back)) behind
     ∙ number_of_eight (bytes ++ replicate (8 - length bytes) 0) long
-    ∙ number_of-zeros 256 bytes (8 - length bytes)
+    ∙ from_digits-zeros 256 bytes (8 - length bytes)
 
 -- the bytes of one word more
 pub unpacked_more : (bytes new words : List ℕ) (i : ℕ) → i < length words → 8 * i ≤ length bytes → take (8 * i) bytes ≡ unpacked (take i words)

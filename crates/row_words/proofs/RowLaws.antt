@@ -17,7 +17,7 @@ use Rattle.dataset_meta.specs.Rows.{IsRowOf, IsRow}
 use Rattle.dataset_meta.proofs.RowLaws.{length_row}
 use Rattle.row_words.specs.Digits.{grouped}
 use Rattle.row_words.specs.Words.{spelled_value, value_in}
-use Rattle.row_words.specs.Belonging.{spelled_values, spelled_statuses, spelled_parts, spelled_row, statuses_in, row_of, row_in, Belongs}
+use Rattle.row_words.specs.Belonging.{spelled_values, spelled_statuses, spelled_parts, spelled_row, statuses_in, row_with, row_in, Belongs}
 use Rattle.row_words.specs.Setting.{with_value, with_status}
 use Rattle.row_words.proofs.DigitLaws.{length-grouped}
 use Rattle.row_words.proofs.ValueLaws.{length-spelled_value, value_in-spelled_value}
@@ -76,18 +76,18 @@ same_data_value : (x : DataValue) (value : Value) → value ≡ x.value → reco
 same_data_value x value e = rw e refl
 
 -- a row is read back out of its words, whatever follows
-row_of-spelled : (quality : Bool) (fields : List Field) (row : List DataValue) (rest more : List ℕ) → IsRowOf quality fields row
-    → row_of fields (spelled_values fields row ++ rest) (statuses row ++ more) ≡ row
-row_of-spelled quality [] [] rest more is = refl
-row_of-spelled quality [] (x ∷ row) rest more is = absurd is
-row_of-spelled quality (field ∷ fields) [] rest more is = absurd is
-row_of-spelled quality (field ∷ fields) (x ∷ row) rest more is =
+row_with-spelled : (quality : Bool) (fields : List Field) (row : List DataValue) (rest more : List ℕ) → IsRowOf quality fields row
+    → row_with fields (spelled_values fields row ++ rest) (statuses row ++ more) ≡ row
+row_with-spelled quality [] [] rest more is = refl
+row_with-spelled quality [] (x ∷ row) rest more is = absurd is
+row_with-spelled quality (field ∷ fields) [] rest more is = absurd is
+row_with-spelled quality (field ∷ fields) (x ∷ row) rest more is =
     let long = length_in_field quality field x is.0 in
     rw (
       append_assoc (spelled_value field.cap x.value) (spelled_values fields row) rest,
       take_at (spelled_value field.cap x.value) (spelled_values fields row ++ rest) (width_of field) long,
       drop_at (spelled_value field.cap x.value) (spelled_values fields row ++ rest) (width_of field) long,
-      row_of-spelled quality fields row rest more is.1,
+      row_with-spelled quality fields row rest more is.1,
     )
     (ap (λ (y : DataValue). y ∷ row) (same_data_value x _ (value_back quality field x is.0)))
 
@@ -99,10 +99,10 @@ row_in-spelled_row quality fields row is =
     let all = spelled_row-behind fields row in
     let room : length (statuses row) ≤ 2 * status_words fields = omega (arith, count_statuses quality fields row is) in
     let behind_values = ap (drop (value_words fields)) all ∙ drop_at (spelled_values fields row) (behind fields row) (value_words fields) (length-spelled_values quality fields row is) in
-    ap (λ (words : List ℕ). row_of fields (spelled_row fields row) (statuses_in words)) behind_values
-    ∙ ap (row_of fields (spelled_row fields row)) (statuses_in-grouped (status_words fields) (statuses row) zeros (small_statuses quality fields row is) room)
-    ∙ ap (λ (words : List ℕ). row_of fields words (statuses row ++ rest_behind (status_words fields) (statuses row) zeros)) all
-    ∙ row_of-spelled quality fields row (behind fields row) (rest_behind (status_words fields) (statuses row) zeros) is
+    ap (λ (words : List ℕ). row_with fields (spelled_row fields row) (statuses_in words)) behind_values
+    ∙ ap (row_with fields (spelled_row fields row)) (statuses_in-grouped (status_words fields) (statuses row) zeros (small_statuses quality fields row is) room)
+    ∙ ap (λ (words : List ℕ). row_with fields words (statuses row ++ rest_behind (status_words fields) (statuses row) zeros)) all
+    ∙ row_with-spelled quality fields row (behind fields row) (rest_behind (status_words fields) (statuses row) zeros) is
 
 pub length-spelled_row : (quality : Bool) (fields : List Field) (row : List DataValue) → words_of fields ≤ 125 → IsRowOf quality fields row → length (spelled_row fields row) ≡ 125
 unfolding spelled_row

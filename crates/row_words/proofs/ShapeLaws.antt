@@ -16,9 +16,9 @@ use Rattle.dataset_meta.proofs.RowLaws.{IsRow-patched}
 use Rattle.row_words.specs.declared.patch.Patch.{Patch}
 use Rattle.row_words.specs.Digits.{digits_of, grouped}
 use Rattle.row_words.specs.Words.{spelled_value, value_in}
-use Rattle.row_words.specs.Belonging.{spelled_values, spelled_statuses, spelled_parts, spelled_row, statuses_in, row_of, row_in, Belongs}
-use Rattle.row_words.specs.Patches.{patch_in, IsPatchOf, patched_words}
-use Rattle.row_words.specs.Shapes.{number_of_kind, code_of, shape_of, BelongsTo}
+use Rattle.row_words.specs.Belonging.{spelled_values, spelled_statuses, spelled_parts, spelled_row, statuses_in, row_with, row_in, Belongs}
+use Rattle.row_words.specs.Patches.{marked_from, patch_in, IsPatchOf, patched_words}
+use Rattle.row_words.specs.Shapes.{number_of_kind, code_of, shape_of, HaveOneShape, BelongsTo}
 use Rattle.row_words.proofs.DigitLaws.{digits_in-grouped}
 use Rattle.row_words.proofs.FieldLaws.{small_cap}
 use Rattle.row_words.proofs.RowLaws.{narrow, Belongs-spelled_row, row_in-spelled_row}
@@ -159,21 +159,21 @@ same_length [] (g ∷ gs) same = absurd same
 same_length (f ∷ fs) [] same = absurd same
 same_length (f ∷ fs) (g ∷ gs) same = ap suc (same_length fs gs same.1)
 
-same_row_of : (fs gs : List Field) (words statuses : List ℕ) → AllZip SameForm fs gs → row_of fs words statuses ≡ row_of gs words statuses
-same_row_of [] [] words statuses same = refl
-same_row_of [] (g ∷ gs) words statuses same = absurd same
-same_row_of (f ∷ fs) [] words statuses same = absurd same
-same_row_of (f ∷ fs) (g ∷ gs) words statuses same =
+same_row_with : (fs gs : List Field) (words statuses : List ℕ) → AllZip SameForm fs gs → row_with fs words statuses ≡ row_with gs words statuses
+same_row_with [] [] words statuses same = refl
+same_row_with [] (g ∷ gs) words statuses same = absurd same
+same_row_with (f ∷ fs) [] words statuses same = absurd same
+same_row_with (f ∷ fs) (g ∷ gs) words statuses same =
     let status = slice_index statuses 0 in
-    ap (λ (kind : Kind). record { value = value_in kind (take (width_of f) words); status = status } ∷ row_of fs (drop (width_of f) words) (drop 1 statuses)) same.0.kind
-    ∙ ap (λ (n : ℕ). record { value = value_in g.kind (take n words); status = status } ∷ row_of fs (drop n words) (drop 1 statuses)) (same_width f g same.0)
-    ∙ ap (λ (row : List DataValue). record { value = value_in g.kind (take (width_of g) words); status = status } ∷ row) (same_row_of fs gs (drop (width_of g) words) (drop 1 statuses) same.1)
+    ap (λ (kind : Kind). record { value = value_in kind (take (width_of f) words); status = status } ∷ row_with fs (drop (width_of f) words) (drop 1 statuses)) same.0.kind
+    ∙ ap (λ (n : ℕ). record { value = value_in g.kind (take n words); status = status } ∷ row_with fs (drop n words) (drop 1 statuses)) (same_width f g same.0)
+    ∙ ap (λ (row : List DataValue). record { value = value_in g.kind (take (width_of g) words); status = status } ∷ row) (same_row_with fs gs (drop (width_of g) words) (drop 1 statuses) same.1)
 
 same_row_in : (fs gs : List Field) (words : List ℕ) → AllZip SameForm fs gs → row_in fs words ≡ row_in gs words
 unfolding row_in
 same_row_in fs gs words same =
-    same_row_of fs gs words (statuses_in (drop (value_words fs) words)) same
-    ∙ ap (λ (n : ℕ). row_of gs words (statuses_in (drop n words))) (same_value_words fs gs same)
+    same_row_with fs gs words (statuses_in (drop (value_words fs) words)) same
+    ∙ ap (λ (n : ℕ). row_with gs words (statuses_in (drop n words))) (same_value_words fs gs same)
 
 same_spelled_values : (fs gs : List Field) (row : List DataValue) → AllZip SameForm fs gs → spelled_values fs row ≡ spelled_values gs row
 same_spelled_values [] [] row same = refl
@@ -215,6 +215,28 @@ same_belongs one other words same quality belongs = record {
       (same_rows one.quality one.fields other.fields (row_in other.fields words) same (subst (IsRow one) (same_row_in one.fields other.fields words same) belongs.row));
   spelled = belongs.spelled ∙ ap (spelled_row one.fields) (same_row_in one.fields other.fields words same) ∙ same_spelled_row one.fields other.fields (row_in other.fields words) same;
 }
+
+-- metas of one shape
+one_form : (one other : MetaData) → HaveOneShape one other → AllZip SameForm one.fields other.fields
+one_form one other have =
+    forms_of_codes one.quality other.quality one.fields other.fields (codes_same one other have.is_meta have.other_is_meta have.same_shape)
+
+pub shape-quality : (one other : MetaData) → HaveOneShape one other → one.quality ≡ other.quality
+shape-quality one other have =
+    quality_of_codes one.quality other.quality one.fields other.fields have.is_meta.count.0 (codes_same one other have.is_meta have.other_is_meta have.same_shape)
+
+pub shape-rows : (one other : MetaData) (words : List ℕ) → HaveOneShape one other → row_in one.fields words ≡ row_in other.fields words
+shape-rows one other words have = same_row_in one.fields other.fields words (one_form one other have)
+
+pub shape-patches : (one other : MetaData) (patch : Patch) → HaveOneShape one other → patch_in one.fields patch ≡ patch_in other.fields patch
+unfolding patch_in
+shape-patches one other patch have = ap (marked_from 0 patch.mask) (shape-rows one other patch.row.words have)
+
+pub shape-words : (one other : MetaData) (row : List DataValue) → HaveOneShape one other → spelled_row one.fields row ≡ spelled_row other.fields row
+shape-words one other row have = same_spelled_row one.fields other.fields row (one_form one other have)
+
+pub shape-belongs : (one other : MetaData) (words : List ℕ) → HaveOneShape one other → Belongs one words → Belongs other words
+shape-belongs one other words have belongs = same_belongs one other words (one_form one other have) (shape-quality one other have) belongs
 
 pub BelongsTo-shape_of : (meta : MetaData) (words : List ℕ) → IsMeta meta.fields → BelongsTo (shape_of meta) words ↔ Belongs meta words
 BelongsTo-shape_of meta words is = (

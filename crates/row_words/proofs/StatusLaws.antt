@@ -4,13 +4,13 @@ use Rattle.std.specs.Prelude.{replicate, slice_index, slice_set, All}
 use Rattle.std.specs.List.{flat_map}
 use Rattle.std.proofs.lemmas.List.Elements.{All-nil, All-cons, All-head, All-tail}
 use Rattle.std.proofs.lemmas.Grind.{flat_map-append}
-use Rattle.row_words.specs.Digits.{number_of, digits_of, grouped}
+use Rattle.row_words.specs.Digits.{from_digits, digits_of, grouped}
 use Rattle.row_words.specs.Belonging.{statuses_in}
-use Rattle.row_words.proofs.DigitLaws.{digits_of-number_of, digits_in-grouped, number_of-zeros}
+use Rattle.row_words.proofs.DigitLaws.{digits_of-from_digits, digits_in-grouped, from_digits-zeros}
 
 -- one half of a word is another
 abbrev pub half_set : ℕ → ℕ → ℕ → ℕ
-half_set word r status = number_of (2 ^ 32) (slice_set (digits_of (2 ^ 32) 2 word) r status)
+half_set word r status = from_digits (2 ^ 32) (slice_set (digits_of (2 ^ 32) 2 word) r status)
 
 abbrev pub AreStatuses : List ℕ → Type 0
 AreStatuses xs = All (λ x. x < 2 ^ 32) xs
@@ -21,11 +21,11 @@ pair x y xs all =
     All-cons P x (y ∷ []) (All-head P x (y ∷ xs) all) (All-cons P y [] (All-head P y xs (All-tail P x (y ∷ xs) all)) (All-nil P))
 
 -- the halves of a word are what it was made of
-two : (x y : ℕ) (xs : List ℕ) → AreStatuses (x ∷ y ∷ xs) → digits_of (2 ^ 32) 2 (number_of (2 ^ 32) (x ∷ y ∷ [])) ≡ x ∷ y ∷ []
-two x y xs all = digits_of-number_of (2 ^ 32) 2 (x ∷ y ∷ []) (pair x y xs all) (omega arith)
+two : (x y : ℕ) (xs : List ℕ) → AreStatuses (x ∷ y ∷ xs) → digits_of (2 ^ 32) 2 (from_digits (2 ^ 32) (x ∷ y ∷ [])) ≡ x ∷ y ∷ []
+two x y xs all = digits_of-from_digits (2 ^ 32) 2 (x ∷ y ∷ []) (pair x y xs all) (omega arith)
 
-one : (x : ℕ) → AreStatuses (x ∷ []) → digits_of (2 ^ 32) 2 (number_of (2 ^ 32) (x ∷ [])) ≡ x ∷ 0 ∷ []
-one x all = digits_of-number_of (2 ^ 32) 2 (x ∷ []) all (omega arith)
+one : (x : ℕ) → AreStatuses (x ∷ []) → digits_of (2 ^ 32) 2 (from_digits (2 ^ 32) (x ∷ [])) ≡ x ∷ 0 ∷ []
+one x all = digits_of-from_digits (2 ^ 32) 2 (x ∷ []) all (omega arith)
 
 rest_all : (x y : ℕ) (xs : List ℕ) → AreStatuses (x ∷ y ∷ xs) → AreStatuses xs
 rest_all x y xs all = let P = λ (z : ℕ). z < 2 ^ 32 in All-tail P y xs (All-tail P x (y ∷ xs) all)
@@ -53,17 +53,17 @@ half_written zero q r status xs more all small within room = absurd (omega arith
 half_written (suc count) q r status [] more all small within room = absurd (omega arith)
 half_written (suc count) zero zero status (x ∷ []) more all small within room =
     ap (λ (w : ℕ). w ∷ (grouped (2 ^ 32) 2 count [] ++ more))
-    (ap (λ (ds : List ℕ). number_of (2 ^ 32) (slice_set ds 0 status)) (one x all) ∙ number_of-zeros (2 ^ 32) (status ∷ []) 1)
+    (ap (λ (ds : List ℕ). from_digits (2 ^ 32) (slice_set ds 0 status)) (one x all) ∙ from_digits-zeros (2 ^ 32) (status ∷ []) 1)
 half_written (suc count) zero (suc r) status (x ∷ []) more all small within room = absurd (omega arith)
 half_written (suc count) zero zero status (x ∷ y ∷ xs) more all small within room =
-    ap (λ (w : ℕ). w ∷ (grouped (2 ^ 32) 2 count xs ++ more)) (ap (λ (ds : List ℕ). number_of (2 ^ 32) (slice_set ds 0 status)) (two x y xs all))
+    ap (λ (w : ℕ). w ∷ (grouped (2 ^ 32) 2 count xs ++ more)) (ap (λ (ds : List ℕ). from_digits (2 ^ 32) (slice_set ds 0 status)) (two x y xs all))
 half_written (suc count) zero (suc zero) status (x ∷ y ∷ xs) more all small within room =
-    ap (λ (w : ℕ). w ∷ (grouped (2 ^ 32) 2 count xs ++ more)) (ap (λ (ds : List ℕ). number_of (2 ^ 32) (slice_set ds 1 status)) (two x y xs all))
+    ap (λ (w : ℕ). w ∷ (grouped (2 ^ 32) 2 count xs ++ more)) (ap (λ (ds : List ℕ). from_digits (2 ^ 32) (slice_set ds 1 status)) (two x y xs all))
 half_written (suc count) zero (suc (suc r)) status (x ∷ y ∷ xs) more all small within room = absurd (omega arith)
 half_written (suc count) (suc q) r status (x ∷ []) more all small within room = absurd (omega arith)
 half_written (suc count) (suc q) r status (x ∷ y ∷ xs) more all small within room =
     let next : 2 * suc q + r ≡ suc (suc (2 * q + r)) = omega arith in
-    ap (λ (ws : List ℕ). number_of (2 ^ 32) (x ∷ y ∷ []) ∷ ws) (half_written count q r status xs more (rest_all x y xs all) small (omega arith) (omega arith))
+    ap (λ (ws : List ℕ). from_digits (2 ^ 32) (x ∷ y ∷ []) ∷ ws) (half_written count q r status xs more (rest_all x y xs all) small (omega arith) (omega arith))
     ∙ ap (λ (k : ℕ). grouped (2 ^ 32) 2 (suc count) (slice_set (x ∷ y ∷ xs) k status) ++ more) (sym next)
 
 -- the statuses that words were made of

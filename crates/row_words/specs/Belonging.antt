@@ -13,7 +13,8 @@ use Rattle.row_words.specs.Words.{spelled_value, value_in}
 abbrev pub spelled_values : List Field → List DataValue → List ℕ
 spelled_values [] row = []
 spelled_values (field ∷ fields) [] = []
-spelled_values (field ∷ fields) (x ∷ row) = spelled_value field.cap x.value ++ spelled_values fields row
+spelled_values (field ∷ fields) (x ∷ row) =
+    spelled_value field.cap x.value ++ spelled_values fields row
 
 -- those of the statuses, of 32 bits each, the first lowest
 unfoldable pub spelled_statuses : List Field → List DataValue → List ℕ
@@ -24,22 +25,26 @@ spelled_parts fields row = spelled_values fields row ++ spelled_statuses fields 
 
 -- the words of a row
 unfoldable pub spelled_row : List Field → List DataValue → List ℕ
-spelled_row fields row = spelled_parts fields row ++ replicate (125 - length (spelled_parts fields row)) 0
+spelled_row fields row =
+    spelled_parts fields row ++ replicate (125 - length (spelled_parts fields row)) 0
 
 -- the statuses in words, two in each
 unfoldable pub statuses_in : List ℕ → List ℕ
 statuses_in words = flat_map (digits_of (2 ^ 32) 2) words
 
 -- the row whose values have these words, and whose statuses are these
-abbrev pub row_of : List Field → List ℕ → List ℕ → List DataValue
-row_of [] words statuses = []
-row_of (field ∷ fields) words statuses =
-    record { value = value_in field.kind (take (width_of field) words); status = slice_index statuses 0 }
-    ∷ row_of fields (drop (width_of field) words) (drop 1 statuses)
+abbrev pub row_with : List Field → List ℕ → List ℕ → List DataValue
+row_with [] words statuses = []
+row_with (field ∷ fields) words statuses =
+    record {
+      value = value_in field.kind (take (width_of field) words);
+      status = slice_index statuses 0;
+    }
+    ∷ row_with fields (drop (width_of field) words) (drop 1 statuses)
 
 -- the row that words stand for
 unfoldable pub row_in : List Field → List ℕ → List DataValue
-row_in fields words = row_of fields words (statuses_in (drop (value_words fields) words))
+row_in fields words = row_with fields words (statuses_in (drop (value_words fields) words))
 
 -- the words are those of a row of this meta
 pub record Belongs (meta : MetaData) (words : List ℕ) : Type 0 where

@@ -2,9 +2,9 @@
 use Rattle.std.specs.Prelude.{ℕ, zero, suc, ◌+◌, ◌*◌, ◌/◌, ◌%◌, List, [], ◌∷◌, take, drop}
 
 -- the number that has these digits
-abbrev pub number_of : ℕ → List ℕ → ℕ
-number_of base [] = 0
-number_of base (digit ∷ digits) = digit + base * number_of base digits
+abbrev pub from_digits : ℕ → List ℕ → ℕ
+from_digits base [] = 0
+from_digits base (digit ∷ digits) = digit + base * from_digits base digits
 
 -- so many digits of a number
 abbrev pub digits_of : ℕ → ℕ → ℕ → List ℕ
@@ -14,4 +14,5 @@ digits_of base (suc count) number = number % base ∷ digits_of base count (numb
 -- so many numbers, each of `size` digits of the list, and of fewer or none at its end
 abbrev pub grouped : ℕ → ℕ → ℕ → List ℕ → List ℕ
 grouped base size zero digits = []
-grouped base size (suc count) digits = number_of base (take size digits) ∷ grouped base size count (drop size digits)
+grouped base size (suc count) digits =
+    from_digits base (take size digits) ∷ grouped base size count (drop size digits)

@@ -4,3 +4,4 @@ pub mod Belonging
 pub mod Setting
 pub mod Patches
 pub mod Shapes
+pub mod Props

@@ -12,7 +12,8 @@ use Rattle.row_words.specs.Belonging.{row_in, spelled_row, Belongs}
 -- the marked of these, each with its index; the first has this one
 abbrev pub marked_from : ℕ → ℕ → List DataValue → List (ℕ × DataValue)
 marked_from index mask [] = []
-marked_from index mask (x ∷ row) = cons_if (bit_at mask index == 1) (index, x) (marked_from (index + 1) mask row)
+marked_from index mask (x ∷ row) =
+    cons_if (bit_at mask index == 1) (index, x) (marked_from (index + 1) mask row)
 
 -- the patch that a mask and words stand for
 unfoldable pub patch_in : List Field → Patch → List (ℕ × DataValue)
@@ -23,11 +24,13 @@ pub record IsPatchOf (meta : MetaData) (patch : Patch) : Type 0 where
   pub marks : patch.mask < 2 ^ length meta.fields
   pub belongs : Belongs meta patch.row.words
   pub unmarked : (index : ℕ) → index < length meta.fields → bit_at patch.mask index ≡ 0
-      → HoldsAt (λ field. slice_get (row_in meta.fields patch.row.words) index ≡ Some (opening_value field)) meta.fields index
+      → HoldsAt (λ field. slice_get (row_in meta.fields patch.row.words) index
+      ≡ Some (opening_value field)) meta.fields index
 
 -- the words of a row that is patched
 unfoldable pub patched_words : List Field → Patch → List ℕ → List ℕ
-patched_words fields patch words = spelled_row fields (patched (row_in fields words) (patch_in fields patch))
+patched_words fields patch words =
+    spelled_row fields (patched (row_in fields words) (patch_in fields patch))
 
 -- a bit for each index
 abbrev pub mask_of : List (ℕ × DataValue) → ℕ

@@ -28,11 +28,18 @@ number_of_kind StatusCode = 15
 -- 16 bits for a field: bit 0 is set where the field is there, bits 1 to 4 are its kind, bits 5 to 13 its cap, and bit 14 is set
 -- where the meta has quality
 abbrev pub code_of : Bool → Field → ℕ
-code_of quality field = 1 + 2 * number_of_kind field.kind + 32 * field.cap + (if quality then 16384 else 0)
+code_of quality field =
+    1 + 2 * number_of_kind field.kind + 32 * field.cap + (if quality then 16384 else 0)
 
 -- 16 words, in each the codes of four fields, the first lowest; zeros behind the last field
 unfoldable pub shape_of : MetaData → List ℕ
 shape_of meta = grouped 65536 4 16 (map (code_of meta.quality) meta.fields)
+
+-- two metas of the same shape
+pub record HaveOneShape (one other : MetaData) : Type 0 where
+  pub is_meta : IsMeta one.fields
+  pub other_is_meta : IsMeta other.fields
+  pub same_shape : shape_of one ≡ shape_of other
 
 -- words that stand for a row of a meta of this shape
 pub record BelongsTo (shape words : List ℕ) : Type 0 where

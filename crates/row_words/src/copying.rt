@@ -16,7 +16,8 @@ pub(crate) fn copy_field(meta: &Meta, index: u8, from: &Row, to: &mut Row)
     requires to { Belongs meta.now to.old.words }
     requires index { index < length meta.now.fields }
     ensures belongs { Belongs meta.now to.new.words }
-    ensures copied { HoldsAt (λ x. row_in meta.now.fields to.new.words ≡ slice_set (row_in meta.now.fields to.old.words) index x)
+    ensures copied { HoldsAt (λ x. row_in meta.now.fields to.new.words
+        ≡ slice_set (row_in meta.now.fields to.old.words) index x)
         (row_in meta.now.fields from.now.words) index }
 {
     copy_value(meta, index, from, to);
@@ -32,7 +33,8 @@ fn copy_value(meta: &Meta, index: u8, from: &Row, to: &mut Row)
     requires to { Belongs meta.now to.old.words }
     requires index { index < length meta.now.fields }
     ensures belongs { Belongs meta.now to.new.words }
-    ensures copied { HoldsAt (λ x. row_in meta.now.fields to.new.words ≡ with_value (row_in meta.now.fields to.old.words) index x.value)
+    ensures copied { HoldsAt (λ x. row_in meta.now.fields to.new.words
+        ≡ with_value (row_in meta.now.fields to.old.words) index x.value)
         (row_in meta.now.fields from.now.words) index }
 {
     if is_scalar(meta.fields()[usize::from(index)].kind) {
@@ -42,12 +44,15 @@ fn copy_value(meta: &Meta, index: u8, from: &Row, to: &mut Row)
     }
 }
 
+/// The same of all the words of a value. It is a function of its own, so that a loop over scalars stays short.
+#[inline(never)]
 fn copy_words(meta: &Meta, index: u8, from: &Row, to: &mut Row)
     requires from { Belongs meta.now from.now.words }
     requires to { Belongs meta.now to.old.words }
     requires index { index < length meta.now.fields }
     ensures belongs { Belongs meta.now to.new.words }
-    ensures copied { HoldsAt (λ x. row_in meta.now.fields to.new.words ≡ with_value (row_in meta.now.fields to.old.words) index x.value)
+    ensures copied { HoldsAt (λ x. row_in meta.now.fields to.new.words
+        ≡ with_value (row_in meta.now.fields to.old.words) index x.value)
         (row_in meta.now.fields from.now.words) index }
 {
     let start = usize::from(meta.start(index));

@@ -1,6 +1,6 @@
 //! Bytes in words, the first byte lowest.
 ghost use Rattle.std.specs.Prelude.{◌≡◌, ◌*◌, ◌≤◌, length, take};
-ghost use Rattle.row_words.specs.Digits.{number_of};
+ghost use Rattle.row_words.specs.Digits.{from_digits};
 ghost use Rattle.row_words.specs.Words.{packed, unpacked};
 
 /// Fills the words with the bytes, and with zeros behind them.
@@ -18,7 +18,7 @@ pub(crate) fn pack(words: &mut [u64], bytes: &[u8])
 #[inline(always)]
 fn word_of(bytes: &[u8]) -> u64
     requires { length bytes.now ≤ 8 }
-    ensures { result ≡ number_of 256 bytes.now }
+    ensures { result ≡ from_digits 256 bytes.now }
 {
     let mut whole = [0; 8];
     whole[..bytes.len()].copy_from_slice(bytes);

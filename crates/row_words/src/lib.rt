@@ -10,14 +10,12 @@ mod reading;
 mod row;
 mod scalar;
 mod statuses;
-#[cfg(test)]
-mod tests;
 mod writing;
 
 pub use laws::{
     cut_rows_have_words, equal_patches_have_one_meaning, equal_words_are_equal_rows,
-    patched_words_belong, patches_have_words, rows_have_words, values_and_statuses_stand_apart,
-    words_belong_by_shape,
+    patched_words_belong, patches_have_words, rows_have_words, shapes_have_one_meaning,
+    values_and_statuses_stand_apart, words_belong_by_shape,
 };
 pub use meta_shape::shape;
 pub use patch::Patch;

@@ -2,7 +2,7 @@
 ghost use Rattle.std.specs.Prelude.{◌≡◌, ◌<◌, ◌≤◌, ◌^◌, true, length, map};
 ghost use Rattle.dataset_meta.specs.Fields.{has_cap};
 ghost use Rattle.dataset_meta.specs.Metas.{AreCapped};
-ghost use Rattle.row_words.specs.Digits.{number_of, grouped};
+ghost use Rattle.row_words.specs.Digits.{from_digits, grouped};
 ghost use Rattle.row_words.specs.Shapes.{shape_of, code_of, number_of_kind};
 
 use dataset_meta::{Field, Meta};
@@ -34,7 +34,7 @@ fn write_codes(words: &mut [u64], quality: bool, fields: &[Field])
 fn codes_of(quality: bool, fields: &[Field]) -> u64
     requires few { length fields.now ≤ 4 }
     requires capped { AreCapped fields.now }
-    ensures codes { result ≡ number_of 65536 (map (code_of quality) fields.now) }
+    ensures codes { result ≡ from_digits 65536 (map (code_of quality) fields.now) }
     ensures small { result < 65536 ^ length fields.now }
 {
     match fields {

@@ -42,7 +42,8 @@ impl Patch {
         requires status { IsStatus meta.now.quality status }
         ensures of { IsPatchOf meta.now self.new }
         ensures put { patch_in meta.now.fields self.new
-            ≡ put_in (patch_in meta.now.fields self.old) index (record { value = value.now; status = status }) }
+            ≡ put_in (patch_in meta.now.fields self.old) index
+            (record { value = value.now; status = status }) }
     {
         prove!(usize::from(index) < meta.fields().len());
         self.row.set_with_status(meta, index, value, status);
@@ -55,7 +56,8 @@ impl Patch {
         requires belongs { Belongs meta.now row.now.words }
         requires index { index < length meta.now.fields }
         ensures of { IsPatchOf meta.now self.new }
-        ensures put { HoldsAt (λ x. patch_in meta.now.fields self.new ≡ put_in (patch_in meta.now.fields self.old) index x)
+        ensures put { HoldsAt (λ x. patch_in meta.now.fields self.new
+            ≡ put_in (patch_in meta.now.fields self.old) index x)
             (row_in meta.now.fields row.now.words) index }
     {
         prove!(usize::from(index) < meta.fields().len());

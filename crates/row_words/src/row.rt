@@ -34,7 +34,8 @@ impl Row {
     pub fn opening() -> Row
         ensures zeros { result.words ≡ replicate 125 0 }
         ensures belongs { (meta : MetaData) → IsMeta meta.fields → Belongs meta result.words }
-        ensures row { (fields : List Field) → IsMeta fields → row_in fields result.words ≡ opening_row fields }
+        ensures row { (fields : List Field) → IsMeta fields
+            → row_in fields result.words ≡ opening_row fields }
     {
         Row { words: zeros() }
     }
@@ -102,7 +103,8 @@ impl Row {
         requires status { IsStatus meta.now.quality status }
         ensures belongs { Belongs meta.now self.new.words }
         ensures set { row_in meta.now.fields self.new.words
-            ≡ slice_set (row_in meta.now.fields self.old.words) index (record { value = value.now; status = status }) }
+            ≡ slice_set (row_in meta.now.fields self.old.words) index
+            (record { value = value.now; status = status }) }
     {
         self.set(meta, index, value);
         if meta.quality() {
@@ -117,7 +119,8 @@ impl Row {
         requires index { index < length meta.now.fields }
         requires scalar { HoldsAt (λ field. is_scalar field.kind ≡ true) meta.now.fields index }
         ensures word { HoldsAt (λ field. IsWordOf field.kind result) meta.now.fields index }
-        ensures value { HoldsAt (λ field. HasValue (row_in meta.now.fields self.now.words) index (scalar_in field.kind result))
+        ensures value { HoldsAt (λ field. HasValue (row_in meta.now.fields self.now.words) index
+            (scalar_in field.kind result))
             meta.now.fields index }
     {
         prove!(usize::from(index) < meta.fields().len());
@@ -132,7 +135,8 @@ impl Row {
         requires word { HoldsAt (λ field. IsWordOf field.kind word) meta.now.fields index }
         ensures belongs { Belongs meta.now self.new.words }
         ensures set { HoldsAt (λ field. row_in meta.now.fields self.new.words
-            ≡ with_value (row_in meta.now.fields self.old.words) index (scalar_in field.kind word)) meta.now.fields index }
+            ≡ with_value (row_in meta.now.fields self.old.words) index
+            (scalar_in field.kind word)) meta.now.fields index }
     {
         prove!(usize::from(index) < meta.fields().len());
         self.words[usize::from(meta.start(index))] = word;
@@ -143,7 +147,8 @@ impl Row {
         requires belongs { Belongs full.now self.now.words }
         requires grown { HasGrown short.now full.now }
         ensures belongs { Belongs short.now result.words }
-        ensures row { row_in short.now.fields result.words ≡ row_cut short.now (row_in full.now.fields self.now.words) }
+        ensures row { row_in short.now.fields result.words
+            ≡ row_cut short.now (row_in full.now.fields self.now.words) }
         ensures words { result.words ≡ cut_words short.now full.now self.now.words }
     {
         prove!(full.fields().len() <= 64);

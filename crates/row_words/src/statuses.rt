@@ -1,7 +1,7 @@
 //! Statuses, two to a word, the first in the lower half.
 ghost use Rattle.std.specs.Prelude.{◌≡◌, ◌+◌, ◌/◌, ◌%◌, ◌^◌, ◌<◌, ◌≤◌, ◌++◌, length, take, drop, slice_index, slice_set};
 ghost use Rattle.dataset_meta.specs.Metas.{value_words};
-ghost use Rattle.row_words.specs.Digits.{number_of, digits_of, grouped};
+ghost use Rattle.row_words.specs.Digits.{from_digits, digits_of, grouped};
 ghost use Rattle.row_words.specs.Belonging.{statuses_in};
 
 use dataset_meta::Meta;
@@ -34,7 +34,8 @@ pub(crate) fn status_in(word: u64, index: u8) -> u32
 /// Its word with another status there.
 #[inline(always)]
 pub(crate) fn with_status(word: u64, index: u8, status: u32) -> u64
-    ensures { result ≡ number_of (2 ^ 32) (slice_set (digits_of (2 ^ 32) 2 word) (index % 2) status) }
+    ensures { result
+        ≡ from_digits (2 ^ 32) (slice_set (digits_of (2 ^ 32) 2 word) (index % 2) status) }
 {
     if index % 2 == 0 {
         word - word % HALF + u64::from(status)
@@ -47,7 +48,8 @@ pub(crate) fn with_status(word: u64, index: u8, status: u32) -> u64
 pub(crate) fn cut_statuses(to: &mut [u64], from: &[u64], count: usize)
     requires to { (count + 1) / 2 ≤ length to.old }
     requires from { (count + 1) / 2 ≤ length from.now }
-    ensures { to.new ≡ grouped (2 ^ 32) 2 ((count + 1) / 2) (take count (statuses_in from.now)) ++ drop ((count + 1) / 2) to.old }
+    ensures { to.new ≡ grouped (2 ^ 32) 2 ((count + 1) / 2)
+        (take count (statuses_in from.now)) ++ drop ((count + 1) / 2) to.old }
 {
     let words = (count + 1) / 2;
     to[..words].copy_from_slice(&from[..words]);

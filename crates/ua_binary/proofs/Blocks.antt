@@ -6,7 +6,7 @@ use Rattle.std.specs.Str.{is_utf8, IsUtf8}
 use Rattle.std.proofs.lemmas.Bool.{le-ltb, ltb-false}
 use Rattle.std.proofs.lemmas.Int.{ints, to_z_pos, of_z-to_z}
 use Rattle.std.proofs.lemmas.Str.{IsUtf8-from_is_utf8, is_utf8-from_IsUtf8}
-use Rattle.ua_values.specs.Room.{IsShort}
+use Rattle.ua_values.specs.InPlace.{IsShort}
 use Rattle.ua_binary.specs.declared.fault.ValueFault.{ValueFault}
 use Rattle.ua_binary.specs.declared.fault.ValueFault.TheVariants.{Short, BadUtf8, BadLength}
 use Rattle.ua_binary.specs.Reading.{◌>>=◌, bytes_at, number_at}

@@ -31,7 +31,8 @@ text_at bytes = do
   if is_utf8 text.0 then Ok text else Err BadUtf8
 
 -- what was read, as a value
-abbrev pub as_value : {X : Type 0} → (X → Value) → Result (X × List ℕ) ValueFault → Result (Value × List ℕ) ValueFault
+abbrev pub as_value : {X : Type 0} → (X → Value) → Result (X × List ℕ) ValueFault
+    → Result (Value × List ℕ) ValueFault
 as_value value read = read >>= λ x. Ok (value x.0, x.1)
 
 -- a value of this kind
@@ -48,7 +49,8 @@ plain_at kinds.UInt64 bytes = as_value UInt64 (number_at Short w64 bytes)
 plain_at kinds.Float bytes = as_value Float (number_at Short w32 bytes)
 plain_at kinds.Double bytes = as_value Double (number_at Short w64 bytes)
 plain_at kinds.String bytes = as_value String (text_at bytes)
-plain_at kinds.DateTime bytes = as_value (λ n. DateTime (cast_signed w64 n)) (number_at Short w64 bytes)
+plain_at kinds.DateTime bytes =
+    as_value (λ n. DateTime (cast_signed w64 n)) (number_at Short w64 bytes)
 plain_at kinds.Guid bytes = as_value Guid (bytes_at Short 16 bytes)
 plain_at kinds.ByteString bytes = as_value ByteString (block_at bytes)
 plain_at kinds.StatusCode bytes = as_value StatusCode (number_at Short w32 bytes)

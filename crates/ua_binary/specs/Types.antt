@@ -22,7 +22,9 @@ type_of ByteString = 15
 type_of StatusCode = 19
 
 abbrev pub all_kinds : List Kind
-all_kinds = Boolean ∷ SByte ∷ Byte ∷ Int16 ∷ UInt16 ∷ Int32 ∷ UInt32 ∷ Int64 ∷ UInt64 ∷ Float ∷ Double ∷ String ∷ DateTime ∷ Guid ∷ ByteString ∷ StatusCode ∷ []
+all_kinds =
+    Boolean ∷ SByte ∷ Byte ∷ Int16 ∷ UInt16 ∷ Int32 ∷ UInt32 ∷ Int64 ∷ UInt64 ∷ Float ∷ Double
+    ∷ String ∷ DateTime ∷ Guid ∷ ByteString ∷ StatusCode ∷ []
 
 -- the kind whose number it is
 abbrev pub kind_with : ℕ → Option Kind

@@ -79,14 +79,17 @@ pub record IsWireDataValue (wire : WireDataValue) : Type 0 where
 -- the mask tells which parts are there
 abbrev pub mask_of : WireDataValue → ℕ
 mask_of wire =
-    flag (is_some wire.value) 0x01 + flag (is_some wire.status) 0x02 + flag (is_some wire.source_time) 0x04 + flag (is_some wire.server_time) 0x08
+    flag (is_some wire.value) 0x01 + flag (is_some wire.status) 0x02
+    + flag (is_some wire.source_time) 0x04 + flag (is_some wire.server_time) 0x08
     + flag (is_some wire.source_picoseconds) 0x10 + flag (is_some wire.server_picoseconds) 0x20
 
 -- a DataValue's bytes: the mask, and the parts in this order
 abbrev pub data_value_as : WireDataValue → List ℕ
 data_value_as wire =
-    mask_of wire ∷ optional variant_as wire.value ++ optional (to_le_bytes w32) wire.status ++ optional (λ part. part) wire.source_time
-    ++ optional (λ part. part) wire.source_picoseconds ++ optional (λ part. part) wire.server_time ++ optional (λ part. part) wire.server_picoseconds
+    mask_of wire ∷ optional variant_as wire.value ++ optional (to_le_bytes w32) wire.status
+    ++ optional (λ part. part) wire.source_time
+    ++ optional (λ part. part) wire.source_picoseconds ++ optional (λ part. part) wire.server_time
+    ++ optional (λ part. part) wire.server_picoseconds
 
 -- what is kept of it: its value, and its status, which is 0, Good, where it has none
 abbrev pub value_in : Option WireValue → Option Value

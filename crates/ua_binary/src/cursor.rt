@@ -30,6 +30,7 @@ impl<'a> Cursor<'a> {
         Some(self.bytes[self.at])
     }
 
+    /// The next byte.
     #[inline(always)]
     pub fn read_u8(&mut self) -> Result<u8, Short>
         ensures { Reads result self.old self.new (byte_at short) }
@@ -42,6 +43,7 @@ impl<'a> Cursor<'a> {
         Ok(byte)
     }
 
+    /// The next `N` bytes, as they stand.
     #[inline(always)]
     pub fn read_array<const N: usize>(&mut self) -> Result<[u8; N], Short>
         ensures { Reads result self.old self.new (bytes_at short N) }
@@ -53,6 +55,7 @@ impl<'a> Cursor<'a> {
         Ok(*array)
     }
 
+    /// The number of the next 2 bytes, the lowest byte first.
     #[inline(always)]
     pub fn read_u16(&mut self) -> Result<u16, Short>
         ensures { Reads result self.old self.new (number_at short w16) }
@@ -60,6 +63,7 @@ impl<'a> Cursor<'a> {
         Ok(u16::from_le_bytes(self.read_array()?))
     }
 
+    /// The number of the next 4 bytes, the lowest byte first.
     #[inline(always)]
     pub fn read_u32(&mut self) -> Result<u32, Short>
         ensures { Reads result self.old self.new (number_at short w32) }
@@ -67,6 +71,7 @@ impl<'a> Cursor<'a> {
         Ok(u32::from_le_bytes(self.read_array()?))
     }
 
+    /// The number of the next 8 bytes, the lowest byte first.
     #[inline(always)]
     pub fn read_u64(&mut self) -> Result<u64, Short>
         ensures { Reads result self.old self.new (number_at short w64) }
@@ -74,7 +79,7 @@ impl<'a> Cursor<'a> {
         Ok(u64::from_le_bytes(self.read_array()?))
     }
 
-    /// The next `len` bytes.
+    /// The next `len` bytes, as they stand.
     #[inline(always)]
     pub fn read_bytes(&mut self, len: usize) -> Result<&'a [u8], Short>
         ensures { Reads (lent result) self.old self.new (bytes_at short len) }

@@ -27,9 +27,10 @@ const SERVER_PICOSECONDS: u8 = 0x20;
 
 const RESERVED: u8 = 0xc0;
 
-/// What is kept of a DataValue.
+/// What is kept of a DataValue (OPC 10000-6 section 5.2.2.17).
 #[derive(Clone, Copy, Debug, PartialEq, Eq)]
 pub struct Measured {
+    /// The value, if the DataValue has one.
     pub value: Option<Value>,
     /// A StatusCode (OPC 10000-6 section 5.2.2.11). It is 0, Good, where the DataValue has none.
     pub status: u32,
@@ -68,7 +69,8 @@ fn read_value_part(cursor: &mut Cursor<'_>, mask: u8) -> Result<Option<Value>, V
 
 #[inline(always)]
 fn read_status_part(cursor: &mut Cursor<'_>, mask: u8) -> Result<Option<u32>, ValueFault>
-    ensures { ReadsAhead result cursor.old cursor.new (part_at (has mask 0x02) (number_at ValueFault.Short w32)) }
+    ensures { ReadsAhead result cursor.old cursor.new
+        (part_at (has mask 0x02) (number_at ValueFault.Short w32)) }
 {
     if mask & STATUS == 0 {
         return Ok(None);
@@ -79,7 +81,8 @@ fn read_status_part(cursor: &mut Cursor<'_>, mask: u8) -> Result<Option<u32>, Va
 /// Reads past the part with this bit.
 #[inline(always)]
 fn skip_part(cursor: &mut Cursor<'_>, mask: u8, bit: u8, len: usize) -> Result<(), ValueFault>
-    ensures { ReadsAhead result cursor.old cursor.new (skipped (part_at (has mask bit) (bytes_at ValueFault.Short len))) }
+    ensures { ReadsAhead result cursor.old cursor.new
+        (skipped (part_at (has mask bit) (bytes_at ValueFault.Short len))) }
 {
     if mask & bit != 0 {
         cursor.read_bytes(len)?;

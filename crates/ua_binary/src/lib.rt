@@ -7,8 +7,6 @@ mod fault;
 mod laws;
 mod pen;
 mod reading;
-#[cfg(test)]
-mod tests;
 mod types;
 mod writing;
 

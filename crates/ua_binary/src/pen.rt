@@ -27,6 +27,7 @@ impl Pen<'_> {
         self.bytes.len() - self.at
     }
 
+    /// Writes these bytes.
     #[inline(always)]
     pub fn put_bytes(&mut self, text: &[u8])
         requires { self.old.at + length text.now ≤ length self.old.bytes.now }
@@ -37,6 +38,7 @@ impl Pen<'_> {
         self.at = end;
     }
 
+    /// Writes the byte.
     #[inline(always)]
     pub fn put_u8(&mut self, byte: u8)
         requires { self.old.at + 1 ≤ length self.old.bytes.now }
@@ -45,6 +47,7 @@ impl Pen<'_> {
         self.put_bytes(&[byte]);
     }
 
+    /// Writes the number in 2 bytes, the lowest first.
     #[inline(always)]
     pub fn put_u16(&mut self, number: u16)
         requires { self.old.at + 2 ≤ length self.old.bytes.now }
@@ -53,6 +56,7 @@ impl Pen<'_> {
         self.put_bytes(&number.to_le_bytes());
     }
 
+    /// Writes the number in 4 bytes, the lowest first.
     #[inline(always)]
     pub fn put_u32(&mut self, number: u32)
         requires { self.old.at + 4 ≤ length self.old.bytes.now }
@@ -61,6 +65,7 @@ impl Pen<'_> {
         self.put_bytes(&number.to_le_bytes());
     }
 
+    /// Writes the number in 8 bytes, the lowest first.
     #[inline(always)]
     pub fn put_u64(&mut self, number: u64)
         requires { self.old.at + 8 ≤ length self.old.bytes.now }
@@ -69,7 +74,7 @@ impl Pen<'_> {
         self.put_bytes(&number.to_le_bytes());
     }
 
-    /// Writes all of these bytes.
+    /// Writes all of these bytes, or nothing where there is no room.
     #[inline(always)]
     pub fn write_bytes(&mut self, text: &[u8]) -> Result<(), Room>
         ensures { Writes result self.old self.new text.now }
@@ -81,6 +86,7 @@ impl Pen<'_> {
         Ok(())
     }
 
+    /// Writes the byte, or nothing where there is no room.
     #[inline(always)]
     pub fn write_u8(&mut self, byte: u8) -> Result<(), Room>
         ensures { Writes result self.old self.new (byte ∷ []) }
@@ -88,6 +94,7 @@ impl Pen<'_> {
         self.write_bytes(&[byte])
     }
 
+    /// Writes the number in 2 bytes, the lowest first, or nothing where there is no room.
     #[inline(always)]
     pub fn write_u16(&mut self, number: u16) -> Result<(), Room>
         ensures { Writes result self.old self.new (to_le_bytes w16 number) }
@@ -95,6 +102,7 @@ impl Pen<'_> {
         self.write_bytes(&number.to_le_bytes())
     }
 
+    /// Writes the number in 4 bytes, the lowest first, or nothing where there is no room.
     #[inline(always)]
     pub fn write_u32(&mut self, number: u32) -> Result<(), Room>
         ensures { Writes result self.old self.new (to_le_bytes w32 number) }
@@ -102,6 +110,7 @@ impl Pen<'_> {
         self.write_bytes(&number.to_le_bytes())
     }
 
+    /// Writes the number in 8 bytes, the lowest first, or nothing where there is no room.
     #[inline(always)]
     pub fn write_u64(&mut self, number: u64) -> Result<(), Room>
         ensures { Writes result self.old self.new (to_le_bytes w64 number) }

@@ -1,5 +1,5 @@
 use Rattle.std.proofs.Common.{refl, arith, ap, ◌∙◌}
-use Rattle.row_words.specs.Digits.{number_of}
+use Rattle.row_words.specs.Digits.{from_digits}
 use Rattle.row_words.specs.Words.{packed}
 use Rattle.row_words.proofs.Loops.{filled_more, front_is, back_is}
 use Rattle.row_words.proofs.digits.pack.Goals as goal
@@ -14,6 +14,6 @@ loop-word-preserved c =
     let cut = rw c.min.ensures at c.split_at.ensures in
     record {
       filled = filled_more 256 8 c.loop-word.words c.args.bytes.now c.loop-word.word-index _ (omega arith) c.loop-word.invariant.filled
-          (c.word_of.ensures ∙ ap (number_of 256) (front_is 8 c.loop-word.word-index c.args.bytes.now c.loop-word.rest.now _ c.loop-word.invariant.left cut.front));
+          (c.word_of.ensures ∙ ap (from_digits 256) (front_is 8 c.loop-word.word-index c.args.bytes.now c.loop-word.rest.now _ c.loop-word.invariant.left cut.front));
       left = back_is 8 c.loop-word.word-index c.args.bytes.now c.loop-word.rest.now _ c.loop-word.invariant.left cut.back;
     }

@@ -6,7 +6,7 @@ use Rattle.ua_binary.specs.Writing.{Puts}
 use Rattle.ua_binary.proofs.Laying.{Puts-then}
 use Rattle.frame_codec.specs.Spelling.{value_bytes}
 use Rattle.frame_codec.proofs.Laid.{length-row_in, values-more, values-within, at_stands}
-use Rattle.frame_codec.proofs.writing.put_row.Goals as goal
+use Rattle.frame_codec.proofs.writing.put_values.Goals as goal
 
 pub put_value-requires-clause-room : goal.put_value-requires-clause-room
 put_value-requires-clause-room c = λ d.
