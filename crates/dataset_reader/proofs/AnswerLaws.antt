@@ -1,5 +1,5 @@
 -- What each answer tells.
-use Rattle.std.proofs.Common.{◌≡◌, refl, sym, ap, ◌∙◌, arith, ℕ, Bool, true, false, List, Option, Some, None}
+use Rattle.std.proofs.Common.{◌≡◌, refl, sym, ap, ◌∙◌, subst, arith, ℕ, Bool, true, false, List, Option, Some, None}
 use Rattle.std.specs.Prelude.{◌==◌, ◌≢◌, max, unwrap_or}
 use Rattle.std.proofs.lemmas.Bool.Decides.{nat_tests}
 use Rattle.dataset_meta.specs.DataValues.{DataValue}
@@ -13,61 +13,77 @@ use Rattle.dataset_reader.specs.declared.took.Numbering.{Numbering}
 use Rattle.dataset_reader.specs.declared.took.Numbering.TheVariants as numberings
 use Rattle.dataset_reader.specs.Kept.{Kept, cut_kept}
 use Rattle.dataset_reader.specs.Cases.{is_alive, record_number, change_case, record_case, following_case, placed_case, placed_at, noted, breaks_run, older, due, is_jump, stamped, numbered_case, unnumbered_case, numbering_case, major_case, frame_case}
-use Rattle.dataset_reader.specs.Answers.{BeginsEmpty, IsOlder, IsPassed, HasCause}
+use Rattle.dataset_reader.specs.Answers.{BeginsEmpty, IsOlder, IsPassed, HoldsRow, TellsCause}
 
 -- ---- the stamp
 
-record Stamps (old now : Kept) : Type 0 where
-  begins : BeginsEmpty old → BeginsEmpty now
-  passed : (last : ℕ) → now.last ≡ Some last → (old.last ≡ Some last) × IsPassed old now
+pub record Stamps (old now : Kept) : Type 0 where
+  pub begins : BeginsEmpty old → BeginsEmpty now
+  pub held : (row : List DataValue) → now.row ≡ Some row → old.row ≡ Some row
+  pub breaks : now.breaks ≡ old.breaks
+  pub recent : now.recent ≡ old.recent
+  pub passed : (last : ℕ) → now.last ≡ Some last → (old.last ≡ Some last) × IsPassed old now
 
 same_but_stamp : (old : Kept) (s : Option ℕ) → Stamps old (record old { stamp = s })
-same_but_stamp old s = record { begins = λ empty. empty; passed = λ last is. (is, record { last = refl; number = refl; row = refl; why = refl; breaks = refl; recent = refl }) }
+same_but_stamp old s = record { begins = λ empty. empty; held = λ row is. is; breaks = refl; recent = refl; passed = λ last is. (is, record { last = refl; number = refl; row = refl; why = refl; breaks = refl; recent = refl }) }
 
 after_jump : (old : Kept) (s : Option ℕ) → Stamps old (record (cut_kept Jump old) { stamp = s })
-after_jump old s = record { begins = λ empty none. refl; passed = λ last is. absurd (wrong last is) }
+after_jump old s = record { begins = λ empty none. refl; held = λ row is. absurd (none_held row is); breaks = refl; recent = refl; passed = λ last is. absurd (wrong last is) }
   where
     wrong : (last : ℕ) → None ≡ Some last → ⊥
     wrong last e = cc
+
+    none_held : (row : List DataValue) → None ≡ Some row → ⊥
+    none_held row e = cc
 
 stamped_by : (jump : Bool) (old : Kept) (n : ℕ) → is_jump old.stamp n ≡ jump → Stamps old (stamped old (Some n))
 stamped_by true old n e = rw e (after_jump old (Some n))
 stamped_by false old n e = rw e (same_but_stamp old (Some (max n (unwrap_or old.stamp 0))))
 
-stamps : (old : Kept) (stamp : Option ℕ) → Stamps old (stamped old stamp)
+pub stamps : (old : Kept) (stamp : Option ℕ) → Stamps old (stamped old stamp)
 stamps old None = same_but_stamp old old.stamp
 stamps old (Some n) = stamped_by (is_jump old.stamp n) old n refl
 
 -- ---- a record
 
 abbrev RecordTells : ℕ → Frame → Kept → Kept × Outcome → Type 0
-RecordTells major message old taken = HasCause numberings.Message major message old taken.0 taken.1
+RecordTells major message old taken = TellsCause numberings.Message major message old taken.0 taken.1
 
-change_tells : (major : ℕ) (message : Frame) (old k : Kept) (n : ℕ) (patch : List (ℕ × DataValue)) (row : Option (List DataValue)) → k.row ≡ row
+-- a message with this content and number, to a reader that kept `old` and, with the stamp marked and the place kept, keeps `k`
+record Comes (message : Frame) (old k : Kept) (c : Content) (n : ℕ) : Type 0 where
+  content : message.content ≡ c
+  number : message.number ≡ Some n
+  held : (row : List DataValue) → k.row ≡ Some row → old.row ≡ Some row
+
+change_tells : (major : ℕ) (message : Frame) (old k : Kept) (n : ℕ) (patch : List (ℕ × DataValue)) (row : Option (List DataValue)) → k.row ≡ row → Comes message old k (frames.Change patch) n
     → RecordTells major message old (change_case k n patch row)
-change_tells major message old k n patch None e = (refl, refl, λ empty. e)
-change_tells major message old k n patch (Some row) e = refl
+change_tells major message old k n patch None e comes = (refl, refl, λ empty. e)
+change_tells major message old k n patch (Some row) e comes =
+    (subst (λ (c : Content). HoldsRow old c (change_case k n patch (Some row)).0) (sym comes.content) (row, comes.held row e, refl), sym comes.number)
 
-record_tells : (major : ℕ) (message : Frame) (old k : Kept) (c : Content) (n : ℕ) (broke : Bool) → (broke ≡ false → is_alive c ≡ true → BeginsEmpty old → k.row ≡ None)
+record_tells : (major : ℕ) (message : Frame) (old k : Kept) (c : Content) (n : ℕ) (broke : Bool) → (broke ≡ false → is_alive c ≡ true → BeginsEmpty old → k.row ≡ None) → Comes message old k c n
     → RecordTells major message old (record_case k c n broke)
-record_tells major message old k (frames.Whole row) n broke empty = refl
-record_tells major message old k (frames.Change patch) n true empty = (refl, refl, λ _. refl)
-record_tells major message old k frames.Alive n true empty = (refl, refl, λ _. refl)
-record_tells major message old k frames.Alive n false empty = (refl, refl, empty refl refl)
-record_tells major message old k (frames.Change patch) n false empty = change_tells major message old k n patch k.row refl
+record_tells major message old k (frames.Whole row) n broke empty comes =
+    (subst (λ (c : Content). HoldsRow old c (record_case k (frames.Whole row) n broke).0) (sym comes.content) refl, sym comes.number)
+record_tells major message old k (frames.Change patch) n true empty comes = (refl, refl, λ _. refl)
+record_tells major message old k frames.Alive n true empty comes = (refl, refl, λ _. refl)
+record_tells major message old k frames.Alive n false empty comes = (refl, refl, empty refl refl)
+record_tells major message old k (frames.Change patch) n false empty comes = change_tells major message old k n patch k.row refl comes
 
 abbrev TookTells : Numbering → ℕ → Frame → Kept → Kept × Took → Type 0
-TookTells numbering major message old taken = HasCause numbering major message old taken.0 taken.1.outcome
+TookTells numbering major message old taken = TellsCause numbering major message old taken.0 taken.1.outcome
 
-following_tells : (major : ℕ) (message : Frame) (old k : Kept) (c : Content) (n p last : ℕ) (breaks : Bool) → breaks_run c n last ≡ breaks
+following_tells : (major : ℕ) (message : Frame) (old k : Kept) (c : Content) (n p last : ℕ) (breaks : Bool) → breaks_run c n last ≡ breaks → Comes message old k c n
     → TookTells numberings.Message major message old (following_case k c n p last breaks)
-following_tells major message old k c n p last true e =
+following_tells major message old k c n p last true e comes =
     record_tells major message old (noted (placed_at k p) (record { expected = due last; got = n })) c n true (λ wrong. absurd (true_is wrong))
+    (record { content = comes.content; number = comes.number; held = comes.held })
   where
     true_is : true ≡ false → ⊥
     true_is w = cc
-following_tells major message old k c n p last false e =
+following_tells major message old k c n p last false e comes =
     record_tells major message old (placed_at k p) c n false (λ _ alive. absurd (silent_breaks c n last alive e))
+    (record { content = comes.content; number = comes.number; held = comes.held })
   where
     silent_breaks : (c : Content) (n last : ℕ) → is_alive c ≡ true → breaks_run c n last ≡ false → ⊥
     silent_breaks c n last alive e = absurd (grind (arith, alive, e))
@@ -75,30 +91,32 @@ following_tells major message old k c n p last false e =
 -- ---- a frame that isn't a record
 
 older_tells : (major : ℕ) (message : Frame) (old now : Kept) (c : Content) → message.content ≡ c → IsOlder old message → IsPassed old now
-    → HasCause numberings.Message major message old now (older c)
+    → TellsCause numberings.Message major message old now (older c)
 older_tells major message old now (frames.Whole row) e is passed = (refl, ap is_alive e, is, passed)
 older_tells major message old now (frames.Change patch) e is passed = (refl, ap is_alive e, is, passed)
 older_tells major message old now frames.Alive e is passed = (e, is, passed)
 
 newer_tells : (new : Bool) (major : ℕ) (message : Frame) (old k : Kept) (n last : ℕ) → newer (record_number message.content n) last ≡ new → message.number ≡ Some n
-    → (old.last ≡ Some last) × IsPassed old k → TookTells numberings.Message major message old (placed_case k message.content n (record_number message.content n) (Some last))
-newer_tells true major message old k n last e number before =
-    rw e (following_tells major message old k message.content n (record_number message.content n) last (breaks_run message.content n last) refl)
-newer_tells false major message old k n last e number before = rw e (older_tells major message old k message.content refl (n, last, number, before.0, e) before.1)
+    → (old.last ≡ Some last) × IsPassed old k → Stamps old k → TookTells numberings.Message major message old (placed_case k message.content n (record_number message.content n) (Some last))
+newer_tells true major message old k n last e number before s =
+    rw e (following_tells major message old k message.content n (record_number message.content n) last (breaks_run message.content n last) refl
+    (record { content = refl; number = number; held = s.held }))
+newer_tells false major message old k n last e number before s = rw e (older_tells major message old k message.content refl (n, last, number, before.0, e) before.1)
 
 placed_tells : (major : ℕ) (message : Frame) (old k : Kept) (n : ℕ) (last : Option ℕ) → k.last ≡ last → message.number ≡ Some n → Stamps old k
     → TookTells numberings.Message major message old (placed_case k message.content n (record_number message.content n) last)
 placed_tells major message old k n None e number s =
     record_tells major message old (placed_at k (record_number message.content n)) message.content n false (λ _ _ empty. s.begins empty e)
+    (record { content = refl; number = number; held = s.held })
 placed_tells major message old k n (Some last) e number s =
-    newer_tells (newer (record_number message.content n) last) major message old k n last refl number (s.passed last e)
+    newer_tells (newer (record_number message.content n) last) major message old k n last refl number (s.passed last e) s
 
 numbered_tells : (major : ℕ) (message : Frame) (old : Kept) (stamp number : Option ℕ) → message.number ≡ number → TookTells numberings.Message major message old (numbered_case old message.content stamp number)
 numbered_tells major message old stamp None e = (e, refl)
 numbered_tells major message old stamp (Some n) e = placed_tells major message old (stamped old stamp) n (stamped old stamp).last refl e (stamps old stamp)
 
 unnumbered_tells : (major : ℕ) (message : Frame) (old : Kept) (c : Content) → message.content ≡ c → TookTells numberings.Unnumbered major message old (unnumbered_case old c)
-unnumbered_tells major message old (frames.Whole row) e = refl
+unnumbered_tells major message old (frames.Whole row) e = (row, e, refl)
 unnumbered_tells major message old (frames.Change patch) e = ((patch, e), refl)
 unnumbered_tells major message old frames.Alive e = (e, refl)
 

@@ -2,6 +2,7 @@
 use Rattle.std.proofs.Common.{◌≡◌, ◌≢◌, ◌⊎◌, refl, sym, ap, ◌∙◌, ℕ, ◌+◌, ◌<◌, ◌^◌, Bool, true, false, List, [], ◌∷◌, Option, Some, None, subst, inl, inr, arith}
 use Rattle.std.specs.Prelude.{◌==◌, IfSome}
 use Rattle.std.proofs.lemmas.Bool.Decides.{nat_tests}
+use Rattle.dataset_meta.specs.DataValues.{DataValue}
 use Rattle.pubsub_model.specs.Frames.{PlacedFrame, IsPlacedFrame, Whole, Change, Alive, carried}
 use Rattle.pubsub_model.specs.Records.{Item, Arrival, Came, Cut, at}
 use Rattle.frame_codec.specs.Frames as frames
@@ -56,10 +57,22 @@ by_number (Some n) major message stamp is short own =
       record { version = own; number = is ∙ ap (λ (k : ℕ). Some k) (sym (carried-frame_at message.content n short)); content = sym (content_of-frame_at message.content n); place = has_place message.content n },
     )
 
+-- with no numbering a delta frame is no item
+by_content : (content : Content) (major : ℕ) (message : Frame) (stamp : Option ℕ) → message.content ≡ content → IsOfMajor major message.major → IsEither numberings.Unnumbered major message stamp
+by_content (frames.Whole row) major message stamp is own = inr (at 0 stamp (frame_at message.content 0), refl, (own, sym (content_of-frame_at message.content 0), λ change. absurd (no_change row change.0 (sym is ∙ change.1))))
+  where
+    no_change : (row : List DataValue) (patch : List (ℕ × DataValue)) → frames.Whole row ≡ frames.Change patch → ⊥
+    no_change row patch e = cc
+by_content (frames.Change patch) major message stamp is own = inl (inr (patch, is))
+by_content frames.Alive major message stamp is own = inr (at 0 stamp (frame_at message.content 0), refl, (own, sym (content_of-frame_at message.content 0), λ change. absurd (no_change change.0 (sym is ∙ change.1))))
+  where
+    no_change : (patch : List (ℕ × DataValue)) → frames.Alive ≡ frames.Change patch → ⊥
+    no_change patch e = cc
+
 of_major : (numbering : Numbering) (major : ℕ) (message : Frame) (stamp : Option ℕ) → IfSome message.number (λ n. n < 2 ^ 16) → IsOfMajor major message.major
     → IsEither numbering major message stamp
 of_major numberings.Message major message stamp short own = by_number message.number major message stamp refl short own
-of_major numberings.Unnumbered major message stamp short own = inr (at 0 stamp (frame_at message.content 0), refl, (own, sym (content_of-frame_at message.content 0)))
+of_major numberings.Unnumbered major message stamp short own = by_content message.content major message stamp refl own
 
 foreign_is_none : (numbering : Numbering) (major : ℕ) (message : Frame) → IsForeign major message → IsNoItem numbering major message
 foreign_is_none numberings.Message major message is = inl is

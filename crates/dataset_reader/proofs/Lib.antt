@@ -7,4 +7,6 @@ mod ListLaws
 mod EveryLaws
 mod BreakLaws
 mod AnswerLaws
+mod CountLaws
+mod PassedLaws
 mod Rows

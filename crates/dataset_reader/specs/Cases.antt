@@ -1,4 +1,4 @@
--- What one frame does to a reader, and what it is answered (OPC 10000-14, DataSetReader and DataSetMessageSequenceNumber).
+-- What one frame does to a reader, and what it is answered (OPC 10000-14 6.2.9, DataSetReader and DataSetMessageSequenceNumber).
 use Rattle.std.specs.Prelude.{ℕ, ◌+◌, ◌-◌, ◌%◌, ◌^◌, min, max, List, ◌∷◌, take, Bool, true, false, not, ◌||◌, nat_le, ◌==◌, Option, Some, None, unwrap_or, if◌then◌else◌}
 use Rattle.std.specs.Option.{option_map_or}
 use Rattle.dataset_meta.specs.DataValues.{DataValue}
@@ -22,13 +22,17 @@ unbroken outcome = record { outcome = outcome; broke = None }
 -- a delta frame that follows the last record is laid into the row that is held
 abbrev pub change_case : Kept → ℕ → List (ℕ × DataValue) → Option (List DataValue) → Kept × Outcome
 change_case kept number patch None = (kept, outcomes.Waiting kept.why)
-change_case kept number patch (Some row) = (record kept { number = Some number; row = Some (patched row patch) }, outcomes.Held)
+change_case kept number patch (Some row) =
+    (record kept { number = Some number; row = Some (patched row patch) }, outcomes.Held)
 
 -- what a record does: a key frame is held, and after a break nothing else is
 abbrev pub record_case : Kept → Content → ℕ → Bool → Kept × Outcome
-record_case kept (frames.Whole row) number broke = (record kept { number = Some number; row = Some row }, outcomes.Held)
-record_case kept (frames.Change patch) number true = (record kept { number = None; row = None; why = Gap }, outcomes.Waiting Gap)
-record_case kept frames.Alive number true = (record kept { number = None; row = None; why = Gap }, outcomes.Waiting Gap)
+record_case kept (frames.Whole row) number broke =
+    (record kept { number = Some number; row = Some row }, outcomes.Held)
+record_case kept (frames.Change patch) number true =
+    (record kept { number = None; row = None; why = Gap }, outcomes.Waiting Gap)
+record_case kept frames.Alive number true =
+    (record kept { number = None; row = None; why = Gap }, outcomes.Waiting Gap)
 record_case kept frames.Alive number false = (kept, outcomes.Waiting kept.why)
 record_case kept (frames.Change patch) number false = change_case kept number patch kept.row
 
@@ -52,7 +56,11 @@ breaks_run content number last = is_alive content || not (number == due last)
 
 -- a break is counted and shown
 abbrev pub noted : Kept → Break → Kept
-noted kept broke = record kept { breaks = min (kept.breaks + 1) (2 ^ 64 - 1); recent = take 8 (broke ∷ kept.recent) }
+noted kept broke =
+    record kept {
+      breaks = min (kept.breaks + 1) (2 ^ 64 - 1);
+      recent = take 8 (broke ∷ kept.recent);
+    }
 
 abbrev pub placed_at : Kept → ℕ → Kept
 placed_at kept place = record kept { last = Some place }
@@ -65,11 +73,13 @@ abbrev pub following_case : Kept → Content → ℕ → ℕ → ℕ → Bool �
 following_case kept content number place last true =
     let broke : Break = record { expected = due last; got = number } in
     with_break (Some broke) (record_case (noted (placed_at kept place) broke) content number true)
-following_case kept content number place last false = with_break None (record_case (placed_at kept place) content number false)
+following_case kept content number place last false =
+    with_break None (record_case (placed_at kept place) content number false)
 
 -- a frame with its place, and the last record's
 abbrev pub placed_case : Kept → Content → ℕ → ℕ → Option ℕ → Kept × Took
-placed_case kept content number place None = with_break None (record_case (placed_at kept place) content number false)
+placed_case kept content number place None =
+    with_break None (record_case (placed_at kept place) content number false)
 placed_case kept content number place (Some last) =
     if newer place last
     then following_case kept content number place last (breaks_run content number last)
@@ -95,7 +105,8 @@ record_number content number = if is_alive content then (number + 65535) % 65536
 abbrev pub numbered_case : Kept → Content → Option ℕ → Option ℕ → Kept × Took
 numbered_case kept content stamp None = (kept, unbroken outcomes.Unnumbered)
 numbered_case kept content stamp (Some number) =
-    let now = stamped kept stamp in placed_case now content number (record_number content number) now.last
+    let now = stamped kept stamp in
+    placed_case now content number (record_number content number) now.last
 
 -- with no numbering
 abbrev pub unnumbered_case : Kept → Content → Kept × Took
@@ -104,15 +115,18 @@ unnumbered_case kept (frames.Change patch) = (kept, unbroken outcomes.Unnumbered
 unnumbered_case kept frames.Alive = (kept, unbroken outcomes.Alive)
 
 abbrev pub numbering_case : Numbering → Kept → Frame → Option ℕ → Kept × Took
-numbering_case numberings.Message kept message stamp = numbered_case kept message.content stamp message.number
+numbering_case numberings.Message kept message stamp =
+    numbered_case kept message.content stamp message.number
 numbering_case numberings.Unnumbered kept message stamp = unnumbered_case kept message.content
 
 -- a carried major version
 abbrev pub major_case : Numbering → ℕ → Kept → Frame → Option ℕ → Option ℕ → Kept × Took
 major_case numbering major kept message stamp None = numbering_case numbering kept message stamp
 major_case numbering major kept message stamp (Some got) =
-    if got == major then numbering_case numbering kept message stamp else (kept, unbroken (outcomes.WrongMajor got))
+    if got == major then numbering_case numbering kept message stamp
+    else (kept, unbroken (outcomes.WrongMajor got))
 
 -- what a reader keeps after a message, for a data set with this major version, and what it answers
 abbrev pub frame_case : Numbering → ℕ → Kept → Frame → Option ℕ → Kept × Took
-frame_case numbering major kept message stamp = major_case numbering major kept message stamp message.major
+frame_case numbering major kept message stamp =
+    major_case numbering major kept message stamp message.major

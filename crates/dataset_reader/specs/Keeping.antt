@@ -23,11 +23,14 @@ stamps items = filter_map (λ item. item.stamp) items
 -- a nonce's number that is 16,384 or more above the greatest of these items'
 abbrev pub jumps : List Item → Option ℕ → Bool
 jumps items None = false
-jumps items (Some stamp) = not (is_nothing (stamps items)) && nat_le (greatest (stamps items) + 16384) stamp
+jumps items (Some stamp) =
+    not (is_nothing (stamps items)) && nat_le (greatest (stamps items) + 16384) stamp
 
 -- the arrivals with an item more; a jump cuts before it
 abbrev pub came_on : List Arrival → Item → List Arrival
-came_on before item = if jumps (since_cut before) item.stamp then Came item ∷ Cut Jump ∷ before else Came item ∷ before
+came_on before item =
+    if jumps (since_cut before) item.stamp then Came item ∷ Cut Jump ∷ before
+    else Came item ∷ before
 
 -- what came, with the cuts that jumps make
 abbrev pub with_jumps : List Arrival → List Arrival
@@ -59,10 +62,12 @@ pub record IsMessageOf (major : ℕ) (frame : PlacedFrame) (message : Frame) : T
   pub content : message.content ≡ content_of frame
   pub place : IsPlacedFrame frame
 
--- the message brings this frame to a reader with this numbering; with no numbering its number is nothing, and it may have none
+-- The message brings this frame to a reader with this numbering. With no numbering its number is nothing, and it may have none; a delta frame brings nothing.
 abbrev pub Brings : Numbering → ℕ → PlacedFrame → Frame → Type 0
 Brings numberings.Message major frame message = IsMessageOf major frame message
-Brings numberings.Unnumbered major frame message = IsOfMajor major message.major × (message.content ≡ content_of frame)
+Brings numberings.Unnumbered major frame message =
+    IsOfMajor major message.major × (message.content ≡ content_of frame)
+    × ¬ IsChange message.content
 
 -- a message of another major version
 abbrev pub IsForeign : ℕ → Frame → Type 0
@@ -116,9 +121,9 @@ KeepsBy numberings.Unnumbered arrivals kept = KeepsUnnumbered arrivals kept
 -- ---- one item more
 
 -- the arrivals with an item more; by numbers a jump cuts before it
-abbrev pub came_by : Numbering → List Arrival → Item → List Arrival
-came_by numberings.Message before item = came_on before item
-came_by numberings.Unnumbered before item = Came item ∷ before
+abbrev pub came_on_by : Numbering → List Arrival → Item → List Arrival
+came_on_by numberings.Message before item = came_on before item
+came_on_by numberings.Unnumbered before item = Came item ∷ before
 
 -- by numbers the item's place is near to those before it
 abbrev pub IsNearBy : Numbering → List Arrival → Item → Type 0
@@ -126,7 +131,8 @@ IsNearBy numberings.Message before item = AreNear (came_on before item)
 IsNearBy numberings.Unnumbered before item = ⊤
 
 -- behind these arrivals a message with this stamp is this item, near to those before, for a reader with this numbering of a data set with this major version
-pub record IsNextItem (numbering : Numbering) (major : ℕ) (before : List Arrival) (item : Item) (message : Frame) (stamp : Option ℕ) : Type 0 where
+pub record IsNextItem (numbering : Numbering) (major : ℕ) (before : List Arrival) (item : Item)
+    (message : Frame) (stamp : Option ℕ) : Type 0 where
   pub brings : Brings numbering major item.frame message
   pub stamp_is : item.stamp ≡ stamp
   pub near : IsNearBy numbering before item
@@ -142,9 +148,12 @@ pub record NumbersItsRow (kept : Kept) : Type 0 where
 -- or cut it.
 abbrev pub IsReading : Numbering → ℕ → List Arrival → Kept → Type 0
 IsReading numbering major [] kept = kept ≡ fresh
-IsReading numbering major (Cut why ∷ before) kept = (old : Kept) × IsReading numbering major before old × (kept ≡ cut_kept why old)
+IsReading numbering major (Cut why ∷ before) kept =
+    (old : Kept) × IsReading numbering major before old × (kept ≡ cut_kept why old)
 IsReading numbering major (Came item ∷ before) kept =
-    (old : Kept) × (message : Frame) × IsReading numbering major before old × Brings numbering major item.frame message × (kept ≡ (frame_case numbering major old message item.stamp).0)
+    (old : Kept) × (message : Frame) × IsReading numbering major before old
+    × Brings numbering major item.frame message
+    × (kept ≡ (frame_case numbering major old message item.stamp).0)
 
 -- what comes to a reader: a message with its stamp, or a cut
 pub data Event : Type 0 where
@@ -155,21 +164,26 @@ pub data Event : Type 0 where
 abbrev pub AreShort : List Event → Type 0
 AreShort [] = ⊤
 AreShort (CutBy why ∷ before) = AreShort before
-AreShort (Framed message stamp ∷ before) = IfSome message.number (λ number. number < 2 ^ 16) × AreShort before
+AreShort (Framed message stamp ∷ before) =
+    IfSome message.number (λ number. number < 2 ^ 16) × AreShort before
 
 -- what a new reader with this numbering, for a data set with this major version, keeps after all of this
 abbrev pub kept_after : Numbering → ℕ → List Event → Kept
 kept_after numbering major [] = fresh
 kept_after numbering major (CutBy why ∷ before) = cut_kept why (kept_after numbering major before)
-kept_after numbering major (Framed message stamp ∷ before) = (frame_case numbering major (kept_after numbering major before) message stamp).0
+kept_after numbering major (Framed message stamp ∷ before) =
+    (frame_case numbering major (kept_after numbering major before) message stamp).0
 
 -- what comes are these arrivals, and between them messages that are no items
 abbrev pub AreArrivals : Numbering → ℕ → List Event → List Arrival → Type 0
 AreArrivals numbering major [] arrivals = arrivals ≡ []
-AreArrivals numbering major (CutBy why ∷ before) arrivals = (earlier : List Arrival) × (arrivals ≡ Cut why ∷ earlier) × AreArrivals numbering major before earlier
+AreArrivals numbering major (CutBy why ∷ before) arrivals =
+    (earlier : List Arrival) × (arrivals ≡ Cut why ∷ earlier)
+    × AreArrivals numbering major before earlier
 AreArrivals numbering major (Framed message stamp ∷ before) arrivals =
     (IsNoItem numbering major message × AreArrivals numbering major before arrivals)
-    ⊎ ((item : Item) × (earlier : List Arrival) × (arrivals ≡ Came item ∷ earlier) × (item.stamp ≡ stamp)
+    ⊎ ((item : Item) × (earlier : List Arrival) × (arrivals ≡ Came item ∷ earlier)
+    × (item.stamp ≡ stamp)
     × Brings numbering major item.frame message × AreArrivals numbering major before earlier)
 
 -- the breaks with the one of an answer, if it tells of one

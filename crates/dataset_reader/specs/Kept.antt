@@ -1,4 +1,4 @@
--- What a reader keeps of the frames that came to it (OPC 10000-14, DataSetReader).
+-- What a reader keeps of the frames that came to it (OPC 10000-14 6.2.9, DataSetReader).
 use Rattle.std.specs.Prelude.{ℕ, List, [], Option, None}
 use Rattle.dataset_meta.specs.DataValues.{DataValue}
 use Rattle.pubsub_model.specs.declared.reading.Break.{Break}
@@ -18,8 +18,26 @@ pub record Kept : Type 0 where
 
 -- before any frame
 abbrev pub fresh : Kept
-fresh = record { last = None; stamp = None; number = None; row = None; why = Start; breaks = 0; recent = [] }
+fresh =
+    record {
+      last = None;
+      stamp = None;
+      number = None;
+      row = None;
+      why = Start;
+      breaks = 0;
+      recent = [];
+    }
 
 -- after a cut
 abbrev pub cut_kept : Why → Kept → Kept
-cut_kept why kept = record { last = None; stamp = None; number = None; row = None; why = why; breaks = kept.breaks; recent = kept.recent }
+cut_kept why kept =
+    record {
+      last = None;
+      stamp = None;
+      number = None;
+      row = None;
+      why = why;
+      breaks = kept.breaks;
+      recent = kept.recent;
+    }

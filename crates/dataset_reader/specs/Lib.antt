@@ -4,3 +4,4 @@ pub mod Keeping
 pub mod Answers
 pub mod State
 pub mod Reader
+pub mod Props

@@ -10,7 +10,7 @@ use Rattle.dataset_reader.specs.declared.took.Numbering.{Numbering}
 use Rattle.dataset_reader.specs.declared.took.Took.{Took}
 use Rattle.dataset_reader.specs.Kept.{Kept}
 use Rattle.dataset_reader.specs.Cases.{frame_case}
-use Rattle.dataset_reader.specs.Keeping.{KeepsBy, IsNextItem, came_by}
+use Rattle.dataset_reader.specs.Keeping.{KeepsBy, IsNextItem, came_on_by}
 use Rattle.dataset_reader.specs.State.{kept_in, IsStateOf}
 
 -- how it finds its place in the run of messages
@@ -23,7 +23,9 @@ kept_by fields reader = kept_in fields reader.state
 
 -- what a frame does to it, for a data set with this meta, and what it answers
 abbrev pub after_frame : MetaData → Reader → Frame → Option ℕ → Kept × Took
-after_frame meta reader frame stamp = frame_case (numbering_of reader) meta.major (kept_by meta.fields reader) (frame_in meta.fields frame) stamp
+after_frame meta reader frame stamp =
+    frame_case (numbering_of reader) meta.major (kept_by meta.fields reader)
+    (frame_in meta.fields frame) stamp
 
 -- the row that it holds is one of this meta
 abbrev pub IsReaderOf : MetaData → Reader → Type 0
@@ -31,12 +33,14 @@ IsReaderOf meta reader = IsStateOf meta reader.state
 
 -- it keeps what *Records* says of these arrivals
 abbrev pub HasRecords : MetaData → List Arrival → Reader → Type 0
-HasRecords meta arrivals reader = KeepsBy (numbering_of reader) arrivals (kept_by meta.fields reader)
+HasRecords meta arrivals reader =
+    KeepsBy (numbering_of reader) arrivals (kept_by meta.fields reader)
 
 -- behind these arrivals the frame with this stamp is this item, near to those before
 abbrev pub IsNext : MetaData → Reader → List Arrival → Item → Frame → Option ℕ → Type 0
-IsNext meta reader arrivals item frame stamp = IsNextItem (numbering_of reader) meta.major arrivals item (frame_in meta.fields frame) stamp
+IsNext meta reader arrivals item frame stamp =
+    IsNextItem (numbering_of reader) meta.major arrivals item (frame_in meta.fields frame) stamp
 
 -- the arrivals with this item more
-abbrev pub came_to : Reader → List Arrival → Item → List Arrival
-came_to reader arrivals item = came_by (numbering_of reader) arrivals item
+abbrev pub came_on_to : Reader → List Arrival → Item → List Arrival
+came_on_to reader arrivals item = came_on_by (numbering_of reader) arrivals item

@@ -15,7 +15,8 @@ use pubsub_model::{Break, Why};
 use row_words::Row;
 
 /// A reader of the messages of one data set (OPC 10000-14 6.2.9, DataSetReader). It holds the row of the last key frame with the
-/// changes of all delta frames since, where none is missing.
+/// changes of all delta frames since, where none is missing. With `Numbering::Unnumbered` delta frames are refused, and it holds
+/// the row of the last key frame.
 #[derive(Drop)]
 pub struct Reader {
     numbering: Numbering,
@@ -23,7 +24,7 @@ pub struct Reader {
 }
 
 impl Reader {
-    ghost use Rattle.dataset_reader.specs.Reader.{numbering_of, kept_by, after_frame, IsReaderOf, IsNext, HasRecords, came_to};
+    ghost use Rattle.dataset_reader.specs.Reader.{numbering_of, kept_by, after_frame, IsReaderOf, IsNext, HasRecords, came_on_to};
 
     /// A reader that waits for its first key frame.
     pub fn new(numbering: Numbering) -> Reader
@@ -42,9 +43,12 @@ impl Reader {
     pub fn frame(&mut self, meta: &Meta, frame: &Frame, stamp: Option<u32>) -> Took
         requires frame { IsFrameOf meta.now frame.now }
         requires reader { IsReaderOf meta.now self.old }
-        ensures records { (arrivals : List Arrival) (item : Item) → IsNext meta.now self.old arrivals item frame.now stamp
-            → HasRecords meta.now arrivals self.old → HasRecords meta.now (came_to self.old arrivals item) self.new }
-        ensures kept { kept_by meta.now.fields self.new ≡ (after_frame meta.now self.old frame.now stamp).0 }
+        ensures records { (arrivals : List Arrival) (item : Item)
+            → IsNext meta.now self.old arrivals item frame.now stamp
+            → HasRecords meta.now arrivals self.old
+            → HasRecords meta.now (came_on_to self.old arrivals item) self.new }
+        ensures kept { kept_by meta.now.fields self.new
+            ≡ (after_frame meta.now self.old frame.now stamp).0 }
         ensures took { result ≡ (after_frame meta.now self.old frame.now stamp).1 }
         ensures reader { IsReaderOf meta.now self.new }
         ensures numbering { numbering_of self.new ≡ numbering_of self.old }
@@ -54,9 +58,11 @@ impl Reader {
 
     /// Forgets where the run of messages was, and the row. The breaks stay counted.
     pub fn cut(&mut self, why: Why)
-        ensures records { (meta : MetaData) (arrivals : List Arrival) → HasRecords meta arrivals self.old
+        ensures records { (meta : MetaData) (arrivals : List Arrival)
+            → HasRecords meta arrivals self.old
             → HasRecords meta (Cut why ∷ arrivals) self.new }
-        ensures kept { (fields : List Field) → kept_by fields self.new ≡ cut_kept why (kept_by fields self.old) }
+        ensures kept { (fields : List Field) → kept_by fields self.new
+            ≡ cut_kept why (kept_by fields self.old) }
         ensures reader { (meta : MetaData) → IsReaderOf meta self.new }
         ensures numbering { numbering_of self.new ≡ numbering_of self.old }
     {
@@ -65,8 +71,10 @@ impl Reader {
 
     /// The row that is held.
     pub fn row(&self) -> Option<&Row>
-        ensures row { (fields : List Field) → option_map (λ row. row_in fields row.now.words) result ≡ (kept_by fields self.now).row }
-        ensures belongs { (meta : MetaData) → IsReaderOf meta self.now → IfSome result (λ row. Belongs meta row.now.words) }
+        ensures row { (fields : List Field) → option_map (λ row. row_in fields row.now.words) result
+            ≡ (kept_by fields self.now).row }
+        ensures belongs { (meta : MetaData) → IsReaderOf meta self.now
+            → IfSome result (λ row. Belongs meta row.now.words) }
     {
         self.state.row()
     }
@@ -94,7 +102,8 @@ impl Reader {
 
     /// The last eight breaks, the oldest first.
     pub fn recent(&self) -> &[Break]
-        ensures recent { (fields : List Field) → reverse result.now ≡ (kept_by fields self.now).recent }
+        ensures recent { (fields : List Field)
+            → reverse result.now ≡ (kept_by fields self.now).recent }
         ensures few { length result.now ≤ 8 }
     {
         self.state.recent.as_slice()

@@ -63,9 +63,12 @@ impl State {
         requires frame { IsFrameOf meta.now frame.now }
         requires state { IsStateOf meta.now self.old }
         ensures state { IsStateOf meta.now self.new }
-        ensures kept { let old = kept_in meta.now.fields self.old in let message = frame_in meta.now.fields frame.now in
-            kept_in meta.now.fields self.new ≡ (frame_case numbering meta.now.major old message stamp).0 }
-        ensures took { let old = kept_in meta.now.fields self.old in let message = frame_in meta.now.fields frame.now in
+        ensures kept { let old = kept_in meta.now.fields self.old in
+            let message = frame_in meta.now.fields frame.now in
+            kept_in meta.now.fields self.new ≡
+            (frame_case numbering meta.now.major old message stamp).0 }
+        ensures took { let old = kept_in meta.now.fields self.old in
+            let message = frame_in meta.now.fields frame.now in
             result ≡ (frame_case numbering meta.now.major old message stamp).1 }
     {
         if let Some(got) = frame.major {
@@ -85,7 +88,8 @@ impl State {
         requires state { IsStateOf meta.now self.old }
         ensures state { IsStateOf meta.now self.new }
         ensures kept { let content = content_in meta.now.fields kind.now in
-            kept_in meta.now.fields self.new ≡ (unnumbered_case (kept_in meta.now.fields self.old) content).0 }
+            kept_in meta.now.fields self.new ≡
+            (unnumbered_case (kept_in meta.now.fields self.old) content).0 }
         ensures took { let content = content_in meta.now.fields kind.now in
             result ≡ (unnumbered_case (kept_in meta.now.fields self.old) content).1 }
     {
@@ -111,7 +115,8 @@ impl State {
         requires state { IsStateOf meta.now self.old }
         ensures state { IsStateOf meta.now self.new }
         ensures kept { let content = content_in meta.now.fields kind.now in
-            kept_in meta.now.fields self.new ≡ (numbered_case (kept_in meta.now.fields self.old) content stamp number).0 }
+            kept_in meta.now.fields self.new ≡
+            (numbered_case (kept_in meta.now.fields self.old) content stamp number).0 }
         ensures took { let content = content_in meta.now.fields kind.now in
             result ≡ (numbered_case (kept_in meta.now.fields self.old) content stamp number).1 }
     {
@@ -124,7 +129,8 @@ impl State {
 
     /// Forgets where the run of messages was, and the row.
     pub fn cut(&mut self, why: Why)
-        ensures kept { (fields : List Field) → kept_in fields self.new ≡ cut_kept why (kept_in fields self.old) }
+        ensures kept { (fields : List Field) → kept_in fields self.new
+            ≡ cut_kept why (kept_in fields self.old) }
         ensures state { (meta : MetaData) → IsStateOf meta self.new }
     {
         self.last = None;
@@ -135,15 +141,18 @@ impl State {
     }
 
     pub fn row(&self) -> Option<&Row>
-        ensures row { (fields : List Field) → option_map (λ row. row_in fields row.now.words) result ≡ (kept_in fields self.now).row }
-        ensures belongs { (meta : MetaData) → IsStateOf meta self.now → IfSome result (λ row. Belongs meta row.now.words) }
+        ensures row { (fields : List Field) → option_map (λ row. row_in fields row.now.words) result
+            ≡ (kept_in fields self.now).row }
+        ensures belongs { (meta : MetaData) → IsStateOf meta self.now
+            → IfSome result (λ row. Belongs meta row.now.words) }
     {
         if self.holds { Some(&self.row) } else { None }
     }
 
     // Keeps the greatest stamp; a jump cuts the reader.
     fn mark(&mut self, stamp: Option<u32>)
-        ensures kept { (fields : List Field) → kept_in fields self.new ≡ stamped (kept_in fields self.old) stamp }
+        ensures kept { (fields : List Field) → kept_in fields self.new
+            ≡ stamped (kept_in fields self.old) stamp }
         ensures state { (meta : MetaData) → IsStateOf meta self.old → IsStateOf meta self.new }
     {
         let Some(stamp) = stamp else {
@@ -166,9 +175,12 @@ impl State {
         requires kind { IsKindOf meta.now kind.now }
         requires state { IsStateOf meta.now self.old }
         ensures state { IsStateOf meta.now self.new }
-        ensures kept { let old = kept_in meta.now.fields self.old in let content = content_in meta.now.fields kind.now in
-            kept_in meta.now.fields self.new ≡ (placed_case old content number (record_number content number) old.last).0 }
-        ensures took { let old = kept_in meta.now.fields self.old in let content = content_in meta.now.fields kind.now in
+        ensures kept { let old = kept_in meta.now.fields self.old in
+            let content = content_in meta.now.fields kind.now in
+            kept_in meta.now.fields self.new ≡
+            (placed_case old content number (record_number content number) old.last).0 }
+        ensures took { let old = kept_in meta.now.fields self.old in
+            let content = content_in meta.now.fields kind.now in
             result ≡ (placed_case old content number (record_number content number) old.last).1 }
     {
         let here = record_number(kind, number);
@@ -196,7 +208,8 @@ impl State {
     }
 
     fn note(&mut self, found: Break)
-        ensures kept { (fields : List Field) → kept_in fields self.new ≡ noted (kept_in fields self.old) found }
+        ensures kept { (fields : List Field) → kept_in fields self.new
+            ≡ noted (kept_in fields self.old) found }
         ensures state { (meta : MetaData) → IsStateOf meta self.old → IsStateOf meta self.new }
     {
         self.breaks = self.breaks.saturating_add(1);
@@ -208,7 +221,8 @@ impl State {
         requires state { IsStateOf meta.now self.old }
         ensures state { IsStateOf meta.now self.new }
         ensures kept { let content = content_in meta.now.fields kind.now in
-            kept_in meta.now.fields self.new ≡ (record_case (kept_in meta.now.fields self.old) content number broke).0 }
+            kept_in meta.now.fields self.new ≡
+            (record_case (kept_in meta.now.fields self.old) content number broke).0 }
         ensures outcome { let content = content_in meta.now.fields kind.now in
             result ≡ (record_case (kept_in meta.now.fields self.old) content number broke).1 }
     {
@@ -239,7 +253,9 @@ impl State {
 
     // A row that is held is lost where the run of messages broke.
     fn wait(&mut self, broke: bool) -> Outcome
-        ensures kept { self.new ≡ (if broke then record self.old { holds = false; number = None; why = Why.Gap } else self.old) }
+        ensures kept { self.new
+            ≡ (if broke then record self.old { holds = false; number = None; why = Why.Gap } else
+            self.old) }
         ensures outcome { result ≡ Outcome.Waiting self.new.why }
     {
         if broke {

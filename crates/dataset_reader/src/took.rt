@@ -10,13 +10,16 @@ pub enum Numbering {
     Unnumbered,
 }
 
+/// What a reader answers to a frame.
 #[derive(Clone, Copy, Debug, PartialEq, Eq)]
 pub struct Took {
+    /// What the reader did with it.
     pub outcome: Outcome,
     /// The break in the run of messages that the frame showed.
     pub broke: Option<Break>,
 }
 
+/// What a reader did with a frame.
 #[derive(Clone, Copy, Debug, PartialEq, Eq)]
 pub enum Outcome {
     /// The reader holds the frame's row, or its own with the frame's changes.

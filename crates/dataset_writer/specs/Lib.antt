@@ -1,3 +1,4 @@
 pub mod Turns
 pub mod Sends
 pub mod Standing
+pub mod Props

@@ -10,7 +10,12 @@ use Rattle.dataset_writer.specs.declared.sends.Sends.{Sends}
 -- the frame with the number of this place, and with the version of the meta where frames carry it
 abbrev pub framed : MetaData → Bool → ℕ → Frame → Frame
 framed meta versions place frame =
-    record { number = Some (number_of_place place); kind = frame.kind; major = version_if versions meta.major; minor = version_if versions meta.minor }
+    record {
+      number = Some (number_of_place place);
+      kind = frame.kind;
+      major = version_if versions meta.major;
+      minor = version_if versions meta.minor;
+    }
 
 -- a frame was sent at the next place
 pub record HasSent (meta : MetaData) (versions : Bool) (old new : Sends) : Type 0 where

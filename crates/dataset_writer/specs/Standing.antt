@@ -11,18 +11,22 @@ use Rattle.dataset_writer.specs.declared.writer.Writer.{Writer}
 use Rattle.dataset_writer.specs.Turns.{model_settings, latest_answer}
 
 -- where these answered turns leave a writer, fresh or not; it keeps the row of the last data frame while it isn't fresh
-pub record StandsAfter (meta : MetaData) (settings : WriterSettings) (fresh : Bool) (answered : List Answered) (writer : Writer) : Type 0 where
+pub record StandsAfter (meta : MetaData) (settings : WriterSettings) (fresh : Bool)
+    (answered : List Answered) (writer : Writer) : Type 0 where
   pub settings_are : writer.settings ≡ settings
   pub fresh_is : writer.fresh ≡ fresh
   pub until_key_is : writer.until_key ≡ settings.key_frame_count - turns_since is_key answered
   pub sent_at_is : writer.sends.sent_at ≡ (last_turn is_any answered).moment
-  pub row_is : fresh ≡ false → row_in meta.fields writer.sends.row.words ≡ (last_turn is_data answered).row
+  pub row_is : fresh ≡ false → row_in meta.fields writer.sends.row.words
+      ≡ (last_turn is_data answered).row
   pub next_is : writer.sends.next.place ≡ next_place (model_settings settings) answered
   pub log_is : writer.sends.log.items ≡ reverse (filter_map log_entry answered)
 
 -- where these deeds, by their cadence, leave a writer with these settings; the rows since the last refresh are of this meta
-pub record IsWriter (meta : MetaData) (settings : WriterSettings) (deeds : List WriterDeed) (writer : Writer) : Type 0 where
-  pub stands : StandsAfter meta settings (is_fresh deeds) (cadence (model_settings settings) deeds) writer
+pub record IsWriter (meta : MetaData) (settings : WriterSettings) (deeds : List WriterDeed)
+    (writer : Writer) : Type 0 where
+  pub stands : StandsAfter meta settings (is_fresh deeds)
+      (cadence (model_settings settings) deeds) writer
 
 -- the row that a writer keeps, while it isn't fresh, is one of this meta
 abbrev pub HoldsRowOf : MetaData → Writer → Type 0
@@ -38,7 +42,9 @@ lent true writer = Some (frame_of_turn writer)
 lent false writer = None
 
 -- a turn behind these deeds: where it leaves the writer, and that it sends the frame of the cadence's answer, if there is one
-pub record Answers (meta : MetaData) (settings : WriterSettings) (deeds : List WriterDeed) (turn : WriterTurn) (after : Writer) (sent : Option Frame) : Type 0 where
+pub record Answers (meta : MetaData) (settings : WriterSettings) (deeds : List WriterDeed)
+    (turn : WriterTurn) (after : Writer) (sent : Option Frame) : Type 0 where
   pub stands : IsWriter meta settings (HadTurn turn ∷ deeds) after
   pub sends : option_map (frame_in meta.fields) sent
-      ≡ option_map (frame_of settings.versions meta.major meta.minor) (latest_answer (cadence (model_settings settings) (HadTurn turn ∷ deeds)))
+      ≡ option_map (frame_of settings.versions meta.major meta.minor)
+      (latest_answer (cadence (model_settings settings) (HadTurn turn ∷ deeds)))

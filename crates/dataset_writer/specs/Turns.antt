@@ -13,11 +13,17 @@ use Rattle.dataset_writer.specs.declared.turn.Turn.{Turn}
 use Rattle.dataset_writer.specs.declared.turn.Turn.TheVariants.{Send, Quiet}
 
 abbrev pub model_settings : WriterSettings → Settings
-model_settings s = record { first_number = s.first_number; key_frame_count = s.key_frame_count; keep_alive = s.keep_alive }
+model_settings s =
+    record {
+      first_number = s.first_number;
+      key_frame_count = s.key_frame_count;
+      keep_alive = s.keep_alive;
+    }
 
 -- a turn at this moment, with the row that the words stand for
 abbrev pub turn_at : List Field → ℕ → Row → ℕ → Bool → WriterTurn
-turn_at fields now row version closing = record { moment = now; row = row_in fields row.words; version = version; closing = closing }
+turn_at fields now row version closing =
+    record { moment = now; row = row_in fields row.words; version = version; closing = closing }
 
 -- what the latest turn is answered
 abbrev pub latest_answer : List Answered → Option PlacedFrame

@@ -7,6 +7,7 @@ ghost use Rattle.pubsub_model.specs.Cadence.{Settings, WriterTurn, WriterDeed, H
 /// What the frames of a writer publish up to a turn is the row of that turn, whatever came before, where the rows of the turns
 /// between two refreshes are rows of one meta.
 pub fn frames_publish_each_row()
-    ensures { (meta : MetaData) (s : Settings) (turn : WriterTurn) (deeds : List WriterDeed) → HasRowsOf meta (HadTurn turn ∷ deeds)
+    ensures { (meta : MetaData) (s : Settings) (turn : WriterTurn) (deeds : List WriterDeed)
+        → HasRowsOf meta (HadTurn turn ∷ deeds)
         → published (frames_of (cadence s (HadTurn turn ∷ deeds))) ≡ turn.row }
 {}

@@ -5,8 +5,6 @@
 mod laws;
 mod sends;
 mod settings;
-#[cfg(test)]
-mod tests;
 mod turn;
 mod writer;
 

@@ -1,5 +1,5 @@
 //! What a writer sends, and what it keeps of it.
-ghost use Rattle.std.specs.Prelude.{◌≡◌, ◌≢◌, ◌<◌, ◌≤◌, ◌+◌, ◌^◌, [], true, false, IfOk, List, vec_len, vec_capacity};
+ghost use Rattle.std.specs.Prelude.{◌≡◌, ◌<◌, ◌≤◌, ◌+◌, ◌^◌, [], IfOk, List, vec_len, vec_capacity};
 ghost use Rattle.dataset_meta.specs.Metas.{MetaData};
 ghost use Rattle.row_words.specs.declared.patch.Patch.{Patch as PatchValue};
 ghost use Rattle.row_words.specs.Belonging.{Belongs, row_in};
@@ -53,21 +53,6 @@ impl Sends {
         })
     }
 
-    /// Whether the row differs from that of the last data frame. Behind the words of the meta both have zeros. Each word is
-    /// compared, with no branch, so that several are compared at a time.
-    pub fn differs(&self, meta: &Meta, row: &Row) -> bool
-        requires holds { Belongs meta.now self.now.row.words }
-        requires row { Belongs meta.now row.now.words }
-        ensures apart { result ≡ true → self.now.row.words ≢ row.now.words }
-        ensures same { result ≡ false → self.now.row.words ≡ row.now.words }
-    {
-        let mut differs = false;
-        for index in 0..meta.words() as usize {
-            differs |= self.row.words[index] != row.words[index];
-        }
-        differs
-    }
-
     /// Sends a key frame.
     pub fn whole(&mut self, meta: &Meta, versions: bool, now: u64, row: &Row, version: u64)
         requires room { vec_len self.old.log < vec_capacity self.old.log }
@@ -87,8 +72,11 @@ impl Sends {
         requires few { self.old.next.place < 2 ^ 63 }
         requires holds { Belongs meta.now self.old.row.words }
         requires row { Belongs meta.now row.now.words }
-        ensures kind { (patch : PatchValue) × (self.new.frame.kind ≡ FrameKind.Change patch) × IsPatchOf meta.now patch
-            × (patch_in meta.now.fields patch ≡ differs (row_in meta.now.fields self.old.row.words) (row_in meta.now.fields row.now.words)) }
+        ensures kind { (patch : PatchValue) × (self.new.frame.kind ≡ FrameKind.Change patch)
+            × IsPatchOf meta.now patch
+            × (patch_in meta.now.fields patch
+            ≡ differs (row_in meta.now.fields self.old.row.words)
+            (row_in meta.now.fields row.now.words)) }
         ensures sent { HasSent meta.now versions self.old self.new }
         ensures data_is { IsData now row.now version self.old self.new }
         ensures room { vec_capacity self.old.log ≤ vec_capacity self.new.log }
@@ -129,7 +117,10 @@ impl Sends {
 
     // The next number, and the version of the meta where frames carry it.
     fn head(&mut self, meta: &Meta, versions: bool)
-        ensures { self.new ≡ record self.old { frame = framed meta.now versions self.old.next.place self.old.frame } }
+        ensures { self.new
+            ≡ record self.old {
+              frame = framed meta.now versions self.old.next.place self.old.frame;
+            } }
     {
         self.frame.number = Some(self.next.wire());
         self.frame.major = versions.then_some(meta.major());

@@ -2,6 +2,7 @@
 ghost use Rattle.std.specs.Prelude.{◌≡◌, ◌<◌, ◌≤◌, ◌+◌, ◌-◌, ◌^◌, ◌∷◌, ◌||◌, ◌&&◌, ◌==◌, [], true, IfOk, List, not, nat_le, vec_len, vec_capacity};
 ghost use Rattle.dataset_meta.specs.Metas.{MetaData};
 ghost use Rattle.row_words.specs.Belonging.{Belongs};
+ghost use Rattle.frame_codec.specs.declared.frame.Frame.{Frame as FrameValue};
 ghost use Rattle.frame_codec.specs.Words.{IsFrameOf};
 ghost use Rattle.pubsub_model.specs.Cadence.{WriterDeed, Refreshed, log_of};
 ghost use Rattle.dataset_writer.specs.declared.settings.WriterSettings.{WriterSettings as SettingsValue};
@@ -12,6 +13,7 @@ use crate::settings::WriterSettings;
 use crate::turn::Turn;
 use dataset_meta::Meta;
 use frame_codec::Frame;
+use key_delta::is_changed;
 use row_words::Row;
 use std::alloc::Global;
 use ua_base::NoMemory;
@@ -20,8 +22,8 @@ use ua_base::NoMemory;
 #[derive(Drop)]
 pub struct Writer {
     settings: WriterSettings,
-    /// Turns that may still come.
-    pub left: u32,
+    // Turns that may still come.
+    left: u32,
     // Whether the next turn gets a key frame whatever came before it.
     fresh: bool,
     // After so many turns more the next one gets a key frame.
@@ -38,7 +40,8 @@ impl Writer {
     /// A fresh writer before its first turn, with room for what so many turns log.
     pub fn new(alloc: Global, settings: WriterSettings, turns: u32) -> Result<Writer, NoMemory>
         requires { 1 ≤ settings.key_frame_count }
-        ensures stands { IfOk result (λ writer. (meta : MetaData) → IsWriter meta settings [] writer) }
+        ensures stands { IfOk result (λ writer. (meta : MetaData)
+            → IsWriter meta settings [] writer) }
         ensures holds { IfOk result (λ writer. (meta : MetaData) → HoldsRowOf meta writer) }
         ensures left { IfOk result (λ writer. writer.left ≡ turns) }
     {
@@ -51,9 +54,17 @@ impl Writer {
         })
     }
 
+    /// How many turns may still come.
+    pub fn left(&self) -> u32
+        ensures { result ≡ self.now.left }
+    {
+        self.left
+    }
+
     /// Place and version of each data frame that was sent, in order.
     pub fn log(&self) -> &[(u64, u64)]
-        ensures { (meta : MetaData) (settings : SettingsValue) (deeds : List WriterDeed) → IsWriter meta settings deeds self.now
+        ensures { (meta : MetaData) (settings : SettingsValue) (deeds : List WriterDeed)
+            → IsWriter meta settings deeds self.now
             → result.now ≡ log_of (model_settings settings) deeds }
     {
         &self.sends.log
@@ -62,9 +73,11 @@ impl Writer {
     /// Makes the writer fresh: its next turn gets a key frame, and that ends it. The meta of that turn may be another one, as
     /// where the data set has grown.
     pub fn refresh(&mut self)
-        ensures stands { (meta other : MetaData) (settings : SettingsValue) (deeds : List WriterDeed) → IsWriter meta settings deeds self.old
+        ensures stands { (meta other : MetaData) (settings : SettingsValue)
+            (deeds : List WriterDeed) → IsWriter meta settings deeds self.old
             → IsWriter other settings (Refreshed ∷ deeds) self.new }
         ensures holds { (meta : MetaData) → HoldsRowOf meta self.new }
+        ensures frame { frame_of_turn self.new ≡ frame_of_turn self.old }
         ensures left { self.new.left ≡ self.old.left }
     {
         self.fresh = true;
@@ -75,9 +88,13 @@ impl Writer {
         requires left { 0 < self.old.left }
         requires holds { HoldsRowOf meta.now self.old }
         requires row { Belongs meta.now row.now.words }
-        ensures answers { (settings : SettingsValue) (deeds : List WriterDeed) → IsWriter meta.now settings deeds self.old
-            → Answers meta.now settings deeds (turn_at meta.now.fields now row.now version closing) self.new (sent_by result) }
+        ensures answers { (settings : SettingsValue) (deeds : List WriterDeed)
+            → IsWriter meta.now settings deeds self.old
+            → Answers meta.now settings deeds
+            (turn_at meta.now.fields now row.now version closing) self.new (sent_by result) }
         ensures frame { IsTurnOf meta.now result }
+        ensures lends { (sent : FrameValue) → result ≡ Turn.Send sent
+            → frame_of_turn self.new ≡ sent }
         ensures holds { HoldsRowOf meta.now self.new }
         ensures left { self.new.left + 1 ≡ self.old.left }
     {
@@ -93,8 +110,10 @@ impl Writer {
         requires left { 0 < self.old.left }
         requires holds { HoldsRowOf meta.now self.old }
         requires row { Belongs meta.now row.now.words }
-        ensures answers { (settings : SettingsValue) (deeds : List WriterDeed) → IsWriter meta.now settings deeds self.old
-            → Answers meta.now settings deeds (turn_at meta.now.fields now row.now version closing) self.new (lent result self.new) }
+        ensures answers { (settings : SettingsValue) (deeds : List WriterDeed)
+            → IsWriter meta.now settings deeds self.old
+            → Answers meta.now settings deeds
+            (turn_at meta.now.fields now row.now version closing) self.new (lent result self.new) }
         ensures frame { result ≡ true → IsFrameOf meta.now (frame_of_turn self.new) }
         ensures holds { HoldsRowOf meta.now self.new }
         ensures left { self.new.left + 1 ≡ self.old.left }
@@ -108,7 +127,7 @@ impl Writer {
             return true;
         }
         self.until_key -= 1;
-        if self.sends.differs(meta, row) {
+        if is_changed(meta, &self.sends.row, row) {
             self.sends.change(meta, versions, now, row, version);
             return true;
         }
@@ -119,7 +138,7 @@ impl Writer {
         true
     }
 
-    /// The frame that the last turn sent, if it sent one.
+    /// The frame of the last turn, where that turn sent one.
     pub fn frame(&self) -> &Frame
         ensures { result.now ≡ frame_of_turn self.now }
     {
@@ -135,7 +154,9 @@ impl Writer {
 
     /// Whether a turn now, without a data frame, gets a keep-alive.
     fn is_alive_due(&self, now: u64) -> bool
-        ensures { result ≡ (not (self.now.settings.keep_alive == 0) && nat_le self.now.settings.keep_alive (now - self.now.sends.sent_at)) }
+        ensures { result
+            ≡ (not (self.now.settings.keep_alive == 0) && nat_le self.now.settings.keep_alive
+            (now - self.now.sends.sent_at)) }
     {
         let keep_alive = self.settings.keep_alive;
         keep_alive != 0 && keep_alive <= now.saturating_sub(self.sends.sent_at)

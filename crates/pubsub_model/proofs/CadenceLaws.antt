@@ -28,7 +28,7 @@ answer-key s fresh before turn e = rw e (rw (any_turn fresh turn.closing _) refl
 
 -- ---- the log
 
-counted_on : (turn : WriterTurn) (a : Option PlacedFrame) (before : List Answered) (d : Bool) → d ≡ is_data (record { turn = turn; answer = a })
+pub counted_on : (turn : WriterTurn) (a : Option PlacedFrame) (before : List Answered) (d : Bool) → d ≡ is_data (record { turn = turn; answer = a })
     → count_by is_data (record { turn = turn; answer = a } ∷ before) ≡ cond d 1 0 + count_by is_data before
 counted_on turn a before d e = rw e (sum_by-cons (λ (x : Answered). cond (is_data x) 1 0) (record { turn = turn; answer = a }) before)
 
@@ -187,7 +187,7 @@ counts_before : (turn : WriterTurn) (a : Option PlacedFrame) (before : List Answ
 counts_before turn a before some = omega (arith, some, counted_on turn a before (is_data (record { turn = turn; answer = a })) refl)
 
 -- among the answers of some turns is a data frame: the first turn's
-some_data : (s : Settings) (turn : WriterTurn) (before : List WriterDeed) → 1 ≤ count_by is_data (cadence s (HadTurn turn ∷ before))
+pub some_data : (s : Settings) (turn : WriterTurn) (before : List WriterDeed) → 1 ≤ count_by is_data (cadence s (HadTurn turn ∷ before))
 some_data s turn [] = key_counts turn (next_place s []) []
 some_data s turn (Refreshed ∷ before) = key_counts turn (next_place s (cadence s before)) (cadence s before)
 some_data s turn (HadTurn last ∷ before) = counts_before turn _ (cadence s (HadTurn last ∷ before)) (some_data s last before)

@@ -108,11 +108,13 @@ length-entries : (fields : List Field) (patches : List (List (List (ℕ × DataV
 length-entries fields patches [] = refl
 length-entries fields patches (thread ∷ before) = omega (arith, length-entries fields patches before)
 
--- the row of the version that these threads make is the row that they leave
-row_of-version : (fields : List Field) (patches : List (List (List (ℕ × DataValue)))) (later before : List ℕ)
-    → row_of fields (legal_history fields patches (later ++ before)) (length before) ≡ last_row fields (legal_rows fields patches before)
-row_of-version fields patches later [] = refl
-row_of-version fields patches later (thread ∷ before) =
+pub length-history : (fields : List Field) (patches : List (List (List (ℕ × DataValue)))) (threads : List ℕ) → length (legal_history fields patches threads) ≡ length threads
+length-history fields patches threads = length-reverse (legal_entries fields patches threads) ∙ length-entries fields patches threads
+
+-- the entry of the version that a thread makes names it, with the row that it leaves
+pub entry-version : (fields : List Field) (patches : List (List (List (ℕ × DataValue)))) (later : List ℕ) (thread : ℕ) (before : List ℕ)
+    → slice_get (legal_history fields patches (later ++ thread ∷ before)) (length before) ≡ Some (record { author = thread; row = last_row fields (legal_rows fields patches (thread ∷ before)) })
+entry-version fields patches later thread before =
     let split = entries_split fields patches later thread before in
     let entry = entry_on fields patches thread before in
     let earlier = reverse (legal_entries fields patches before) in
@@ -120,9 +122,14 @@ row_of-version fields patches later (thread ∷ before) =
     ap reverse split.1 ∙ reverse-append split.0 (entry ∷ legal_entries fields patches before)
     ∙ ap (λ (l : List Written). l ++ reverse split.0) (reverse-append (entry ∷ []) (legal_entries fields patches before)) ∙ append_assoc earlier (entry ∷ []) (reverse split.0) in
     let place : length before ≡ length earlier = sym (length-reverse (legal_entries fields patches before) ∙ length-entries fields patches before) in
-    let found : slice_get (legal_history fields patches (later ++ thread ∷ before)) (length before) ≡ Some entry =
-    ap (λ (l : List Written). slice_get l (length before)) turned ∙ ap (slice_get (earlier ++ entry ∷ reverse split.0)) place ∙ slice_get-seam earlier entry (reverse split.0) in
-    ap (λ (o : Option Written). unwrap_or (option_map (λ e. e.row) o) (opening_row fields)) found
+    ap (λ (l : List Written). slice_get l (length before)) turned ∙ ap (slice_get (earlier ++ entry ∷ reverse split.0)) place ∙ slice_get-seam earlier entry (reverse split.0)
+
+-- the row of the version that these threads make is the row that they leave
+row_of-version : (fields : List Field) (patches : List (List (List (ℕ × DataValue)))) (later before : List ℕ)
+    → row_of fields (legal_history fields patches (later ++ before)) (length before) ≡ last_row fields (legal_rows fields patches before)
+row_of-version fields patches later [] = refl
+row_of-version fields patches later (thread ∷ before) =
+    ap (λ (o : Option Written). unwrap_or (option_map (λ e. e.row) o) (opening_row fields)) (entry-version fields patches later thread before)
 
 pub versions-patched : (fields : List Field) (patches : List (List (List (ℕ × DataValue)))) (later : List ℕ) (thread : ℕ) (before : List ℕ)
     → row_of fields (legal_history fields patches (later ++ thread ∷ before)) (length (thread ∷ before))

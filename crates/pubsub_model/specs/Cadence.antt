@@ -1,5 +1,5 @@
--- Cadence: what a writer sends at each of its turns (OPC 10000-14, KeyFrameCount and KeepAliveTime). Lists have the latest first.
-use Rattle.std.specs.Prelude.{ℕ, ◌+◌, ◌-◌, List, [], ◌∷◌, reverse, filter_map, count_by, Bool, true, false, not, ◌&&◌, ◌||◌, nat_le, ◌==◌, Option, Some, None, is_some, option_map, find, if◌then◌else◌, ⊤}
+-- Cadence: what a writer sends at each of its turns (OPC 10000-14 6.2.4.3, KeyFrameCount, and 6.2.6.3, KeepAliveTime). Lists have the latest first.
+use Rattle.std.specs.Prelude.{◌≡◌, ℕ, ◌+◌, ◌-◌, List, [], ◌∷◌, ◌++◌, All, reverse, filter_map, count_by, Bool, true, false, not, ◌&&◌, ◌||◌, nat_le, ◌==◌, Option, Some, None, is_some, option_map, find, if◌then◌else◌, ⊤}
 use Rattle.std.specs.Option.{option_map_or}
 use Rattle.std.specs.List.{position_or_len}
 use Rattle.dataset_meta.specs.DataValues.{DataValue}
@@ -68,17 +68,20 @@ next_place s before = s.first_number + count_by is_data before
 -- a keep-alive that is due, else nothing
 abbrev pub quiet_answer : Settings → List Answered → WriterTurn → Option PlacedFrame
 quiet_answer s before turn =
-    if not (s.keep_alive == 0) && nat_le s.keep_alive (turn.moment - (last_turn is_any before).moment)
+    if not (s.keep_alive == 0) && nat_le s.keep_alive
+    (turn.moment - (last_turn is_any before).moment)
     then Some (Alive (next_place s before)) else None
 
 -- the delta frame of a patch, and the quiet answer where nothing changes
-abbrev pub change_answer : Settings → List Answered → WriterTurn → List (ℕ × DataValue) → Option PlacedFrame
+abbrev pub change_answer : Settings → List Answered → WriterTurn → List (ℕ × DataValue)
+    → Option PlacedFrame
 change_answer s before turn [] = quiet_answer s before turn
 change_answer s before turn (change ∷ patch) = Some (Change (next_place s before) (change ∷ patch))
 
 -- a key frame is due at a fresh turn, at the closing one, and where the last one is at least KeyFrameCount turns ago
 abbrev pub is_key_due : Settings → Bool → List Answered → WriterTurn → Bool
-is_key_due s fresh before turn = fresh || turn.closing || nat_le s.key_frame_count (turns_since is_key before)
+is_key_due s fresh before turn =
+    fresh || turn.closing || nat_le s.key_frame_count (turns_since is_key before)
 
 -- the answer of a turn, the first case that holds: a key frame, what differs from the row of the last data frame, a keep-alive, nothing
 abbrev pub answer : Settings → Bool → List Answered → WriterTurn → Option PlacedFrame
@@ -86,6 +89,14 @@ answer s fresh before turn =
     if is_key_due s fresh before turn
     then Some (Whole (next_place s before) turn.row)
     else change_answer s before turn (differs (last_turn is_data before).row turn.row)
+
+-- behind these turns, none of which is answered by a key frame, stands one that is
+pub record HasKeyBehind (since answered : List Answered) : Type 0 where
+  pub key : Answered
+  pub before : List Answered
+  pub split : answered ≡ since ++ key ∷ before
+  pub is_key_frame : is_key key ≡ true
+  pub none_since : All (λ a. is_key a ≡ false) since
 
 -- a turn is fresh where it is the first, or a refresh came since the turn before
 abbrev pub is_fresh : List WriterDeed → Bool
@@ -103,7 +114,8 @@ cadence s (HadTurn turn ∷ before) =
 
 -- place and version of a data frame
 abbrev pub log_entry : Answered → Option (ℕ × ℕ)
-log_entry a = if is_data a then option_map (λ frame. (place_of frame, a.turn.version)) a.answer else None
+log_entry a =
+    if is_data a then option_map (λ frame. (place_of frame, a.turn.version)) a.answer else None
 
 -- place and version of each data frame, in order
 abbrev pub log_of : Settings → List WriterDeed → List (ℕ × ℕ)

@@ -1,4 +1,4 @@
--- Model frame, Published row: DataSetMessages with their places, and the rows that they publish (OPC 10000-14, DataSetMessage). Lists have the latest first.
+-- Model frame, Published row: DataSetMessages with their places, and the rows that they publish (OPC 10000-14 7.2.4.5, DataSetMessage). Lists have the latest first.
 use Rattle.std.specs.Prelude.{ℕ, ◌-◌, ◌≤◌, ⊤, List, [], ◌∷◌, Bool, true, false}
 use Rattle.dataset_meta.specs.DataValues.{DataValue}
 use Rattle.dataset_meta.specs.Rows.{patched}

@@ -17,7 +17,8 @@ IsHistory meta history = All (λ entry. IsRow meta entry.row) history
 -- the row of a version: the opening row, or that of the entry with this number counted from 1
 abbrev pub row_of : List Field → List Written → ℕ → List DataValue
 row_of fields history zero = opening_row fields
-row_of fields history (suc n) = unwrap_or (option_map (λ entry. entry.row) (slice_get history n)) (opening_row fields)
+row_of fields history (suc n) =
+    unwrap_or (option_map (λ entry. entry.row) (slice_get history n)) (opening_row fields)
 
 -- how often a thread stands in the list
 abbrev pub times_of : ℕ → List ℕ → ℕ
@@ -45,7 +46,8 @@ last_row fields [] = opening_row fields
 last_row fields (row ∷ rows) = row
 
 -- the rows that these threads, the latest first, leave: the k-th time that a thread stands there it lays in its k-th patch
-abbrev pub legal_rows : List Field → List (List (List (ℕ × DataValue))) → List ℕ → List (List DataValue)
+abbrev pub legal_rows : List Field → List (List (List (ℕ × DataValue))) → List ℕ
+    → List (List DataValue)
 legal_rows fields patches [] = []
 legal_rows fields patches (thread ∷ before) =
     let rows = legal_rows fields patches before in
@@ -55,7 +57,8 @@ legal_rows fields patches (thread ∷ before) =
 abbrev pub legal_entries : List Field → List (List (List (ℕ × DataValue))) → List ℕ → List Written
 legal_entries fields patches [] = []
 legal_entries fields patches (thread ∷ before) =
-    record { author = thread; row = last_row fields (legal_rows fields patches (thread ∷ before)) } ∷ legal_entries fields patches before
+    record { author = thread; row = last_row fields (legal_rows fields patches (thread ∷ before)) }
+    ∷ legal_entries fields patches before
 
 -- their history
 abbrev pub legal_history : List Field → List (List (List (ℕ × DataValue))) → List ℕ → List Written
@@ -64,4 +67,5 @@ legal_history fields patches threads = reverse (legal_entries fields patches thr
 -- the versions, counted from the one after n, that a thread made, where the threads stand in the order of the versions
 abbrev pub places : ℕ → ℕ → List ℕ → List ℕ
 places thread n [] = []
-places thread n (other ∷ more) = if other == thread then (n + 1) ∷ places thread (n + 1) more else places thread (n + 1) more
+places thread n (other ∷ more) =
+    if other == thread then (n + 1) ∷ places thread (n + 1) more else places thread (n + 1) more

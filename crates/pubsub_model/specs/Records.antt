@@ -1,4 +1,4 @@
--- Records: records, breaks and what a reader holds, from all that came to it (OPC 10000-14, DataSetReader). Lists have the latest first.
+-- Records: records, breaks and what a reader holds, from all that came to it (OPC 10000-14 6.2.9, DataSetReader). Lists have the latest first.
 use Rattle.std.specs.Prelude.{ℕ, ◌+◌, List, [], ◌∷◌, ◌++◌, map, find, Bool, true, false, not, ◌&&◌, ◌||◌, nat_lt, ◌==◌, Option, Some, None, if◌then◌else◌}
 use Rattle.std.specs.List.{list_any, list_all}
 use Rattle.dataset_meta.specs.DataValues.{DataValue}
@@ -61,7 +61,10 @@ breaks_with last item = is_silent item.frame || not (place_in item == place_in l
 -- the break of a record with the record before it, if it breaks: the number that was due, and the one that came
 abbrev pub break_between : Item → Item → List Break
 break_between last item =
-    cons_if (breaks_with last item) (record { expected = number_of_place (place_in last + 1); got = carried item.frame }) []
+    cons_if (breaks_with last item) (record {
+      expected = number_of_place (place_in last + 1);
+      got = carried item.frame;
+    }) []
 
 -- the breaks of these records
 abbrev pub breaks_of : List Item → List Break
@@ -82,7 +85,8 @@ is_nothing (x ∷ xs) = false
 -- the last of these records, with the row that they publish
 abbrev pub last_with : List Item → Option Held
 last_with [] = None
-last_with (item ∷ before) = Some (record { place = place_in item; row = published (map (λ i. i.frame) (item ∷ before)) })
+last_with (item ∷ before) =
+    Some (record { place = place_in item; row = published (map (λ i. i.frame) (item ∷ before)) })
 
 -- what the records hold: the last one, with the row published since the last Whole, where nothing after it breaks
 abbrev pub held_in : List Item → Option Held
@@ -132,4 +136,5 @@ counts numbered before item = not numbered || is_silent item.frame || is_record 
 abbrev pub last_counting : Bool → List Item → Option ℕ
 last_counting numbered [] = None
 last_counting numbered (item ∷ before) =
-    let earlier = last_counting numbered before in if counts numbered before item then Some item.moment else earlier
+    let earlier = last_counting numbered before in
+    if counts numbered before item then Some item.moment else earlier

@@ -5,8 +5,10 @@ mod laws;
 mod reading;
 
 pub use laws::{
-    frames_publish_whole_rows, keep_alives_follow_data_frames, key_frames_alone, legal_rows_fit,
-    one_thread_is_legal, records_are_held, turns_change_only_what_differs,
+    data_frames_are_numbered_in_a_row, entries_of_a_legal_history, frames_in_order_are_held,
+    frames_publish_whole_rows, keep_alives_come_in_time, keep_alives_follow_data_frames,
+    key_frames_alone, key_frames_come_in_time, legal_lists_have_a_place_for_each_patch,
+    legal_rows_fit, one_thread_is_legal, records_are_held, turns_change_only_what_differs,
     versions_of_a_legal_history,
 };
 pub use reading::{Break, Why};

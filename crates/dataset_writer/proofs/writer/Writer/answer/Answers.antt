@@ -9,26 +9,26 @@ returns-then-is_key_due-clause-answers c = λ settings deeds w.
     answers_whole c.args.meta.now settings deeds c.args.self.now _ c.args.row.now c.args.version c.args.now c.args.closing w (sym c.is_key_due.ensures ∙ c.if-is_key_due.true)
     (record { settings_stay = refl; fresh_ends = refl; data_is = whole.data_is }) refl whole.sent whole.kind
 
-pub returns-then-differs-clause-answers : goal.returns-then-differs-clause-answers
-returns-then-differs-clause-answers c = λ settings deeds w.
+pub returns-then-is_changed-clause-answers : goal.returns-then-is_changed-clause-answers
+returns-then-is_changed-clause-answers c = λ settings deeds w.
     let change = c.change.ensures in
     let test = sym c.is_key_due.ensures ∙ c.if-is_key_due.false in
     answers_change c.args.meta.now settings deeds c.args.self.now _ c.args.row.now c.args.version c.args.now c.args.closing change.kind.0 w
-    (c.requires.holds (none_of _ _ _ test)) c.requires.row test (c.differs.ensures.apart c.if-differs.true)
+    (c.requires.holds (none_of _ _ _ test)) c.requires.row test (c.is_changed.ensures.changed c.if-is_changed.true)
     (record { settings_stay = refl; fresh_ends = none_of _ _ _ test; data_is = change.data_is }) refl change.sent
     (record { kind = change.kind.1; differ = change.kind.3 })
 
 pub returns-then-not-is_alive_due-clause-answers : goal.returns-then-not-is_alive_due-clause-answers
 returns-then-not-is_alive_due-clause-answers c = λ settings deeds w.
     answers_nothing c.args.meta.now settings deeds c.args.self.now _ c.args.row.now c.args.version c.args.now c.args.closing w (sym c.is_key_due.ensures ∙ c.if-is_key_due.false)
-    (c.differs.ensures.same c.if-differs.false) (sym c.is_alive_due.ensures ∙ c.if-not-is_alive_due.true)
+    (c.is_changed.ensures.same c.if-is_changed.false) (sym c.is_alive_due.ensures ∙ c.if-not-is_alive_due.true)
     (record { settings_stay = refl; fresh_stays = refl; until_key_is = refl; row_stays = refl; next_stays = refl; log_stays = refl }) refl
 
 pub returns-clause-answers : goal.returns-clause-answers
 returns-clause-answers c = λ settings deeds w.
     let alive = c.alive.ensures in
     answers_alive c.args.meta.now settings deeds c.args.self.now _ c.args.row.now c.args.version c.args.now c.args.closing w (sym c.is_key_due.ensures ∙ c.if-is_key_due.false)
-    (c.differs.ensures.same c.if-differs.false) (sym c.is_alive_due.ensures ∙ c.if-not-is_alive_due.false)
+    (c.is_changed.ensures.same c.if-is_changed.false) (sym c.is_alive_due.ensures ∙ c.if-not-is_alive_due.false)
     (record {
       settings_stay = refl;
       fresh_stays = refl;
