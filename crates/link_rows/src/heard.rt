@@ -37,9 +37,7 @@ impl Heard {
         self.runs.push(Run { text, times: 1 })?;
         Ok(())
     }
-}
 
-impl Heard {
     /// A datagram of so many bytes, over the room.
     pub fn long(&mut self, bytes: u32) -> Result<(), AllocError> {
         let text = format!(in self.alloc; "long({bytes})")?;

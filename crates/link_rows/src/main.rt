@@ -1,11 +1,13 @@
 //! Rows of a link in memory, one a line: fates, injected datagrams and failing calls, and then the datagrams that are
-//! sent. Each line is printed again, with what is received behind ` -> `, in order: a datagram's text, `text*N` for N
-//! equal ones in a row, `long(N)` for one of N bytes that is over the room of 8, and `failed` for a receive that fails.
-//! Lines that begin with `#`, and empty ones, are printed as they are.
+//! sent, and the receives between them. After these is received until nothing waits. Each line is printed again, with
+//! what is received behind ` -> `, in order: a datagram's text, `text*N` for N equal ones in a row, `long(N)` for one of
+//! N bytes that is over the room of 8, `failed` for a receive that fails, and `nothing` where a word `receive` finds that
+//! nothing waits. A text has 1 to 1,000 letters and digits, and is none of these words. Lines that begin with `#`, and
+//! empty ones, are printed as they are.
 //!
 //!     fate K drop | fate K repeat N | fate K hold K | fate K again K
 //!     inject K TEXT | flood K N TEXT (injects N times) | failsend K | failreceive K
-//!     send TEXT ..
+//!     send TEXT .. (up to the next word `receive`) | receive
 #![tactic(auto)]
 
 mod fates;

@@ -10,7 +10,7 @@ use Rattle.std.proofs.Math.Seq.{drop-cons}
 use Rattle.std.proofs.lemmas.List.Elements.{filter_map-append}
 use Rattle.std.proofs.lemmas.List.{take_more}
 use Rattle.std.specs.declared.alloc.Global.{Global}
-use Rattle.ua_base.specs.Journal.{Entry, Sent, Got, Wire, Tells, told_more}
+use Rattle.ua_base.specs.Journal.{Entry, Sent, Got, LinkState, Tells, told_more}
 use Rattle.ua_base.specs.Net.{Receives}
 use Rattle.ua_base.specs.declared.link.Received.TheVariants as received
 use Rattle.mem_edge.specs.Contents.{bytes_of, injections}
@@ -18,18 +18,18 @@ use Rattle.mem_edge.specs.declared.mark.Answer.TheVariants as answer
 use Rattle.mem_edge.specs.declared.mark.Mark.{Mark}
 use Rattle.mem_edge.specs.declared.mark.Place.{Place}
 use Rattle.mem_edge.specs.declared.mark.Place.TheVariants as place
-use Rattle.mem_edge.specs.Marks.{datagram_at, held_places, reach_send, sends_at, wire_of, IsWithin, IsMarkWithin}
+use Rattle.mem_edge.specs.Marks.{datagram_at, held_places, reach_send, sends_at, state_of, IsWithin, IsMarkWithin}
 use Rattle.mem_edge.specs.Marks.{entries, entry_of}
 use Rattle.mem_edge.proofs.Kept.{datagrams_more, entries_more}
 
 -- what is told where the journal and what waits grew
-pub wire_more : (tells : Bool) (journal now es : List Entry) (waiting left more : List (List ℕ)) → now ≡ journal ++ es → left ≡ waiting ++ more → wire_of tells now left ≡ told_more (wire_of tells journal waiting) es more
-wire_more true journal now es waiting left more is grew = rw (is, grew) refl
-wire_more false journal now es waiting left more is grew = refl
+pub state_more : (tells : Bool) (journal now es : List Entry) (waiting left more : List (List ℕ)) → now ≡ journal ++ es → left ≡ waiting ++ more → state_of tells now left ≡ told_more (state_of tells journal waiting) es more
+state_more true journal now es waiting left more is grew = rw (is, grew) refl
+state_more false journal now es waiting left more is grew = refl
 
 -- the journal alone
-pub wire_entry : (tells : Bool) (journal now es : List Entry) (waiting left : List (List ℕ)) → now ≡ journal ++ es → left ≡ waiting → wire_of tells now left ≡ told_more (wire_of tells journal waiting) es []
-wire_entry tells journal now es waiting left is same = wire_more tells journal now es waiting left [] is (same ∙ sym (append-nil waiting))
+pub state_entry : (tells : Bool) (journal now es : List Entry) (waiting left : List (List ℕ)) → now ≡ journal ++ es → left ≡ waiting → state_of tells now left ≡ told_more (state_of tells journal waiting) es []
+state_entry tells journal now es waiting left is same = state_more tells journal now es waiting left [] is (same ∙ sym (append-nil waiting))
 
 -- ---- places within more lists
 
@@ -135,20 +135,20 @@ journal_sent injected sent now d m n first marks more grew len within entry =
     rw grew (entry (datagram_at injected (sent ++ d ∷ [])) first ∙ rw (entries_more injected sent d m n first marks (omega arith) within, get_or_push sent d [] n (sym len)) refl)
 
 -- what is told is the journal that is kept, and what waits
-pub told_journal : (tells : Bool) (journal : List Entry) (waiting : List (List ℕ)) (wire : Wire) → wire_of tells journal waiting ≡ Some wire → journal ≡ wire.journal
-told_journal true journal waiting wire is = ap (λ (w : Wire). w.journal) (let same : record { journal = journal; waiting = waiting } ≡ wire = cc in same)
-told_journal false journal waiting wire is = cc
+pub told_journal : (tells : Bool) (journal : List Entry) (waiting : List (List ℕ)) (state : LinkState) → state_of tells journal waiting ≡ Some state → journal ≡ state.journal
+told_journal true journal waiting state is = ap (λ (w : LinkState). w.journal) (let same : record { journal = journal; waiting = waiting } ≡ state = cc in same)
+told_journal false journal waiting state is = cc
 
-pub told_waiting : (tells : Bool) (journal : List Entry) (waiting : List (List ℕ)) (wire : Wire) → wire_of tells journal waiting ≡ Some wire → waiting ≡ wire.waiting
-told_waiting true journal waiting wire is = ap (λ (w : Wire). w.waiting) (let same : record { journal = journal; waiting = waiting } ≡ wire = cc in same)
-told_waiting false journal waiting wire is = cc
+pub told_waiting : (tells : Bool) (journal : List Entry) (waiting : List (List ℕ)) (state : LinkState) → state_of tells journal waiting ≡ Some state → waiting ≡ state.waiting
+told_waiting true journal waiting state is = ap (λ (w : LinkState). w.waiting) (let same : record { journal = journal; waiting = waiting } ≡ state = cc in same)
+told_waiting false journal waiting state is = cc
 
 -- the first that waits
 pub waiting_taken : (shown : Place → List ℕ) (queue : List Place) (next : ℕ) (p : Place) → next < length queue → p ≡ get_or queue next p → map shown (drop next queue) ≡ shown p ∷ map shown (drop (next + 1) queue)
 waiting_taken shown queue next p lt is = ap (map shown) (drop-cons queue next p lt) ∙ rw (add-one, ← is) refl
 
 pub tells_got : (tells : Bool) (journal now : List Entry) (waiting left : List (List ℕ)) (bytes : List ℕ) (n : ℕ) (into : List ℕ) → now ≡ journal ++ Got bytes ∷ [] → waiting ≡ bytes ∷ left → take n into ≡ bytes
-    → Tells (wire_of tells journal waiting) (wire_of tells now left) (Receives (received.Datagram n) into)
+    → Tells (state_of tells journal waiting) (state_of tells now left) (Receives (received.Datagram n) into)
 tells_got true journal now waiting left bytes n into is first same = (record { journal = journal; waiting = waiting }, refl, (rw same is, rw same first))
 tells_got false journal now waiting left bytes n into is first same = tt
 

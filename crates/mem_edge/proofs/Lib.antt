@@ -1,6 +1,7 @@
 pub mod Comes
 pub mod Counted
 pub mod Determined
+pub mod Failings
 pub mod Filters
 pub mod Honesty
 pub mod Kept

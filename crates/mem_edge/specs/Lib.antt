@@ -1,6 +1,8 @@
 pub mod Calls
 pub mod Contents
+pub mod Failings
 pub mod Holds
+pub mod Keeping
 pub mod Lines
 pub mod Marks
 pub mod MemoryFiles

@@ -1,11 +1,11 @@
 -- What a line of datagrams shows: its journal, what waits, what it tells, and its room.
 use Rattle.std.specs.Prelude.{◌≡◌, ◌≤◌, ℕ, ◌+◌, ◌-◌, List, ◌++◌, map, drop, replicate, slice_get, unwrap_or, Option, None, vec_len, vec_capacity}
 use Rattle.std.specs.List.{filter_map}
-use Rattle.ua_base.specs.Journal.{Entry, Wire}
+use Rattle.ua_base.specs.Journal.{Entry, LinkState}
 use Rattle.mem_edge.specs.declared.line.Line.{Line}
 use Rattle.mem_edge.specs.declared.mark.Place.{Place}
 use Rattle.mem_edge.specs.declared.mark.Place.TheVariants as place
-use Rattle.mem_edge.specs.Marks.{datagram_at, entries, wire_of}
+use Rattle.mem_edge.specs.Marks.{datagram_at, entries, state_of}
 use Rattle.mem_edge.specs.Contents.{bytes_of, injections}
 use Rattle.mem_edge.specs.Sends.{sends_in}
 
@@ -25,8 +25,8 @@ journal_in line = entries (datagram_in line) line.first line.log.items
 abbrev pub waiting_in : Line → List (List ℕ)
 waiting_in line = map (datagram_in line) (drop line.next line.queue.items)
 
-abbrev pub told_in : Line → Option Wire
-told_in line = wire_of line.tells (journal_in line) (waiting_in line)
+abbrev pub told_in : Line → Option LinkState
+told_in line = state_of line.tells (journal_in line) (waiting_in line)
 
 -- how many more entries it can write down beside those of the datagrams that wait
 abbrev pub room_in : Line → ℕ

@@ -10,7 +10,7 @@ use Rattle.mem_edge.specs.declared.mark.Place.TheVariants as place
 use Rattle.mem_edge.specs.declared.mark.Answer.{Answer}
 use Rattle.mem_edge.specs.declared.mark.Answer.TheVariants as answer
 use Rattle.mem_edge.specs.declared.mark.Mark.{Mark}
-use Rattle.ua_base.specs.Journal.{Entry, Sent, SendFailed, Got, Long, ReceiveFailed, Empty, Wire, IsHonest, sent_list, received_list}
+use Rattle.ua_base.specs.Journal.{Entry, Sent, SendFailed, Got, Long, ReceiveFailed, Empty, LinkState, IsHonest, sent_list, received_list}
 use Rattle.mem_edge.specs.Sends.{sends_in}
 
 -- a datagram by its place
@@ -89,9 +89,9 @@ pub record IsKept (alone : Type 0) (injected sent : List (List ℕ)) (places : L
 pub IsKept-prop : (alone : Type 0) (injected sent : List (List ℕ)) (places : List (Option ℕ)) (received : List Place) (journal : List Entry) → IsProp (IsKept alone injected sent places received journal)
 IsKept-prop alone injected sent places received journal = hlevel (props, ∥∥₁_prop)
 
-abbrev pub wire_of : Bool → List Entry → List (List ℕ) → Option Wire
-wire_of true journal waiting = Some (record { journal = journal; waiting = waiting })
-wire_of false journal waiting = None
+abbrev pub state_of : Bool → List Entry → List (List ℕ) → Option LinkState
+state_of true journal waiting = Some (record { journal = journal; waiting = waiting })
+state_of false journal waiting = None
 
 -- the last 2^64 - 1 answers were Nothing
 abbrev pub EndsInNothings : List Entry → Type 0

@@ -4,7 +4,7 @@ use Rattle.mem_edge.specs.declared.memory_link.MemoryLink.{MemoryLink}
 use Rattle.ua_base.specs.declared.link.Fate.{Fate}
 use Rattle.ua_base.specs.declared.link.Sent.{Sent as SentEnd}
 use Rattle.ua_base.specs.declared.link.Sent.TheVariants as sent
-use Rattle.ua_base.specs.Journal.{Entry, Sent, SendFailed, Wire, told_more}
+use Rattle.ua_base.specs.Journal.{Entry, Sent, SendFailed, LinkState, told_more}
 use Rattle.ua_base.specs.Links.{Opening}
 use Rattle.mem_edge.specs.Calls.{is_named}
 use Rattle.mem_edge.specs.Lines.{journal_in, told_in, injected_in}
@@ -15,7 +15,7 @@ use Rattle.mem_edge.specs.Sends.{sends_in}
 abbrev pub journal_of : MemoryLink → List Entry
 journal_of link = journal_in link.line
 
-abbrev pub told_by : MemoryLink → Option Wire
+abbrev pub told_by : MemoryLink → Option LinkState
 told_by link = told_in link.line
 
 abbrev pub faults_of : MemoryLink → ℕ

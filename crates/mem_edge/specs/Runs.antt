@@ -7,7 +7,7 @@ use Rattle.ua_base.specs.declared.link.Received.{Received}
 use Rattle.ua_base.specs.declared.link.Received.TheVariants as received
 use Rattle.ua_base.specs.declared.link.Sent.{Sent as SentEnd}
 use Rattle.ua_base.specs.declared.link.Sent.TheVariants as sent
-use Rattle.ua_base.specs.Journal.{Entry, Sent, SendFailed, Got, Empty, Long, ReceiveFailed, Wire, Tells}
+use Rattle.ua_base.specs.Journal.{Entry, Sent, SendFailed, Got, Empty, Long, ReceiveFailed, LinkState, Tells}
 use Rattle.ua_base.specs.Net.{Receives, FitsBuffer}
 use Rattle.mem_edge.specs.Calls.{is_named, next_call}
 use Rattle.mem_edge.specs.MemoryLinks.{told_by, fates_of, injected_by, named_sends, named_receives, receives_made, fails_sending, fails_receiving, KeepsNamed, SendsInMemory}
@@ -23,47 +23,49 @@ pub record Settings : Type 0 where
 abbrev pub settings_of : MemoryLink → Settings
 settings_of link = record { fates = fates_of link; injected = injected_by link; send_fails = named_sends link; receive_fails = named_receives link }
 
--- a call that has an entry in the journal; a receive has room for so many bytes
+-- a call of an open link: a send that is answered, one that finds no memory, or a receive with room for so many bytes
 pub data Call : Type 0 where
   Send : (datagram : List ℕ) → Call
+  Unsent : (datagram : List ℕ) → Call
   Receive : (room : ℕ) → Call
 
 -- what is told, and how many receives there were
 pub record Standing : Type 0 where
-  pub wire : Wire
+  pub state : LinkState
   pub receives : ℕ
 
-abbrev pub opening : Standing
-opening = record { wire = record { journal = []; waiting = [] }; receives = 0 }
+abbrev pub at_opening : Standing
+at_opening = record { state = record { journal = []; waiting = [] }; receives = 0 }
 
 -- a send that its number names fails; another is sent, and queues what it queues behind all that waits
-abbrev pub wire_sent : Settings → List ℕ → Wire → Wire
-wire_sent settings datagram wire =
-    let sends = sends_in wire.journal in
+abbrev pub state_sent : Settings → List ℕ → LinkState → LinkState
+state_sent settings datagram state =
+    let sends = sends_in state.journal in
     if is_named settings.send_fails (length sends)
-    then record { journal = wire.journal ++ SendFailed ∷ []; waiting = wire.waiting }
-    else record { journal = wire.journal ++ Sent datagram ∷ []; waiting = wire.waiting ++ queued_by settings.fates settings.injected sends datagram }
+    then record { journal = state.journal ++ SendFailed ∷ []; waiting = state.waiting }
+    else record { journal = state.journal ++ Sent datagram ∷ []; waiting = state.waiting ++ queued_by settings.fates settings.injected sends datagram }
 
 -- the first that waits is received, if it isn't longer than the room
-abbrev pub first_taken : ℕ → List Entry → List (List ℕ) → Wire
+abbrev pub first_taken : ℕ → List Entry → List (List ℕ) → LinkState
 first_taken room journal [] = record { journal = journal ++ Empty ∷ []; waiting = [] }
 first_taken room journal (datagram ∷ waiting) =
     record { journal = journal ++ (if nat_le (length datagram) room then Got datagram else Long (length datagram)) ∷ []; waiting = waiting }
 
 -- a receive that its number names fails
-abbrev pub wire_received : Settings → ℕ → ℕ → Wire → Wire
-wire_received settings number room wire =
+abbrev pub state_received : Settings → ℕ → ℕ → LinkState → LinkState
+state_received settings number room state =
     if is_named settings.receive_fails number
-    then record { journal = wire.journal ++ ReceiveFailed ∷ []; waiting = wire.waiting }
-    else first_taken room wire.journal wire.waiting
+    then record { journal = state.journal ++ ReceiveFailed ∷ []; waiting = state.waiting }
+    else first_taken room state.journal state.waiting
 
 abbrev pub after_call : Settings → Standing → Call → Standing
-after_call settings standing (Send datagram) = record { wire = wire_sent settings datagram standing.wire; receives = standing.receives }
-after_call settings standing (Receive room) = record { wire = wire_received settings standing.receives room standing.wire; receives = next_call standing.receives }
+after_call settings standing (Send datagram) = record { state = state_sent settings datagram standing.state; receives = standing.receives }
+after_call settings standing (Unsent datagram) = standing
+after_call settings standing (Receive room) = record { state = state_received settings standing.receives room standing.state; receives = next_call standing.receives }
 
 -- what is told after these calls from the opening on
-abbrev pub wire_after : Settings → List Call → Wire
-wire_after settings calls = (fold (after_call settings) opening calls).wire
+abbrev pub state_after : Settings → List Call → LinkState
+state_after settings calls = (fold (after_call settings) at_opening calls).state
 
 -- what a send does beside what every link's does
 pub record AnswersSend (datagram : List ℕ) (result : SentEnd) (old new : MemoryLink) : Type 0 where
@@ -83,9 +85,10 @@ pub record AnswersReceive (result : Received) (into : List ℕ) (old new : Memor
   pub named : KeepsNamed old new
   pub fates : fates_of new ≡ fates_of old
 
--- the link answered a call with an entry in its journal
+-- the link answered a call
 abbrev pub Answers : Call → MemoryLink → MemoryLink → Type 0
 Answers (Send datagram) old new = (result : SentEnd) × (result ≢ sent.Memory) × AnswersSend datagram result old new
+Answers (Unsent datagram) old new = AnswersSend datagram sent.Memory old new
 Answers (Receive room) old new = (result : Received) × (into : List ℕ) × (length into ≡ room) × AnswersReceive result into old new
 
 -- it answered these, one after another

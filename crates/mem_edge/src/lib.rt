@@ -3,6 +3,7 @@
 #![tactic(auto)]
 
 mod calls;
+mod failing;
 mod gate;
 mod laws;
 mod line;
@@ -15,11 +16,10 @@ mod plan;
 mod timetable;
 
 pub use gate::OpenGate;
-pub use laws::{a_journal_is_determined_by_its_calls, a_memory_link_is_honest};
+pub use laws::{
+    a_journal_is_determined_by_its_calls, a_memory_link_is_honest, fates_are_those_of_the_opening,
+};
 pub use memory_folder::MemoryFolder;
 pub use memory_link::MemoryLink;
 pub use memory_sink::MemorySink;
 pub use name::Name;
-
-#[cfg(test)]
-mod tests;

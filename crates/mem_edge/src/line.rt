@@ -2,10 +2,11 @@
 ghost use Rattle.std.specs.Prelude.{◌≡◌, ◌≤◌, ◌<◌, ◌+◌, ◌-◌, ◌^◌, ◌++◌, ◌∷◌, [], ℕ, OnOk, OnErr, map, length, replicate, vec_len, vec_capacity, Some, None, MatchOption, slice_get, unwrap_or};
 ghost use Rattle.std.specs.List.{All};
 ghost use Rattle.std.specs.Option.{option_map};
-ghost use Rattle.ua_base.specs.Journal.{Sent as SentEntry, SendFailed, ReceiveFailed, Wire, Tells, told_more, sent_list, received_list};
+ghost use Rattle.ua_base.specs.Journal.{Sent as SentEntry, SendFailed, ReceiveFailed, LinkState, Tells, told_more, sent_list, received_list};
 ghost use Rattle.ua_base.specs.Net.{Receives, FitsBuffer};
-ghost use Rattle.mem_edge.specs.Contents.{bytes_of, injections};
-ghost use Rattle.mem_edge.specs.Marks.{datagram_at, held_places, entries, reach_send, IsWithin, IsMarkWithin, IsKept, IsKept-prop, EndsInNothings};
+ghost use Rattle.mem_edge.specs.Contents.{bytes_of, injected_bytes, injections};
+ghost use Rattle.mem_edge.specs.Keeping.{KeepsJournal, KeepsJournal-prop};
+ghost use Rattle.mem_edge.specs.Marks.{datagram_at, held_places, reach_send, IsWithin, IsMarkWithin, EndsInNothings};
 ghost use Rattle.mem_edge.specs.Sends.{sends_in};
 
 use crate::mark::{Answer, Mark, Place, count_nothing, note};
@@ -36,9 +37,9 @@ pub struct Line {
     ghost short_injected: { All (λ p. vec_len p.1 < 2 ^ 32) injected.items },
     ghost room: { vec_len log + (vec_len queue - next) ≤ vec_capacity log },
     ghost place_room: { vec_len received + (vec_len queue - next) ≤ vec_capacity received },
-    ghost kept: { IsKept (injected.items ≡ []) (map (λ p. p.1) (injections injected.items)) (bytes_of sent.items) places.items received.items
-        (entries (datagram_at (map (λ p. p.1) (injections injected.items)) (bytes_of sent.items)) first log.items) } by { IsKept-prop (injected.items ≡ []) (map (λ p. p.1) (injections injected.items)) (bytes_of sent.items) places.items received.items
-            (entries (datagram_at (map (λ p. p.1) (injections injected.items)) (bytes_of sent.items)) first log.items) },
+    ghost kept: { KeepsJournal injected.items sent.items places.items received.items first
+        log.items } by { KeepsJournal-prop injected.items sent.items places.items received.items
+            first log.items },
 }
 
 // The datagram of a place.
@@ -46,7 +47,8 @@ fn datagram<'a>(injected: &'a [(u64, Vec<u8>)], sent: &'a [Vec<u8>], place: Plac
     requires within { IsWithin (length injected.now) (length sent.now) place }
     requires short { All (λ d. vec_len d < 2 ^ 32) sent.now }
     requires short_injected { All (λ p. vec_len p.1 < 2 ^ 32) injected.now }
-    ensures value { result.now ≡ datagram_at (map (λ p. p.1) (injections injected.now)) (bytes_of sent.now) place }
+    ensures value { result.now
+        ≡ datagram_at (injected_bytes injected.now) (bytes_of sent.now) place }
     ensures short { length result.now < 2 ^ 32 }
 {
     match place {
@@ -134,7 +136,8 @@ fn place_of(places: &[Option<usize>], number: usize) -> Option<Place>
 // Queues injected datagrams.
 fn queue_injected(queue: &mut Vec<Place>, injected: &[(u64, usize)])
     requires { vec_len queue.old + length injected.now ≤ vec_capacity queue.old }
-    ensures items { queue.new.items ≡ queue.old.items ++ map (λ p. Place.Injected p.1) injected.now }
+    ensures items { queue.new.items
+        ≡ queue.old.items ++ map (λ p. Place.Injected p.1) injected.now }
     ensures capacity { vec_capacity queue.old ≤ vec_capacity queue.new }
     ensures len { vec_len queue.new ≡ vec_len queue.old + length injected.now }
 {
@@ -159,7 +162,8 @@ fn make_room(
     ensures received_kept { vec_capacity received.old ≤ vec_capacity received.new }
     ensures log_kept { vec_capacity log.old ≤ vec_capacity log.new }
     ensures queue { OnOk result (vec_len queue.new + more ≤ vec_capacity queue.new) }
-    ensures received { OnOk result (vec_len received.new + (waiting + more) ≤ vec_capacity received.new) }
+    ensures received { OnOk result
+        (vec_len received.new + (waiting + more) ≤ vec_capacity received.new) }
     ensures log { OnOk result (vec_len log.new + (waiting + more + others) ≤ vec_capacity log.new) }
 {
     let places = waiting.saturating_add(more);
@@ -251,8 +255,10 @@ impl Line {
         requires short { length datagram.now < 2 ^ 32 }
         requires injected { All (λ p. p.1 < length (injected_in self.old)) injected.now }
         ensures told { OnOk result (told_in self.new ≡ told_more (told_in self.old)
-            (SentEntry datagram.now ∷ []) (comes self.old datagram.now copies held.now injected.now)) }
-        ensures journal { OnOk result (journal_in self.new ≡ journal_in self.old ++ SentEntry datagram.now ∷ []) }
+            (SentEntry datagram.now ∷ [])
+            (comes self.old datagram.now copies held.now injected.now)) }
+        ensures journal { OnOk result
+            (journal_in self.new ≡ journal_in self.old ++ SentEntry datagram.now ∷ []) }
         ensures room { OnOk result (entries ≤ room_in self.new) }
         ensures injected { injected_in self.new ≡ injected_in self.old }
         ensures refused { OnErr result (IsUnchanged self.old self.new) }
@@ -287,7 +293,8 @@ impl Line {
     pub fn fail_send(&mut self, entries: usize) -> Result<(), AllocError>
         ensures told { OnOk result
             (told_in self.new ≡ told_more (told_in self.old) (SendFailed ∷ []) []) }
-        ensures journal { OnOk result (journal_in self.new ≡ journal_in self.old ++ SendFailed ∷ []) }
+        ensures journal { OnOk result
+            (journal_in self.new ≡ journal_in self.old ++ SendFailed ∷ []) }
         ensures room { OnOk result (entries ≤ room_in self.new) }
         ensures injected { injected_in self.new ≡ injected_in self.old }
         ensures refused { OnErr result (IsUnchanged self.old self.new) }
@@ -317,7 +324,8 @@ impl Line {
         ensures told { Tells (told_in self.old) (told_in self.new) (Receives result into.new) }
         ensures sizes { FitsBuffer result into.new }
         ensures works { result ≡ Received.Failed → ⊥ }
-        ensures tells { (before : Wire) → told_in self.old ≡ Some before → told_in self.new ≡ None
+        ensures tells { (before : LinkState)
+            → told_in self.old ≡ Some before → told_in self.new ≡ None
             → EndsInNothings before.journal }
         ensures sends { sends_in (journal_in self.new) ≡ sends_in (journal_in self.old) }
         ensures room { room_in self.old ≤ room_in self.new }

@@ -36,7 +36,8 @@ pub(crate) fn note(log: &mut Vec<Mark>, answer: Answer)
     requires { vec_len log.old < vec_capacity log.old }
     ensures items { log.new.items ≡ log.old.items ++ record { answer = answer; nothings = 0 } ∷ [] }
     ensures entry { (shown : PlaceValue → List ℕ) (first : ℕ) →
-        entries shown first log.new.items ≡ entries shown first log.old.items ++ entry_of shown answer ∷ [] }
+        entries shown first log.new.items
+        ≡ entries shown first log.old.items ++ entry_of shown answer ∷ [] }
     ensures len { vec_len log.new ≡ vec_len log.old + 1 }
     ensures capacity { vec_capacity log.old ≤ vec_capacity log.new }
 {

@@ -68,7 +68,8 @@ impl Folder for MemoryFolder {
         ensures gives { ReadGives result limit (Some (told_file self.old name.now)) into.new.items }
         ensures stands { (other : List ℕ) →
             Some (told_file self.new other) ≡ Some (told_file self.old other) }
-        ensures cause { HasCause (faults_of self.old) (faults_of self.new) (result ≡ ReadEnd.Failed) }
+        ensures cause { HasCause
+            (faults_of self.old) (faults_of self.new) (result ≡ ReadEnd.Failed) }
 
         ensures failed { (result ≡ ReadEnd.Failed) ↔ IsTrue (fails_reading self.old name.now) }
         ensures faults { faults_of self.new

@@ -1,19 +1,20 @@
 //! A link in memory: what is sent waits, and is received in the order that fates and injected datagrams make.
 ghost use Rattle.std.specs.Prelude.{◌≡◌, ◌≢◌, ◌≤◌, ◌<◌, ◌^◌, ◌↔◌, ℕ, [], true, false, IsTrue, IsSome, length, vec_len, Some, None, OnOk, OnErr, MatchOption, slice_get};
-ghost use Rattle.std.specs.Bool.{OnTrue};
 ghost use Rattle.std.specs.List.{All};
 ghost use Rattle.ua_base.specs.Cause.{HasCause, Rose, counted_if};
 ghost use Rattle.ua_base.specs.Fates.{AreFates};
-ghost use Rattle.ua_base.specs.Journal.{Wire, Tells, sent_list, received_list};
+ghost use Rattle.ua_base.specs.Journal.{LinkState, Tells, sent_list, received_list};
 ghost use Rattle.ua_base.specs.Links.{KeepsLink};
 ghost use Rattle.ua_base.specs.Net.{Opens, Sends, Queues, Receives, FitsBuffer};
-ghost use Rattle.mem_edge.specs.Calls.{is_named, named_from};
+ghost use Rattle.mem_edge.specs.Calls.{named_from};
 ghost use Rattle.mem_edge.specs.Contents.{injections};
-ghost use Rattle.mem_edge.specs.Lines.{room_in, injected_in};
+ghost use Rattle.mem_edge.specs.Failings.{ahead_in, IsAhead};
+ghost use Rattle.mem_edge.specs.Lines.{room_in, injected_in, journal_in};
 ghost use Rattle.mem_edge.specs.Marks.{EndsInNothings};
 ghost use Rattle.mem_edge.specs.Plans.{IsPlan, IsOnce};
 ghost use Rattle.mem_edge.specs.Sends.{sends_in};
 
+use crate::failing::Failing;
 use crate::line::Line;
 use crate::plan::Plan;
 use std::alloc::{AllocError, Global};
@@ -22,9 +23,9 @@ use ua_base::{Fate, Link, Opened, Received, Sent};
 /// A link in memory, and the calls that fail: the numbers of sends and of receives, counted from 0
 /// since the link was opened, and whether each opening fails.
 ///
-/// A send takes memory, and a receive takes none: its entry's room is taken by the send that queues its datagram,
-/// or by the opening for the receives that fail. A send that runs out of memory leaves the link as it was,
-/// and so its number is that of the next send.
+/// A send takes memory, and a receive takes none, as facts of the type keep and no clause says: its entry's room is
+/// taken by the send that queues its datagram, or by the opening for the receives that fail. A send that runs out of
+/// memory leaves the link as it was, and so its number is that of the next send.
 ///
 /// It tells its journal until 2^64 - 1 answers Nothing stand in a row and one more comes.
 #[derive(Drop)]
@@ -37,6 +38,9 @@ pub struct MemoryLink {
     port: u16,
     fates: Vec<(u64, Fate)>,
     plan: Plan,
+    // Of the failing calls those that are still to come, of an open link.
+    failing_sends: Failing,
+    failing_receives: Failing,
     // The number of the next receive, of 128 bits so that no number of a list comes twice.
     receives: u128,
     faults: u64,
@@ -44,14 +48,10 @@ pub struct MemoryLink {
     ghost room: { IsTrue is_open → named_from receives receive_fails.items ≤ room_in line },
     ghost planned: { IsTrue is_open → IsPlan fates.items (injected_in line) plan },
     ghost once: { IsOnce fates.items },
-}
-
-// Whether a list names this call.
-fn names(fails: &[u64], number: u128) -> bool
-    ensures value { result ≡ is_named fails.now number }
-    ensures bound { OnTrue result (number < 2 ^ 64) }
-{
-    fails.iter().any(|&fail| fail as u128 == number)
+    ghost sends_ahead: { IsTrue is_open → IsAhead send_fails.items
+        (length (sends_in (journal_in line))) (ahead_in failing_sends) },
+    ghost receives_ahead: { IsTrue is_open → IsAhead receive_fails.items receives
+        (ahead_in failing_receives) },
 }
 
 impl MemoryLink {
@@ -85,6 +85,8 @@ impl MemoryLink {
             port: 0,
             fates: Vec::new(alloc),
             plan: Plan::empty(alloc),
+            failing_sends: Failing::none(alloc),
+            failing_receives: Failing::none(alloc),
             receives: 0,
             faults: 0,
             is_open: false,
@@ -96,7 +98,8 @@ impl MemoryLink {
         ensures datagram { MatchOption result
             (slice_get (sent_list (journal_of self.now)) i ≡ None)
             (λ datagram. slice_get (sent_list (journal_of self.now)) i ≡ Some datagram.now) }
-        ensures journal { (wire : Wire) → told_by self.now ≡ Some wire → wire.journal ≡ journal_of self.now }
+        ensures journal { (state : LinkState)
+            → told_by self.now ≡ Some state → state.journal ≡ journal_of self.now }
     {
         self.line.sent(i)
     }
@@ -106,30 +109,38 @@ impl MemoryLink {
         ensures datagram { MatchOption result
             (slice_get (received_list (journal_of self.now)) i ≡ None)
             (λ datagram. slice_get (received_list (journal_of self.now)) i ≡ Some datagram.now) }
-        ensures journal { (wire : Wire) → told_by self.now ≡ Some wire → wire.journal ≡ journal_of self.now }
+        ensures journal { (state : LinkState)
+            → told_by self.now ≡ Some state → state.journal ≡ journal_of self.now }
     {
         self.line.received(i)
     }
 
-    // Opens it anew: sorts the fates and the injected datagrams, empties the line and takes room for the receives
-    // that fail.
+    // Opens it anew: sorts the fates, the injected datagrams and the failing calls, empties the line and takes room for
+    // the receives that fail.
     fn reopen(&mut self, port: u16, fates: &[(u64, Fate)]) -> Result<(), AllocError>
         requires { IsOnce fates.now }
         ensures empty { OnOk result (Tells (told_by self.old) (told_by self.new) (λ before after.
             after ≡ record { journal = []; waiting = [] })) }
-        ensures opening { OnOk result (opened_by self.new ≡ Some (record { port = port; fates = fates.now })) }
+        ensures opening { OnOk result
+            (opened_by self.new ≡ Some (record { port = port; fates = fates.now })) }
         ensures tells { OnOk result (told_by self.new ≡ None → told_by self.old ≡ None) }
         ensures done { OnOk result ((journal_of self.new ≡ []) × (receives_made self.new ≡ 0)) }
         ensures refused { OnErr result
             ((told_by self.new ≡ told_by self.old) × (opened_by self.new ≡ opened_by self.old)) }
+        ensures stays { OnErr result ((journal_of self.new ≡ journal_of self.old)
+            × (receives_made self.new ≡ receives_made self.old)) }
         ensures faults { faults_of self.new ≡ faults_of self.old }
         ensures named { KeepsNamed self.old self.new }
     {
         let plan = Plan::new(self.alloc, fates, self.line.injected())?;
         let given = Vec::from_slice(self.alloc, fates)?;
+        let failing_sends = Failing::new(self.alloc, &self.send_fails)?;
+        let failing_receives = Failing::new(self.alloc, &self.receive_fails)?;
         let failing = self.receive_fails.len();
         self.line.clear(failing)?;
         self.plan = plan;
+        self.failing_sends = failing_sends;
+        self.failing_receives = failing_receives;
         self.fates = given;
         self.port = port;
         self.receives = 0;
@@ -159,12 +170,17 @@ impl Link for MemoryLink {
             → opened_by self.new ≡ Some (record { port = port; fates = fates.now }) }
         ensures refused { result ≢ Opened.Done
             → (told_by self.new ≡ told_by self.old) × (opened_by self.new ≡ opened_by self.old) }
-        ensures cause { HasCause (faults_of self.old) (faults_of self.new) (result ≡ Opened.Failed) }
+        ensures cause { HasCause
+            (faults_of self.old) (faults_of self.new) (result ≡ Opened.Failed) }
 
         ensures failed { (result ≡ Opened.Failed) ↔ IsTrue (fails_opening self.old) }
-        ensures faults { faults_of self.new ≡ counted_if (fails_opening self.old) (faults_of self.old) }
+        ensures faults { faults_of self.new
+            ≡ counted_if (fails_opening self.old) (faults_of self.old) }
         ensures tells { told_by self.new ≡ None → told_by self.old ≡ None }
-        ensures done { result ≡ Opened.Done → (journal_of self.new ≡ []) × (receives_made self.new ≡ 0) }
+        ensures done { result ≡ Opened.Done
+            → (journal_of self.new ≡ []) × (receives_made self.new ≡ 0) }
+        ensures stays { result ≢ Opened.Done → (journal_of self.new ≡ journal_of self.old)
+            × (receives_made self.new ≡ receives_made self.old) }
         ensures named { KeepsNamed self.old self.new }
     {
         if self.open_fails {
@@ -193,11 +209,12 @@ impl Link for MemoryLink {
     {
         let failing = self.receive_fails.len();
         let number = self.line.sends() as u64;
-        if names(&self.send_fails, number as u128) {
+        if self.failing_sends.names(number as u128) {
             match self.line.fail_send(failing) {
                 Ok(()) => {}
                 Err(_) => return Sent::Memory,
             }
+            self.failing_sends.pass(number as u128);
             self.faults = self.faults.saturating_add(1);
             return Sent::Failed;
         }
@@ -205,7 +222,10 @@ impl Link for MemoryLink {
         let held = self.plan.held.at(number);
         let injected = self.plan.injected.at(number);
         match self.line.send(datagram, copies, held, injected, failing) {
-            Ok(()) => Sent::Done,
+            Ok(()) => {
+                self.failing_sends.pass(number as u128);
+                Sent::Done
+            }
             Err(_) => Sent::Memory,
         }
     }
@@ -220,12 +240,15 @@ impl Link for MemoryLink {
         ensures cause { result ≡ Received.Failed → Rose (faults_of self.old) (faults_of self.new) }
 
         ensures answers { AnswersReceive result into.new self.old self.new }
-        ensures faults { faults_of self.new ≡ counted_if (fails_receiving self.old) (faults_of self.old) }
-        ensures tells { (before : Wire) → told_by self.old ≡ Some before → told_by self.new ≡ None
+        ensures faults { faults_of self.new
+            ≡ counted_if (fails_receiving self.old) (faults_of self.old) }
+        ensures tells { (before : LinkState)
+            → told_by self.old ≡ Some before → told_by self.new ≡ None
             → EndsInNothings before.journal }
         ensures sends { sends_in (journal_of self.new) ≡ sends_in (journal_of self.old) }
     {
-        let named = names(&self.receive_fails, self.receives);
+        let named = self.failing_receives.names(self.receives);
+        self.failing_receives.pass(self.receives);
         self.receives = self.receives.saturating_add(1);
         if named {
             self.faults = self.faults.saturating_add(1);

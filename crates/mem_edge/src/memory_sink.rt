@@ -65,7 +65,8 @@ impl Sink for MemorySink {
     fn write(&mut self, bytes: &[u8]) -> WriteEnd
         ensures gives { WriteGives result
             (Some (written_by self.old)) (Some (written_by self.new)) bytes.now }
-        ensures cause { HasCause (faults_of self.old) (faults_of self.new) (result ≡ WriteEnd.Failed) }
+        ensures cause { HasCause
+            (faults_of self.old) (faults_of self.new) (result ≡ WriteEnd.Failed) }
 
         ensures failed { (result ≡ WriteEnd.Failed) ↔ IsTrue (fails_writing self.old bytes.now) }
         ensures unwritten { result ≡ WriteEnd.Failed → written_by self.new ≡ written_by self.old }

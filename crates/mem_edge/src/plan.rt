@@ -43,7 +43,8 @@ fn holds(alloc: Global, fates: &[(u64, Fate)]) -> Result<Vec<(u64, usize)>, Allo
 
 // The injected datagrams' numbers, each with its place in the list.
 fn places(alloc: Global, injected: &[(u64, Vec<u8>)]) -> Result<Vec<(u64, usize)>, AllocError>
-    ensures { IfOk result (λ placed. placed.items ≡ map (λ e. (e.1.0, e.0)) (enumerate_from 0 injected.now)) }
+    ensures { IfOk result (λ placed. placed.items
+        ≡ map (λ e. (e.1.0, e.0)) (enumerate_from 0 injected.now)) }
 {
     injected
         .iter()

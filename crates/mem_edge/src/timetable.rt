@@ -20,7 +20,8 @@ impl<T: Drop> Timetable<T> {
     /// Sorts the pairs. Those of one number stay in their order.
     pub fn new(pairs: Vec<(u64, T)>) -> Result<Timetable<T>, AllocError>
         ensures { IfOk result (λ table. (number : ℕ) →
-            filter (λ p. p.0 == number) table.pairs.items ≡ filter (λ p. p.0 == number) pairs.items) }
+            filter (λ p. p.0 == number) table.pairs.items
+            ≡ filter (λ p. p.0 == number) pairs.items) }
     {
         let mut pairs = pairs;
         pairs.sort_by_key(|pair| pair.0)?;

@@ -4,7 +4,7 @@ use Rattle.std.specs.Prelude.{count_by, IsTrue}
 use Rattle.std.proofs.lemmas.List.{append-nil, reverse-append}
 use Rattle.std.proofs.lemmas.List.Elements.{filter_map-append}
 use Rattle.std.proofs.lemmas.List.Sums.{sum_by-append, sum_by-cons}
-use Rattle.ua_base.specs.Journal.{Entry, Sent, SendFailed, Got, Empty, Long, ReceiveFailed, Wire, Tells}
+use Rattle.ua_base.specs.Journal.{Entry, Sent, SendFailed, Got, Empty, Long, ReceiveFailed, LinkState, Tells}
 use Rattle.ua_base.proofs.Told.{Tells-refl, Tells-then}
 use Rattle.frame_codec.specs.Frames.{Frame}
 use Rattle.pubsub_engine.specs.declared.subscriber.Subscriber.{Subscriber}
@@ -126,25 +126,25 @@ send_counts p none (d ∷ datagrams) (b ∷ done) = not_counted p (send_entry (d
 
 -- ---- what a pump has received so far
 
-pub record SoFar (count : ℕ) (old new : Subscriber) (before after : Option Wire) : Type 0 where
+pub record SoFar (count : ℕ) (old new : Subscriber) (before after : Option LinkState) : Type 0 where
   pub entries : List Entry
   pub datagrams : AreDatagrams entries
   pub count_is : length entries ≡ count
   pub takes : Takes entries old new
   pub told : Tells before after (λ x y. y.journal ≡ x.journal ++ entries)
 
-pub so_none : (r : Subscriber) (told : Option Wire) → SoFar 0 r r told told
+pub so_none : (r : Subscriber) (told : Option LinkState) → SoFar 0 r r told told
 so_none r told = record { entries = []; datagrams = tt; count_is = refl; takes = Takes-none r; told = Tells-refl told _ (λ w. sym (append-nil w.journal)) }
 
-told_then : (a b c : Option Wire) (xs : List Entry) (x : Entry) → Tells a b (λ x y. y.journal ≡ x.journal ++ xs) → Tells b c (λ y z. z.journal ≡ y.journal ++ x ∷ []) → Tells a c (λ w z. z.journal ≡ w.journal ++ (xs ++ x ∷ []))
+told_then : (a b c : Option LinkState) (xs : List Entry) (x : Entry) → Tells a b (λ x y. y.journal ≡ x.journal ++ xs) → Tells b c (λ y z. z.journal ≡ y.journal ++ x ∷ []) → Tells a c (λ w z. z.journal ≡ w.journal ++ (xs ++ x ∷ []))
 told_then a b c xs x p q = Tells-then a b c _ _ _ (λ u v w e f. f ∙ ap (λ (l : List Entry). l ++ x ∷ []) e ∙ append_assoc u.journal xs (x ∷ [])) p q
 
 -- one receive more
-abbrev pub Receives1 : Bool → Subscriber → Subscriber → Option Wire → Option Wire → Type 0
+abbrev pub Receives1 : Bool → Subscriber → Subscriber → Option LinkState → Option LinkState → Type 0
 Receives1 result old new before after =
     (entry : Entry) × (is_datagram entry ≡ result) × IsReceive entry × Takes (entry ∷ []) old new × Tells before after (λ x y. y.journal ≡ x.journal ++ entry ∷ [])
 
-pub so_more : (count : ℕ) (r s t : Subscriber) (a b c : Option Wire) → SoFar count r s a b → Receives1 true s t b c → SoFar (count + 1) r t a c
+pub so_more : (count : ℕ) (r s t : Subscriber) (a b c : Option LinkState) → SoFar count r s a b → Receives1 true s t b c → SoFar (count + 1) r t a c
 so_more count r s t a b c so one = record {
   entries = so.entries ++ one.0 ∷ [];
   datagrams = datagrams-push so.entries one.0 so.datagrams one.1 one.2;
@@ -154,11 +154,11 @@ so_more count r s t a b c so one = record {
 }
 
 -- a whole pump
-abbrev pub PumpsTo : ℕ → Subscriber → Subscriber → Option Wire → Option Wire → Type 0
+abbrev pub PumpsTo : ℕ → Subscriber → Subscriber → Option LinkState → Option LinkState → Type 0
 PumpsTo taken old new before after =
     (entries : List Entry) × IsPump 65536 entries × Takes entries old new × (taken ≡ count_by is_datagram entries) × Tells before after (λ x y. y.journal ≡ x.journal ++ entries)
 
-pub so_ended : (count : ℕ) (r s t : Subscriber) (a b c : Option Wire) → count < 65536 → SoFar count r s a b → Receives1 false s t b c → PumpsTo count r t a c
+pub so_ended : (count : ℕ) (r s t : Subscriber) (a b c : Option LinkState) → count < 65536 → SoFar count r s a b → Receives1 false s t b c → PumpsTo count r t a c
 so_ended count r s t a b c few so one = (
   so.entries ++ one.0 ∷ [],
   pump-ended 65536 so.entries one.0 so.datagrams (omega (arith, so.count_is)) one.1 one.2,
@@ -170,7 +170,7 @@ so_ended count r s t a b c few so one = (
 pub within_limit : (n : ℕ) → n < 65536 → (IsTrue false → n ≡ 65536) × (n ≡ 65536 → IsTrue false)
 within_limit n few = (λ t. absurd (grind arith), λ e. absurd (omega arith))
 
-pub so_full : (count : ℕ) (r s : Subscriber) (a b : Option Wire) → count ≡ 65536 → SoFar count r s a b → PumpsTo 65536 r s a b
+pub so_full : (count : ℕ) (r s : Subscriber) (a b : Option LinkState) → count ≡ 65536 → SoFar count r s a b → PumpsTo 65536 r s a b
 so_full count r s a b is so = (so.entries, pump-full 65536 so.entries so.datagrams (so.count_is ∙ is), so.takes, sym (count-datagrams so.entries so.datagrams ∙ so.count_is ∙ is), so.told)
 
 -- a datagram that was too long

@@ -2,7 +2,7 @@
 use Rattle.std.proofs.Common.{◌≡◌, refl, sym, ap, ◌∙◌, subst, arith, ℕ, ◌+◌, ◌-◌, ◌^◌, ◌<◌, min, Bool, true, false, List, [], ◌∷◌, ◌++◌, length, Option, Some, None}
 use Rattle.std.specs.Prelude.{option_map}
 use Rattle.std.proofs.lemmas.List.{append-nil}
-use Rattle.ua_base.specs.Journal.{Wire, Tells}
+use Rattle.ua_base.specs.Journal.{LinkState, Tells}
 use Rattle.ua_base.proofs.Told.{Tells-refl}
 use Rattle.seq_number.specs.Numbers.{number_of_place}
 use Rattle.pubsub_model.specs.Frames.{PlacedFrame}
@@ -31,37 +31,37 @@ no_datagram : (answer : Option PlacedFrame) (sequence : ℕ) → None ≡ option
 no_datagram None sequence e = refl
 no_datagram (Some frame) sequence e = absurd (cc)
 
-no_sends : (sent failed : ℕ) (told : Option Wire) → Sends [] sent sent failed failed false told told
+no_sends : (sent failed : ℕ) (told : Option LinkState) → Sends [] sent sent failed failed false told told
 no_sends sent failed told = record { done = []; each = refl; sent_is = omega arith; failed_is = omega arith; failing_is = refl; told = Tells-refl told _ (λ w. sym (append-nil w.journal)) }
 
-sends_as : (datagrams others : List (List ℕ)) (sent sent' failed failed' : ℕ) (failing' : Bool) (before after : Option Wire) → datagrams ≡ others
+sends_as : (datagrams others : List (List ℕ)) (sent sent' failed failed' : ℕ) (failing' : Bool) (before after : Option LinkState) → datagrams ≡ others
     → Sends others sent sent' failed failed' failing' before after → Sends datagrams sent sent' failed failed' failing' before after
 sends_as datagrams others sent sent' failed failed' failing' before after e s = rw e s
 
-pub answers_frame : (answer : Option PlacedFrame) (message : Frame) (sequence sequence' sent sent' failed failed' : ℕ) (failing' : Bool) (before after : Option Wire)
+pub answers_frame : (answer : Option PlacedFrame) (message : Frame) (sequence sequence' sent sent' failed failed' : ℕ) (failing' : Bool) (before after : Option LinkState)
     → Some message ≡ option_map demo_message answer → Sends (datagram sequence message ∷ []) sent sent' failed failed' failing' before after → sequence' ≡ number_of_place (sequence + 1)
     → SendsAnswer answer sequence sequence' sent sent' failed failed' failing' before after
 answers_frame answer message sequence sequence' sent sent' failed failed' failing' before after e s next =
     let one = one_datagram answer message sequence e in
     record { sends = sends_as _ _ _ _ _ _ _ _ _ one s; sequence_is = next ∙ ap (λ (n : ℕ). number_of_place (sequence + n)) (sym (ap length one)) }
 
-pub answers_nothing : (answer : Option PlacedFrame) (sequence sent failed : ℕ) (failing : Bool) (told : Option Wire) → None ≡ option_map demo_message answer → sequence < 2 ^ 16 → failing ≡ false
+pub answers_nothing : (answer : Option PlacedFrame) (sequence sent failed : ℕ) (failing : Bool) (told : Option LinkState) → None ≡ option_map demo_message answer → sequence < 2 ^ 16 → failing ≡ false
     → SendsAnswer answer sequence sequence sent sent failed failed failing told told
 answers_nothing answer sequence sent failed failing told e small calm =
     let none = no_datagram answer sequence e in
     rw calm (record { sends = sends_as _ _ _ _ _ _ _ _ _ none (no_sends sent failed told); sequence_is = omega (arith, ap length none) })
 
 -- how one send ended
-pub sent_done : (d : List ℕ) (sent failed : ℕ) (before after : Option Wire) (sent' : ℕ) → sent' ≡ min (sent + 1) (2 ^ 64 - 1)
+pub sent_done : (d : List ℕ) (sent failed : ℕ) (before after : Option LinkState) (sent' : ℕ) → sent' ≡ min (sent + 1) (2 ^ 64 - 1)
     → Tells before after (λ x y. y.journal ≡ x.journal ++ send_entry (d, true) ∷ []) → Sends (d ∷ []) sent sent' failed failed false before after
 sent_done d sent failed before after sent' e t = record { done = true ∷ []; each = refl; sent_is = omega (arith, e); failed_is = omega arith; failing_is = refl; told = t }
 
-pub sent_failed : (d : List ℕ) (sent failed : ℕ) (before after : Option Wire) (failed' : ℕ) → failed' ≡ min (failed + 1) (2 ^ 64 - 1)
+pub sent_failed : (d : List ℕ) (sent failed : ℕ) (before after : Option LinkState) (failed' : ℕ) → failed' ≡ min (failed + 1) (2 ^ 64 - 1)
     → Tells before after (λ x y. y.journal ≡ x.journal ++ send_entry (d, false) ∷ []) → Sends (d ∷ []) sent sent failed failed' true before after
 sent_failed d sent failed before after failed' e t = record { done = false ∷ []; each = refl; sent_is = omega arith; failed_is = omega (arith, e); failing_is = refl; told = t }
 
 -- the group's turn
-pub publishes : (meta : MetaData) (past : List WriterDeed) (moment : ℕ) (row : Row) (version : ℕ) (closing : Bool) (writer taken writer' : Writer) (sent_frame : Option FrameWords) (sequence sequence' sent sent' failed failed' : ℕ) (failing' : Bool) (before after : Option Wire)
+pub publishes : (meta : MetaData) (past : List WriterDeed) (moment : ℕ) (row : Row) (version : ℕ) (closing : Bool) (writer taken writer' : Writer) (sent_frame : Option FrameWords) (sequence sequence' sent sent' failed failed' : ℕ) (failing' : Bool) (before after : Option LinkState)
     → meta ≡ demo_meta
     → ((settings : WriterSettings) (deeds : List WriterDeed) → IsWriter meta settings deeds writer → Answers meta settings deeds (turn_at meta.fields moment row version closing) taken sent_frame)
     → IsWriter demo_meta demo_settings past writer → writer' ≡ taken

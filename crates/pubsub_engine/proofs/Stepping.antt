@@ -2,7 +2,7 @@
 use Rattle.std.proofs.Common.{◌≡◌, refl, sym, ap, ◌∙◌, subst, arith, ℕ, ◌+◌, ◌-◌, ◌^◌, min, Bool, true, false, cond, List, ◌∷◌, ◌++◌, Option, Some}
 use Rattle.std.specs.Prelude.{count_by, ◌==◌, IsTrue}
 use Rattle.std.proofs.lemmas.Bool.Decides.{nat_tests}
-use Rattle.ua_base.specs.Journal.{Entry, Wire, Tells}
+use Rattle.ua_base.specs.Journal.{Entry, LinkState, Tells}
 use Rattle.dataset_writer.specs.declared.writer.Writer.{Writer}
 use Rattle.pubsub_engine.specs.Samples.{Sample}
 use Rattle.pubsub_engine.specs.declared.subscriber.Subscriber.{Subscriber}
@@ -15,17 +15,17 @@ use Rattle.pubsub_engine.specs.Taking.{Takes}
 use Rattle.pubsub_engine.proofs.Entries.{count-append, send_is, send_counts, pump_sends}
 
 -- what is told grows by the entries of a call
-tells_more : (steps : List Step) (step : Step) (before after : Option Wire) (entries : List Entry) → journal (step ∷ steps) ≡ journal steps ++ entries → TellsRun steps before
+tells_more : (steps : List Step) (step : Step) (before after : Option LinkState) (entries : List Entry) → journal (step ∷ steps) ≡ journal steps ++ entries → TellsRun steps before
     → Tells before after (λ x y. y.journal ≡ x.journal ++ entries) → TellsRun (step ∷ steps) after
 tells_more steps step before after entries grows run told wire is =
-    let t : Tells before (Some wire) (λ x y. y.journal ≡ x.journal ++ entries) = subst (λ (o : Option Wire). Tells before o (λ x y. y.journal ≡ x.journal ++ entries)) is told in
+    let t : Tells before (Some wire) (λ x y. y.journal ≡ x.journal ++ entries) = subst (λ (o : Option LinkState). Tells before o (λ x y. y.journal ≡ x.journal ++ entries)) is told in
     t.2 ∙ ap (λ (l : List Entry). l ++ entries) (run t.0 t.1) ∙ sym grows
 
-pub tells_tick : (steps : List Step) (ms : ℕ) (closing : Bool) (sample : List Sample) (done : List Bool) (before after : Option Wire) → TellsRun steps before
+pub tells_tick : (steps : List Step) (ms : ℕ) (closing : Bool) (sample : List Sample) (done : List Bool) (before after : Option LinkState) → TellsRun steps before
     → Tells before after (λ x y. y.journal ≡ x.journal ++ send_entries (sends_of (Tick ms closing sample done ∷ steps)) done) → TellsRun (Tick ms closing sample done ∷ steps) after
 tells_tick steps ms closing sample done before after run told = tells_more steps (Tick ms closing sample done) before after (send_entries (sends_of (Tick ms closing sample done ∷ steps)) done) refl run told
 
-pub tells_pump : (steps : List Step) (entries : List Entry) (before after : Option Wire) → TellsRun steps before → Tells before after (λ x y. y.journal ≡ x.journal ++ entries) → TellsRun (Pump entries ∷ steps) after
+pub tells_pump : (steps : List Step) (entries : List Entry) (before after : Option LinkState) → TellsRun steps before → Tells before after (λ x y. y.journal ≡ x.journal ++ entries) → TellsRun (Pump entries ∷ steps) after
 tells_pump steps entries before after run told = tells_more steps (Pump entries) before after entries refl run told
 
 -- a tick leaves what was received

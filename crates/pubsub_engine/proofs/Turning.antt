@@ -3,7 +3,7 @@ use Rattle.std.proofs.Common.{◌≡◌, refl, sym, ap, ◌∙◌, subst, arith,
 use Rattle.std.specs.Prelude.{nat_le}
 use Rattle.std.proofs.lemmas.List.{append-nil}
 use Rattle.std.proofs.lemmas.List.Sums.{sum_by-cons}
-use Rattle.ua_base.specs.Journal.{Wire}
+use Rattle.ua_base.specs.Journal.{LinkState}
 use Rattle.ua_base.proofs.Told.{Tells-refl}
 use Rattle.pubsub_model.specs.Cadence.{WriterTurn}
 use Rattle.dataset_writer.specs.declared.writer.Writer.{Writer}
@@ -26,7 +26,7 @@ turn_is : (steps : List Step) (ms moment last : ℕ) (closing : Bool) (writer : 
 turn_is steps ms moment last closing writer sequence p =
     sym (ap (λ (m : ℕ). closing || nat_le 100 (m + ms - last)) p.moment_is ∙ ap (λ (l : ℕ). closing || nat_le 100 (moment_of steps + ms - l)) p.last_is)
 
-pub early : (steps : List Step) (ms moment last : ℕ) (closing : Bool) (sampled : Sample) (writer : Writer) (sequence sent failed : ℕ) (is_failing : Bool) (told : Option Wire)
+pub early : (steps : List Step) (ms moment last : ℕ) (closing : Bool) (sampled : Sample) (writer : Writer) (sequence sent failed : ℕ) (is_failing : Bool) (told : Option LinkState)
     → IsPublisher steps moment last writer sequence → HasSent steps sent failed is_failing → (closing || nat_le 100 (moment + ms - last)) ≡ false
     → Ticks steps ms closing (sampled ∷ []) (moment + ms) last writer sequence sent failed false told told
 early steps ms moment last closing sampled writer sequence sent failed is_failing told p h soon =
@@ -50,11 +50,11 @@ abbrev pub past : List Step → ℕ → List Deed
 past steps now = Ticked now ∷ deeds steps
 
 -- a turn of these steps, as the publisher makes it
-abbrev Made : List Step → WriterTurn → ℕ → Writer → ℕ → ℕ → ℕ → ℕ → ℕ → Bool → Option Wire → Option Wire → Type 0
+abbrev Made : List Step → WriterTurn → ℕ → Writer → ℕ → ℕ → ℕ → ℕ → ℕ → Bool → Option LinkState → Option LinkState → Type 0
 Made steps turn sequence writer' sequence' sent sent' failed failed' failing' before after =
     Publishes (writer_past (deeds steps)) turn writer' sequence sequence' sent sent' failed failed' failing' before after
 
-pub turned : (steps : List Step) (ms moment moment' last last' : ℕ) (closing : Bool) (sampled : Sample) (writer writer' : Writer) (sequence sequence' sent sent' failed failed' : ℕ) (is_failing failing' : Bool) (before after : Option Wire)
+pub turned : (steps : List Step) (ms moment moment' last last' : ℕ) (closing : Bool) (sampled : Sample) (writer writer' : Writer) (sequence sequence' sent sent' failed failed' : ℕ) (is_failing failing' : Bool) (before after : Option LinkState)
     → IsPublisher steps moment last writer sequence → HasSent steps sent failed is_failing → (closing || nat_le 100 (moment + ms - last)) ≡ true
     → moment' ≡ moment + ms → last' ≡ cond closing last (moment + ms)
     → Publishes (writer_past (deeds steps)) (writer_turn (moment + ms) closing sampled) writer' sequence sequence' sent sent' failed failed' failing' before after

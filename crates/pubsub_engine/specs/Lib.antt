@@ -13,4 +13,3 @@ pub mod Standing
 pub mod Taking
 pub mod Alike
 pub mod Holding
-pub mod Props

@@ -1,7 +1,7 @@
 -- Sends: how they ended, what they count, and what they leave in the journal.
 use Rattle.std.specs.Prelude.{◌≡◌, ◌+◌, ℕ, List, ◌∷◌, ◌++◌, length, zip, count_by, Option, Bool}
 use Rattle.seq_number.specs.Numbers.{number_of_place}
-use Rattle.ua_base.specs.Journal.{Wire, Tells}
+use Rattle.ua_base.specs.Journal.{LinkState, Tells}
 use Rattle.pubsub_model.specs.Frames.{PlacedFrame}
 use Rattle.pubsub_model.specs.Cadence.{WriterTurn, WriterDeed, HadTurn, cadence}
 use Rattle.dataset_writer.specs.declared.writer.Writer.{Writer}
@@ -13,7 +13,7 @@ use Rattle.pubsub_engine.specs.Publishing.{built_in, datagrams_with, last_failed
 use Rattle.pubsub_engine.specs.Counts.{counted, is_sent, is_send_failed}
 
 -- one send of each of these datagrams, in order
-pub record Sends (datagrams : List (List ℕ)) (sent sent' failed failed' : ℕ) (failing' : Bool) (before after : Option Wire) : Type 0 where
+pub record Sends (datagrams : List (List ℕ)) (sent sent' failed failed' : ℕ) (failing' : Bool) (before after : Option LinkState) : Type 0 where
   pub done : List Bool
   pub each : length done ≡ length datagrams
   pub sent_is : counted sent' ≡ counted (sent + count_by is_sent (send_entries datagrams done))
@@ -22,12 +22,12 @@ pub record Sends (datagrams : List (List ℕ)) (sent sent' failed failed' : ℕ)
   pub told : Tells before after (λ x y. y.journal ≡ x.journal ++ send_entries datagrams done)
 
 -- what the writer answered a turn is sent, from this sequence number on
-pub record SendsAnswer (answer : Option PlacedFrame) (sequence sequence' sent sent' failed failed' : ℕ) (failing' : Bool) (before after : Option Wire) : Type 0 where
+pub record SendsAnswer (answer : Option PlacedFrame) (sequence sequence' sent sent' failed failed' : ℕ) (failing' : Bool) (before after : Option LinkState) : Type 0 where
   pub sends : Sends (datagrams_with sequence answer) sent sent' failed failed' failing' before after
   pub sequence_is : sequence' ≡ number_of_place (sequence + length (datagrams_with sequence answer))
 
 -- A turn of the group behind these deeds of the writer: its writer has its turn, and what that answers is sent.
-pub record Publishes (past : List WriterDeed) (turn : WriterTurn) (writer : Writer) (sequence sequence' sent sent' failed failed' : ℕ) (failing' : Bool) (before after : Option Wire) : Type 0 where
+pub record Publishes (past : List WriterDeed) (turn : WriterTurn) (writer : Writer) (sequence sequence' sent sent' failed failed' : ℕ) (failing' : Bool) (before after : Option LinkState) : Type 0 where
   pub writer_is : IsWriter demo_meta demo_settings (HadTurn turn ∷ past) writer
   pub sent_is : SendsAnswer (latest_answer (cadence built_in (HadTurn turn ∷ past))) sequence sequence' sent sent' failed failed' failing' before after
 

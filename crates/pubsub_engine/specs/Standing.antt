@@ -1,7 +1,7 @@
 -- Where a session stands after these steps, over a link that may tell its journal.
 use Rattle.std.specs.Prelude.{◌≡◌, ℕ, List, ◌∷◌, ◌++◌, length, count_by, Option, Some, Bool}
 use Rattle.seq_number.specs.Numbers.{number_of_place}
-use Rattle.ua_base.specs.Journal.{Wire, Tells}
+use Rattle.ua_base.specs.Journal.{LinkState, Tells}
 use Rattle.frame_codec.specs.Frames.{Frame}
 use Rattle.dataset_writer.specs.declared.writer.Writer.{Writer}
 use Rattle.dataset_writer.specs.Standing.{IsWriter}
@@ -30,7 +30,7 @@ pub record HasSent (steps : List Step) (sent failed : ℕ) (is_failing : Bool) :
   pub failing_is : is_failing ≡ send_failed steps
 
 -- a tick after these steps: how its sends ended, the publisher's fields after it, and what its sends left in the journal
-pub record Ticks (steps : List Step) (ms : ℕ) (closing : Bool) (sample : List Sample) (moment last : ℕ) (writer : Writer) (sequence sent failed : ℕ) (is_failing : Bool) (before after : Option Wire) : Type 0 where
+pub record Ticks (steps : List Step) (ms : ℕ) (closing : Bool) (sample : List Sample) (moment last : ℕ) (writer : Writer) (sequence sent failed : ℕ) (is_failing : Bool) (before after : Option LinkState) : Type 0 where
   pub done : List Bool
   pub each : length done ≡ length (sends_of (Tick ms closing sample done ∷ steps))
   pub publisher : IsPublisher (Tick ms closing sample done ∷ steps) moment last writer sequence
@@ -52,11 +52,11 @@ pub record HasReceived (steps : List Step) (subscriber : Subscriber) (limit : �
   pub limit_is : counted limit ≡ counted (limits steps)
 
 -- what the link tells is the journal of these steps
-abbrev pub TellsRun : List Step → Option Wire → Type 0
-TellsRun steps told = (wire : Wire) → told ≡ Some wire → wire.journal ≡ journal steps
+abbrev pub TellsRun : List Step → Option LinkState → Type 0
+TellsRun steps told = (wire : LinkState) → told ≡ Some wire → wire.journal ≡ journal steps
 
 -- the session stands where these steps leave it
-pub record Stands (steps : List Step) (told : Option Wire) (session : Session) : Type 0 where
+pub record Stands (steps : List Step) (told : Option LinkState) (session : Session) : Type 0 where
   pub run : IsRun steps
   pub entries : TellsRun steps told
   pub publisher : IsPublisher steps session.publisher.moment session.publisher.last session.publisher.writer session.publisher.sequence

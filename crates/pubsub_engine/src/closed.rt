@@ -2,7 +2,7 @@
 ghost use Rattle.std.specs.Prelude.{◌≡◌};
 ghost use Rattle.row_words.specs.Belonging.{Belongs};
 ghost use Rattle.pubsub_engine.specs.BuiltIn.{demo_fields, demo_meta};
-ghost use Rattle.pubsub_engine.specs.Props.{Belongs-prop};
+ghost use Rattle.row_words.specs.Props.{Belongs-prop};
 
 use arrayvec::ArrayVec;
 use dataset_meta::Meta;

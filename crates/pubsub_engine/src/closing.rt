@@ -1,6 +1,6 @@
 //! The end of a session.
 ghost use Rattle.std.specs.Prelude.{◌≡◌, ◌≤◌, ◌-◌, ◌+◌, ℕ, List, Option, IfOk, length, replicate, reverse, slice_set, if◌then◌else◌};
-ghost use Rattle.ua_base.specs.Journal.{Wire};
+ghost use Rattle.ua_base.specs.Journal.{LinkState};
 ghost use Rattle.dataset_meta.specs.declared.field.Field.{Field};
 ghost use Rattle.pubsub_model.specs.declared.reading.Why.{Why as AnyWhy};
 ghost use Rattle.dataset_reader.specs.Reader.{kept_by, IsReaderOf};
@@ -146,7 +146,7 @@ impl Session {
 
     /// Ends the session. `dones` has for each thread, from 0, what its writes were answered.
     pub fn close(self, alloc: Global, dones: &[Done]) -> Result<Closed, NoMemory>
-        ensures { length dones.now ≤ 256 → (steps : List Step) (told : Option Wire) (threads : List ℕ) → Stands steps told self
+        ensures { length dones.now ≤ 256 → (steps : List Step) (told : Option LinkState) (threads : List ℕ) → Stands steps told self
             → IsAuthored (answers_of dones.now) threads → length threads ≡ self.sampled.version → IfOk result (λ c. shown_of c ≡ closed threads steps) }
     {
         let threads = authors(alloc, dones, self.sampled.version)?;

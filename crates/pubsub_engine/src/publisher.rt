@@ -9,7 +9,7 @@ ghost use Rattle.frame_codec.specs.Words.{IsFrameOf, frame_in};
 ghost use Rattle.dataset_writer.specs.Standing.{IsWriter, HoldsRowOf, frame_of_turn, lent};
 ghost use Rattle.pubsub_engine.specs.Steps.{Step};
 ghost use Rattle.pubsub_engine.specs.BuiltIn.{demo_fields, demo_meta, demo_settings};
-ghost use Rattle.pubsub_engine.specs.Props.{HoldsRowOf-prop};
+ghost use Rattle.dataset_writer.specs.Props.{HoldsRowOf-prop};
 ghost use Rattle.pubsub_engine.specs.Datagram.{datagram, demo_message};
 ghost use Rattle.pubsub_engine.specs.Samples.{sample_of};
 

@@ -1,7 +1,7 @@
 //! What a tick sees of a data set.
 ghost use Rattle.row_words.specs.Belonging.{Belongs};
 ghost use Rattle.pubsub_engine.specs.BuiltIn.{demo_fields, demo_meta};
-ghost use Rattle.pubsub_engine.specs.Props.{Belongs-prop};
+ghost use Rattle.row_words.specs.Props.{Belongs-prop};
 
 use row_words::Row;
 

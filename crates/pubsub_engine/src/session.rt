@@ -1,6 +1,6 @@
 //! A session over a link: samples, ticks and pumps.
 ghost use Rattle.std.specs.Prelude.{◌≡◌, ◌≤◌, ◌<◌, ◌+◌, ◌∷◌, ◌↔◌, [], IsTrue, IfOk, ℕ, List, Bool, Option, Some, count_by, length, vec_len, IsSome};
-ghost use Rattle.ua_base.specs.Journal.{Wire, Entry, Tells};
+ghost use Rattle.ua_base.specs.Journal.{LinkState, Entry, Tells};
 ghost use Rattle.ua_base.specs.Links.{KeepsLink};
 ghost use Rattle.row_words.specs.Belonging.{row_in};
 ghost use Rattle.pubsub_engine.specs.BuiltIn.{demo_fields, demo_meta};
@@ -37,7 +37,7 @@ impl Session {
     /// A session before its first tick. All its memory is taken here: it has room for so many ticks and the closing one.
     pub fn open(alloc: Global, ticks: u32) -> Result<Session, NoMemory>
         requires { ticks ≤ 4096 }
-        ensures stands { IfOk result (λ s. (told : Option Wire) → ((wire : Wire) → told ≡ Some wire → wire.journal ≡ []) → Stands [] told s) }
+        ensures stands { IfOk result (λ s. (told : Option LinkState) → ((wire : LinkState) → told ≡ Some wire → wire.journal ≡ []) → Stands [] told s) }
         ensures room { IfOk result (λ s. s.publisher.left ≡ ticks + 1) }
     {
         let buffer = vec![in alloc; 0u8; BUFFER_LEN]?;
@@ -57,7 +57,7 @@ impl Session {
     /// Takes a sample of the data set for the next tick.
     pub fn sample(&mut self, plain: &Plain)
         ensures sampled { (self.new.sampled.version ≡ length plain.now.threads.items) × (row_in demo_fields self.new.sampled.row.words ≡ row_in demo_fields plain.now.row.words) }
-        ensures stands { (steps : List Step) (told : Option Wire) → Stands steps told self.old → Stands steps told self.new }
+        ensures stands { (steps : List Step) (told : Option LinkState) → Stands steps told self.old → Stands steps told self.new }
         ensures left { self.new.publisher.left ≡ self.old.publisher.left }
     {
         self.sampled = plain.sampled();

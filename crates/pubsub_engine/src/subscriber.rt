@@ -6,7 +6,7 @@ ghost use Rattle.dataset_reader.specs.declared.took.Numbering.{Numbering as AnyN
 ghost use Rattle.dataset_reader.specs.Reader.{numbering_of, IsReaderOf};
 ghost use Rattle.pubsub_engine.specs.Steps.{IsPump};
 ghost use Rattle.pubsub_engine.specs.BuiltIn.{demo_fields, demo_meta};
-ghost use Rattle.pubsub_engine.specs.Props.{IsReaderOf-prop};
+ghost use Rattle.dataset_reader.specs.Props.{IsReaderOf-prop};
 ghost use Rattle.pubsub_engine.specs.Reading.{is_held};
 ghost use Rattle.pubsub_engine.specs.Counts.{is_datagram};
 

@@ -1,6 +1,6 @@
 pub mod Causes
 pub mod Honest
 pub mod Links
-pub mod Ordinary
+pub mod Parts
 pub mod Outputs
 pub mod Told

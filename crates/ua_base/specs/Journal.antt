@@ -1,6 +1,6 @@
 -- The journal of a link: its answers, in order.
 use Rattle.std.specs.Prelude.{◌≡◌, ℕ, List, ◌∷◌, ◌++◌, Option, Some, None, Contains}
-use Rattle.std.specs.List.{AllByRecursion, filter_map}
+use Rattle.std.specs.List.{filter_map}
 use Rattle.std.specs.Option.{option_map}
 
 pub data Entry : Type 0 where
@@ -12,18 +12,18 @@ pub data Entry : Type 0 where
   ReceiveFailed : Entry
 
 -- what a link tells: its journal, and the datagrams that wait to be received, the first to come first
-pub record Wire : Type 0 where
+pub record LinkState : Type 0 where
   pub journal : List Entry
   pub waiting : List (List ℕ)
 
 -- A link that tells after a call told before it, and the call did this.
-abbrev pub Tells : Option Wire → Option Wire → (Wire → Wire → Type 0) → Type 0
+abbrev pub Tells : Option LinkState → Option LinkState → (LinkState → LinkState → Type 0) → Type 0
 Tells old None step = Unit {0}
-Tells old (Some after) step = (before : Wire) × (old ≡ Some before) × step before after
+Tells old (Some after) step = (before : LinkState) × (old ≡ Some before) × step before after
 
 -- what is told, and then these entries and these datagrams that wait behind all others
-abbrev pub told_more : Option Wire → List Entry → List (List ℕ) → Option Wire
-told_more told entries datagrams = option_map (λ wire. record { journal = wire.journal ++ entries; waiting = wire.waiting ++ datagrams }) told
+abbrev pub told_more : Option LinkState → List Entry → List (List ℕ) → Option LinkState
+told_more told entries datagrams = option_map (λ state. record { journal = state.journal ++ entries; waiting = state.waiting ++ datagrams }) told
 
 abbrev pub sent_datagram : Entry → Option (List ℕ)
 sent_datagram (Sent datagram) = Some datagram
@@ -52,15 +52,3 @@ received_list journal = filter_map received_datagram journal
 -- each received datagram was sent before
 abbrev pub IsHonest : List Entry → Type 0
 IsHonest journal = (before after : List Entry) (datagram : List ℕ) → journal ≡ before ++ Got datagram ∷ after → Contains before (Sent datagram)
-
-abbrev pub IsOrdinaryEntry : Entry → Type 0
-IsOrdinaryEntry (Sent datagram) = Unit {0}
-IsOrdinaryEntry SendFailed = ⊥
-IsOrdinaryEntry (Got datagram) = Unit {0}
-IsOrdinaryEntry Empty = Unit {0}
-IsOrdinaryEntry (Long len) = ⊥
-IsOrdinaryEntry ReceiveFailed = ⊥
-
--- no send and no receive failed, and no datagram was longer than the buffer
-abbrev pub IsOrdinary : List Entry → Type 0
-IsOrdinary journal = AllByRecursion IsOrdinaryEntry journal

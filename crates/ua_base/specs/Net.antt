@@ -1,6 +1,6 @@
 -- What the calls of a link do to what it tells.
 use Rattle.std.specs.Prelude.{◌≡◌, ◌≤◌, ◌<◌, ℕ, List, [], ◌∷◌, ◌++◌, length, take}
-use Rattle.ua_base.specs.Journal.{Sent, SendFailed, Got, Empty, Long, ReceiveFailed, Wire}
+use Rattle.ua_base.specs.Journal.{Sent, SendFailed, Got, Empty, Long, ReceiveFailed, LinkState}
 use Rattle.ua_base.specs.declared.link.Opened.{Opened}
 use Rattle.ua_base.specs.declared.link.Opened.TheVariants as opened
 use Rattle.ua_base.specs.declared.link.Sent.{Sent as SentEnd}
@@ -9,24 +9,24 @@ use Rattle.ua_base.specs.declared.link.Received.{Received}
 use Rattle.ua_base.specs.declared.link.Received.TheVariants as received
 
 -- after `open` answered Done nothing is in the journal, and nothing waits
-abbrev pub Opens : Opened → Wire → Wire → Type 0
+abbrev pub Opens : Opened → LinkState → LinkState → Type 0
 Opens opened.Done before after = (after.journal ≡ []) × (after.waiting ≡ [])
 Opens opened.Failed before after = Unit {0}
 Opens opened.Memory before after = Unit {0}
 
-abbrev pub Sends : List ℕ → SentEnd → Wire → Wire → Type 0
+abbrev pub Sends : List ℕ → SentEnd → LinkState → LinkState → Type 0
 Sends datagram sent.Done before after = after.journal ≡ before.journal ++ Sent datagram ∷ []
 Sends datagram sent.Failed before after = after.journal ≡ before.journal ++ SendFailed ∷ []
 Sends datagram sent.Memory before after = after.journal ≡ before.journal
 
 -- a send leaves what waits, and may add behind it; which datagrams it adds is the link's own promise
-abbrev pub Queues : SentEnd → Wire → Wire → Type 0
+abbrev pub Queues : SentEnd → LinkState → LinkState → Type 0
 Queues sent.Done before after = (added : List (List ℕ)) × (after.waiting ≡ before.waiting ++ added)
 Queues sent.Failed before after = (added : List (List ℕ)) × (after.waiting ≡ before.waiting ++ added)
 Queues sent.Memory before after = after.waiting ≡ before.waiting
 
 -- `into` is the buffer after the call
-abbrev pub Receives : Received → List ℕ → Wire → Wire → Type 0
+abbrev pub Receives : Received → List ℕ → LinkState → LinkState → Type 0
 Receives (received.Datagram n) into before after =
     (after.journal ≡ before.journal ++ Got (take n into) ∷ []) × (before.waiting ≡ take n into ∷ after.waiting)
 Receives received.Nothing into before after =

@@ -2,7 +2,7 @@
 ghost use Rattle.std.specs.Prelude.{◌≡◌, ◌≢◌, ◌<◌, ◌^◌, ℕ, length, Option, Bool, IsTrue, IsSome, Some};
 ghost use Rattle.ua_base.specs.Cause.{HasCause, Rose};
 ghost use Rattle.ua_base.specs.Fates.{AreFates};
-ghost use Rattle.ua_base.specs.Journal.{Wire, Tells};
+ghost use Rattle.ua_base.specs.Journal.{LinkState, Tells};
 ghost use Rattle.ua_base.specs.Links.{Opening, KeepsLink};
 ghost use Rattle.ua_base.specs.Net.{Opens, Sends, Queues, Receives, FitsBuffer};
 
@@ -22,7 +22,9 @@ pub enum Fate {
 /// How an opening ended. A refused one leaves the link as it was, its count of faults aside.
 #[derive(Clone, Copy, Debug, PartialEq, Eq)]
 pub enum Opened {
+    /// It is open, its journal is empty, and nothing waits.
     Done,
+    /// The port can't be had. Comes only where the count of faults rose.
     Failed,
     /// Memory ran out.
     Memory,
@@ -31,19 +33,24 @@ pub enum Opened {
 /// How a send ended.
 #[derive(Clone, Copy, Debug, PartialEq, Eq)]
 pub enum Sent {
+    /// The whole datagram was sent. That it comes isn't said.
     Done,
+    /// It wasn't sent, or not whole. Comes only where the count of faults rose.
     Failed,
     /// Memory ran out, and nothing was sent.
     Memory,
 }
 
+/// How a receive ended.
 #[derive(Clone, Copy, Debug, PartialEq, Eq)]
 pub enum Received {
-    /// So many bytes were received.
+    /// The datagram is the first so many bytes of the buffer.
     Datagram(u32),
+    /// None was ready. The buffer holds any bytes.
     Nothing,
     /// A datagram of so many bytes, more than the buffer holds, was taken and dropped.
     Long(u32),
+    /// None was taken: what waits stays. Comes only where the count of faults rose.
     Failed,
 }
 
@@ -53,7 +60,7 @@ pub trait Link {
     ghost takes_memory: { Bool };
 
     /// The journal and what waits, where they are told.
-    ghost told: { Self → Option Wire };
+    ghost told: { Self → Option LinkState };
 
     /// How often the link has failed.
     ghost faults: { Self → ℕ };

@@ -3,10 +3,12 @@ ghost use Rattle.std.specs.Prelude.{◌≡◌, List, ℕ, Option};
 ghost use Rattle.ua_base.specs.Cause.{HasCause};
 ghost use Rattle.ua_base.specs.Output.{WriteGives};
 
+/// How a write ended.
 #[derive(Clone, Copy, Debug, PartialEq, Eq)]
 pub enum WriteEnd {
+    /// All of the bytes were written.
     Done,
-    /// A prefix was written, which may be empty.
+    /// A prefix was written, which may be empty. Comes only where the count of faults rose.
     Failed,
 }
 

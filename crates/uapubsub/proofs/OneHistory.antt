@@ -4,7 +4,7 @@ use Rattle.std.specs.Prelude.{reverse, count_by, IfSome}
 use mathlib.Core.List.{reverse_aux}
 use Rattle.std.specs.List.{AllByRecursion, AllZip}
 use Rattle.std.proofs.lemmas.List.{get_or_push, get_or_append_left, length-reverse}
-use Rattle.ua_base.specs.Journal.{Wire, IsHonest}
+use Rattle.ua_base.specs.Journal.{LinkState, IsHonest}
 use Rattle.dataset_meta.specs.DataValues.{DataValue}
 use Rattle.dataset_meta.specs.Rows.{IsRow, opening_row, patched}
 use Rattle.dataset_meta.proofs.RowLaws.{IsRow-opening, IsRow-patched}
@@ -106,13 +106,13 @@ if_some None P each = tt
 if_some (Some x) P each = each x refl
 
 -- what a report's steps meet: each sample has a row, and the log is short
-sampled_rows : (bytes : List ℕ) (lines : List Line) (told : Option Wire) (text : List ℕ) (report : IsReport lines told text) → IsScript bytes lines → SampleRows report.steps
+sampled_rows : (bytes : List ℕ) (lines : List Line) (told : Option LinkState) (text : List ℕ) (report : IsReport lines told text) → IsScript bytes lines → SampleRows report.steps
 sampled_rows bytes lines told text report script =
     let session = report.session in
     let values = spelled_values lines [] (text_lines bytes) script.text tt in
     subst SampleRows (sym session.ends) (last_values (reverse lines) values, played_values (reverse lines) session.earlier session.played values)
 
-short_log : (bytes : List ℕ) (lines : List Line) (told : Option Wire) (text : List ℕ) (report : IsReport lines told text) → IsScript bytes lines → length (log_at report.steps) ≤ 16384
+short_log : (bytes : List ℕ) (lines : List Line) (told : Option LinkState) (text : List ℕ) (report : IsReport lines told text) → IsScript bytes lines → length (log_at report.steps) ≤ 16384
 short_log bytes lines told text report script =
     let session = report.session in
     omega (arith, log_ticks report.steps, ap ticks_in session.ends, played_ticks (reverse lines) session.earlier session.played, count-onto lines [], script.ticks)
@@ -124,7 +124,7 @@ HoldsPublished = (steps : List Step) (held : HeldRow) → IsRun steps → Sample
 abbrev pub KeepsRecords : Type 0
 KeepsRecords = (steps : List Step) → IsRun steps → SampleRows steps → length (log_at steps) ≤ 16384 → IsHonest (journal steps) → Keeps (arrivals steps) (kept_at steps)
 
-pub held_version : HoldsPublished → (bytes : List ℕ) (lines : List Line) (wire : Wire) (text : List ℕ) (report : IsReport lines (Some wire) text) → IsScript bytes lines → IsHonest wire.journal
+pub held_version : HoldsPublished → (bytes : List ℕ) (lines : List Line) (wire : LinkState) (text : List ℕ) (report : IsReport lines (Some wire) text) → IsScript bytes lines → IsHonest wire.journal
     → IfSome (held_by (kept_at report.steps)) (λ held. (version : ℕ) × (version_at (log_at report.steps) held.number ≡ Some version) × IsVersion (written (reverse lines)) version held.row)
 held_version law bytes lines wire text report script honest =
     if_some (held_by (kept_at report.steps)) (λ held. (version : ℕ) × (version_at (log_at report.steps) held.number ≡ Some version) × IsVersion (written (reverse lines)) version held.row)
@@ -133,7 +133,7 @@ held_version law bytes lines wire text report script honest =
     let version = session_versions lines report.steps published.sample report.session published.sampled in
     (published.sample.version, published.logged, record { there = version.there; row_is = published.row_is ∙ version.row_is }))
 
-pub shows_records : KeepsRecords → (bytes : List ℕ) (lines : List Line) (wire : Wire) (text : List ℕ) (report : IsReport lines (Some wire) text) → IsScript bytes lines → IsHonest wire.journal
+pub shows_records : KeepsRecords → (bytes : List ℕ) (lines : List Line) (wire : LinkState) (text : List ℕ) (report : IsReport lines (Some wire) text) → IsScript bytes lines → IsHonest wire.journal
     → Keeps (arrivals report.steps) (kept_at report.steps)
 shows_records law bytes lines wire text report script honest =
     law report.steps report.run (sampled_rows bytes lines (Some wire) text report script) (short_log bytes lines (Some wire) text report script) (subst IsHonest (report.entries wire refl) honest)

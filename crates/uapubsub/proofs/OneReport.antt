@@ -1,7 +1,7 @@
 -- The lines and the journal fix the report.
 use Rattle.std.proofs.Common.{◌≡◌, ℕ, List, [], ◌∷◌, Some, refl, sym, ap, ◌∙◌, subst}
 use Rattle.std.specs.Prelude.{reverse}
-use Rattle.ua_base.specs.Journal.{Wire}
+use Rattle.ua_base.specs.Journal.{LinkState}
 use Rattle.pubsub_engine.specs.Steps.{Step}
 use Rattle.pubsub_engine.specs.Alike.{AreAlike}
 use Rattle.pubsub_engine.specs.Closing.{closed}
@@ -23,7 +23,7 @@ played_alike (Tick ms ∷ before) steps others a b = alike steps others _ _ a.3 
 session_alike : (lines : List Line) (steps others : List Step) → IsSession lines steps → IsSession lines others → AreAlike steps others
 session_alike lines steps others a b = alike steps others _ _ a.ends b.ends (refl, refl, refl, played_alike (reverse lines) a.earlier b.earlier a.played b.played)
 
-pub one_report : (lines : List Line) (wire : Wire) (text other : List ℕ) → IsReport lines (Some wire) text → IsReport lines (Some wire) other → text ≡ other
+pub one_report : (lines : List Line) (wire : LinkState) (text other : List ℕ) → IsReport lines (Some wire) text → IsReport lines (Some wire) other → text ≡ other
 one_report lines wire text other a b =
     let same = one_run a.steps b.steps (session_alike lines a.steps b.steps a.session b.session) a.run b.run (sym (a.entries wire refl) ∙ b.entries wire refl) in
     a.shows ∙ ap (λ (s : List Step). report_text (closed (reverse (threads_of (reverse lines))) s)) same ∙ sym b.shows

@@ -2,7 +2,7 @@
 use Rattle.std.proofs.Common.{◌≡◌, ℕ, ◌+◌, List, [], ◌∷◌, length, Bool, false, Option, refl, sym, ap, ◌∙◌, subst, arith}
 use Rattle.std.specs.Prelude.{Result, OnOk}
 use Rattle.std.proofs.lemmas.Result.{on_ok_weaker}
-use Rattle.ua_base.specs.Journal.{Wire, Entry}
+use Rattle.ua_base.specs.Journal.{LinkState, Entry}
 use Rattle.std.proofs.lemmas.List.{length-reverse}
 use Rattle.dataset_meta.specs.DataValues.{DataValue}
 use Rattle.pubsub_engine.specs.Samples.{Sample}
@@ -47,7 +47,7 @@ room_on rest ms app room = record {
 }
 
 -- one more tick with its pump
-pub plays_tick : (before : List Line) (ms : ℕ) (told told' : Option Wire) (player player' : Player) → player'.application ≡ player.application
+pub plays_tick : (before : List Line) (ms : ℕ) (told told' : Option LinkState) (player player' : Player) → player'.application ≡ player.application
     → ((steps : List Step) → Wrote before player.application → Stands steps told player.session
     → (done : List Bool) × (entries : List Entry) × Stands (Pump entries ∷ TickStep ms false (sample_of before) done ∷ steps) told' player'.session)
     → HasPlayed before told player → HasPlayed (Tick ms ∷ before) told' player'

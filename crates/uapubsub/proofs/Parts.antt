@@ -5,8 +5,8 @@ use Rattle.std.specs.List.{All, AllZip}
 use Rattle.std.proofs.Math.Seq.{take-suc, drop-cons}
 use Rattle.std.proofs.lemmas.List.{reverse-append}
 use Rattle.std.proofs.lemmas.List.Elements.{All-nil, All-cons}
-use Rattle.ua_base.specs.Files.{Told}
-use Rattle.ua_base.specs.Journal.{Wire, Tells}
+use Rattle.ua_base.specs.Files.{ToldFile}
+use Rattle.ua_base.specs.Journal.{LinkState, Tells}
 use Rattle.ua_base.specs.Net.{Opens}
 use Rattle.ua_base.specs.declared.link.Opened.TheVariants as opened
 use Rattle.uapubsub.specs.declared.script.Line.{Line}
@@ -24,16 +24,16 @@ playable_lines (Write thread value ∷ lines) (text ∷ texts) all =
     All-cons IsPlayableLine (Write thread value) lines (omega (arith, all.0.1)) (playable_lines lines texts all.1)
 playable_lines (Tick ms ∷ lines) (text ∷ texts) all = All-cons IsPlayableLine (Tick ms) lines all.0.high (playable_lines lines texts all.1)
 
-pub playable : (file : Told) (lines : List Line) → IsAccepted file lines → IsPlayable lines
+pub playable : (file : ToldFile) (lines : List Line) → IsAccepted file lines → IsPlayable lines
 playable file lines accepted = record {
   each = playable_lines lines (text_lines accepted.bytes) accepted.script.text;
   ticks = accepted.script.ticks;
   writes = accepted.script.writes;
 }
 
-pub opened_empty : (before after : Option Wire) → Tells before after (Opens opened.Done) → (wire : Wire) → after ≡ Some wire → wire.journal ≡ []
+pub opened_empty : (before after : Option LinkState) → Tells before after (Opens opened.Done) → (wire : LinkState) → after ≡ Some wire → wire.journal ≡ []
 opened_empty before after tells wire is =
-    let at : Tells before (Some wire) (Opens opened.Done) = subst (λ (o : Option Wire). Tells before o (Opens opened.Done)) is tells in at.2.0
+    let at : Tells before (Some wire) (Opens opened.Done) = subst (λ (o : Option LinkState). Tells before o (Opens opened.Done)) is tells in at.2.0
 
 -- what fits with more lines behind it fits alone
 first_fits : (p : Line → Bool) (line : Line) (rest : List Line) (room : ℕ) → count_by p (line ∷ rest) ≤ room → count_by p (line ∷ []) ≤ room

@@ -2,7 +2,7 @@
 use Rattle.std.proofs.Common.{◌≡◌, ℕ, ◌+◌, suc, min, Bool, true, false, List, [], ◌∷◌, ◌++◌, length, take, Option, Some, None, refl, sym, ap, ◌∙◌, append_assoc, arith, inl, inr}
 use Rattle.std.proofs.lemmas.List.{take-append-le, take_min}
 use Rattle.ua_base.specs.Output.{appended}
-use Rattle.uapubsub.specs.Telling.{Puts, Tells}
+use Rattle.uapubsub.specs.Telling.{Puts, WritesText}
 
 appended-appended : (old : Option (List ℕ)) (a b : List ℕ) → appended (appended old a) b ≡ appended old (a ++ b)
 appended-appended None a b = refl
@@ -26,6 +26,6 @@ cut_short x y m n a b p = ((min p.0.0 (length a), p.0.1 ∙ ap (appended x) (sho
     short a b k = sym (take_min k a) ∙ sym (take-append-le (min k (length a)) a b (omega arith))
 
 -- whichever of the two it was
-pub puts_tells : (r : Bool) (x y : Option (List ℕ)) (m n : ℕ) (text : List ℕ) → Puts r x y m n text → Tells x y m n text
+pub puts_tells : (r : Bool) (x y : Option (List ℕ)) (m n : ℕ) (text : List ℕ) → Puts r x y m n text → WritesText x y m n text
 puts_tells true x y m n text p = inl p.0
 puts_tells false x y m n text p = inr p

@@ -1,20 +1,20 @@
 -- How the program ends: what a status says by its number.
 use Rattle.std.specs.Prelude.{◌≡◌, ℕ, List, [], Option, unwrap_or}
 use Rattle.ua_base.specs.Cause.{Rose}
-use Rattle.ua_base.specs.Files.{Told}
-use Rattle.ua_base.specs.Journal.{Wire}
+use Rattle.ua_base.specs.Files.{ToldFile}
+use Rattle.ua_base.specs.Journal.{LinkState}
 use Rattle.uapubsub.specs.declared.status.Status.{Status}
 use Rattle.uapubsub.specs.Status.{number_of, text_of}
 use Rattle.uapubsub.specs.Play.{Plays}
-use Rattle.uapubsub.specs.Telling.{Tells}
+use Rattle.uapubsub.specs.Telling.{WritesText}
 
 -- the status with this number says what it says
-abbrev pub PlaysAs : ℕ → Told → Option Wire → Option (List ℕ) → Option (List ℕ) → Type 0
+abbrev pub PlaysAs : ℕ → ToldFile → Option LinkState → Option (List ℕ) → Option (List ℕ) → Type 0
 PlaysAs number file told old new = (status : Status) × (number ≡ number_of status) × Plays status file told old new
 
 -- on the error output stands the text of the status with this number
 abbrev pub TellsAs : ℕ → Option (List ℕ) → Option (List ℕ) → Option (List ℕ) → ℕ → ℕ → Type 0
-TellsAs number script old new before after = (status : Status) × (number ≡ number_of status) × Tells old new before after (text_of status (unwrap_or script []))
+TellsAs number script old new before after = (status : Status) × (number ≡ number_of status) × WritesText old new before after (text_of status (unwrap_or script []))
 
 -- no call failed between these counts
 abbrev pub IsQuiet : ℕ → ℕ → Type 0

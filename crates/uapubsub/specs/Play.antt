@@ -1,7 +1,7 @@
 -- What the command `play` does: the session of a script's lines, its report, and what each status says.
 use Rattle.std.specs.Prelude.{◌≡◌, ◌≤◌, ◌<◌, ◌⊎◌, ℕ, List, [], ◌∷◌, length, reverse, Bool, true, false, Option}
-use Rattle.ua_base.specs.Files.{Told, TellsFile}
-use Rattle.ua_base.specs.Journal.{Entry, Wire}
+use Rattle.ua_base.specs.Files.{ToldFile, TellsFile}
+use Rattle.ua_base.specs.Journal.{Entry, LinkState}
 use Rattle.ua_base.specs.Output.{appended, AppendsPrefix}
 use Rattle.pubsub_model.specs.History.{IsLegal, legal_rows, last_row}
 use Rattle.pubsub_engine.specs.BuiltIn.{demo_fields, demo_meta}
@@ -39,7 +39,7 @@ pub record IsSession (lines : List Line) (steps : List Step) : Type 0 where
   pub played : IsPlayed (reverse lines) earlier
 
 -- The text is the report of the session that the lines and the link's journal define, and its history is a legal one of the threads' own patches.
-pub record IsReport (lines : List Line) (told : Option Wire) (text : List ℕ) : Type 0 where
+pub record IsReport (lines : List Line) (told : Option LinkState) (text : List ℕ) : Type 0 where
   pub steps : List Step
   pub session : IsSession lines steps
   pub run : IsRun steps
@@ -49,7 +49,7 @@ pub record IsReport (lines : List Line) (told : Option Wire) (text : List ℕ) :
   pub shows : text ≡ report_text (closed (reverse (threads_of (reverse lines))) steps)
 
 -- What was read is a script of these lines; where the folder tells the file, it is what was read.
-pub record IsAccepted (file : Told) (lines : List Line) : Type 0 where
+pub record IsAccepted (file : ToldFile) (lines : List Line) : Type 0 where
   pub bytes : List ℕ
   pub whole : TellsFile file (λ known. bytes ≡ known)
   pub short : length bytes ≤ 1048576
@@ -60,11 +60,11 @@ abbrev pub IsRefused : List ℕ → Type 0
 IsRefused bytes = (1048576 < length bytes) ⊎ ((lines : List Line) → IsScript bytes lines → ⊥)
 
 -- the text is the report of the lines of the file
-abbrev pub Reports : Told → Option Wire → List ℕ → Type 0
+abbrev pub Reports : ToldFile → Option LinkState → List ℕ → Type 0
 Reports file told text = (lines : List Line) × IsAccepted file lines × IsReport lines told text
 
 -- What each status says. file: what the folder tells of the script; told: what the link tells at the end; old, new: what the output tells before and after
-abbrev pub Plays : Status → Told → Option Wire → Option (List ℕ) → Option (List ℕ) → Type 0
+abbrev pub Plays : Status → ToldFile → Option LinkState → Option (List ℕ) → Option (List ℕ) → Type 0
 Plays Done file told old new = (text : List ℕ) × Reports file told text × (new ≡ appended old text)
 Plays Unwritten file told old new = (text : List ℕ) × Reports file told text × AppendsPrefix old new text
 Plays ScriptRefused file told old new = TellsFile file IsRefused × (new ≡ old)

@@ -1,8 +1,8 @@
 -- What the parts of the command `play` give.
 use Rattle.std.specs.Prelude.{List, [], Option, Result, Ok, Err, Vec, String, string_bytes}
 use Rattle.std.specs.declared.alloc.Global.{Global}
-use Rattle.ua_base.specs.Files.{Told, TellsFile}
-use Rattle.ua_base.specs.Journal.{Wire}
+use Rattle.ua_base.specs.Files.{ToldFile, TellsFile}
+use Rattle.ua_base.specs.Journal.{LinkState}
 use Rattle.ua_base.specs.Links.{Opening}
 use Rattle.uapubsub.specs.declared.script.Line.{Line}
 use Rattle.uapubsub.specs.declared.status.Status.{Status}
@@ -10,7 +10,7 @@ use Rattle.uapubsub.specs.declared.status.Status.TheVariants.{Done, BadWords, Sc
 use Rattle.uapubsub.specs.Play.{IsAccepted, IsRefused, IsReport, Reports}
 
 -- reading the script of a file
-abbrev pub ReadsScript : Told → Result (Vec Line Global) Status → Type 0
+abbrev pub ReadsScript : ToldFile → Result (Vec Line Global) Status → Type 0
 ReadsScript file (Ok lines) = IsAccepted file lines.items
 ReadsScript file (Err ScriptRefused) = TellsFile file IsRefused
 ReadsScript file (Err Unread) = Unit {0}
@@ -21,7 +21,7 @@ ReadsScript file (Err Unwritten) = ⊥
 ReadsScript file (Err Unopened) = ⊥
 
 -- the session of these lines over a link
-abbrev pub Performs : List Line → Option Wire → Result (String Global) Status → Type 0
+abbrev pub Performs : List Line → Option LinkState → Result (String Global) Status → Type 0
 Performs lines told (Ok text) = IsReport lines told (string_bytes text)
 Performs lines told (Err Unopened) = Unit {0}
 Performs lines told (Err OutOfMemory) = Unit {0}
@@ -32,7 +32,7 @@ Performs lines told (Err BadWords) = ⊥
 Performs lines told (Err Unwritten) = ⊥
 
 -- both
-abbrev pub MakesReport : Told → Option Wire → Result (String Global) Status → Type 0
+abbrev pub MakesReport : ToldFile → Option LinkState → Result (String Global) Status → Type 0
 MakesReport file told (Ok text) = Reports file told (string_bytes text)
 MakesReport file told (Err ScriptRefused) = TellsFile file IsRefused
 MakesReport file told (Err Unopened) = (lines : List Line) × IsAccepted file lines

@@ -1,7 +1,7 @@
 -- What plays a script, after some of its lines and before the others. Lines that were played have the latest first.
 use Rattle.std.specs.Prelude.{◌≡◌, ◌≤◌, ◌<◌, ℕ, List, [], length, reverse, count_by, Option, slice_index_or}
 use Rattle.std.specs.List.{All}
-use Rattle.ua_base.specs.Journal.{Wire}
+use Rattle.ua_base.specs.Journal.{LinkState}
 use Rattle.dataset_meta.specs.DataValues.{DataValue}
 use Rattle.pubsub_model.specs.History.{last_row, places}
 use Rattle.row_words.specs.Belonging.{row_in}
@@ -33,7 +33,7 @@ abbrev pub HasRoom : List Line → Application → Type 0
 HasRoom lines app = Fits lines app.plain.left (rooms_of app.dones.items)
 
 -- the player after these lines
-pub record HasPlayed (lines : List Line) (told : Option Wire) (player : Player) : Type 0 where
+pub record HasPlayed (lines : List Line) (told : Option LinkState) (player : Player) : Type 0 where
   pub steps : List Step
   pub played : IsPlayed lines steps
   pub stands : Stands steps told player.session

@@ -4,8 +4,8 @@ use Rattle.ua_base.specs.Cause.{Rose}
 use Rattle.ua_base.specs.Output.{appended, AppendsPrefix}
 
 -- the text was appended whole, or, only where the count of faults rose, a prefix of it
-abbrev pub Tells : Option (List ℕ) → Option (List ℕ) → ℕ → ℕ → List ℕ → Type 0
-Tells old new before after text = (new ≡ appended old text) ⊎ (AppendsPrefix old new text × Rose before after)
+abbrev pub WritesText : Option (List ℕ) → Option (List ℕ) → ℕ → ℕ → List ℕ → Type 0
+WritesText old new before after text = (new ≡ appended old text) ⊎ (AppendsPrefix old new text × Rose before after)
 
 -- which of the two it was
 abbrev pub Puts : Bool → Option (List ℕ) → Option (List ℕ) → ℕ → ℕ → List ℕ → Type 0

@@ -1,7 +1,7 @@
 //! Laws of scripts and of the history that they make, each the contract of a function that does nothing.
 ghost use Rattle.std.specs.Prelude.{◌≡◌, ℕ, List, [], Some, IfSome, length, reverse, All};
 ghost use Rattle.mem_edge.specs.declared.memory_link.MemoryLink.{MemoryLink as LinkValue};
-ghost use Rattle.ua_base.specs.Journal.{Wire, IsHonest};
+ghost use Rattle.ua_base.specs.Journal.{LinkState, IsHonest};
 ghost use Rattle.mem_edge.specs.MemoryLinks.{told_by, injected_by};
 ghost use Rattle.pubsub_engine.specs.Publishing.{log_at};
 ghost use Rattle.dataset_reader.specs.Keeping.{Keeps};
@@ -40,16 +40,16 @@ pub fn writes_make_a_legal_history()
 
 /// The lines and the journal of the link fix the report.
 pub fn a_session_has_one_report()
-    ensures { (lines : List LineValue) (wire : Wire) (text other : List ℕ) → IsReport lines (Some wire) text → IsReport lines (Some wire) other → text ≡ other }
+    ensures { (lines : List LineValue) (wire : LinkState) (text other : List ℕ) → IsReport lines (Some wire) text → IsReport lines (Some wire) other → text ≡ other }
 {}
 
 /// Where each received datagram was sent before, the row that the reader holds is that of a version of the script's
 /// history, and the report prints this version with it; and what the report says of the reader is what *Records* says of
 /// the items that came.
 pub fn a_held_row_is_a_version()
-    ensures held { (bytes : List ℕ) (lines : List LineValue) (wire : Wire) (text : List ℕ) (report : IsReport lines (Some wire) text) → IsScript bytes lines → IsHonest wire.journal
+    ensures held { (bytes : List ℕ) (lines : List LineValue) (wire : LinkState) (text : List ℕ) (report : IsReport lines (Some wire) text) → IsScript bytes lines → IsHonest wire.journal
         → IfSome (held_by (kept_at report.steps)) (λ held. (version : ℕ) × (version_at (log_at report.steps) held.number ≡ Some version) × IsVersion (written (reverse lines)) version held.row) }
-    ensures records { (bytes : List ℕ) (lines : List LineValue) (wire : Wire) (text : List ℕ) (report : IsReport lines (Some wire) text) → IsScript bytes lines → IsHonest wire.journal
+    ensures records { (bytes : List ℕ) (lines : List LineValue) (wire : LinkState) (text : List ℕ) (report : IsReport lines (Some wire) text) → IsScript bytes lines → IsHonest wire.journal
         → Keeps (arrivals report.steps) (kept_at report.steps) }
 {
     a_held_row_is_published();
@@ -59,9 +59,9 @@ pub fn a_held_row_is_a_version()
 /// Over a link in memory without injected datagrams both hold with no premise of the journal, whatever its fates, since
 /// such a link delivers only what was sent.
 pub fn a_held_row_over_memory_is_a_version()
-    ensures held { (bytes : List ℕ) (lines : List LineValue) (link : LinkValue) (wire : Wire) (text : List ℕ) (report : IsReport lines (Some wire) text) → IsScript bytes lines → injected_by link ≡ [] → told_by link ≡ Some wire
+    ensures held { (bytes : List ℕ) (lines : List LineValue) (link : LinkValue) (wire : LinkState) (text : List ℕ) (report : IsReport lines (Some wire) text) → IsScript bytes lines → injected_by link ≡ [] → told_by link ≡ Some wire
         → IfSome (held_by (kept_at report.steps)) (λ held. (version : ℕ) × (version_at (log_at report.steps) held.number ≡ Some version) × IsVersion (written (reverse lines)) version held.row) }
-    ensures records { (bytes : List ℕ) (lines : List LineValue) (link : LinkValue) (wire : Wire) (text : List ℕ) (report : IsReport lines (Some wire) text) → IsScript bytes lines → injected_by link ≡ [] → told_by link ≡ Some wire
+    ensures records { (bytes : List ℕ) (lines : List LineValue) (link : LinkValue) (wire : LinkState) (text : List ℕ) (report : IsReport lines (Some wire) text) → IsScript bytes lines → injected_by link ≡ [] → told_by link ≡ Some wire
         → Keeps (arrivals report.steps) (kept_at report.steps) }
 {
     a_held_row_is_a_version();

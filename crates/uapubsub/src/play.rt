@@ -43,6 +43,8 @@ fn perform<A: Link>(alloc: Global, lines: &[Line], lab: &mut A) -> Result<String
     requires { IsPlayable lines.now }
     ensures report { Performs lines.now (A.told lab.new) result }
     ensures opened { OnOk result (A.opened_with lab.new ≡ Some built_in_opening) }
+    ensures opens { A.opened_with lab.new ≢ A.opened_with lab.old
+        → A.opened_with lab.new ≡ Some built_in_opening }
     ensures unopened { result ≡ Err Status.Unopened → Rose (A.faults lab.old) (A.faults lab.new) }
     ensures unused { result ≡ Err Status.Unopened → (A.told lab.new ≡ A.told lab.old) × (A.opened_with lab.new ≡ A.opened_with lab.old) }
     ensures link_faults { A.faults lab.old ≤ A.faults lab.new }
@@ -66,6 +68,8 @@ fn report_of<F: Folder, A: Link>(
 ) -> Result<String, Status>
     ensures report { MakesReport (F.tells folder.old name.now) (A.told lab.new) result }
     ensures opened { OnOk result (A.opened_with lab.new ≡ Some built_in_opening) }
+    ensures opens { A.opened_with lab.new ≢ A.opened_with lab.old
+        → A.opened_with lab.new ≡ Some built_in_opening }
     ensures unread { result ≡ Err Status.Unread → Rose (F.faults folder.old) (F.faults folder.new) }
     ensures folder_faults { F.faults folder.old ≤ F.faults folder.new }
     ensures unopened { result ≡ Err Status.Unopened → Rose (A.faults lab.old) (A.faults lab.new) }
@@ -88,6 +92,8 @@ pub fn play<F: Folder, A: Link, K: Sink>(
 ) -> Status
     ensures plays { Plays result (F.tells folder.old name.now) (A.told lab.new) (K.written out.old) (K.written out.new) }
     ensures opened { (result ≡ Status.Done) ⊎ (result ≡ Status.Unwritten) → A.opened_with lab.new ≡ Some built_in_opening }
+    ensures opens { A.opened_with lab.new ≢ A.opened_with lab.old
+        → A.opened_with lab.new ≡ Some built_in_opening }
     ensures unread { result ≡ Status.Unread → Rose (F.faults folder.old) (F.faults folder.new) }
     ensures unwritten { result ≡ Status.Unwritten → Rose (K.faults out.old) (K.faults out.new) }
     ensures folder_faults { F.faults folder.old ≤ F.faults folder.new }

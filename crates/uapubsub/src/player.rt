@@ -1,7 +1,7 @@
 //! The session of a script, played line by line.
 ghost use Rattle.std.specs.Prelude.{◌≡◌, ◌≤◌, ◌<◌, ◌+◌, ◌∷◌, [], ℕ, List, Bool, Option, Some, IsTrue, OnOk, OnErr, IfOk, length, reverse, string_bytes, IsSome};
 ghost use Rattle.std.specs.List.{All};
-ghost use Rattle.ua_base.specs.Journal.{Wire, Entry};
+ghost use Rattle.ua_base.specs.Journal.{LinkState, Entry};
 ghost use Rattle.ua_base.specs.Links.{KeepsLink};
 ghost use Rattle.pubsub_engine.specs.Steps.{Step, Tick, Pump};
 ghost use Rattle.pubsub_engine.specs.Standing.{Stands};
@@ -27,7 +27,7 @@ impl Player {
     /// Before the first line. All memory that these lines take is taken here, but what the link takes for itself.
     pub fn open(alloc: Global, lines: &[Line]) -> Result<Player, NoMemory>
         requires { IsPlayable lines.now }
-        ensures played { IfOk result (λ player. (told : Option Wire) → ((wire : Wire) → told ≡ Some wire → wire.journal ≡ []) → HasPlayed [] told player) }
+        ensures played { IfOk result (λ player. (told : Option LinkState) → ((wire : LinkState) → told ≡ Some wire → wire.journal ≡ []) → HasPlayed [] told player) }
         ensures room { IfOk result (λ player. CanPlay lines.now player) }
     {
         let ticks = tick_count(lines) as u32;

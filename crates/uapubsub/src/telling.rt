@@ -1,7 +1,7 @@
 //! The text of a status on the error output.
 ghost use Rattle.std.specs.Prelude.{◌≡◌, ◌≤◌, ◌++◌, List, ℕ, true, false};
 ghost use Rattle.uapubsub.specs.Status.{line_feed, text_of};
-ghost use Rattle.uapubsub.specs.Telling.{Puts, Tells};
+ghost use Rattle.uapubsub.specs.Telling.{Puts, WritesText};
 
 use crate::status::Status;
 use ua_base::{Sink, WriteEnd};
@@ -39,7 +39,7 @@ fn put_unread<E: Sink>(err: &mut E, file: &str) -> bool
 /// Writes the text of a status. A write that fails ends it, and changes nothing else.
 #[tactic(auto, unfolding(crate::specs::Status::text_of))]
 pub fn tell<E: Sink>(err: &mut E, status: Status, file: &str)
-    ensures told { Tells (E.written err.old) (E.written err.new) (E.faults err.old) (E.faults err.new) (text_of status file.now) }
+    ensures told { WritesText (E.written err.old) (E.written err.new) (E.faults err.old) (E.faults err.new) (text_of status file.now) }
     ensures faults { E.faults err.old ≤ E.faults err.new }
 {
     let _whole = match status {

@@ -39,8 +39,11 @@ pub fn top<R: Threads + Wait + Sync, F: Folder, A: Link, B: Link, G: Gate, K: Si
     ensures refused { (script bytes : List ℕ) → script_of words.now ≡ Some script → F.tells folder.old script ≡ Some (Some bytes)
         → result ≢ 5 → result ≢ 7 → (result ≡ 4) ↔ IsRefused bytes }
 
-    // Where the session was played, its link was opened at port 0 and without fates.
+    // Where the session was played, its link was opened at port 0 and without fates. With no status is it opened
+    // otherwise.
     ensures opened { (result ≡ 0) ⊎ (result ≡ 6) → A.opened_with lab.new ≡ Some built_in_opening }
+    ensures opens { A.opened_with lab.new ≢ A.opened_with lab.old
+        → A.opened_with lab.new ≡ Some built_in_opening }
 
     // An answer of a fault comes only where the count of faults of its object rose in this call.
     ensures unread { result ≡ 5 → Rose (F.faults folder.old) (F.faults folder.new) }

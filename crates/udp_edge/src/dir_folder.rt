@@ -43,9 +43,11 @@ impl<R: Files> Folder for DirFolder<'_, R> {
 
         ensures gives { ReadGives result limit (told_file self.old name.now) into.new.items }
         ensures stands { (other : List ℕ) → told_file self.new other ≡ told_file self.old other }
-        ensures cause { HasCause (faults_of self.old) (faults_of self.new) (result ≡ ReadEnd.Failed) }
+        ensures cause { HasCause
+            (faults_of self.old) (faults_of self.new) (result ≡ ReadEnd.Failed) }
 
-        ensures failed { result ≡ ReadEnd.Failed → faults_of self.new ≡ counted_if true (faults_of self.old) }
+        ensures failed { result ≡ ReadEnd.Failed
+            → faults_of self.new ≡ counted_if true (faults_of self.old) }
         ensures others { result ≢ ReadEnd.Failed → faults_of self.new ≡ faults_of self.old }
     {
         into.clear();

@@ -1,5 +1,5 @@
 //! Datagrams over a socket of this machine.
-ghost use Rattle.std.specs.Prelude.{◌≡◌, ◌≢◌, ◌<◌, ◌^◌, IsTrue, IsSome, IfOk, Some, None, false, true, length, vec_len};
+ghost use Rattle.std.specs.Prelude.{◌≡◌, ◌≢◌, ◌<◌, ◌≤◌, ◌^◌, IsTrue, IsSome, IfOk, Some, None, false, true, length, vec_len};
 ghost use Rattle.ua_base.specs.Cause.{HasCause, Rose, counted_if};
 ghost use Rattle.ua_base.specs.Fates.{AreFates};
 ghost use Rattle.ua_base.specs.Journal.{Tells};
@@ -15,7 +15,8 @@ use ua_base::{Fate, Link, Opened, Received, Sent};
 /// How long a receive waits.
 const WAIT_MS: u64 = 10;
 
-/// One byte more than a receive asks for, so that a longer datagram is told from one that fills the buffer.
+/// More bytes than any datagram has (65,507 over IPv4), so that each is received whole before it is put into the
+/// caller's buffer, and its length is told also where it is longer than that.
 const BUFFER_BYTES: usize = 65_537;
 
 /// The open socket, its own address, and what it was opened with.
@@ -94,6 +95,8 @@ impl<R: Net> Link for UdpLink<'_, R> {
 
     ghost opened_with = { λ l. opened_by l };
 
+    /// A link that is open keeps its socket until the next one is bound. So its own port, where the machine didn't
+    /// choose it, can't be opened again: that answers Failed.
     fn open(&mut self, port: u16, fates: &[(u64, Fate)]) -> Opened
         requires fates { AreFates fates.now }
 
@@ -102,9 +105,11 @@ impl<R: Net> Link for UdpLink<'_, R> {
             → opened_by self.new ≡ Some (record { port = port; fates = fates.now }) }
         ensures refused { result ≢ Opened.Done
             → (told_by self.new ≡ told_by self.old) × (opened_by self.new ≡ opened_by self.old) }
-        ensures cause { HasCause (faults_of self.old) (faults_of self.new) (result ≡ Opened.Failed) }
+        ensures cause { HasCause
+            (faults_of self.old) (faults_of self.new) (result ≡ Opened.Failed) }
 
-        ensures failed { result ≡ Opened.Failed → faults_of self.new ≡ counted_if true (faults_of self.old) }
+        ensures failed { result ≡ Opened.Failed
+            → faults_of self.new ≡ counted_if true (faults_of self.old) }
         ensures others { result ≢ Opened.Failed → faults_of self.new ≡ faults_of self.old }
     {
         let Ok((fates, buffer)) = memory(self.alloc, fates) else {
@@ -135,18 +140,19 @@ impl<R: Net> Link for UdpLink<'_, R> {
         ensures only_where_taken { result ≡ Sent.Memory → IsTrue false }
         ensures cause { result ≡ Sent.Failed → Rose (faults_of self.old) (faults_of self.new) }
 
-        ensures failed { result ≡ Sent.Failed → faults_of self.new ≡ counted_if true (faults_of self.old) }
+        ensures failed { result ≡ Sent.Failed
+            → faults_of self.new ≡ counted_if true (faults_of self.old) }
         ensures done { result ≡ Sent.Done → faults_of self.new ≡ faults_of self.old }
     {
         let Some(bound) = &self.bound else {
             unreachable!()
         };
-        match bound.socket.send_to(datagram, bound.to) {
-            Ok(count) if count == datagram.len() => Sent::Done,
-            _ => {
+        match sent(bound.socket.send_to(datagram, bound.to), datagram.len()) {
+            Sent::Failed => {
                 self.faults = self.faults.saturating_add(1);
                 Sent::Failed
             }
+            sent => sent,
         }
     }
 
@@ -159,7 +165,8 @@ impl<R: Net> Link for UdpLink<'_, R> {
         ensures link { KeepsLink opened_by faults_of self.old self.new }
         ensures cause { result ≡ Received.Failed → Rose (faults_of self.old) (faults_of self.new) }
 
-        ensures failed { result ≡ Received.Failed → faults_of self.new ≡ counted_if true (faults_of self.old) }
+        ensures failed { result ≡ Received.Failed
+            → faults_of self.new ≡ counted_if true (faults_of self.old) }
         ensures others { result ≢ Received.Failed → faults_of self.new ≡ faults_of self.old }
     {
         let Some(bound) = &self.bound else {
@@ -180,7 +187,17 @@ fn take(socket: &UdpSocket, buffer: &mut [u8], into: &mut [u8]) -> Received
     requires { length buffer.old < 2 ^ 32 }
     ensures { FitsBuffer result into.new }
 {
-    match socket.recv(buffer) {
+    let got = socket.recv(buffer);
+    received(got, buffer, into)
+}
+
+// What the system answered to a receive, and the datagram that it put into the buffer.
+pub(crate) fn received(got: io::Result<usize>, buffer: &[u8], into: &mut [u8]) -> Received
+    requires short { length buffer.now < 2 ^ 32 }
+    requires count { IfOk got (λ count. count ≤ length buffer.now) }
+    ensures { FitsBuffer result into.new }
+{
+    match got {
         Ok(count) if count > into.len() => Received::Long(count as u32),
         Ok(count) => {
             into[..count].copy_from_slice(&buffer[..count]);
@@ -188,6 +205,16 @@ fn take(socket: &UdpSocket, buffer: &mut [u8], into: &mut [u8]) -> Received
         }
         Err(error) if is_timeout(error.kind()) => Received::Nothing,
         Err(_) => Received::Failed,
+    }
+}
+
+// What the system answered to a send of a datagram of this length.
+pub(crate) fn sent(got: io::Result<usize>, len: usize) -> Sent
+    ensures { result ≢ Sent.Memory }
+{
+    match got {
+        Ok(count) if count == len => Sent::Done,
+        _ => Sent::Failed,
     }
 }
 

@@ -3,5 +3,5 @@ use Rattle.mem_edge.specs.MemoryLinks.{opened_by}
 use Rattle.link_rows.proofs.row.Row.play.Given as goal
 
 -- the link is open
-abbrev pub invariant-loop-text : goal.invariant-loop-text
-invariant-loop-text l = IsSome (opened_by l.link)
+abbrev pub invariant-loop-step : goal.invariant-loop-step
+invariant-loop-step l = IsSome (opened_by l.link)

@@ -8,7 +8,7 @@ use Rattle.mem_edge.specs.declared.mark.Place.{Place}
 use Rattle.mem_edge.specs.declared.mark.Answer.TheVariants as answer
 use Rattle.mem_edge.specs.Contents.{bytes_of, injections}
 use Rattle.mem_edge.specs.Marks.{reach_send, IsWithin}
-use Rattle.mem_edge.proofs.Comes.{bytes_more, journal_sent, mark_within_more, numbered_more, places_more, queue_within, waiting_more, wire_more}
+use Rattle.mem_edge.proofs.Comes.{bytes_more, journal_sent, mark_within_more, numbered_more, places_more, queue_within, waiting_more, state_more}
 use Rattle.mem_edge.proofs.Kept.{kept_send, marked_more}
 use Rattle.mem_edge.proofs.line.Line.send.Goals as goal
 
@@ -112,7 +112,7 @@ returns-clause-told c =
     let n : ℕ = c.len-index.result in
     let len : n ≡ vec_len s.sent = omega (arith, c.len-index.ensures, c.make_place.ensures.sent_len) in
     let grew = bytes_more s.sent.items c.keep.new.sent.items c.in_ok-copy.copy c.args.datagram.now (rw c.make_place.ensures.sent_items at c.keep.ensures.items) c.in_ok-copy.ensures.items in
-    wire_more s.tells _ _ _ _ _ _
+    state_more s.tells _ _ _ _ _ _
     (journal_sent _ _ _ c.args.datagram.now (vec_len s.injected) n s.first s.log.items _ grew (len ∙ bytes_len s.sent) (mark_within_more (vec_len s.injected) (vec_len s.sent) n (omega (arith, len)) s.log.items s.marked) (λ shown k. rw c.make_room.ensures.log_items at (c.note.ensures.entry shown k)))
     (waiting_more _ _ _ c.args.datagram.now (vec_len s.injected) n s.next c.args.copies s.queue.items _ s.places.items _ c.args.held.now c.args.injected.now grew (len ∙ bytes_len s.sent) (omega (arith, s.next_in, s.queue.ok.0))
     (joined s.queue.items _ _ _ _ _ _ (rw c.make_room.ensures.queue_items at c.queue_copies.ensures.items) (rw (c.deref.ensures.value, c.make_place.ensures.places_items) at c.queue_held.ensures.items) c.queue_injected.ensures.items)

@@ -1,6 +1,6 @@
-use Rattle.std.proofs.Common.{◌∙◌, sym, ap, refl, List, ℕ, arith}
+use Rattle.std.proofs.Common.{◌≡◌, ◌∙◌, sym, refl, arith}
 use Rattle.ua_base.specs.Journal.{ReceiveFailed}
-use Rattle.mem_edge.specs.Calls.{is_named}
+use Rattle.mem_edge.specs.Calls.{next_call}
 use Rattle.mem_edge.proofs.Named.{named_from-later, named_from-named}
 use Rattle.mem_edge.proofs.Opened.{is_open_from, sends_kept}
 use Rattle.mem_edge.proofs.memory_link.MemoryLinkLink.receive.Goals as goal
@@ -8,15 +8,27 @@ use Rattle.mem_edge.proofs.memory_link.MemoryLinkLink.receive.Goals as goal
 pub fail_receive-requires : goal.fail_receive-requires
 fail_receive-requires c =
     let s = c.args.self.now in
-    omega (arith, s.room (is_open_from s.is_open _ c.requires), c.if-named.ensures.bound, named_from-named s.receives c.saturating_add-self.result s.receive_fails.items (omega (arith, c.if-named.ensures.bound)) (ap (λ (l : List ℕ). is_named l s.receives) (sym c.deref.ensures.value) ∙ sym c.names-named.ensures.value ∙ c.if-named.true))
+    let is_open = is_open_from s.is_open _ c.requires in
+    let named = sym (c.names-named.ensures.value s.receive_fails.items (s.receives_ahead is_open)) ∙ c.if-named.true in
+    omega (arith, s.room is_open, c.if-named.ensures.bound, named_from-named s.receives c.saturating_add-self.result s.receive_fails.items (omega (arith, c.if-named.ensures.bound)) named)
 
 pub invariant_of-self-clause-room : goal.invariant_of-self-clause-room
 invariant_of-self-clause-room c = λ is_open.
     let s = c.args.self.now in
-    omega (arith, c.fail_receive.ensures.room, s.room is_open, named_from-named s.receives c.saturating_add-self.result s.receive_fails.items (omega (arith, c.if-named.ensures.bound)) (ap (λ (l : List ℕ). is_named l s.receives) (sym c.deref.ensures.value) ∙ sym c.names-named.ensures.value ∙ c.if-named.true))
+    let named = sym (c.names-named.ensures.value s.receive_fails.items (s.receives_ahead is_open)) ∙ c.if-named.true in
+    omega (arith, c.fail_receive.ensures.room, s.room is_open, named_from-named s.receives c.saturating_add-self.result s.receive_fails.items (omega (arith, c.if-named.ensures.bound)) named)
 
 pub invariant_of-self-clause-planned : goal.invariant_of-self-clause-planned
 invariant_of-self-clause-planned c = λ is_open. rw c.fail_receive.ensures.injected (c.args.self.now.planned is_open)
+
+pub invariant_of-self-clause-sends_ahead : goal.invariant_of-self-clause-sends_ahead
+invariant_of-self-clause-sends_ahead c = λ is_open. rw (sends_kept _ _ ReceiveFailed c.fail_receive.ensures.journal refl) (c.args.self.now.sends_ahead is_open)
+
+pub invariant_of-self-clause-receives_ahead : goal.invariant_of-self-clause-receives_ahead
+invariant_of-self-clause-receives_ahead c = λ is_open.
+    let s = c.args.self.now in
+    let number : c.saturating_add-self.result ≡ next_call s.receives = omega arith in
+    rw number (c.pass.ensures s.receive_fails.items (s.receives_ahead is_open))
 
 pub returns-then-named-clause-sends : goal.returns-then-named-clause-sends
 returns-then-named-clause-sends c = sends_kept _ _ ReceiveFailed c.fail_receive.ensures.journal refl
@@ -28,3 +40,9 @@ invariant_of-self-2-clause-room c = λ is_open.
 
 pub invariant_of-self-2-clause-planned : goal.invariant_of-self-2-clause-planned
 invariant_of-self-2-clause-planned c = λ is_open. rw c.receive.ensures.injected (c.args.self.now.planned is_open)
+
+pub invariant_of-self-2-clause-receives_ahead : goal.invariant_of-self-2-clause-receives_ahead
+invariant_of-self-2-clause-receives_ahead c = λ is_open.
+    let s = c.args.self.now in
+    let number : c.saturating_add-self.result ≡ next_call s.receives = omega arith in
+    rw number (c.pass.ensures s.receive_fails.items (s.receives_ahead is_open))

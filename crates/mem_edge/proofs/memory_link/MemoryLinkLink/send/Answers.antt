@@ -1,10 +1,11 @@
-use Rattle.std.proofs.Common.{[], ◌∷◌, List, ℕ, ap, sym, ◌∙◌, refl}
-use Rattle.ua_base.specs.Journal.{Sent, told_more}
+use Rattle.std.proofs.Common.{[], ◌∷◌, List, ℕ, ap, sym, ◌∙◌, refl, arith}
+use Rattle.ua_base.specs.Journal.{Sent, SendFailed, told_more}
 use Rattle.mem_edge.specs.Calls.{is_named}
 use Rattle.mem_edge.specs.Lines.{injected_in, journal_in}
 use Rattle.mem_edge.specs.MemoryLinks.{told_by}
 use Rattle.mem_edge.specs.Sends.{sends_in}
-use Rattle.mem_edge.proofs.Opened.{is_open_from}
+use Rattle.mem_edge.proofs.Failings.{next_is}
+use Rattle.mem_edge.proofs.Opened.{is_open_from, sends_counted}
 use Rattle.mem_edge.proofs.Waiting.{injected_low, queued_is}
 use Rattle.mem_edge.proofs.memory_link.MemoryLinkLink.send.Goals as goal
 
@@ -14,10 +15,24 @@ send-requires-clause-injected c =
     let plan = s.planned (is_open_from s.is_open _ c.requires.open) in
     injected_low c.sends-number.result (injected_in s.line) c.at-injected.result.now (c.at-injected.ensures ∙ plan.placed c.sends-number.result)
 
+-- the call is over, and the next has the next number
+pub invariant_of-self-then-names-clause-sends_ahead : goal.invariant_of-self-then-names-clause-sends_ahead
+invariant_of-self-then-names-clause-sends_ahead c = λ is_open.
+    let s = c.args.self.now in
+    rw (sends_counted _ _ SendFailed c.sends-number.result c.in-Ok.ensures.journal refl c.sends-number.ensures)
+    (next_is _ _ c.sends-number.result (omega arith) (c.pass.ensures s.send_fails.items (rw c.sends-number.ensures (s.sends_ahead is_open))))
+
+pub invariant_of-self-in-Ok-send-clause-sends_ahead : goal.invariant_of-self-in-Ok-send-clause-sends_ahead
+invariant_of-self-in-Ok-send-clause-sends_ahead c = λ is_open.
+    let s = c.args.self.now in
+    rw (sends_counted _ _ (Sent c.args.datagram.now) c.sends-number.result c.in-Ok-send.ensures.journal refl c.sends-number.ensures)
+    (next_is _ _ c.sends-number.result (omega arith) (c.pass-in-Ok-send.ensures s.send_fails.items (rw c.sends-number.ensures (s.sends_ahead is_open))))
+
 pub returns-in-Ok-send-clause-answers : goal.returns-in-Ok-send-clause-answers
 returns-in-Ok-send-clause-answers c =
     let s = c.args.self.now in
-    let plan = s.planned (is_open_from s.is_open _ c.requires.open) in
+    let is_open = is_open_from s.is_open _ c.requires.open in
+    let plan = s.planned is_open in
     record {
       adds = (
         c.in-Ok-send.ensures.told ∙ ap (λ (more : List (List ℕ)). told_more (told_by s) (Sent c.args.datagram.now ∷ []) more)
@@ -26,7 +41,7 @@ returns-in-Ok-send-clause-answers c =
       );
       failed = λ is. cc;
       done = λ is.
-          ap (λ (n : ℕ). is_named s.send_fails.items n) (sym c.sends-number.ensures) ∙ ap (λ (l : List ℕ). is_named l c.sends-number.result) (sym c.deref.ensures.value) ∙ sym c.names.ensures.value ∙ c.if-names.false;
+          ap (λ (n : ℕ). is_named s.send_fails.items n) (sym c.sends-number.ensures) ∙ sym (c.names.ensures.value s.send_fails.items (rw c.sends-number.ensures (s.sends_ahead is_open))) ∙ c.if-names.false;
       receives = refl;
       named = record { sends = refl; receives = refl; opening = refl; injected = c.in-Ok-send.ensures.injected };
       fates = refl;
