@@ -1,5 +1,7 @@
 // Times protecting and opening beside OpenSSL's EVP, whose contexts are keyed once and used again, in turns, and prints
-// the least time of each. Both sides must make the same bytes. A header has 25 bytes, a signature 32.
+// the least time of each. Both sides must make the same bytes. Protecting begins with the header of 25 bytes, which this
+// repository writes part by part, reads again and compares with the sender's front; the other side copies it and lays the
+// number in. A signature has 32 bytes.
 #include <openssl/core_names.h>
 #include <openssl/crypto.h>
 #include <openssl/evp.h>
@@ -8,7 +10,7 @@
 #include <string.h>
 #include <time.h>
 
-void bench_protect(uint32_t encrypts, uint32_t is_long, uint32_t turns, size_t payload, uint8_t *datagram, size_t length);
+void bench_protect(uint32_t encrypts, uint32_t is_long, uint32_t turns, uint8_t *datagram, size_t length);
 uint32_t bench_open(uint32_t encrypts, uint32_t is_long, uint32_t turns, size_t payload, const uint8_t *datagram,
                     size_t length, uint8_t *copy, size_t copy_length);
 
@@ -38,6 +40,15 @@ static void key_contexts(int is_long) {
     EVP_MAC_init(mac, signing, sizeof signing, named);
 }
 
+// PublisherId 5, group 1, sequence number 0, writer 1, token 1; the flags stand at 11, the number at 21.
+static const uint8_t header[HEADER] = {0xf1, 0x10, 5, 9, 1, 0, 0, 0, 1, 1, 0, 1, 1, 0, 0, 0, 8};
+
+static void begin(int encrypts, uint8_t *datagram, uint32_t number) {
+    memcpy(datagram, header, HEADER);
+    if (encrypts) datagram[11] |= 2;
+    for (int i = 0; i < 4; i++) datagram[21 + i] = (uint8_t)(number >> 8 * i);
+}
+
 static void cover(uint8_t *datagram, size_t length, uint32_t number) {
     int written;
     for (int i = 0; i < 4; i++) counter[8 + i] = (uint8_t)(number >> 8 * i);
@@ -54,6 +65,7 @@ static void sign(const uint8_t *datagram, size_t length, uint8_t *signature) {
 
 static void their_protect(int encrypts, uint8_t *datagram, size_t length) {
     for (uint32_t turn = 1; turn <= TURNS; turn++) {
+        begin(encrypts, datagram, turn);
         if (encrypts) cover(datagram, length, turn);
         sign(datagram, length, datagram + length - SIGNATURE);
     }
@@ -82,11 +94,11 @@ static void measure(int encrypts, int is_long, size_t length) {
     double protect_us = 0, protect_them = 0, open_us = 0, open_them = 0;
     key_contexts(is_long);
     for (size_t i = 0; i < length; i++) sealed[i] = (uint8_t)(5 * i);
-    bench_protect(encrypts, is_long, 1, HEADER, sealed, length);
+    bench_protect(encrypts, is_long, 1, sealed, length);
     for (int round = 0; round < ROUNDS; round++) {
         for (size_t i = 0; i < length; i++) ours[i] = theirs[i] = (uint8_t)(3 * i);
         double start = now();
-        bench_protect(encrypts, is_long, TURNS, HEADER, ours, length);
+        bench_protect(encrypts, is_long, TURNS, ours, length);
         keep_least(&protect_us, start);
         start = now();
         their_protect(encrypts, theirs, length);

@@ -8,8 +8,6 @@ mod laws;
 mod planes;
 mod sbox;
 mod stream;
-#[cfg(test)]
-mod tests;
 
 pub use keys::{Key128, Key256};
 pub use laws::{inverses, stream_undoes_itself};

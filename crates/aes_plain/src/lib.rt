@@ -7,7 +7,5 @@ mod cipher;
 mod expand;
 mod keys;
 mod sbox;
-#[cfg(test)]
-mod tests;
 
 pub use keys::{encrypt_block_128, encrypt_block_256, stream_byte_128, stream_byte_256};

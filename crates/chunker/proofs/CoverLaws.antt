@@ -7,7 +7,7 @@ use Rattle.std.proofs.lemmas.Bool.Decides.{nat_tests}
 use Rattle.std.proofs.lemmas.Nat.Bits.{bit_at_and, bit_at_or, bit_at_mask_inside, bit_at_mask_below, bit_at_ones, bit_at_ones_above, bit_at-lt, ones_shl, ones_shr, same_from_bits, same_from_bits_below}
 use Rattle.std.specs.Int.{bit_at}
 use Rattle.std.specs.List.{list_all, range_with_len}
-use Rattle.chunker.specs.Cover.{is_marked, is_between}
+use Rattle.chunker.specs.Cover.{has_offset, is_between}
 use Rattle.chunker.proofs.RangeLaws.{all_below, all_from_below}
 
 -- ---- the ones from low to high
@@ -51,12 +51,12 @@ has_from word mask high ins above each = eq-eqb (bit_and word mask) mask (same_f
 
 -- ---- a word in its place
 
-word_same : (words : List ℕ) (place word x : ℕ) → place < length words → x / 64 ≡ place → is_marked (set words place word) x ≡ eqb (bit_at word (x % 64)) 1
+word_same : (words : List ℕ) (place word x : ℕ) → place < length words → x / 64 ≡ place → has_offset (set words place word) x ≡ eqb (bit_at word (x % 64)) 1
 word_same words place word x within same =
     ap (λ i. eqb (bit_at (get_or (set words place word) i 0) (x % 64)) 1) same
     ∙ ap (λ w. eqb (bit_at w (x % 64)) 1) (get_or-set_same words place word 0 within)
 
-word_other : (words : List ℕ) (place word x : ℕ) → x / 64 ≢ place → is_marked (set words place word) x ≡ is_marked words x
+word_other : (words : List ℕ) (place word x : ℕ) → x / 64 ≢ place → has_offset (set words place word) x ≡ has_offset words x
 word_other words place word x other = ap (λ w. eqb (bit_at w (x % 64)) 1) (get_or-set_other words place (x / 64) word 0 other)
 
 -- the tests of a bit that a run of ones is laid over
@@ -70,7 +70,7 @@ between_no first end x (inr a) = grind (arith, nat_tests)
 
 pub word_laid : (words : List ℕ) (block low high mask x : ℕ) → block < length words → high < 64
     → ((i : ℕ) → low ≤ i → i ≤ high → bit_at mask i ≡ 1) → ((i : ℕ) → i < low → bit_at mask i ≡ 0) → ((i : ℕ) → high < i → bit_at mask i ≡ 0)
-    → is_marked (set words block (bit_or (get_or words block 0) mask)) x ≡ (is_between (64 * block + low) (64 * block + high + 1) x || is_marked words x)
+    → has_offset (set words block (bit_or (get_or words block 0) mask)) x ≡ (is_between (64 * block + low) (64 * block + high + 1) x || has_offset words x)
 word_laid words block low high mask x within high_bit ins below above = elim (cases_eq (x / 64) block) [
   | inl same ↦ (
       let word = get_or words block 0 in
@@ -95,7 +95,7 @@ word_laid words block low high mask x within high_bit ins below above = elim (ca
         | inr more ↦ inr (let past : block < x / 64 = omega (arith, more, other) in omega (arith, past, high_bit))
       ] in
       word_other words block (bit_or (get_or words block 0) mask) x other
-      ∙ ap (λ b. b || is_marked words x) (sym (between_no (64 * block + low) (64 * block + high + 1) x apart))
+      ∙ ap (λ b. b || has_offset words x) (sym (between_no (64 * block + low) (64 * block + high + 1) x apart))
       )
 ]
   where
@@ -112,17 +112,17 @@ bits_of_max i less = bit_at_ones 64 i less
 
 -- a word of ones behind what is laid
 pub whole_laid : (old words : List ℕ) (first block : ℕ) → block < length words → first ≤ 64 * block
-    → ((x : ℕ) → is_marked words x ≡ (is_between first (64 * block) x || is_marked old x))
-    → (x : ℕ) → is_marked (set words block 18446744073709551615) x ≡ (is_between first (64 * (block + 1)) x || is_marked old x)
+    → ((x : ℕ) → has_offset words x ≡ (is_between first (64 * block) x || has_offset old x))
+    → (x : ℕ) → has_offset (set words block 18446744073709551615) x ≡ (is_between first (64 * (block + 1)) x || has_offset old x)
 whole_laid old words first block within from before x = elim (cases_eq (x / 64) block) [
   | inl same ↦ (
       word_same words block 18446744073709551615 x within same
       ∙ eq-eqb (bit_at 18446744073709551615 (x % 64)) 1 (bits_of_max (x % 64) (omega arith))
-      ∙ sym (in_it first (64 * (block + 1)) x (is_marked old x) (omega (arith, same, from)) (omega (arith, same)))
+      ∙ sym (in_it first (64 * (block + 1)) x (has_offset old x) (omega (arith, same, from)) (omega (arith, same)))
       )
   | inr other ↦ (
       word_other words block 18446744073709551615 x other ∙ before x
-      ∙ ap (λ b. b || is_marked old x) (same_below first (64 * block) (64 * (block + 1)) x (apart other (cases_lt (x / 64) block)))
+      ∙ ap (λ b. b || has_offset old x) (same_below first (64 * block) (64 * (block + 1)) x (apart other (cases_lt (x / 64) block)))
       )
 ]
   where
@@ -143,44 +143,44 @@ between_joined first middle end x t low high = grind (arith, nat_tests)
 
 -- ---- words that have all bits below the total
 
-word_max : (words : List ℕ) (i x : ℕ) → get_or words i 0 ≡ 18446744073709551615 → x / 64 ≡ i → is_marked words x ≡ true
+word_max : (words : List ℕ) (i x : ℕ) → get_or words i 0 ≡ 18446744073709551615 → x / 64 ≡ i → has_offset words x ≡ true
 word_max words i x max at =
     ap (λ k. eqb (bit_at (get_or words k 0) (x % 64)) 1) at ∙ ap (λ w. eqb (bit_at w (x % 64)) 1) max
     ∙ eq-eqb (bit_at 18446744073709551615 (x % 64)) 1 (bits_of_max (x % 64) (omega arith))
 
-pub full_more : (words : List ℕ) (i : ℕ) → ((x : ℕ) → x < 64 * i → is_marked words x ≡ true) → get_or words i 0 ≡ 18446744073709551615 → (x : ℕ) → x < 64 * (i + 1) → is_marked words x ≡ true
+pub full_more : (words : List ℕ) (i : ℕ) → ((x : ℕ) → x < 64 * i → has_offset words x ≡ true) → get_or words i 0 ≡ 18446744073709551615 → (x : ℕ) → x < 64 * (i + 1) → has_offset words x ≡ true
 full_more words i before max x less = elim (cases_lt x (64 * i)) [
   | inl below ↦ before x below
   | inr above ↦ word_max words i x max (omega (arith, above, less))
 ]
 
-marked_bit : (words : List ℕ) (i j : ℕ) → j < 64 → is_marked words (64 * i + j) ≡ true → bit_at (get_or words i 0) j ≡ 1
+marked_bit : (words : List ℕ) (i j : ℕ) → j < 64 → has_offset words (64 * i + j) ≡ true → bit_at (get_or words i 0) j ≡ 1
 marked_bit words i j less e =
     let at : (64 * i + j) / 64 ≡ i = omega (arith, less) in
     let of : (64 * i + j) % 64 ≡ j = omega (arith, less) in
     sym (ap (λ k. bit_at (get_or words k 0) j) at) ∙ sym (ap (λ k. bit_at (get_or words ((64 * i + j) / 64) 0) k) of) ∙ eqb-true (bit_at (get_or words ((64 * i + j) / 64) 0) ((64 * i + j) % 64)) 1 e
 
-bit_marked : (words : List ℕ) (i x : ℕ) → x / 64 ≡ i → bit_at (get_or words i 0) (x % 64) ≡ 1 → is_marked words x ≡ true
+bit_marked : (words : List ℕ) (i x : ℕ) → x / 64 ≡ i → bit_at (get_or words i 0) (x % 64) ≡ 1 → has_offset words x ≡ true
 bit_marked words i x at e = ap (λ k. eqb (bit_at (get_or words k 0) (x % 64)) 1) at ∙ eq-eqb (bit_at (get_or words i 0) (x % 64)) 1 e
 
 -- a word before the last that lacks a bit
 pub word_lacks : (words : List ℕ) (total i : ℕ) → i < total / 64 → get_or words i 0 < 18446744073709551616 → get_or words i 0 ≢ 18446744073709551615
-    → false ≡ list_all (is_marked words) (range_with_len 0 total)
+    → false ≡ list_all (has_offset words) (range_with_len 0 total)
 word_lacks words total i less fits lacks =
-    sym (false_from_ne_true (list_all (is_marked words) (range_with_len 0 total)) (λ e. lacks (same_from_bits_below 64 (get_or words i 0) 18446744073709551615 fits (lit< tt)
-    (λ j below. marked_bit words i j below (all_below (is_marked words) total (64 * i + j) e (omega (arith, less, below))) ∙ sym (bits_of_max j below)))))
+    sym (false_from_ne_true (list_all (has_offset words) (range_with_len 0 total)) (λ e. lacks (same_from_bits_below 64 (get_or words i 0) 18446744073709551615 fits (lit< tt)
+    (λ j below. marked_bit words i j below (all_below (has_offset words) total (64 * i + j) e (omega (arith, less, below))) ∙ sym (bits_of_max j below)))))
 
-pub whole_words : (words : List ℕ) (total : ℕ) → total % 64 ≡ 0 → ((x : ℕ) → x < 64 * (total / 64) → is_marked words x ≡ true) → list_all (is_marked words) (range_with_len 0 total) ≡ true
-whole_words words total even each = all_from_below (is_marked words) total (λ x less. each x (omega (arith, even, less)))
+pub whole_words : (words : List ℕ) (total : ℕ) → total % 64 ≡ 0 → ((x : ℕ) → x < 64 * (total / 64) → has_offset words x ≡ true) → list_all (has_offset words) (range_with_len 0 total) ≡ true
+whole_words words total even each = all_from_below (has_offset words) total (λ x less. each x (omega (arith, even, less)))
 
-pub last_word : (words : List ℕ) (total : ℕ) (answer : Bool) → 0 < total % 64 → ((x : ℕ) → x < 64 * (total / 64) → is_marked words x ≡ true)
+pub last_word : (words : List ℕ) (total : ℕ) (answer : Bool) → 0 < total % 64 → ((x : ℕ) → x < 64 * (total / 64) → has_offset words x ≡ true)
     → (answer ≡ true → (i : ℕ) → i ≤ total % 64 - 1 → bit_at (get_or words (total / 64) 0) i ≡ 1)
     → (((i : ℕ) → i ≤ total % 64 - 1 → bit_at (get_or words (total / 64) 0) i ≡ 1) → answer ≡ true)
-    → answer ≡ list_all (is_marked words) (range_with_len 0 total)
-last_word words total true some each has lacks = sym (all_from_below (is_marked words) total (λ x less. elim (cases_lt x (64 * (total / 64))) [
+    → answer ≡ list_all (has_offset words) (range_with_len 0 total)
+last_word words total true some each has lacks = sym (all_from_below (has_offset words) total (λ x less. elim (cases_lt x (64 * (total / 64))) [
   | inl below ↦ each x below
   | inr above ↦ bit_marked words (total / 64) x (omega (arith, above, less)) (has refl (x % 64) (omega (arith, above, less)))
 ]))
-last_word words total false some each has lacks = sym (false_from_ne_true (list_all (is_marked words) (range_with_len 0 total)) (λ e.
-    let wrong : false ≡ true = lacks (λ i below. marked_bit words (total / 64) i (omega (arith, below, some)) (all_below (is_marked words) total (64 * (total / 64) + i) e (omega (arith, below, some)))) in
+last_word words total false some each has lacks = sym (false_from_ne_true (list_all (has_offset words) (range_with_len 0 total)) (λ e.
+    let wrong : false ≡ true = lacks (λ i below. marked_bit words (total / 64) i (omega (arith, below, some)) (all_below (has_offset words) total (64 * (total / 64) + i) e (omega (arith, below, some)))) in
     cc))

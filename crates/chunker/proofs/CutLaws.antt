@@ -11,7 +11,7 @@ use Rattle.std.proofs.Math.Nat.{div-mul-le_self, mul-le-mul_right, mod-lt}
 use Rattle.std.proofs.lemmas.Nat.{le-div, div-add-mod'}
 use Rattle.chunker.specs.Chunks.{Chunk, cut_at, cuts, is_at, cover, byte_in}
 use Rattle.chunker.specs.Joining.{chunk_of}
-use Rattle.chunker.specs.Joins.{IsCutOf, CoverGivesBack}
+use Rattle.chunker.specs.Joins.{IsCutOf, CoverGivesBack, IsWithinRoom}
 use Rattle.chunker.proofs.RangeLaws.{all_below, all_from_below}
 
 -- how many chunks there are
@@ -105,6 +105,13 @@ cut-size room place message c has_room some h =
     let long = length-take room (drop (of.k * room) message) in
     let rest = length-drop (of.k * room) message in
     subst (HasSize (length message)) of.is (record { total_is = refl; some = omega (arith, less, long, rest, has_room); within = omega (arith, less, long, rest) })
+
+pub cut-room : (room place : ℕ) (message : List ℕ) (c : Chunk) → 1 ≤ room → 1 ≤ length message → Contains (cuts room place message) c → IsWithinRoom room c
+cut-room room place message c has_room some h =
+    let of = cut-at room place message c h in
+    let size = cut-size room place message c has_room some h in
+    let most : length c.bytes ≤ room = subst (λ (c : Chunk). length c.bytes ≤ room) of.is (omega (arith, length-take room (drop (of.k * room) message))) in
+    record { some = size.some; at_most = most; within = size.within }
 
 -- ---- all of them cover the message
 

@@ -13,7 +13,7 @@ use Rattle.std.proofs.lemmas.Nat.Bits.{bit_at-zero}
 use borrow.Rule.Slice.PartMut.{put_mid, post_of}
 use Rattle.chunker.specs.declared.joiner.Joiner.{Joiner}
 use Rattle.chunker.specs.declared.joiner.Message.{Message}
-use Rattle.chunker.specs.Cover.{is_marked, is_between}
+use Rattle.chunker.specs.Cover.{has_offset, is_between}
 use Rattle.chunker.specs.Chunks.{Chunk, is_at, byte_in, cover, message_of}
 use Rattle.chunker.specs.Joining.{Joining, chunk_of, is_joined, joined_bytes}
 use Rattle.chunker.specs.Joiners.{HasLaid, HasCurrent, IsJoinerOf, is_whole_in}
@@ -61,7 +61,7 @@ inside a b o e = (grind (arith, nat_tests), grind (arith, nat_tests))
 
 pub HasLaid-laid : (n offset total k : ℕ) (part ys : List ℕ) (chunks : List Chunk) (words words' bytes : List ℕ)
     → offset + length part ≤ length bytes → k ≡ length part → ys ≡ part
-    → ((x : ℕ) → is_marked words' x ≡ (is_between offset (offset + length part) x || is_marked words x)) → HasLaid n total chunks words bytes
+    → ((x : ℕ) → has_offset words' x ≡ (is_between offset (offset + length part) x || has_offset words x)) → HasLaid n total chunks words bytes
     → HasLaid n total (chunk_of n offset total part ∷ chunks) words' (put_mid offset k bytes ys)
 HasLaid-laid n offset total k part ys chunks words words' bytes within long is marked has =
     let c = chunk_of n offset total part in
@@ -70,7 +70,7 @@ HasLaid-laid n offset total k part ys chunks words words' bytes within long is m
       bytes_are = λ o less e. byte_on o less (is_between offset (offset + length part) o) refl (sym (marked o) ∙ e);
     }
   where
-    byte_on : (o : ℕ) → o < total → (b : Bool) → is_between offset (offset + length part) o ≡ b → (is_between offset (offset + length part) o || is_marked words o) ≡ true
+    byte_on : (o : ℕ) → o < total → (b : Bool) → is_between offset (offset + length part) o ≡ b → (is_between offset (offset + length part) o || has_offset words o) ≡ true
         → get_or (put_mid offset k bytes ys) o 0 ≡ byte_in o (cond (is_at n o (chunk_of n offset total part)) (Some (chunk_of n offset total part)) (find (is_at n o) chunks))
     byte_on o less true t e =
         let at = inside offset (offset + length part) o t in
@@ -79,7 +79,7 @@ HasLaid-laid n offset total k part ys chunks words words' bytes within long is m
         ∙ sym (ap (λ b. byte_in o (cond b (Some (chunk_of n offset total part)) (find (is_at n o) chunks))) here)
     byte_on o less false t e =
         let elsewhere : is_at n o (chunk_of n offset total part) ≡ false = at-between n offset total o part ∙ t in
-        let old : is_marked words o ≡ true = sym (ap (λ b. b || is_marked words o) t) ∙ e in
+        let old : has_offset words o ≡ true = sym (ap (λ b. b || has_offset words o) t) ∙ e in
         kept_byte (outside offset (offset + length part) o t) ∙ has.bytes_are o less old
         ∙ sym (ap (λ b. byte_in o (cond b (Some (chunk_of n offset total part)) (find (is_at n o) chunks))) elsewhere)
       where
@@ -87,10 +87,10 @@ HasLaid-laid n offset total k part ys chunks words words' bytes within long is m
         kept_byte (inl below) = put_below offset k o bytes ys (omega (arith, within)) below
         kept_byte (inr above) = put_above offset k o bytes ys (omega (arith, within)) (omega (arith, long, ap length is)) (omega (arith, above, ap length is))
 
-pub HasLaid-full : (n total : ℕ) (chunks : List Chunk) (words bytes : List ℕ) → HasLaid n total chunks words bytes → list_all (is_marked words) (range_with_len 0 total) ≡ cover chunks n total
+pub HasLaid-full : (n total : ℕ) (chunks : List Chunk) (words bytes : List ℕ) → HasLaid n total chunks words bytes → list_all (has_offset words) (range_with_len 0 total) ≡ cover chunks n total
 HasLaid-full n total chunks words bytes has =
-    all_same (is_marked words) (λ o. list_any (is_at n o) chunks) total 0
-    (λ o less. let same : 0 + o ≡ o = omega arith in ap (is_marked words) same ∙ has.marks o less ∙ sym (ap (λ o. list_any (is_at n o) chunks) same))
+    all_same (has_offset words) (λ o. list_any (is_at n o) chunks) total 0
+    (λ o less. let same : 0 + o ≡ o = omega arith in ap (has_offset words) same ∙ has.marks o less ∙ sym (ap (λ o. list_any (is_at n o) chunks) same))
 
 -- no bit is set, and no chunk is laid in
 pub HasLaid-none : (n total : ℕ) (bytes : List ℕ) → HasLaid n total [] (replicate 64 0) bytes
@@ -105,7 +105,7 @@ HasLaid-none n total bytes = record {
       | inr more ↦ get_or_past (replicate 64 0) i 0 (let long : length {A = ℕ} (replicate 64 0) ≡ 64 = length-replicate {A = ℕ} 64 0 in omega (arith, long))
     ]
 
-    unmarked : (o : ℕ) → is_marked (replicate 64 0) o ≡ false
+    unmarked : (o : ℕ) → has_offset (replicate 64 0) o ≡ false
     unmarked o = ap (λ w. eqb (bit_at w (o % 64)) 1) (zero_at (o / 64)) ∙ ap (λ b. eqb b 1) (bit_at-zero (o % 64))
 
 -- ---- a message that is whole

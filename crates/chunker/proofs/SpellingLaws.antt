@@ -1,5 +1,5 @@
 -- A chunk that was written is read again, whatever follows it.
-use Rattle.std.proofs.Common.{◌≡◌, ℕ, ◌^◌, ◌<◌, false, List, ◌++◌, length, take, drop, Result, Ok, ℤ, pos, ltb, refl, ap, subst, ◌∙◌, append_assoc, arith}
+use Rattle.std.proofs.Common.{◌≡◌, ℕ, ◌+◌, ◌^◌, ◌<◌, false, List, ◌++◌, length, take, drop, Result, Ok, ℤ, pos, ltb, refl, ap, subst, ◌∙◌, append_assoc, arith}
 use Rattle.std.specs.Int.{Width, w16, w32, byte_len, from_le_bytes, to_le_bytes, cast_signed}
 use Rattle.std.proofs.lemmas.Bool.{le-ltb}
 use Rattle.std.proofs.lemmas.Int.{to_z_pos}
@@ -55,6 +55,14 @@ chunk-again c rest is =
     ∙ ap (λ (r : Result (ℕ × List ℕ) ChunkFault). r >>= λ total. data_at total.1 >>= λ part. Ok (chunk_of c.place c.offset total.0 part.0, part.1))
     (u32_again c.total part is.total)
     ∙ ap (λ (r : Result (List ℕ × List ℕ) ChunkFault). r >>= λ part. Ok (chunk_of c.place c.offset c.total part.0, part.1)) (data_again c.bytes rest is.bytes)
+
+pub chunk-long : (c : Chunk) → length (chunk_bytes c) ≡ 14 + length c.bytes
+chunk-long c =
+    let a = to_le_bytes w16 c.place in
+    let b = to_le_bytes w32 c.offset in
+    let t = to_le_bytes w32 c.total in
+    let l = to_le_bytes w32 (length c.bytes) in
+    omega (arith, length-append a b, length-append (a ++ b) t, length-append (a ++ b ++ t) l, length-append (a ++ b ++ t ++ l) c.bytes)
 
 -- a chunk of a cut has numbers of their types
 pub cut-written : (room place : ℕ) (message : List ℕ) (c : Chunk) → CutCanBeWritten room place message c

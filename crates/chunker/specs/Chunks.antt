@@ -3,7 +3,10 @@
 use Rattle.std.specs.Prelude.{ℕ, ◌+◌, ◌-◌, ◌*◌, ◌/◌, List, [], ◌∷◌, length, map, filter, take, drop, Bool, not, ◌&&◌, ◌||◌, nat_le, nat_lt, ◌==◌, Option, Some, None, find, slice_index, if◌then◌else◌}
 use Rattle.std.specs.List.{list_any, list_all, range_with_len}
 use Rattle.seq_number.specs.Numbers.{greatest}
-use Rattle.chunker.specs.declared.joiner.TheConstants.{MESSAGE_BYTES}
+
+-- the longest message that is joined, in bytes
+abbrev pub longest_message : ℕ
+longest_message = 4096
 
 pub record Chunk : Type 0 where
   pub place : ℕ
@@ -45,7 +48,7 @@ at_greatest chunks = filter (λ chunk. chunk.place == greatest (places chunks)) 
 -- a chunk that counts: with bytes, within its total, which is one that can be joined and, at the greatest place so far, that of the others there
 abbrev pub is_proper : List Chunk → Chunk → Bool
 is_proper before chunk =
-    nat_lt 0 (length chunk.bytes) && nat_le (chunk.offset + length chunk.bytes) chunk.total && nat_le chunk.total MESSAGE_BYTES
+    nat_lt 0 (length chunk.bytes) && nat_le (chunk.offset + length chunk.bytes) chunk.total && nat_le chunk.total longest_message
     && list_all (λ c. not (c.place == chunk.place) || (c.total == chunk.total)) (at_greatest before)
 
 -- the chunks that count, with one more that came

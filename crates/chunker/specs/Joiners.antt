@@ -2,7 +2,7 @@
 use Rattle.std.specs.Prelude.{◌≡◌, ⊤, ℕ, ◌<◌, true, Bool, false, List, Option, Some, None, find, slice_index, option_map}
 use Rattle.std.specs.List.{list_any}
 use Rattle.std.specs.Option.{option_map_or}
-use Rattle.chunker.specs.Cover.{is_marked}
+use Rattle.chunker.specs.Cover.{has_offset}
 use Rattle.chunker.specs.Chunks.{Chunk, is_at, byte_in}
 use Rattle.chunker.specs.Joining.{Joining, is_joined}
 use Rattle.chunker.specs.declared.joiner.Joined.{Joined}
@@ -16,8 +16,8 @@ is_whole_in joiner = option_map_or (λ message. message.is_whole) joiner.message
 
 -- of each offset of the message
 pub record HasLaid (number total : ℕ) (chunks : List Chunk) (words bytes : List ℕ) : Type 0 where
-  pub marks : (offset : ℕ) → offset < total → is_marked words offset ≡ list_any (is_at number offset) chunks
-  pub bytes_are : (offset : ℕ) → offset < total → is_marked words offset ≡ true
+  pub marks : (offset : ℕ) → offset < total → has_offset words offset ≡ list_any (is_at number offset) chunks
+  pub bytes_are : (offset : ℕ) → offset < total → has_offset words offset ≡ true
       → slice_index bytes offset ≡ byte_in offset (find (is_at number offset) chunks)
 
 abbrev pub HasCurrent : Option (ℕ × ℕ) → List Chunk → List ℕ → List ℕ → Type 0

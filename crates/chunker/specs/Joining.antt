@@ -2,10 +2,9 @@
 use Rattle.std.specs.Prelude.{ℕ, ◌+◌, List, [], ◌∷◌, length, Bool, true, false, not, ◌||◌, nat_lt, ◌==◌, Option, Some, None, if◌then◌else◌}
 use Rattle.std.specs.Option.{option_map_or}
 use Rattle.seq_number.specs.Numbers.{newer}
-use Rattle.chunker.specs.Chunks.{Chunk, cover, message_of}
+use Rattle.chunker.specs.Chunks.{longest_message, Chunk, cover, message_of}
 use Rattle.chunker.specs.declared.joiner.Joined.{Joined}
 use Rattle.chunker.specs.declared.joiner.Joined.TheVariants.{Whole, Part, Older, TooLong, BadRange, Differs}
-use Rattle.chunker.specs.declared.joiner.TheConstants.{MESSAGE_BYTES}
 
 -- the current message's number and total, and the chunks laid into it, the latest first
 pub record Joining : Type 0 where
@@ -49,7 +48,7 @@ current_case kept chunk (Some now) =
 abbrev pub chunk_case : Joining → Chunk → Joining × Joined
 chunk_case kept chunk =
     if not (nat_lt 0 (length chunk.bytes)) || nat_lt chunk.total (chunk.offset + length chunk.bytes) then (kept, BadRange chunk.offset chunk.total)
-    else if nat_lt MESSAGE_BYTES chunk.total then (kept, TooLong chunk.total)
+    else if nat_lt longest_message chunk.total then (kept, TooLong chunk.total)
     else current_case kept chunk kept.current
 
 abbrev pub is_whole : Joined → Bool

@@ -2,10 +2,9 @@
 use Rattle.std.specs.Prelude.{◌≡◌, ◌+◌, ◌<◌, ◌≤◌, ℕ, List, [], ◌∷◌, map, Bool, true, false, ◌&&◌, ◌==◌, Option, Some, None, length, slice_index}
 use Rattle.std.specs.List.{list_all, All, Contains, count_by}
 use Rattle.seq_number.specs.Numbers.{number_of_place, newer, greatest, IsNear}
-use Rattle.chunker.specs.Chunks.{Chunk, cuts, cover, at_greatest, counted, all_counted, is_proper, is_laid_at, is_whole_at, message_of, places}
+use Rattle.chunker.specs.Chunks.{longest_message, Chunk, cuts, cover, at_greatest, counted, all_counted, is_proper, is_laid_at, is_whole_at, message_of, places}
 use Rattle.chunker.specs.Joining.{Joining, empty, chunk_case, is_joined, is_laid, is_whole, joined_bytes}
 use Rattle.chunker.specs.declared.joiner.Joined.{Joined}
-use Rattle.chunker.specs.declared.joiner.TheConstants.{MESSAGE_BYTES}
 
 -- what a chunk carries of its place
 abbrev pub numbered : Chunk → Chunk
@@ -90,13 +89,19 @@ pub record ComesOnce (message : List ℕ) (kept : Joining) (given : List Joined)
 -- the law of a cut
 abbrev pub CutComesOnce : ℕ → ℕ → List ℕ → Joining → List Chunk → Type 0
 CutComesOnce room place message kept given =
-    1 ≤ room → 1 ≤ length message → length message ≤ MESSAGE_BYTES → IsNewFor kept.current (number_of_place place) → IsWholeCut room place message given
+    1 ≤ room → 1 ≤ length message → length message ≤ longest_message → IsNewFor kept.current (number_of_place place) → IsWholeCut room place message given
     → ComesOnce message (kept_after kept given) (answers kept given)
 
 -- a chunk has these bytes of the message
 pub record IsCutOf (message : List ℕ) (chunk : Chunk) : Type 0 where
   pub total : chunk.total ≡ length message
   pub bytes : (k : ℕ) → k < length chunk.bytes → slice_index chunk.bytes k ≡ slice_index message (chunk.offset + k)
+
+-- a chunk has bytes, no more than there is room for, within its total
+pub record IsWithinRoom (room : ℕ) (chunk : Chunk) : Type 0 where
+  pub some : 0 < length chunk.bytes
+  pub at_most : length chunk.bytes ≤ room
+  pub within : chunk.offset + length chunk.bytes ≤ chunk.total
 
 -- the law of chunks that cover a message
 abbrev pub CoverGivesBack : List ℕ → ℕ → List Chunk → Type 0

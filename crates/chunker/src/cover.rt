@@ -3,14 +3,14 @@
 ghost use Rattle.std.specs.Prelude.{◌≡◌, ℕ, ◌*◌, ◌+◌, ◌<◌, ◌≤◌, ◌||◌, true, false};
 ghost use Rattle.std.specs.Int.{bit_at};
 ghost use Rattle.std.specs.List.{list_all, range_with_len};
-ghost use Rattle.chunker.specs.Cover.{is_marked, is_between};
+ghost use Rattle.chunker.specs.Cover.{has_offset, is_between};
 
 // Sets the bits of the offsets from `first` up to `end`: of the rest of the first word, of whole words, and of the
 // begin of the last.
 pub(crate) fn mark(words: &mut [u64; 64], first: usize, end: usize)
     requires some { first < end }
     requires within { end ≤ 4096 }
-    ensures { (x : ℕ) → is_marked words.new x ≡ (is_between first end x || is_marked words.old x) }
+    ensures { (x : ℕ) → has_offset words.new x ≡ (is_between first end x || has_offset words.old x) }
 {
     let start = first / 64;
     let last = (end - 1) / 64;
@@ -28,7 +28,7 @@ pub(crate) fn mark(words: &mut [u64; 64], first: usize, end: usize)
 // Whether the bits of all offsets below `total` are set.
 pub(crate) fn is_full(words: &[u64; 64], total: usize) -> bool
     requires { total ≤ 4096 }
-    ensures { result ≡ list_all (is_marked words.now) (range_with_len 0 total) }
+    ensures { result ≡ list_all (has_offset words.now) (range_with_len 0 total) }
 {
     let whole = total / 64;
     for word in &words[..whole] {
@@ -45,8 +45,8 @@ fn mark_in_word(words: &mut [u64; 64], block: usize, low: usize, high: usize)
     requires block_in { block < 64 }
     requires ordered { low ≤ high }
     requires high_bit { high < 64 }
-    ensures { (x : ℕ) → is_marked words.new x
-        ≡ (is_between (64 * block + low) (64 * block + high + 1) x || is_marked words.old x) }
+    ensures { (x : ℕ) → has_offset words.new x
+        ≡ (is_between (64 * block + low) (64 * block + high + 1) x || has_offset words.old x) }
 {
     words[block] |= bits(low, high);
 }

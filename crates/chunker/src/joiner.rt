@@ -16,11 +16,11 @@ pub enum Joined {
     Part,
     /// It is of an older message than the current one, or of the current one, which is whole.
     Older,
-    /// Its message is longer than `MESSAGE_BYTES`.
+    /// Its message has `total` bytes, more than `MESSAGE_BYTES`. It is judged after `BadRange`.
     TooLong { total: u32 },
-    /// It has no bytes, or they go past its message's end.
+    /// It has no bytes, or they begin at byte `offset` of a message of `total` bytes, and go past its end.
     BadRange { offset: u32, total: u32 },
-    /// The chunks of the current message that came before it had another total.
+    /// The chunks of the current message that came before it told of `first` bytes in all, and it tells of `now`.
     Differs { first: u32, now: u32 },
 }
 

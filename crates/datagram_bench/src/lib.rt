@@ -1,30 +1,26 @@
-//! The calls of `message_guard` that bench/datagrams measures from C, each made many times.
+//! The calls of `message_guard` that bench/datagrams measures from C, each made many times; those on headers, payloads and
+//! chunks, measured from Rust, stand in `parts`.
 #![tactic(auto)]
 
-ghost use Rattle.std.specs.Prelude.{IsTrue};
+mod parts;
+
+ghost use Rattle.std.specs.Prelude.{◌<◌, IsTrue};
 ghost use Rattle.message_guard.specs.Modes.{is_secured};
 
 use arrayvec::ArrayVec;
 use group_keys::{KeySet, Ring};
 use message_guard::{Guard, Mode, Sender};
-use uadp_header::SecurityPart;
+pub use parts::{bench_join, bench_read_header, bench_split, bench_write_header};
+use ua_binary::Pen;
+use uadp_header::{Header, Ids, PublisherId, SecurityPart, write_header};
 
 // The nonce of a sender's first datagram.
 const NONCE: [u8; 8] = [0, 0, 0, 0, 1, 0, 0, 0];
 
-/// Numbers and protects the datagram, `turns` times, over its payload as it stands. `encrypts` is 0 for signatures
-/// alone, `long` is 0 for AES-128.
+/// Writes the header of 25 bytes of the next datagram and protects it, `turns` times, over its payload as it stands.
+/// `encrypts` is 0 for signatures alone, `long` is 0 for AES-128.
 #[unsafe(no_mangle)]
-pub extern "C" fn bench_protect(
-    encrypts: u32,
-    long: u32,
-    turns: u32,
-    payload: usize,
-    datagram: &mut [u8],
-) {
-    if datagram.len() < 32 || payload > datagram.len() - 32 {
-        return;
-    }
+pub extern "C" fn bench_protect(encrypts: u32, long: u32, turns: u32, datagram: &mut [u8]) {
     let Some(ring) = ring(long != 0) else {
         return;
     };
@@ -34,8 +30,36 @@ pub extern "C" fn bench_protect(
         if sender.spent() {
             return;
         }
-        let _front = sender.front(mode);
+        let payload = begin(&mut sender, mode, datagram);
+        if !sender.may_protect(mode, datagram, payload) {
+            return;
+        }
         sender.protect(mode, datagram, payload);
+    }
+}
+
+// Writes the header of the next datagram, where there is room for it, and says where it ends.
+fn begin(sender: &mut Sender, mode: Mode, datagram: &mut [u8]) -> usize
+    requires room { sender.old.used < 4294967295 }
+    requires secured { IsTrue (is_secured mode) }
+{
+    let header = Header {
+        publisher: Some(PublisherId::U8(5)),
+        class_id: None,
+        group: Some(1),
+        version: None,
+        message_number: None,
+        sequence: Some(0),
+        ids: Ids::List(&[1, 0]),
+        security: Some(sender.front(mode)),
+    };
+    let mut pen = Pen {
+        bytes: datagram,
+        at: 0,
+    };
+    match write_header(&mut pen, &header) {
+        Ok(()) => pen.at,
+        Err(_) => 0,
     }
 }
 

@@ -1,6 +1,6 @@
 use arrayvec::ArrayVec;
 
-/// The keys that a security group uses under one token (OPC 10000-14, key data of PubSub-Aes-CTR).
+/// The keys that a security group uses under one token (OPC 10000-14 7.2.4.4, key data of AES-CTR).
 #[derive(Clone, Default, Drop)]
 pub struct KeySet {
     /// The SecurityTokenId.

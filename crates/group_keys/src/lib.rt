@@ -4,8 +4,6 @@
 mod key_set;
 mod laws;
 mod ring;
-#[cfg(test)]
-mod tests;
 
 pub use key_set::KeySet;
 pub use laws::{a_set_is_found_by_its_token, tokens_rise_with_moments};

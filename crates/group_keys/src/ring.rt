@@ -1,4 +1,4 @@
-ghost use Rattle.std.specs.Prelude.{◌≡◌, ◌≢◌, ◌<◌, ◌≤◌, ◌↔◌, length, slice_index, IsOk, IfOk, IfErr, IfSome, IfNone, All};
+ghost use Rattle.std.specs.Prelude.{◌≡◌, ◌≢◌, ◌<◌, ◌≤◌, ◌↔◌, length, slice_index, IsOk, IfOk, IfErr, IfSome, IfNone, All, ⊤};
 ghost use Rattle.std.specs.List.{IsAmong};
 ghost use Rattle.std.specs.Option.{option_copied};
 ghost use Rattle.std.specs.List.Sorted.{IsStrictlyIncreasing};
@@ -106,10 +106,13 @@ impl Ring {
     }
 }
 
+/// The same key sets for another sender or guard. It takes no memory, so it's always `Ok`.
 impl Clone for Ring {
     ghost use Rattle.group_keys.specs.Ring.{is_long, key_sets};
 
     ghost is_clone = { λ ring copy. (is_long copy ≡ is_long ring) × (key_sets copy ≡ key_sets ring) };
+
+    ghost is_infallible = { λ _. ⊤ };
 
     fn clone(&self) -> Result<Ring, AllocError> {
         let keys = self.keys.clone()?;

@@ -13,12 +13,12 @@ const INNER_PAD: u8 = 0x36;
 
 const OUTER_PAD: u8 = 0x5c;
 
-/// The HMAC-SHA-256 of `parts` under `key` (RFC 2104). A key longer than a block of 64 bytes is
+/// The HMAC-SHA-256 of `text` under `key` (RFC 2104). A key longer than a block of 64 bytes is
 /// hashed first, as the RFC says.
-pub fn sign(key: &[u8], parts: &[u8]) -> [u8; 32]
-    ensures { result ≡ hmac_sha256 key.now parts.now }
+pub fn sign(key: &[u8], text: &[u8]) -> [u8; 32]
+    ensures { result ≡ hmac_sha256 key.now text.now }
 {
-    finish(inner_hasher(key), outer_hasher(key), parts)
+    finish(inner_hasher(key), outer_hasher(key), text)
 }
 
 /// Whether `signature` is the HMAC-SHA-256 of `bytes` under `key` (RFC 2104). All 32 bytes are
@@ -75,11 +75,11 @@ impl SigningKey {
 }
 
 // The hash that goes on from both pads.
-fn finish(mut inner: Sha256, mut outer: Sha256, parts: &[u8]) -> [u8; 32]
+fn finish(mut inner: Sha256, mut outer: Sha256, text: &[u8]) -> [u8; 32]
     ensures { (i o : List ℕ) → Holds256 inner i → Holds256 outer o
-        → result ≡ sha256 (o ++ sha256 (i ++ parts.now)) }
+        → result ≡ sha256 (o ++ sha256 (i ++ text.now)) }
 {
-    inner.update(parts);
+    inner.update(text);
     outer.update(&inner.finalize());
     outer.finalize()
 }

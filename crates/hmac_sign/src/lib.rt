@@ -3,8 +3,6 @@
 
 mod hmac;
 mod laws;
-#[cfg(test)]
-mod tests;
 
 pub use hmac::{SigningKey, matches, sign};
 pub use laws::a_signature_has_32_bytes;

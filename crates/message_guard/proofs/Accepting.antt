@@ -1,17 +1,19 @@
 -- What the list of accepted pairs says of the highest token and of the numbers under a token.
-use Rattle.std.proofs.Common.{◌≡◌, ℕ, ◌<◌, ◌≤◌, true, false, List, [], ◌∷◌, refl, sym, ◌∙◌, ap, subst, arith, ◌==◌, Option, Some, None, eqb, eqb-true}
+use Rattle.std.proofs.Common.{◌≡◌, ℕ, ◌<◌, ◌≤◌, Bool, true, false, not, ◌&&◌, nat_lt, List, [], ◌∷◌, refl, sym, ◌∙◌, ap, subst, arith, ◌==◌, Option, Some, None, eqb, eqb-true}
+use Rattle.std.specs.Prelude.{if◌then◌else◌}
 use Rattle.std.specs.Option.{option_eq}
 use Rattle.std.proofs.lemmas.Bool.Decides.{nat_tests}
-use Rattle.replay_window.specs.Taken.{seen}
-use Rattle.replay_window.specs.Window.{IsWindowOf}
-use Rattle.replay_window.specs.declared.seen.Seen.TheVariants.{Fresh}
+use Rattle.replay_window.specs.Taken.{greatest, is_taken, is_too_old, seen}
+use Rattle.replay_window.specs.Window.{IsFresh, IsWindowOf}
+use Rattle.replay_window.specs.declared.seen.Seen.TheVariants.{Fresh, Repeated, TooOld}
 use Rattle.replay_window.specs.declared.window.Window.{Window}
-use Rattle.message_guard.specs.Acceptance.{Accepted, highest, numbers_of}
+use Rattle.message_guard.specs.Acceptance.{Accepted, AreAcceptable, highest, is_acceptable, numbers_of}
+use Rattle.message_guard.specs.declared.keys.TokenKeys.{TokenKeys}
 use Rattle.message_guard.specs.declared.guard.Guard.{Guard}
 use Rattle.message_guard.specs.declared.mode.Mode.{Mode}
 use Rattle.message_guard.specs.declared.mode.Mode.TheVariants as modes
 use Rattle.message_guard.specs.declared.pass.Pass1.{Pass1}
-use Rattle.message_guard.specs.Guards.{high_in, IsGuardOf}
+use Rattle.message_guard.specs.Guards.{high_in, IsGuardOf, IsPassOf}
 use Rattle.message_guard.specs.Modes.{is_secured}
 use Rattle.message_guard.specs.Opening.{accepts}
 
@@ -69,6 +71,49 @@ window_next accepted token number window below is =
 pub some_from_eq : (o : Option ℕ) (n : ℕ) → option_eq eqb o (Some n) ≡ true → o ≡ Some n
 some_from_eq None n e = cc
 some_from_eq (Some m) n e = ap Some (eqb-true m n e)
+
+-- the window under the highest token, or an empty one under a higher, finds the number fresh
+fresh_under : (accepted : Accepted) (window : Window) (token number : ℕ) → ((high : ℕ) → high_in accepted ≡ Some high → high ≤ token)
+    → IsWindowOf (numbers_of accepted (highest accepted)) window → (high_in accepted ≡ Some token → IsFresh window number) → seen (numbers_of accepted token) number ≡ Fresh
+fresh_under [] window token number below is fresh = fresh_of_none number
+fresh_under (pair ∷ before) window token number below is fresh = by_test (highest (pair ∷ before) == token) refl
+  where
+    by_test : (b : Bool) → (highest (pair ∷ before) == token) ≡ b → seen (numbers_of (pair ∷ before) token) number ≡ Fresh
+    by_test true test =
+        let same : highest (pair ∷ before) ≡ token = grind (arith, nat_tests) in
+        subst (λ (t : ℕ). seen (numbers_of (pair ∷ before) t) number ≡ Fresh) same (fresh (ap Some same) (numbers_of (pair ∷ before) (highest (pair ∷ before))) is)
+    by_test false test =
+        let other : high_in (pair ∷ before) ≡ Some token → ⊥ = λ is. let same = high_is (pair ∷ before) token is in grind (arith, nat_tests) in
+        ap (λ (taken : List ℕ). seen taken number) (none_under (pair ∷ before) token other below) ∙ fresh_of_none number
+
+fresh_parts : (old taken : Bool) (high : ℕ) → (if old then TooOld high else (if taken then Repeated else Fresh)) ≡ Fresh → (taken ≡ false) × (old ≡ false)
+fresh_parts true taken high e = cc
+fresh_parts false true high e = cc
+fresh_parts false false high e = (refl, refl)
+
+not_low : (accepted : Accepted) (token : ℕ) → ((high : ℕ) → high_in accepted ≡ Some high → high ≤ token) → nat_lt token (highest accepted) ≡ false
+not_low [] token below = grind (arith, nat_tests)
+not_low (pair ∷ before) token below = let bound = below (highest (pair ∷ before)) refl in grind (arith, nat_tests)
+
+all_four : (known low taken old : Bool) → known ≡ true → low ≡ false → taken ≡ false → old ≡ false → (known && not low && not taken && not old) ≡ true
+all_four known low taken old a b c d = cc
+
+-- what a guard may accept is an acceptable pair
+pub pass_acceptable : (guard : Guard) (pass : Pass1) (accepted : Accepted) → is_secured guard.mode ≡ true → IsPassOf guard pass → IsGuardOf accepted guard
+    → is_acceptable guard.keys.items accepted pass.token pass.number ≡ true
+pass_acceptable guard pass accepted secured may is =
+    let below : (high : ℕ) → high_in accepted ≡ Some high → high ≤ pass.token = λ high at. may.not_lower secured high (is.high_is ∙ at) in
+    let fresh : high_in accepted ≡ Some pass.token → IsFresh guard.window pass.number = λ at. may.fresh secured (is.high_is ∙ at) in
+    let numbers = numbers_of accepted pass.token in
+    let parts = fresh_parts (is_too_old numbers pass.number) (is_taken numbers pass.number) (greatest numbers)
+    (fresh_under accepted guard.window pass.token pass.number below is.window_is fresh) in
+    all_four _ _ _ _ (may.known secured) (not_low accepted pass.token below) parts.0 parts.1
+
+pub still_acceptable : (mode : Mode) (keys : List TokenKeys) (pass : Pass1) (accepted : Accepted)
+    → (is_secured mode ≡ true → is_acceptable keys accepted pass.token pass.number ≡ true) → AreAcceptable keys accepted → AreAcceptable keys (accepts mode pass accepted)
+still_acceptable modes.None keys pass accepted pair are = are
+still_acceptable modes.Sign keys pass accepted pair are = (pair refl, are)
+still_acceptable modes.Encrypt keys pass accepted pair are = (pair refl, are)
 
 -- where the mode isn't None the pair is accepted
 pub accepts_pair : (mode : Mode) (pass : Pass1) (accepted : Accepted) (guard : Guard) → is_secured mode ≡ true

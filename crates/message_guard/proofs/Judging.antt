@@ -41,7 +41,7 @@ by_number true false high x = refl
 by_number false true high x = refl
 by_number false false high x = refl
 
-skip : {X : Type 0} (test : Bool) (fault : OpenFault) (ys : Refusals) (x : X) → test ≡ false → judged ((test, fault) ∷ ys) x ≡ judged ys x
+pub skip : {X : Type 0} (test : Bool) (fault : OpenFault) (ys : Refusals) (x : X) → test ≡ false → judged ((test, fault) ∷ ys) x ≡ judged ys x
 skip true fault ys x e = cc
 skip false fault ys x e = refl
 

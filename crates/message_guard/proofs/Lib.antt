@@ -3,6 +3,8 @@ pub mod Accepting
 pub mod Judging
 pub mod Sets
 pub mod Restoring
+pub mod Carrying
 pub mod Telling
 pub mod Once
 pub mod Rings
+pub mod Plain

@@ -1,5 +1,5 @@
--- No pair comes twice: not in what a sender takes, nor in what a guard accepts.
-use Rattle.std.proofs.Common.{◌≡◌, ◌≢◌, ℕ, zero, suc, ◌+◌, ◌<◌, Bool, true, false, not, ◌&&◌, List, [], ◌∷◌, length, get_or, map, filter, refl, sym, ap, arith, inl, inr, nat_lt, ◌==◌, cond, Option, Some, None}
+-- No pair comes twice: not in the datagrams of a sender, nor in what a guard accepts.
+use Rattle.std.proofs.Common.{◌≡◌, ◌≢◌, ℕ, zero, suc, ◌+◌, ◌<◌, ◌≤◌, ◌∙◌, Bool, true, false, not, ◌&&◌, List, [], ◌∷◌, length, get_or, map, filter, refl, sym, ap, arith, inl, inr, nat_lt, ◌==◌, cond, Option, Some, None}
 use Rattle.std.specs.Prelude.{◌⊎◌, AllPairs, is_some, if◌then◌else◌}
 use Rattle.std.proofs.lemmas.Bool.Decides.{nat_tests}
 use Rattle.std.proofs.lemmas.List.Kept.{AllPairs-cons}
@@ -9,14 +9,24 @@ use Rattle.group_keys.specs.declared.key_set.KeySet.{KeySet}
 use Rattle.message_guard.specs.declared.keys.TokenKeys.{TokenKeys}
 use Rattle.message_guard.specs.Acceptance.{Accepted, numbers_of, highest, is_acceptable, AreAcceptable}
 use Rattle.message_guard.specs.Protection.{keys_in, keys_with}
-use Rattle.message_guard.specs.Senders.{SenderState, SenderStep, TurnTo, TakeNumber, turned, turned_by, advanced, taken_by}
+use Rattle.message_guard.specs.declared.mode.Mode.{Mode}
+use Rattle.message_guard.specs.Senders.{SenderState, SenderStep, TurnTo, Front, Protect, turned, turned_by, advanced, front_value, made_of, numbers_left, MayProtect, IsSender, AreAllowed, after, fronts_in, datagrams_of, number_of, HaveOtherNumbers}
+use Rattle.uadp_header.specs.Headers.{SecurityValue}
+use Rattle.uadp_header.specs.Reading.{IsSecured}
+use Rattle.message_guard.proofs.Carrying.{one_security, made_carries}
+use Rattle.message_guard.proofs.Restoring.{number_is}
 
--- the pair comes after a number under a token: its token is higher, or is the same and its number is higher
+-- the least number that the next datagram under the token can have: that of the last front, if it serves none yet
+abbrev next_number : Option Mode → ℕ → ℕ
+next_number None used = used + 1
+next_number (Some mode) used = used
+
+-- the pair is that of a later datagram: its token is higher, or is the same and its number is not below
 abbrev IsAfter : SenderState → ℕ × ℕ → Type 0
-IsAfter s pair = (s.keys.token < pair.0) ⊎ ((pair.0 ≡ s.keys.token) × (s.used < pair.1))
+IsAfter s pair = (s.keys.token < pair.0) ⊎ ((pair.0 ≡ s.keys.token) × (next_number s.fronted s.used ≤ pair.1))
 
 after_turned_by : (s : SenderState) (set : KeySet) (pair : ℕ × ℕ) (b : Bool) → nat_lt s.keys.token set.token ≡ b
-    → IsAfter (if b then record s { keys = keys_in set; used = 0 } else s) pair → IsAfter s pair
+    → IsAfter (if b then record s { keys = keys_in set; used = 0; fronted = None } else s) pair → IsAfter s pair
 after_turned_by s set pair true higher (inl above) = inl (grind (arith, nat_tests))
 after_turned_by s set pair true higher (inr same) = inl (grind (arith, nat_tests))
 after_turned_by s set pair false higher after = after
@@ -25,29 +35,103 @@ after_turned : (s : SenderState) (o : Option KeySet) (pair : ℕ × ℕ) → IsA
 after_turned s None pair after = after
 after_turned s (Some set) pair after = after_turned_by s set pair (nat_lt s.keys.token set.token) refl after
 
-after_advanced : (s : SenderState) (pair : ℕ × ℕ) → IsAfter (advanced s) pair → IsAfter s pair
-after_advanced s pair (inl above) = inl above
-after_advanced s pair (inr same) = inr (same.0, omega arith)
+-- a number after the last one is not below the next
+not_below : (o : Option Mode) (used number : ℕ) → used + 1 ≤ number → next_number o used ≤ number
+not_below None used number above = above
+not_below (Some mode) used number above = omega arith
 
-all_after : (s : SenderState) (steps : List SenderStep) (i : ℕ) (d : ℕ × ℕ) → i < length (taken_by s steps) → IsAfter s (get_or (taken_by s steps) i d)
-all_after s [] i d within = absurd (omega arith)
-all_after s (TurnTo now ∷ steps) i d within =
-    after_turned s (current s.sets now) (get_or (taken_by (turned s now) steps) i d) (all_after (turned s now) steps i d within)
-all_after s (TakeNumber ∷ steps) zero d within = inr (refl, omega arith)
-all_after s (TakeNumber ∷ steps) (suc i) d within =
-    after_advanced s (get_or (taken_by (advanced s) steps) i d) (all_after (advanced s) steps i d (omega arith))
+after_next : (s : SenderState) (pair : ℕ × ℕ) → (s.keys.token < pair.0) ⊎ ((pair.0 ≡ s.keys.token) × (s.used + 1 ≤ pair.1)) → IsAfter s pair
+after_next s pair (inl above) = inl above
+after_next s pair (inr same) = inr (same.0, not_below s.fronted s.used pair.1 same.1)
 
-not_itself : (s : SenderState) (pair : ℕ × ℕ) → IsAfter (advanced s) pair → (s.keys.token, s.used + 1) ≢ pair
+-- whatever the datagram is read with, this is its token and number
+abbrev Carries : List ℕ → ℕ × ℕ → Type 0
+Carries datagram pair = (a : SecurityValue) (at : ℕ) → IsSecured datagram (Some a) at → number_of a ≡ pair
+
+made_with : (mode : Mode) (s : SenderState) (datagram : List ℕ) (payload : ℕ) → IsSender s → MayProtect mode s datagram payload
+    → Carries (made_of mode s datagram payload) (s.keys.token, s.used)
+made_with mode s datagram payload is may a at read =
+    let same : Path (Option SecurityValue) (Some a) (Some (front_value mode s)) =
+    one_security (made_of mode s datagram payload) (Some a) (Some (front_value mode s)) at payload read (made_carries mode s datagram payload may.header) in
+    let a_is : a ≡ front_value mode s = cc in
+    ap number_of a_is
+    ∙ ap (λ (n : ℕ). (s.keys.token, n)) (number_is s.random s.used is.random is.used)
+
+-- a sender stays one
+sender_turned_by : (s : SenderState) (set : KeySet) (b : Bool) → IsSender s → IsSender (if b then record s { keys = keys_in set; used = 0; fronted = None } else s)
+sender_turned_by s set true is = record { random = is.random; used = omega arith }
+sender_turned_by s set false is = is
+
+sender_turned : (s : SenderState) (o : Option KeySet) → IsSender s → IsSender (turned_by s o)
+sender_turned s None is = is
+sender_turned s (Some set) is = sender_turned_by s set (nat_lt s.keys.token set.token) is
+
+sender_advanced : (s : SenderState) (mode : Mode) → IsSender s → s.used < 4294967295 → IsSender (advanced mode s)
+sender_advanced s mode is room = record { random = is.random; used = omega arith }
+
+sender_served : (s : SenderState) → IsSender s → IsSender (record s { fronted = None })
+sender_served s is = record { random = is.random; used = is.used }
+
+-- the datagram carries the pair of a later one
+abbrev IsLater : SenderState → List ℕ → Type 0
+IsLater s datagram = (pair : ℕ × ℕ) × (Carries datagram pair × IsAfter s pair)
+
+-- the first datagram after a front has its number
+served_after : (s : SenderState) (mode : Mode) → s.fronted ≡ Some mode → IsAfter s (s.keys.token, s.used)
+served_after s mode is =
+    let least : next_number s.fronted s.used ≡ s.used = ap (λ (o : Option Mode). next_number o s.used) is in
+    inr (refl, omega (arith, least))
+
+all_later : (s : SenderState) (steps : List SenderStep) → IsSender s → AreAllowed s steps → (i : ℕ) (d : List ℕ) → i < length (datagrams_of s steps)
+    → IsLater s (get_or (datagrams_of s steps) i d)
+all_later s [] is are i d within = absurd (omega arith)
+all_later s (TurnTo now ∷ steps) is are i d within =
+    let later = all_later (turned s now) steps (sender_turned s (current s.sets now) is) are.1 i d within in
+    (later.0, (later.1.0, after_turned s (current s.sets now) later.0 later.1.1))
+all_later s (Front mode ∷ steps) is are i d within =
+    let later = all_later (advanced mode s) steps (sender_advanced s mode is are.0.1) are.1 i d within in
+    (later.0, (later.1.0, after_next s later.0 later.1.1))
+all_later s (Protect mode datagram payload ∷ steps) is are zero d within =
+    ((s.keys.token, s.used), (made_with mode s datagram payload is are.0, served_after s mode are.0.fronted))
+all_later s (Protect mode datagram payload ∷ steps) is are (suc i) d within =
+    let later = all_later (record s { fronted = None }) steps (sender_served s is) are.1 i d (omega arith) in
+    (later.0, (later.1.0, after_next s later.0 later.1.1))
+
+not_itself : (s : SenderState) (pair : ℕ × ℕ) → IsAfter (record s { fronted = None }) pair → (s.keys.token, s.used) ≢ pair
 not_itself s pair (inl above) same = let token : s.keys.token ≡ pair.0 = ap (λ (p : ℕ × ℕ). p.0) same in absurd (omega arith)
-not_itself s pair (inr after) same = let number : s.used + 1 ≡ pair.1 = ap (λ (p : ℕ × ℕ). p.1) same in absurd (omega arith)
+not_itself s pair (inr after) same = let number : s.used ≡ pair.1 = ap (λ (p : ℕ × ℕ). p.1) same in absurd (omega arith)
 
-pub taken_once : (s : SenderState) (steps : List SenderStep) → AllPairs (λ a b. a ≢ b) (taken_by s steps)
-taken_once s [] = λ i j d less within. absurd (omega arith)
-taken_once s (TurnTo now ∷ steps) = taken_once (turned s now) steps
-taken_once s (TakeNumber ∷ steps) =
-    AllPairs-cons (λ (a b : ℕ × ℕ). a ≢ b) (s.keys.token, s.used + 1) (taken_by (advanced s) steps)
-    (λ i d within. not_itself s (get_or (taken_by (advanced s) steps) i d) (all_after (advanced s) steps i d within))
-    (taken_once (advanced s) steps)
+others_later : (s : SenderState) (one other : List ℕ) → Carries one (s.keys.token, s.used) → IsLater (record s { fronted = None }) other → HaveOtherNumbers one other
+others_later s one other carries later a b at end first second same =
+    not_itself s later.0 later.1.1 (sym (carries a at first) ∙ same ∙ later.1.0 b end second)
+
+pub numbered_once : (s : SenderState) (steps : List SenderStep) → IsSender s → AreAllowed s steps → AllPairs HaveOtherNumbers (datagrams_of s steps)
+numbered_once s [] is are = λ i j d less within. absurd (omega arith)
+numbered_once s (TurnTo now ∷ steps) is are = numbered_once (turned s now) steps (sender_turned s (current s.sets now) is) are.1
+numbered_once s (Front mode ∷ steps) is are = numbered_once (advanced mode s) steps (sender_advanced s mode is are.0.1) are.1
+numbered_once s (Protect mode datagram payload ∷ steps) is are =
+    AllPairs-cons HaveOtherNumbers (made_of mode s datagram payload) (datagrams_of (record s { fronted = None }) steps)
+    (λ i d within. others_later s (made_of mode s datagram payload) (get_or (datagrams_of (record s { fronted = None }) steps) i d)
+    (made_with mode s datagram payload is are.0) (all_later (record s { fronted = None }) steps (sender_served s is) are.1 i d within))
+    (numbered_once (record s { fronted = None }) steps (sender_served s is) are.1)
+
+-- the numbers that a sender has left
+turned_no_further : (s : SenderState) (o : Option KeySet) → (turned_by s o).used ≤ s.used
+turned_no_further s None = omega arith
+turned_no_further s (Some set) = by_test (nat_lt s.keys.token set.token)
+  where
+    by_test : (b : Bool) → (if b then record s { keys = keys_in set; used = 0; fronted = None } else s).used ≤ s.used
+    by_test true = omega arith
+    by_test false = omega arith
+
+pub used_after : (s : SenderState) (steps : List SenderStep) → (after s steps).used ≤ s.used + fronts_in steps
+used_after s [] = omega arith
+used_after s (TurnTo now ∷ steps) = let rest = used_after (turned s now) steps in let less = turned_no_further s (current s.sets now) in omega (arith, rest, less)
+used_after s (Front mode ∷ steps) = let rest = used_after (advanced mode s) steps in omega (arith, rest)
+used_after s (Protect mode datagram payload ∷ steps) = let rest = used_after (record s { fronted = None }) steps in omega (arith, rest)
+
+pub numbers_remain : (s : SenderState) (steps : List SenderStep) → 1024 ≤ numbers_left s → fronts_in steps < 1024 → (after s steps).used < 4294967295
+numbers_remain s steps unspent few = let most = used_after s steps in omega (arith, most)
 
 -- a pair of the list is among the numbers of its token
 any_under : (b : Bool) (number : ℕ) (pair : ℕ × ℕ) (rest : Accepted) → is_taken (map (λ (p : ℕ × ℕ). p.1) rest) number ≡ true

@@ -22,9 +22,9 @@ use Rattle.message_guard.specs.declared.pass.Pass1.{Pass1}
 use Rattle.message_guard.specs.Acceptance.{Accepted, highest, numbers_of}
 use Rattle.message_guard.specs.Modes.{is_secured}
 use Rattle.message_guard.specs.Opened.{MayOpen, sent_pass}
-use Rattle.message_guard.specs.Opening.{has_mode, is_signed, front_refusals, judged, signed_pass, verdict, uncovered, opened}
-use Rattle.message_guard.specs.Protection.{keys_with, number_in, message_nonce, covered, body_of, signature_of}
-use Rattle.message_guard.specs.Senders.{SenderState, front_value, sent}
+use Rattle.message_guard.specs.Opening.{has_mode, is_signed, front_refusals, judged, signed_pass, verdict, without_stream, opened}
+use Rattle.message_guard.specs.Protection.{keys_with, number_in, message_nonce, with_stream, body_of, signature_of}
+use Rattle.message_guard.specs.Senders.{SenderState, IsSender, front_value, sent}
 use Rattle.message_guard.proofs.Judging.{judged_secured, verdict_secured}
 
 length-streamed_from : (e : List ℕ → List ℕ) (front : List ℕ) (first i : ℕ) (xs : List ℕ) → length (streamed_from e front first i xs) ≡ length xs
@@ -32,15 +32,15 @@ unfolding streamed_from
 length-streamed_from e front first i [] = refl
 length-streamed_from e front first i (x ∷ xs) = ap suc (length-streamed_from e front first (suc i) xs)
 
-length-covered : (mode : Mode) (keys : TokenKeys) (nonce : List ℕ) (first : ℕ) (payload : List ℕ) → length (covered mode keys nonce first payload) ≡ length payload
-length-covered modes.None keys nonce first payload = refl
-length-covered modes.Sign keys nonce first payload = refl
-length-covered modes.Encrypt keys nonce first payload = length-streamed_from (encrypted keys.encrypting) (keys.nonce ++ nonce) first 0 payload
+pub length-with_stream : (mode : Mode) (keys : TokenKeys) (nonce : List ℕ) (first : ℕ) (payload : List ℕ) → length (with_stream mode keys nonce first payload) ≡ length payload
+length-with_stream modes.None keys nonce first payload = refl
+length-with_stream modes.Sign keys nonce first payload = refl
+length-with_stream modes.Encrypt keys nonce first payload = length-streamed_from (encrypted keys.encrypting) (keys.nonce ++ nonce) first 0 payload
 
-covered_twice : (mode : Mode) (keys : TokenKeys) (nonce : List ℕ) (first : ℕ) (payload : List ℕ) → covered mode keys nonce first (covered mode keys nonce first payload) ≡ payload
-covered_twice modes.None keys nonce first payload = refl
-covered_twice modes.Sign keys nonce first payload = refl
-covered_twice modes.Encrypt keys nonce first payload = twice (encrypted keys.encrypting) (keys.nonce ++ nonce) first 0 payload
+pub stream_twice : (mode : Mode) (keys : TokenKeys) (nonce : List ℕ) (first : ℕ) (payload : List ℕ) → with_stream mode keys nonce first (with_stream mode keys nonce first payload) ≡ payload
+stream_twice modes.None keys nonce first payload = refl
+stream_twice modes.Sign keys nonce first payload = refl
+stream_twice modes.Encrypt keys nonce first payload = twice (encrypted keys.encrypting) (keys.nonce ++ nonce) first 0 payload
 
 -- the parts of a list by the lengths of its parts
 take_front : (xs ys : List ℕ) (n : ℕ) → n ≡ length xs → take n (xs ++ ys) ≡ xs
@@ -60,17 +60,17 @@ same_bytes xs ys same = (bytes_eq-Decides xs ys).1 same
 
 -- the lengths of what a sender sends
 module _ (mode : Mode) (s : SenderState) (header payload : List ℕ) where
-  abbrev cover : List ℕ
-  cover = covered mode s.keys (message_nonce s.random s.used) s.first_block payload
+  abbrev pub sent_payload : List ℕ
+  sent_payload = with_stream mode s.keys (message_nonce s.random s.used) s.first_block payload
 
   abbrev body : List ℕ
-  body = header ++ cover
+  body = header ++ sent_payload
 
-  abbrev tail : List ℕ
+  abbrev pub tail : List ℕ
   tail = hmac_sha256 s.keys.signing body
 
   length-body : length body ≡ length header + length payload
-  length-body = length-append header cover ∙ ap (λ (n : ℕ). length header + n) (length-covered mode s.keys (message_nonce s.random s.used) s.first_block payload)
+  length-body = length-append header sent_payload ∙ ap (λ (n : ℕ). length header + n) (length-with_stream mode s.keys (message_nonce s.random s.used) s.first_block payload)
 
   length-sent : length (sent mode s header payload) ≡ length header + length payload + 32
   length-sent = length-append body tail ∙ omega (arith, length-body, signature_length s.keys.signing body)
@@ -88,12 +88,12 @@ module _ (mode : Mode) (s : SenderState) (header payload : List ℕ) where
   signed_right = same_bytes _ _ (signature_is ∙ ap (λ (b : List ℕ). hmac_sha256 s.keys.signing b) (sym body_is))
 
 -- the nonce of what a sender sends
-length-nonce : (random : List ℕ) (number : ℕ) → length random ≡ 4 → length (message_nonce random number) ≡ 8
+pub length-nonce : (random : List ℕ) (number : ℕ) → length random ≡ 4 → length (message_nonce random number) ≡ 8
 length-nonce random number four =
     let back : length (to_le_bytes w32 number) ≡ 4 = refl in
     length-append random (to_le_bytes w32 number) ∙ omega (arith, four, back)
 
-number_is : (random : List ℕ) (number : ℕ) → length random ≡ 4 → number < 2 ^ 32 → number_in (message_nonce random number) ≡ number
+pub number_is : (random : List ℕ) (number : ℕ) → length random ≡ 4 → number < 2 ^ 32 → number_in (message_nonce random number) ≡ number
 number_is random number four fits =
     ap (λ (bytes : List ℕ). from_le_bytes w32 bytes) (drop_front random (to_le_bytes w32 number) 4 (sym four)) ∙ from_le_bytes-to_le_bytes_4 number fits
 
@@ -134,6 +134,11 @@ pass_with token number random end = record { token = token; number = number; ran
 pass_same : (token n n' : ℕ) (r r' : List ℕ) (end end' : ℕ) → n ≡ n' → r ≡ r' → end ≡ end' → pass_with token n r end ≡ pass_with token n' r' end'
 pass_same token n n' r r' end end' a b c = cc
 
+pub sent_is_found : (mode : Mode) (s : SenderState) (header payload : List ℕ) → IsSender s → signed_pass (front_value mode s) (sent mode s header payload) ≡ sent_pass s header payload
+sent_is_found mode s header payload is =
+    let long = length-sent mode s header payload in
+    pass_same s.keys.token _ _ _ _ _ _ (number_is s.random s.used is.random is.used) (random_is s.random s.used is.random) (omega (arith, long))
+
 pub sent_is_passed : (mode : Mode) (s : SenderState) (keys : List TokenKeys) (accepted : Accepted) (header payload : List ℕ) → MayOpen mode s keys accepted
     → verdict mode keys accepted (Some (front_value mode s)) (sent mode s header payload) (length header) ≡ Ok (sent_pass s header payload)
 sent_is_passed mode s keys accepted header payload may =
@@ -146,25 +151,25 @@ sent_is_passed mode s keys accepted header payload may =
     let tests = tests_of (is_some (keys_with keys s.keys.token)) (nat_lt s.keys.token (highest accepted)) (is_taken numbers s.used) (is_too_old numbers s.used) may.acceptable in
     let not_lower : highest accepted ≤ s.keys.token = grind (arith, nat_tests, tests.not_low) in
     let fresh : seen numbers (number_in part.nonce) ≡ answers.Fresh = ap (λ (n : ℕ). seen numbers n) number ∙ seen_fresh numbers s.used tests.not_taken tests.not_old in
-    let passed : signed_pass part datagram ≡ sent_pass s header payload = pass_same s.keys.token _ _ _ _ _ _ number (random_is s.random s.used may.random) (omega (arith, long)) in
+    let passed : signed_pass part datagram ≡ sent_pass s header payload = sent_is_found mode s header payload (record { random = may.random; used = may.number }) in
     verdict_secured mode keys accepted part datagram (length header) may.secured (mode_fits mode s may.secured)
     ∙ judged_secured keys accepted part datagram (length header) s.keys answers.Fresh (signed_pass part datagram) front may.known not_lower (signed_right mode s header payload) fresh
     ∙ ap Ok passed
 
-pub payload_restored : (mode : Mode) (s : SenderState) (keys : List TokenKeys) (accepted : Accepted) (header payload : List ℕ) → MayOpen mode s keys accepted
+pub payload_restored : (mode : Mode) (s : SenderState) (keys : List TokenKeys) (header payload : List ℕ) → keys_with keys s.keys.token ≡ Some s.keys
     → opened mode keys s.first_block (sent_pass s header payload) (length header) (sent mode s header payload)
     ≡ header ++ payload ++ signature_of (sent mode s header payload)
-payload_restored mode s keys accepted header payload may =
+payload_restored mode s keys header payload known =
     let datagram = sent mode s header payload in
     let nonce = message_nonce s.random s.used in
     let end = length header + length payload in
-    let between : slice_range datagram (length header) end ≡ cover mode s header payload =
-    middle header (cover mode s header payload) (tail mode s header payload) (length header) end refl
-    (ap (λ (n : ℕ). length header + n) (sym (length-covered mode s.keys nonce s.first_block payload))) in
+    let between : slice_range datagram (length header) end ≡ sent_payload mode s header payload =
+    middle header (sent_payload mode s header payload) (tail mode s header payload) (length header) end refl
+    (ap (λ (n : ℕ). length header + n) (sym (length-with_stream mode s.keys nonce s.first_block payload))) in
     let first : take (length header) datagram ≡ header = rw append_assoc (take_front header _ (length header) refl) in
     let last : drop end datagram ≡ signature_of datagram = drop_front (body mode s header payload) (tail mode s header payload) end (sym (length-body mode s header payload)) ∙ sym (signature_is mode s header payload) in
-    let back : uncovered mode (keys_with keys s.keys.token) nonce s.first_block (slice_range datagram (length header) end) ≡ payload =
-    ap (λ (o : Option TokenKeys). uncovered mode o nonce s.first_block (slice_range datagram (length header) end)) may.known
-    ∙ ap (λ (xs : List ℕ). covered mode s.keys nonce s.first_block xs) between
-    ∙ covered_twice mode s.keys nonce s.first_block payload in
+    let back : without_stream mode (keys_with keys s.keys.token) nonce s.first_block (slice_range datagram (length header) end) ≡ payload =
+    ap (λ (o : Option TokenKeys). without_stream mode o nonce s.first_block (slice_range datagram (length header) end)) known
+    ∙ ap (λ (xs : List ℕ). with_stream mode s.keys nonce s.first_block xs) between
+    ∙ stream_twice mode s.keys nonce s.first_block payload in
     cc

@@ -34,7 +34,7 @@ known_in_ring s now rises is =
     (keys_with-map s.sets at.0.token ∙ ap (λ (o : Option KeySet). option_map keys_in o) found)
 
 turned_to_set : (s : SenderState) (a b : KeySet) (higher : Bool) → s.keys ≡ keys_in a → nat_lt s.keys.token b.token ≡ higher → (a ≡ b) ⊎ (a.token < b.token)
-    → keys_in b ≡ (if higher then record s { keys = keys_in b; used = 0 } else s).keys
+    → keys_in b ≡ (if higher then record s { keys = keys_in b; used = 0; fronted = None } else s).keys
 turned_to_set s a b true keys_are test later = refl
 turned_to_set s a b false keys_are test (inl same) = sym (ap keys_in same) ∙ sym keys_are
 turned_to_set s a b false keys_are test (inr above) =

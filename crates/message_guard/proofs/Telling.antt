@@ -12,7 +12,7 @@ use Rattle.message_guard.specs.declared.mode.Mode.TheVariants as modes
 use Rattle.message_guard.specs.declared.open_fault.OpenFault.{OpenFault}
 use Rattle.message_guard.specs.declared.open_fault.OpenFault.TheVariants as faults
 use Rattle.message_guard.specs.declared.pass.Pass1.{Pass1}
-use Rattle.message_guard.specs.Acceptance.{Accepted, highest, numbers_of}
+use Rattle.message_guard.specs.Acceptance.{Accepted, highest, numbers_of, is_acceptable}
 use Rattle.message_guard.specs.Modes.{is_secured}
 use Rattle.message_guard.specs.Opened.{IsPassed}
 use Rattle.message_guard.specs.Opening.{Refusals, has_mode, is_signed, secured_refusals, signed_pass, judged_by, verdict}
@@ -97,3 +97,9 @@ passed_is modes.Sign keys accepted None datagram payload pass secured ok = cc
 passed_is modes.Encrypt keys accepted None datagram payload pass secured ok = cc
 passed_is modes.Sign keys accepted (Some part) datagram payload pass secured ok = passed_by modes.Sign keys accepted part datagram payload pass ok
 passed_is modes.Encrypt keys accepted (Some part) datagram payload pass secured ok = passed_by modes.Encrypt keys accepted part datagram payload pass ok
+
+pub passed_acceptable : (mode : Mode) (keys : List TokenKeys) (accepted : Accepted) (security : Option SecurityValue) (datagram : List ℕ) (payload : ℕ) (pass : Pass1)
+    → is_secured mode ≡ true → verdict mode keys accepted security datagram payload ≡ Ok pass → is_acceptable keys accepted pass.token pass.number ≡ true
+passed_acceptable mode keys accepted security datagram payload pass secured ok =
+    let is = passed_is mode keys accepted security datagram payload pass secured ok in
+    subst (λ (p : Pass1). is_acceptable keys accepted p.token p.number ≡ true) (sym is.found) is.acceptable

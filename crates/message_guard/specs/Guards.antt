@@ -1,5 +1,5 @@
 -- What a guard keeps, and of which accepted pairs it is the guard.
-use Rattle.std.specs.Prelude.{◌≡◌, ℕ, ◌≤◌, Bool, true, false, nat_lt, List, [], ◌∷◌, Option, Some, None}
+use Rattle.std.specs.Prelude.{◌≡◌, ℕ, ◌≤◌, Bool, true, false, nat_lt, List, [], ◌∷◌, Option, Some, None, is_some}
 use Rattle.std.specs.Borrow.{Bor}
 use Rattle.replay_window.specs.Window.{IsWindowOf, IsFresh}
 use Rattle.replay_window.specs.declared.window.Window.{Window}
@@ -11,6 +11,7 @@ use Rattle.message_guard.specs.declared.mode.Mode.{Mode}
 use Rattle.message_guard.specs.declared.pass.Pass1.{Pass1}
 use Rattle.message_guard.specs.Modes.{is_secured}
 use Rattle.message_guard.specs.Acceptance.{Accepted, highest, numbers_of}
+use Rattle.message_guard.specs.Protection.{keys_with}
 
 -- what a security header that may be there says
 abbrev pub security_told : Option (Bor SecurityPart) → Option SecurityValue
@@ -43,8 +44,9 @@ pub record IsGuardOf (accepted : Accepted) (guard : Guard) : Type 0 where
   pub high_is : high_of guard ≡ high_in accepted
   pub window_is : IsWindowOf (numbers_of accepted (highest accepted)) (window_of guard)
 
--- the guard may accept the pass: its token isn't below the highest, and its number is fresh under it
+-- the guard may accept the pass: its token is in the ring and isn't below the highest, and its number is fresh under it
 pub record IsPassOf (guard : Guard) (pass : Pass1) : Type 0 where
+  pub known : is_secured guard.mode ≡ true → is_some (keys_with guard.keys.items pass.token) ≡ true
   pub not_lower : is_secured guard.mode ≡ true → (high : ℕ) → high_of guard ≡ Some high → high ≤ pass.token
   pub fresh : is_secured guard.mode ≡ true → high_of guard ≡ Some pass.token → IsFresh (window_of guard) pass.number
 

@@ -9,7 +9,7 @@ use Rattle.message_guard.specs.declared.open_fault.OpenFault.{OpenFault}
 use Rattle.message_guard.specs.declared.open_fault.OpenFault.TheVariants.{ModeDiffers, FooterOut, KeyResetOut, BadNonceLength, Short, UnknownToken, OldToken, BadSignature, Repeated, TooOld}
 use Rattle.message_guard.specs.declared.pass.Pass1.{Pass1}
 use Rattle.message_guard.specs.Modes.{is_secured, encrypts, is_same}
-use Rattle.message_guard.specs.Protection.{keys_with, number_in, covered, body_of, signature_of, message_nonce}
+use Rattle.message_guard.specs.Protection.{keys_with, number_in, with_stream, body_of, signature_of, message_nonce}
 use Rattle.message_guard.specs.Acceptance.{Accepted, highest, numbers_of}
 
 -- a test, and the refusal where it holds
@@ -90,13 +90,13 @@ abbrev pub accepts : Mode → Pass1 → Accepted → Accepted
 accepts mode pass accepted = if is_secured mode then (pass.token, pass.number) ∷ accepted else accepted
 
 -- the bytes under the keys of a token, or as they are where the ring lacks it
-abbrev pub uncovered : Mode → Option TokenKeys → List ℕ → ℕ → List ℕ → List ℕ
-uncovered mode None nonce first_block bytes = bytes
-uncovered mode (Some keys) nonce first_block bytes = covered mode keys nonce first_block bytes
+abbrev pub without_stream : Mode → Option TokenKeys → List ℕ → ℕ → List ℕ → List ℕ
+without_stream mode None nonce first_block bytes = bytes
+without_stream mode (Some keys) nonce first_block bytes = with_stream mode keys nonce first_block bytes
 
 -- the datagram with what stands between the header and the pass's end decrypted
 abbrev pub opened : Mode → List TokenKeys → ℕ → Pass1 → ℕ → List ℕ → List ℕ
 opened mode keys first_block pass payload datagram =
     take payload datagram
-    ++ uncovered mode (keys_with keys pass.token) (message_nonce pass.random pass.number) first_block (slice_range datagram payload pass.end)
+    ++ without_stream mode (keys_with keys pass.token) (message_nonce pass.random pass.number) first_block (slice_range datagram payload pass.end)
     ++ drop pass.end datagram

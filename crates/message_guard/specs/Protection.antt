@@ -1,4 +1,4 @@
--- Protection (OPC 10000-14, PubSub-Aes128-CTR and PubSub-Aes256-CTR; FIPS 197, RFC 2104): the keys of a
+-- Protection (OPC 10000-14 7.2.4.4, PubSub-Aes128-CTR and PubSub-Aes256-CTR; FIPS 197, RFC 2104): the keys of a
 -- token, the nonce of a message, and the bytes of a protected datagram.
 use Rattle.std.specs.Prelude.{ℕ, ◌-◌, ◌==◌, List, ◌++◌, length, take, drop, Option, find, slice_range, if◌then◌else◌}
 use Rattle.std.specs.Int.{w32, to_le_bytes, from_le_bytes}
@@ -34,17 +34,17 @@ number_in nonce = from_le_bytes w32 (drop 4 nonce)
 
 -- the payload with the token's stream added, where the mode encrypts: the counter block is the key nonce, the
 -- message nonce and the block counter, from first_block on
-abbrev pub covered : Mode → TokenKeys → List ℕ → ℕ → List ℕ → List ℕ
-covered mode keys nonce first_block payload =
+abbrev pub with_stream : Mode → TokenKeys → List ℕ → ℕ → List ℕ → List ℕ
+with_stream mode keys nonce first_block payload =
     if encrypts mode then streamed (encrypted keys.encrypting) (keys.nonce ++ nonce) first_block payload else payload
 
 -- bytes and behind them their signature
 abbrev pub signed : TokenKeys → List ℕ → List ℕ
 signed keys body = body ++ hmac_sha256 keys.signing body
 
--- a protected datagram: the header, the covered payload, and the signature of both
+-- a protected datagram: the header, the payload with the stream, and the signature of both
 abbrev pub protected : Mode → TokenKeys → List ℕ → ℕ → List ℕ → List ℕ → List ℕ
-protected mode keys nonce first_block header payload = signed keys (header ++ covered mode keys nonce first_block payload)
+protected mode keys nonce first_block header payload = signed keys (header ++ with_stream mode keys nonce first_block payload)
 
 -- a datagram's bytes before the signature, and the signature
 abbrev pub body_of : List ℕ → List ℕ
@@ -54,5 +54,5 @@ abbrev pub signature_of : List ℕ → List ℕ
 signature_of datagram = drop (length datagram - 32) datagram
 
 -- what stands between the header, which ends at payload, and the signature
-abbrev pub payload_of : List ℕ → ℕ → List ℕ
-payload_of datagram payload = slice_range datagram payload (length datagram - 32)
+abbrev pub payload_in : List ℕ → ℕ → List ℕ
+payload_in datagram payload = slice_range datagram payload (length datagram - 32)

@@ -7,7 +7,7 @@ ghost use Rattle.group_keys.specs.Ring.{key_sets};
 ghost use Rattle.uadp_header.specs.Headers.{security_in};
 ghost use Rattle.message_guard.specs.Modes.{is_secured};
 ghost use Rattle.message_guard.specs.Protection.{keys_in, keys_with};
-ghost use Rattle.message_guard.specs.Acceptance.{highest, numbers_of, raises};
+ghost use Rattle.message_guard.specs.Acceptance.{AreAcceptable, highest, numbers_of, raises};
 ghost use Rattle.message_guard.specs.Opening.{has_mode, is_signed, front_refusals, secured_refusals, judged, open_pass, signed_pass, verdict, accepts, opened};
 ghost use Rattle.message_guard.specs.Guards.{security_told, setup_of, high_of, window_of, is_above, IsGuardOf, IsPassOf};
 
@@ -31,7 +31,7 @@ pub struct Guard {
 }
 
 impl Guard {
-    /// The guard before any datagram. The block counter of each message begins at `first_block`.
+    /// The guard before any datagram. The block counter of each message, big-endian, begins at `first_block`.
     pub fn new(ring: Ring, mode: Mode, first_block: u32) -> Guard
         ensures keys { (setup_of result).keys ≡ map keys_in (key_sets ring) }
         ensures mode { (setup_of result).mode ≡ mode }
@@ -51,8 +51,9 @@ impl Guard {
         }
     }
 
-    /// What the guard says of a datagram whose header, with this security part or with none, ends at `payload`. A
-    /// nonce's length over 255 is given as 255; no header has such a nonce.
+    /// What the guard says of a datagram whose header, with this security part or with none, ends at `payload`. The
+    /// number stands in the nonce's bytes 4 to 7, little-endian. A nonce's length over 255 is given as 255; no header
+    /// has such a nonce.
     pub fn test(
         &self,
         security: Option<&SecurityPart>,
@@ -85,7 +86,7 @@ impl Guard {
     {
         if let Some(keys) = self.keys_with(pass.token) {
             let nonce = message_nonce(&pass.random, pass.number);
-            keys.cover(
+            keys.add_stream(
                 self.mode,
                 &nonce,
                 self.first_block,
@@ -94,14 +95,17 @@ impl Guard {
         }
     }
 
-    /// Accepts what `test` passed. True where its token is higher than one accepted before: then its number is the
-    /// first of a new window. With the mode None nothing is accepted.
+    /// Accepts what `test` passed, with no other accepted since. True where a token was accepted before and this one is
+    /// higher than each of them: then its number is the first of a new window. With the mode None nothing is accepted.
     pub fn accept(&mut self, pass: Pass1) -> bool
         requires { IsPassOf self.old pass }
         ensures accepted { (accepted : List (ℕ × ℕ)) → IsGuardOf accepted self.old
             → IsGuardOf (accepts (setup_of self.old).mode pass accepted) self.new }
         ensures raised { (accepted : List (ℕ × ℕ)) → IsGuardOf accepted self.old
             → result ≡ (is_secured (setup_of self.old).mode && raises accepted pass.token) }
+        ensures acceptable { (accepted : List (ℕ × ℕ)) → IsGuardOf accepted self.old
+            → AreAcceptable (setup_of self.old).keys accepted
+            → AreAcceptable (setup_of self.old).keys (accepts (setup_of self.old).mode pass accepted) }
         ensures setup { setup_of self.new ≡ setup_of self.old }
     {
         if !self.mode.is_secured() {

@@ -1,5 +1,5 @@
 ghost use Rattle.std.specs.Prelude.{◌≡◌, ◌++◌, ◌⊎◌, ⊤, length};
-ghost use Rattle.message_guard.specs.Protection.{keys_in, covered, cipher_key, message_nonce};
+ghost use Rattle.message_guard.specs.Protection.{keys_in, with_stream, cipher_key, message_nonce};
 
 use crate::Mode;
 use aes_ctr::{Key, Key128, Key256, apply_stream};
@@ -30,8 +30,8 @@ impl TokenKeys {
     }
 
     /// Adds the stream of a message to its payload, where the mode encrypts.
-    pub fn cover(&self, mode: Mode, nonce: &[u8; 8], first_block: u32, payload: &mut [u8])
-        ensures { payload.new ≡ covered mode self.now nonce.now first_block payload.old }
+    pub fn add_stream(&self, mode: Mode, nonce: &[u8; 8], first_block: u32, payload: &mut [u8])
+        ensures { payload.new ≡ with_stream mode self.now nonce.now first_block payload.old }
     {
         if mode.encrypts() {
             let front = front_of(&self.nonce, nonce);

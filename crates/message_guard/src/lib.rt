@@ -1,4 +1,4 @@
-//! Protected datagrams (OPC 10000-14, PubSub-Aes128-CTR and PubSub-Aes256-CTR): a sender numbers, encrypts and
+//! Protected datagrams (OPC 10000-14 7.2.4.4, PubSub-Aes128-CTR and PubSub-Aes256-CTR): a sender numbers, encrypts and
 //! signs; a guard tests a signature, refuses what is old or came before, and decrypts.
 #![tactic(auto)]
 
@@ -9,14 +9,14 @@ mod mode;
 mod open_fault;
 mod pass;
 mod sender;
-#[cfg(test)]
-mod tests;
 
 pub use guard::Guard;
 pub use laws::{
     a_guard_of_the_ring_has_the_senders_keys, a_passed_datagram_is_signed_and_acceptable,
-    a_protected_datagram_is_opened, a_sender_has_the_keys_of_the_moment, no_pair_is_accepted_twice,
-    no_token_and_number_come_twice,
+    a_protected_datagram_is_opened, a_sender_has_the_keys_of_the_moment,
+    a_stream_added_twice_is_gone, a_written_header_carries_the_front,
+    an_open_datagram_is_left_as_it_is, an_unspent_sender_has_1024_numbers,
+    no_pair_is_accepted_twice, no_token_and_number_come_twice,
 };
 pub use mode::Mode;
 pub use open_fault::OpenFault;

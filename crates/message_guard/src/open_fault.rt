@@ -1,6 +1,6 @@
 use std::fmt;
 
-/// Why a datagram is refused. The first of these that holds is given.
+/// Why a datagram is refused (OPC 10000-14 7.2.4.4, SecurityHeader). The first of these that holds is given.
 #[derive(Clone, Copy, Debug, PartialEq, Eq)]
 pub enum OpenFault {
     /// It isn't signed and encrypted as the mode wants it. No security header counts as neither.
@@ -19,7 +19,7 @@ pub enum OpenFault {
     OldToken { got: u32, high: u32 },
     /// Its last 32 bytes aren't the signature of those before.
     BadSignature,
-    /// A datagram with its token and number was accepted.
+    /// A datagram with its token and number was accepted, and the number isn't too old.
     Repeated,
     /// Its number is 1,024 or more below `high`, the greatest accepted under its token.
     TooOld { high: u32 },

@@ -3,7 +3,7 @@
 pub struct Pass1 {
     /// The SecurityTokenId, or 0 without security.
     pub token: u32,
-    /// The number in the nonce, or 0 without security.
+    /// The number in the nonce, its bytes 4 to 7, little-endian, or 0 without security.
     pub number: u32,
     /// The nonce's first four bytes, or zeros without security.
     pub random: [u8; 4],

@@ -1,19 +1,21 @@
-ghost use Rattle.std.specs.Prelude.{◌≡◌, ◌≢◌, ℕ, ◌+◌, ◌-◌, ◌<◌, ◌≤◌, ◌↔◌, List, length, take, drop, IsTrue, IsFalse, true, false, Some, option_map, slice_range, ⊤};
+ghost use Rattle.std.specs.Prelude.{◌≡◌, ◌≢◌, ℕ, ◌+◌, ◌-◌, ◌<◌, ◌≤◌, ◌↔◌, length, IsTrue, Some, None, option_map, ⊤};
 ghost use Rattle.std.specs.Borrow.{sem, follows_so};
 ghost use mathlib.Core.Option.{none};
 ghost use Rattle.group_keys.specs.Faults.{IsAccepted};
 ghost use Rattle.group_keys.specs.KeySets.{current};
 ghost use Rattle.group_keys.specs.Ring.{key_sets};
-ghost use Rattle.uadp_header.specs.Headers.{security_in};
+ghost use Rattle.uadp_header.specs.Headers.{security_in, if_there};
+ghost use Rattle.uadp_header.specs.Reading.{IsSecured};
+ghost use Rattle.uadp_header.specs.Spelling.{IsSendersSecurity};
 ghost use Rattle.message_guard.specs.Modes.{is_secured};
-ghost use Rattle.message_guard.specs.Protection.{keys_in, payload_of};
-ghost use Rattle.message_guard.specs.Senders.{SenderState, turned, advanced, front_value, sent, numbers_left};
+ghost use Rattle.message_guard.specs.Protection.{keys_in};
+ghost use Rattle.message_guard.specs.Senders.{SenderState, turned, advanced, front_value, made_of, numbers_left, IsSender, MayProtect};
 
 use crate::Mode;
 use crate::keys::{TokenKeys, message_nonce};
 use group_keys::Ring;
 use std::marker::Model;
-use uadp_header::SecurityPart;
+use uadp_header::{SecurityPart, read_header};
 
 /// The length of a signature in bytes.
 pub(crate) const SIGNATURE_BYTES: usize = 32;
@@ -31,6 +33,8 @@ pub struct Sender {
     random: [u8; 4],
     first_block: u32,
     used: u32,
+    // The mode of the last front, if no token came since.
+    fronted: Option<Mode>,
     // The nonce of the last front.
     nonce: [u8; 8],
 }
@@ -44,20 +48,23 @@ impl Model for Sender {
       random = a.random;
       first_block = a.first_block;
       used = a.used;
+      fronted = a.fronted;
     } };
 }
 
 impl Sender {
     ghost use Rattle.message_guard.specs.contracts.sender.Sender.{the_row};
 
-    /// The sender that goes on after `used` numbers under the token of moment 0. `random` begins each nonce, and the
-    /// block counter of each message begins at `first_block`.
+    /// The sender that goes on after `used` numbers under the token of moment 0. `random` begins each nonce, before the
+    /// number as a UInt32, little-endian, and the block counter of each message, big-endian, begins at `first_block`.
     pub fn new(ring: Ring, random: [u8; 4], first_block: u32, used: u32) -> Sender
         ensures sets { result.sets ≡ key_sets ring }
         ensures token { option_map keys_in (current (key_sets ring) 0) ≡ Some result.keys }
         ensures random { result.random ≡ random }
         ensures first_block { result.first_block ≡ first_block }
         ensures used { result.used ≡ used }
+        ensures unfronted { result.fronted ≡ None }
+        ensures sender { IsSender result }
     {
         let keys = TokenKeys::new(ring.at(0));
         let nonce = message_nonce(&random, used);
@@ -67,6 +74,7 @@ impl Sender {
             random,
             first_block,
             used,
+            fronted: None,
             nonce,
         }
     }
@@ -85,6 +93,7 @@ impl Sender {
         }
         self.keys = TokenKeys::new(set);
         self.used = 0;
+        self.fronted = None;
         true
     }
 
@@ -95,14 +104,16 @@ impl Sender {
         LAST_NUMBER - self.used < RESERVE
     }
 
-    /// Takes the next number, for the header of a datagram that `protect` then protects.
+    /// Takes the next number. The header of the datagram that `protect` then protects has to carry what this gives.
     pub fn front(&mut self, mode: Mode) -> SecurityPart<'_>
         requires room { self.old.used < 4294967295 }
         requires secured { IsTrue (is_secured mode) }
-        ensures* after { sem 𝓛 (follows_so the_row the_row self.entry.ghost_name none (λ _ _. ⊤) (λ s. s ≡ advanced self.old)) }
-        ensures front { security_in result ≡ front_value mode (advanced self.old) }
+        ensures* after { sem 𝓛 (follows_so the_row the_row self.entry.ghost_name none (λ _ _. ⊤) (λ s. s ≡ advanced mode self.old)) }
+        ensures front { security_in result ≡ front_value mode (advanced mode self.old) }
+        ensures written { IsSendersSecurity (security_in result) }
     {
         self.used += 1;
+        self.fronted = Some(mode);
         self.nonce = message_nonce(&self.random, self.used);
         SecurityPart {
             signed: true,
@@ -114,17 +125,66 @@ impl Sender {
         }
     }
 
-    /// Protects the datagram under the last front: encrypts from `payload` on, where the mode says so, and fills the
-    /// last 32 bytes with the signature of all before them.
+    /// Whether `protect` may be called: the last front was of the mode, with no new token since, the header that the
+    /// datagram begins with ends at `payload` and carries it, and 32 bytes or more stand behind.
+    pub fn may_protect(&self, mode: Mode, datagram: &[u8], payload: usize) -> bool
+        ensures { IsTrue result ↔ MayProtect mode self.now datagram.now payload }
+    {
+        let Ok((header, end)) = read_header(datagram) else {
+            return false;
+        };
+        if end != payload {
+            return false;
+        }
+        if datagram.len() - end < SIGNATURE_BYTES {
+            return false;
+        }
+        self.has_front(mode) && self.carries_front(mode, &header.security)
+    }
+
+    fn has_front(&self, mode: Mode) -> bool
+        ensures { IsTrue result ↔ (self.now.fronted ≡ Some mode) }
+    {
+        match self.fronted {
+            Some(fronted) => fronted == mode,
+            None => false,
+        }
+    }
+
+    fn carries_front(&self, mode: Mode, security: &Option<SecurityPart<'_>>) -> bool
+        ensures { IsTrue result ↔ (if_there security_in security.now ≡ Some (front_value mode self.now)) }
+    {
+        let Some(part) = security else {
+            return false;
+        };
+        part.signed
+            && part.encrypted == mode.encrypts()
+            && !part.footer
+            && !part.reset
+            && part.token == self.keys.token
+            && part.nonce == message_nonce(&self.random, self.used).as_slice()
+    }
+
+    /// Protects a datagram whose header, which ends at `payload`, carries the last front, of the same mode: encrypts from
+    /// `payload` on, where the mode says so, and fills the last 32 bytes with the signature of all before them. A front
+    /// serves one datagram: a second one would have its token and number again.
     pub fn protect(&self, mode: Mode, datagram: &mut [u8], payload: usize)
-        requires room { payload + 32 ≤ length datagram.old }
         requires secured { IsTrue (is_secured mode) }
-        ensures { datagram.new ≡ sent mode self.now (take payload datagram.old)
-            (payload_of datagram.old payload) }
+        requires front { MayProtect mode self.now datagram.old payload }
+        ensures protected { datagram.new ≡ made_of mode self.now datagram.old payload }
+        ensures header { IsSecured datagram.new (Some (front_value mode self.now)) payload }
+    {
+        self.seal(mode, datagram, payload);
+    }
+
+    // Encrypts, and signs what it then has.
+    fn seal(&self, mode: Mode, datagram: &mut [u8], payload: usize)
+        requires { payload + 32 ≤ length datagram.old }
+        ensures { datagram.new ≡ made_of mode self.now datagram.old payload }
     {
         let end = datagram.len() - SIGNATURE_BYTES;
         let nonce = message_nonce(&self.random, self.used);
-        self.keys.cover(mode, &nonce, self.first_block, &mut datagram[payload..end]);
+        self.keys.add_stream(mode, &nonce, self.first_block, &mut datagram[payload..end]);
         let signature = self.keys.signing.sign(&datagram[..end]);
         datagram[end..].copy_from_slice(&signature);
     }

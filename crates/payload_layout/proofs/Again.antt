@@ -1,6 +1,6 @@
 -- Payloads are split as they are laid out.
 use Rattle.std.proofs.Common.{◌≡◌, ℕ, zero, suc, ◌+◌, ◌*◌, ◌<◌, ◌≤◌, Bool, true, false, List, [], ◌∷◌, ◌++◌, map, length, take, drop, refl, sym, ap, subst, ◌∙◌, append_assoc, append-nil, arith}
-use Rattle.std.specs.Prelude.{nat_lt, sum, if◌then◌else◌}
+use Rattle.std.specs.Prelude.{nat_lt, sum, zip, if◌then◌else◌}
 use Rattle.std.specs.Int.{w16, to_le_bytes, from_le_bytes}
 use Rattle.std.specs.List.{All, flat_map}
 use Rattle.std.proofs.lemmas.Bool.{lt-ltb, ltb-true, ltb-false}
@@ -11,7 +11,7 @@ use Rattle.std.proofs.lemmas.Nat.{from_le_bytes-to_le_bytes_2}
 use Rattle.std.proofs.Math.Seq.{take-append_seam, drop-append_seam}
 use Rattle.ua_binary.specs.Wire.{AreBytes}
 use Rattle.ua_binary.proofs.Parts.{coded16}
-use Rattle.payload_layout.specs.Payloads.{payload_of, sizes_of, cut_by, frames_of, HasBadSizes, AreShort, BeginsWithPayload}
+use Rattle.payload_layout.specs.Payloads.{dynamic_payload, sizes_of, cut_by, frames_of, parts_of, ids_in, frames_in, HasBadSizes, AreShort, BeginsWithPayload}
 use Rattle.payload_layout.proofs.Laid.{length-sizes, sizes-several}
 
 abbrev whole : List ℕ → List ℕ
@@ -42,7 +42,7 @@ lengths-short (frame ∷ frames) short =
 abbrev fronts : List (List ℕ) → List ℕ
 fronts frames = flat_map (to_le_bytes w16) (map length frames)
 
-several-laid : (frames : List (List ℕ)) (rest : List ℕ) → 1 < length frames → payload_of frames ++ rest ≡ fronts frames ++ (flat_map whole frames ++ rest)
+several-laid : (frames : List (List ℕ)) (rest : List ℕ) → 1 < length frames → dynamic_payload frames ++ rest ≡ fronts frames ++ (flat_map whole frames ++ rest)
 several-laid frames rest more =
     ap (λ (l : List ℕ). (l ++ flat_map whole frames) ++ rest) (sizes-several (map length frames) (omega (arith, length-map frames length)))
     ∙ append_assoc (fronts frames) (flat_map whole frames) rest
@@ -50,13 +50,13 @@ several-laid frames rest more =
 fronts-len : (frames : List (List ℕ)) → length (fronts frames) ≡ 2 * length frames
 fronts-len frames = length-sizes (map length frames) ∙ ap (λ (n : ℕ). 2 * n) (length-map frames length)
 
-sizes-laid : (frames : List (List ℕ)) (rest : List ℕ) → AreShort frames → 1 < length frames → sizes_of (length frames) (payload_of frames ++ rest) ≡ map length frames
+sizes-laid : (frames : List (List ℕ)) (rest : List ℕ) → AreShort frames → 1 < length frames → sizes_of (length frames) (dynamic_payload frames ++ rest) ≡ map length frames
 sizes-laid frames rest short more =
     ap (sizes_of (length frames)) (several-laid frames rest more)
     ∙ ap (λ (n : ℕ). sizes_of n (fronts frames ++ (flat_map whole frames ++ rest))) (sym (length-map frames length))
     ∙ sizes-again (map length frames) (flat_map whole frames ++ rest) (lengths-short frames short)
 
-behind-sizes : (frames : List (List ℕ)) (rest : List ℕ) → 1 < length frames → drop (2 * length frames) (payload_of frames ++ rest) ≡ flat_map whole frames ++ rest
+behind-sizes : (frames : List (List ℕ)) (rest : List ℕ) → 1 < length frames → drop (2 * length frames) (dynamic_payload frames ++ rest) ≡ flat_map whole frames ++ rest
 behind-sizes frames rest more =
     ap (drop (2 * length frames)) (several-laid frames rest more)
     ∙ ap (λ (n : ℕ). drop n (fronts frames ++ (flat_map whole frames ++ rest))) (sym (fronts-len frames))
@@ -65,14 +65,14 @@ behind-sizes frames rest more =
 several-frames : (count : ℕ) (payload : List ℕ) → 1 < count → frames_of count payload ≡ cut_by (sizes_of count payload) (drop (2 * count) payload)
 several-frames count payload more = ap (λ (b : Bool). if b then cut_by (sizes_of count payload) (drop (2 * count) payload) else take count (payload ∷ [])) (lt-ltb 1 count more)
 
-pub several-again : (frames : List (List ℕ)) (rest : List ℕ) → AreShort frames → 1 < length frames → frames_of (length frames) (payload_of frames ++ rest) ≡ frames
+pub several-again : (frames : List (List ℕ)) (rest : List ℕ) → AreShort frames → 1 < length frames → frames_of (length frames) (dynamic_payload frames ++ rest) ≡ frames
 several-again frames rest short more =
-    several-frames (length frames) (payload_of frames ++ rest) more
-    ∙ ap (λ (sizes : List ℕ). cut_by sizes (drop (2 * length frames) (payload_of frames ++ rest))) (sizes-laid frames rest short more)
+    several-frames (length frames) (dynamic_payload frames ++ rest) more
+    ∙ ap (λ (sizes : List ℕ). cut_by sizes (drop (2 * length frames) (dynamic_payload frames ++ rest))) (sizes-laid frames rest short more)
     ∙ ap (cut_by (map length frames)) (behind-sizes frames rest more)
     ∙ pieces-again frames rest
 
-pub one-again : (frame : List ℕ) → frames_of 1 (payload_of (frame ∷ [])) ≡ frame ∷ []
+pub one-again : (frame : List ℕ) → frames_of 1 (dynamic_payload (frame ∷ [])) ≡ frame ∷ []
 one-again frame = ap (λ (l : List ℕ). l ∷ []) (append-nil frame)
 
 whole-len : (frames : List (List ℕ)) → length (flat_map whole frames) ≡ sum (map length frames)
@@ -80,11 +80,35 @@ whole-len [] = refl
 whole-len (frame ∷ frames) =
     length-append frame (flat_map whole frames) ∙ ap (λ (n : ℕ). length frame + n) (whole-len frames) ∙ sym (sum_by-cons (λ (n : ℕ). n) (length frame) (map length frames))
 
-pub laid-good : (frames : List (List ℕ)) (rest : List ℕ) → AreShort frames → HasBadSizes (length frames) (payload_of frames ++ rest) → ⊥
+pub laid-good : (frames : List (List ℕ)) (rest : List ℕ) → AreShort frames → HasBadSizes (length frames) (dynamic_payload frames ++ rest) → ⊥
 laid-good frames rest short bad =
     let sizes = ap sum (sizes-laid frames rest short bad.several) in
     let len = ap length (several-laid frames rest bad.several) in
     omega (arith, bad.past, sizes, len, length-append (fronts frames) (flat_map whole frames ++ rest), length-append (flat_map whole frames) rest, fronts-len frames, whole-len frames)
+
+-- ---- frames with their ids
+
+zipped : (parts : List (ℕ × List ℕ)) → zip (ids_in parts) (frames_in parts) ≡ parts
+zipped [] = refl
+zipped (part ∷ parts) = ap (λ (l : List (ℕ × List ℕ)). part ∷ l) (zipped parts)
+
+ids-count : (parts : List (ℕ × List ℕ)) → length (ids_in parts) ≡ length (frames_in parts)
+ids-count parts = length-map parts (λ (part : ℕ × List ℕ). part.0) ∙ sym (length-map parts (λ (part : ℕ × List ℕ). part.1))
+
+by-frames : (parts : List (ℕ × List ℕ)) (payload : List ℕ) → frames_of (length (frames_in parts)) payload ≡ frames_in parts → parts_of (ids_in parts) payload ≡ parts
+by-frames parts payload same =
+    ap (λ (n : ℕ). zip (ids_in parts) (frames_of n payload)) (ids-count parts) ∙ ap (zip (ids_in parts)) same ∙ zipped parts
+
+pub parts-several : (parts : List (ℕ × List ℕ)) (rest : List ℕ) → AreShort (frames_in parts) → 1 < length parts → parts_of (ids_in parts) (dynamic_payload (frames_in parts) ++ rest) ≡ parts
+parts-several parts rest short more =
+    by-frames parts (dynamic_payload (frames_in parts) ++ rest) (several-again (frames_in parts) rest short (omega (arith, more, length-map parts (λ (part : ℕ × List ℕ). part.1))))
+
+pub parts-again : (parts : List (ℕ × List ℕ)) → AreShort (frames_in parts) → parts_of (ids_in parts) (dynamic_payload (frames_in parts)) ≡ parts
+parts-again [] short = refl
+parts-again (part ∷ []) short = by-frames (part ∷ []) (dynamic_payload (part.1 ∷ [])) (one-again part.1)
+parts-again (part ∷ other ∷ parts) short =
+    let all = part ∷ other ∷ parts in
+    ap (parts_of (ids_in all)) (sym (append-nil (dynamic_payload (frames_in all)))) ∙ parts-several all [] short (omega arith)
 
 -- ---- what is split was laid out
 

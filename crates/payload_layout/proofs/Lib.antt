@@ -1,4 +1,5 @@
 pub mod Again
+pub mod Counted
 pub mod Filled
 pub mod Greedy
 pub mod Laid

@@ -1,11 +1,11 @@
 -- One piece after another.
-use Rattle.std.proofs.Common.{◌≡◌, ℕ, suc, ◌+◌, ◌*◌, ◌-◌, ◌<◌, List, [], ◌∷◌, ◌++◌, map, take, drop, sym, ap, ◌∙◌, append_assoc, arith}
+use Rattle.std.proofs.Common.{◌≡◌, ℕ, suc, ◌+◌, ◌*◌, ◌-◌, ◌<◌, List, [], ◌∷◌, ◌++◌, map, take, drop, refl, sym, ap, ◌∙◌, append_assoc, arith}
 use Rattle.std.specs.Prelude.{sum}
 use Rattle.std.specs.Int.{w16, from_le_bytes}
 use Rattle.std.proofs.lemmas.List.{drop-drop, map-append}
 use Rattle.std.proofs.lemmas.List.Sums.{sum_by-cons}
 use Rattle.payload_layout.specs.declared.parts.Part.{Part}
-use Rattle.payload_layout.specs.Payloads.{sizes_of, cut_by, frame_at}
+use Rattle.payload_layout.specs.Payloads.{sizes_of, cut_by, frame_at, StandBehind}
 
 -- the sizes from an index on are the one there, and those from the next on
 pub sizes-step : (count index : ℕ) (payload : List ℕ) → index < count
@@ -32,3 +32,16 @@ piece-step payload start size sizes parts =
     ∙ ap (λ (l : List ℕ). map (frame_at payload) parts ++ (frame_at payload part ∷ cut_by sizes l)) (drop-drop size start payload)
     ∙ sym (append_assoc (map (frame_at payload) parts) (frame_at payload part ∷ []) (cut_by sizes (drop (start + size) payload)))
     ∙ ap (λ (l : List (List ℕ)). l ++ cut_by sizes (drop (start + size) payload)) (sym (map-append (frame_at payload) parts (part ∷ [])))
+
+-- where the last of parts that stand one behind the other ends
+abbrev pub end_of : ℕ → List Part → ℕ
+end_of start [] = start
+end_of start (part ∷ parts) = end_of part.end parts
+
+pub end-push : (start : ℕ) (parts : List Part) (part : Part) → end_of start (parts ++ part ∷ []) ≡ part.end
+end-push start [] part = refl
+end-push start (first ∷ parts) part = end-push first.end parts part
+
+pub behind-push : (start : ℕ) (parts : List Part) (part : Part) → StandBehind start parts → part.start ≡ end_of start parts → StandBehind start (parts ++ part ∷ [])
+behind-push start [] part all is = (is, tt)
+behind-push start (first ∷ parts) part all is = (all.0, behind-push first.end parts part all.1 is)

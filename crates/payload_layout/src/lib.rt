@@ -4,11 +4,10 @@
 mod laws;
 mod packing;
 mod parts;
-#[cfg(test)]
-mod tests;
 
 pub use laws::{
-    packed_frames_are_the_frames, packs_are_filled, packs_are_told_by_sizes, packs_fit_or_are_cut,
+    frames_come_back_with_their_ids, packed_frames_are_the_frames, packs_are_filled,
+    packs_are_told_by_sizes, packs_fit_or_are_cut, payloads_are_as_long_as_counted,
     payloads_are_split_again, split_payloads_are_laid_out,
 };
 pub use packing::{Pack, Packs, plan};

@@ -4,7 +4,7 @@ ghost use Rattle.payload_layout.specs.Packing.{packs_of, pack_of};
 
 use arrayvec::ArrayVec;
 
-/// The frames of one datagram, in the order of the frames.
+/// The frames of one datagram, as many as `count` says, in the order of the writers.
 #[derive(Clone, Copy, Debug, Default, PartialEq, Eq)]
 pub struct Pack {
     /// How many frames.
@@ -67,8 +67,9 @@ impl Filling {
     }
 }
 
-/// Packs frames of these sizes, in order: a frame joins the datagram before it while the payload with its sizes, and 2
-/// bytes for the writer id of each frame after the first, fits the room. A frame that doesn't fit alone is alone.
+/// Packs frames of these sizes in bytes, in order: a frame joins the datagram before it while the payload with its sizes, and 2
+/// bytes for the writer id of each frame after the first, fits the room, which is in bytes too: what a datagram has for its
+/// payload with one writer id in its header. A frame that doesn't fit alone is alone.
 pub fn plan(sizes: &[u16], room: u32, packs: &mut Packs)
     requires { length sizes.now ≤ 16 }
     ensures { packs.new.items ≡ map pack_of (packs_of (λ size. size) room sizes.now) }

@@ -1,17 +1,20 @@
-//! The frames of a dynamic payload: a UInt16 size for each, where they are more than one, and then the frames.
-ghost use Rattle.std.specs.Prelude.{◌≡◌, ◌≤◌, ◌+◌, ◌*◌, ◌↔◌, [], length, take, drop, map, slice_range, IsErr, IsTrue, OnOk, OnErr, All};
+//! The frames of a dynamic payload (OPC 10000-14 7.2.4, UADP message mapping): a UInt16 size for each, little-endian, where they
+//! are more than one, and then the frames.
+ghost use Rattle.std.specs.Prelude.{◌≡◌, ◌<◌, ◌≤◌, ◌+◌, ◌*◌, ◌↔◌, [], length, take, drop, map, slice_range, sum, IsErr, IsTrue, OnOk, OnErr, All};
 ghost use Rattle.std.specs.Int.{w16, from_le_bytes, to_le_bytes};
 ghost use Rattle.std.specs.List.{flat_map};
 ghost use Rattle.ua_binary.specs.Writing.{Puts, Writes};
-ghost use Rattle.payload_layout.specs.Payloads.{sizes_bytes, frames_of, frame_at, HasBadSizes, IsWithin};
+ghost use Rattle.payload_layout.specs.Payloads.{sizes_bytes, sizes_of, cut_by, frames_of, frame_at, HasBadSizes, IsWithin, StandBehind};
 
 use arrayvec::ArrayVec;
 use ua_binary::{Pen, Room};
 
-/// Where a frame stands in a payload.
+/// Where a frame stands in a payload, in bytes from the payload's first.
 #[derive(Clone, Copy, Debug, Default, PartialEq, Eq)]
 pub struct Part {
+    /// Its first byte.
     pub start: usize,
+    /// The byte behind its last.
     pub end: usize,
 }
 
@@ -45,36 +48,61 @@ fn put_sizes(pen: &mut Pen<'_>, sizes: &[u16])
     }
 }
 
-/// Finds the frames of a payload that has this many. What stands behind the last is ignored, but for one frame, which is
-/// all of the payload. Where the sizes are bad no part is left.
+/// Finds the frames of a payload that has this many: one for each writer id of the header. What stands behind the last is
+/// ignored, but for one frame, which is all of the payload. Bad sizes leave `parts` as it was.
 pub fn split(payload: &[u8], count: u8, parts: &mut Parts) -> Result<(), BadSizes>
     ensures frames { OnOk result (map (frame_at payload.now) parts.new.items ≡ frames_of count payload.now) }
     ensures within { OnOk result (All (IsWithin payload.now) parts.new.items) }
+    ensures in_order { OnOk result (1 < count → StandBehind (2 * count) parts.new.items) }
     ensures refused { IsErr result ↔ HasBadSizes count payload.now }
-    ensures nothing { OnErr result (parts.new.items ≡ []) }
+    ensures stays { OnErr result (parts.new ≡ parts.old) }
 {
+    if has_bad_sizes(payload, count) {
+        return Err(BadSizes);
+    }
     parts.clear();
     if count == 1 {
         parts.push(Part {
             start: 0,
             end: payload.len(),
         });
-        return Ok(());
+    } else {
+        push_parts(payload, count, parts);
     }
-    let mut start = 2 * usize::from(count);
-    if payload.len() < start {
-        return Err(BadSizes);
+    Ok(())
+}
+
+// The sizes are judged before any part is found, so that a refusal leaves no part of its own.
+fn has_bad_sizes(payload: &[u8], count: u8) -> bool
+    ensures { IsTrue result ↔ HasBadSizes count payload.now }
+{
+    let mut end = 2 * usize::from(count);
+    if count <= 1 {
+        return false;
+    }
+    if payload.len() < end {
+        return true;
     }
     for index in 0..usize::from(count) {
+        end += usize::from(size_at(payload, index));
+    }
+    end > payload.len()
+}
+
+fn push_parts(payload: &[u8], count: u8, parts: &mut Parts)
+    requires empty { parts.old.items ≡ [] }
+    requires good { 2 * count + sum (sizes_of count payload.now) ≤ length payload.now }
+    ensures frames { map (frame_at payload.now) parts.new.items
+        ≡ cut_by (sizes_of count payload.now) (drop (2 * count) payload.now) }
+    ensures within { All (IsWithin payload.now) parts.new.items }
+    ensures in_order { StandBehind (2 * count) parts.new.items }
+{
+    let mut start = 2 * usize::from(count);
+    for index in 0..usize::from(count) {
         let end = start + usize::from(size_at(payload, index));
-        if payload.len() < end {
-            parts.clear();
-            return Err(BadSizes);
-        }
         parts.push(Part { start, end });
         start = end;
     }
-    Ok(())
 }
 
 /// The size with this index.

@@ -1,11 +1,9 @@
-//! The window of message numbers that refuses each number a second time (OPC 10000-14, the MessageNonce of AES-CTR).
+//! The window of message numbers that refuses each number a second time (OPC 10000-14 7.2.4.4, MessageNonce of AES-CTR).
 #![tactic(auto)]
 
 mod bits;
 mod laws;
 mod seen;
-#[cfg(test)]
-mod tests;
 mod window;
 
 pub use laws::{

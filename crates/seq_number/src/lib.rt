@@ -3,8 +3,6 @@
 
 mod laws;
 mod number;
-#[cfg(test)]
-mod tests;
 
 pub use laws::{
     near_places_are_newer, numbers_give_places, places_give_numbers, silent_number_is_before,

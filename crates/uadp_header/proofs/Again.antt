@@ -11,13 +11,14 @@ use Rattle.std.proofs.Math.Seq.{take-append_seam, drop-append_seam}
 use Rattle.ua_binary.specs.Reading.{bytes_at, number_at, part_at}
 use Rattle.ua_binary.specs.ReadingValues.{has}
 use Rattle.ua_binary.specs.Spelling.{block}
+use Rattle.ua_binary.specs.Wire.{flag, optional}
 use Rattle.uadp_header.specs.declared.fault.HeaderFault.{HeaderFault}
 use Rattle.uadp_header.specs.declared.fault.HeaderFault.TheVariants.{Short}
 use Rattle.uadp_header.specs.Formats.{passing}
 use Rattle.uadp_header.specs.Headers.{PublisherValue, U8, U16, U32, U64, Text, IdsValue, NoIds, ListOf, ChunkOf, SecurityValue, HeaderValue}
 use Rattle.uadp_header.specs.Layout.{header_at, flags_fault, extended1_fault, extended2_fault, reserved_fault, text_len}
 use Rattle.uadp_header.specs.Reading.{BeginsWith}
-use Rattle.uadp_header.specs.Spelling.{flag, optional, type_of, has_ids, is_chunk, publisher_bytes, ids_bytes, extended1_byte, extended_bytes, flags_byte, flags_bytes, group_flags, group_bytes, security_flags, security_bytes, header_bytes, header_len, IsShortText, AreIds, IsSendersSecurity, IsSenders, IsPublisher, IsIds, IsHeader, IsWritten}
+use Rattle.uadp_header.specs.Spelling.{type_of, has_ids, is_chunk, publisher_bytes, ids_bytes, extended1_byte, extended_bytes, flags_byte, flags_bytes, group_flags, group_bytes, security_flags, security_bytes, header_bytes, header_len, IsShortText, AreIds, IsSendersSecurity, IsSenders, IsPublisher, IsIds, IsHeader, IsWritten}
 use Rattle.uadp_header.specs.Steps.{as_text, flags_at, flags_when, text_at, publisher_at, group_numbers_at, group_at, ids_at, extras_at, security_at, parts_at, whole_at}
 use Rattle.uadp_header.proofs.FormatLaws.{then_read}
 use Rattle.uadp_header.proofs.Lengths.{length-is_header}

@@ -55,7 +55,7 @@ read-spells (Part size refused next) bytes x rest e =
     part_spelled size refused next bytes x rest (nat_lt (length bytes) size) (refused (take size bytes)) refl refl e (read-spells (next (take size bytes)) (drop size bytes) x rest)
 
 -- a part that stands there, and is not refused
-part-read : {X : Type 0} (size : ℕ) (refused : List ℕ → Option HeaderFault) (next : List ℕ → Format X) (part more : List ℕ) → length part ≡ size → refused part ≡ None
+pub part-read : {X : Type 0} (size : ℕ) (refused : List ℕ → Option HeaderFault) (next : List ℕ → Format X) (part more : List ℕ) → length part ≡ size → refused part ≡ None
     → read (Part size refused next) (part ++ more) ≡ read (next part) more
 unfolding read
 part-read {X} size refused next part more size_is passes =

@@ -4,8 +4,9 @@ use Rattle.std.specs.Prelude.{nat_lt, is_some, IfSome, if◌then◌else◌}
 use Rattle.std.specs.Int.{w16, w32, to_le_bytes}
 use Rattle.std.proofs.lemmas.Bool.{lt-ltb}
 use Rattle.std.proofs.lemmas.List.{length-append}
+use Rattle.ua_binary.specs.Wire.{flag, optional}
 use Rattle.uadp_header.specs.Headers.{PublisherValue, U8, U16, U32, U64, Text, IdsValue, NoIds, ListOf, ChunkOf, SecurityValue, HeaderValue}
-use Rattle.uadp_header.specs.Spelling.{flag, optional, type_in, is_chunk, publisher_bytes, ids_bytes, extended1_in, extended_bytes, flags_bytes, group_flags, group_bytes, security_flags, security_bytes, header_bytes, publisher_len, ids_len, len_if, extended_len, group_len, security_len, header_len, IsAlike, IsHeader}
+use Rattle.uadp_header.specs.Spelling.{type_in, is_chunk, publisher_bytes, ids_bytes, extended1_in, extended_bytes, flags_bytes, group_flags, group_bytes, security_flags, security_bytes, header_bytes, publisher_len, ids_len, len_if, extended_len, group_len, security_len, header_len, IsAlike, IsHeader}
 
 -- part after part
 pub length-parts : (h : HeaderValue) → length (header_bytes h)

@@ -5,3 +5,9 @@ pub mod Puttings
 pub mod Lengths
 pub mod Again
 pub mod Ranges
+pub mod FlagLaws
+pub mod TextLaws
+pub mod IdLaws
+pub mod WireAgain
+pub mod WireBack
+pub mod SentLaws

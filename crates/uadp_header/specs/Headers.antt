@@ -1,5 +1,6 @@
 -- What a header tells (OPC 10000-14 7.2.4.4, UADP NetworkMessage). Here a text and a list are their bytes.
-use Rattle.std.specs.Prelude.{ℕ, Bool, List, Option, Some, None}
+use Rattle.std.specs.Prelude.{ℕ, Bool, List, [], ◌∷◌, Option, Some, None}
+use Rattle.std.specs.Int.{w16, from_le_bytes}
 use Rattle.uadp_header.specs.declared.header.PublisherId.{PublisherId}
 use Rattle.uadp_header.specs.declared.header.PublisherId.TheVariants as publishers
 use Rattle.uadp_header.specs.declared.header.Ids.{Ids}
@@ -28,6 +29,16 @@ pub record SecurityValue : Type 0 where
   pub token : ℕ
   pub nonce : List ℕ
 
+-- what a GroupHeader tells; nothing where it isn't there
+pub record GroupValue : Type 0 where
+  pub id : Option ℕ
+  pub version : Option ℕ
+  pub message_number : Option ℕ
+  pub sequence : Option ℕ
+
+abbrev pub no_group : GroupValue
+no_group = record { id = None; version = None; message_number = None; sequence = None }
+
 pub record HeaderValue : Type 0 where
   pub publisher : Option PublisherValue
   pub class_id : Option (List ℕ)
@@ -37,6 +48,18 @@ pub record HeaderValue : Type 0 where
   pub sequence : Option ℕ
   pub ids : IdsValue
   pub security : Option SecurityValue
+
+-- the writer ids that a list of bytes is: a UInt16 for each two bytes, little-endian
+abbrev pub ids_of : List ℕ → List ℕ
+ids_of [] = []
+ids_of (low ∷ []) = []
+ids_of (low ∷ high ∷ bytes) = from_le_bytes w16 (low ∷ high ∷ []) ∷ ids_of bytes
+
+-- the ids of a payload header
+abbrev pub ids_list : IdsValue → List ℕ
+ids_list NoIds = []
+ids_list (ListOf bytes) = ids_of bytes
+ids_list (ChunkOf id) = id ∷ []
 
 -- what the values of the program stand for
 abbrev pub publisher_in : PublisherId → PublisherValue

@@ -6,7 +6,7 @@ use Rattle.ua_binary.specs.ReadingValues.{has}
 use Rattle.uadp_header.specs.declared.fault.HeaderFault.{HeaderFault}
 use Rattle.uadp_header.specs.declared.fault.HeaderFault.TheVariants.{Version, DiscoveryOut, BadPublisherType, ReservedBits, BadId}
 use Rattle.uadp_header.specs.Formats.{Format, Told, Part, ◌>>=◌, read}
-use Rattle.uadp_header.specs.Headers.{PublisherValue, U8, U16, U32, U64, Text, IdsValue, NoIds, ListOf, ChunkOf, SecurityValue, HeaderValue}
+use Rattle.uadp_header.specs.Headers.{PublisherValue, U8, U16, U32, U64, Text, IdsValue, NoIds, ListOf, ChunkOf, SecurityValue, GroupValue, no_group, HeaderValue}
 
 -- a byte that is refused for some values
 unfoldable pub byte : (ℕ → Option HeaderFault) → Format ℕ
@@ -86,16 +86,6 @@ publisher_id type =
     else if type == 2 then (number w32 >>= λ id. Told (U32 id))
     else if type == 3 then (number w64 >>= λ id. Told (U64 id))
     else (text >>= λ id. Told (Text id))
-
--- what a GroupHeader tells; nothing where it isn't there
-pub record GroupValue : Type 0 where
-  pub id : Option ℕ
-  pub version : Option ℕ
-  pub message_number : Option ℕ
-  pub sequence : Option ℕ
-
-abbrev pub no_group : GroupValue
-no_group = record { id = None; version = None; message_number = None; sequence = None }
 
 -- GroupFlags: bit 0 WriterGroupId, 1 GroupVersion, 2 NetworkMessageNumber, 3 SequenceNumber
 unfoldable pub group_numbers : ℕ → Format GroupValue

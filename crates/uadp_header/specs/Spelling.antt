@@ -1,17 +1,11 @@
 -- The one spelling of a header that a sender writes (OPC 10000-14 7.2.4.4, UADP NetworkMessage): flags that aren't needed are left out.
 use Rattle.std.specs.Prelude.{◌≡◌, ◌≢◌, ℕ, ◌+◌, ◌*◌, ◌/◌, ◌^◌, ◌<◌, ◌≤◌, ⊤, Bool, true, false, is_some, nat_lt, List, [], ◌∷◌, ◌++◌, length, Option, Some, None, IsSome, IfSome, if◌then◌else◌}
 use Rattle.std.specs.Int.{w16, w32, w64, to_le_bytes}
+use Rattle.std.specs.List.{flat_map}
 use Rattle.std.specs.Str.{IsUtf8}
 use Rattle.ua_binary.specs.Spelling as binary
+use Rattle.ua_binary.specs.Wire.{flag, optional}
 use Rattle.uadp_header.specs.Headers.{PublisherValue, U8, U16, U32, U64, Text, IdsValue, NoIds, ListOf, ChunkOf, SecurityValue, HeaderValue}
-
--- the weight of a flag that is set
-abbrev pub flag : Bool → ℕ → ℕ
-flag set weight = if set then weight else 0
-
-abbrev pub optional : {A : Type 0} → (A → List ℕ) → Option A → List ℕ
-optional bytes None = []
-optional bytes (Some x) = bytes x
 
 abbrev pub type_of : PublisherValue → ℕ
 type_of (U8 id) = 0
@@ -118,6 +112,10 @@ unfoldable pub header_len : HeaderValue → ℕ
 header_len h =
     1 + extended_len h + len_if publisher_len h.publisher + flag (is_some h.class_id) 16 + group_len h + ids_len h.ids
     + len_if security_len h.security
+
+-- the header of a message with frames of these writers
+abbrev pub of_writers : HeaderValue → List ℕ → HeaderValue
+of_writers h ids = record h { ids = ListOf (flat_map (to_le_bytes w16) ids) }
 
 -- both have the same parts, with texts, ids and nonces of the same lengths; their numbers may differ
 pub record IsAlike (one other : HeaderValue) : Type 0 where

@@ -6,15 +6,16 @@ use Rattle.ua_binary.specs.declared.cursor.Cursor.{Cursor}
 use Rattle.ua_binary.specs.declared.pen.Pen.{Pen}
 use Rattle.ua_binary.specs.Reading.{◌>>=◌, ReadsAhead, byte_at, bytes_at, number_at, part_at}
 use Rattle.ua_binary.specs.ReadingValues.{has}
+use Rattle.ua_binary.specs.Wire.{optional}
 use Rattle.uadp_header.specs.declared.fault.HeaderFault.{HeaderFault}
 use Rattle.uadp_header.specs.declared.fault.HeaderFault.TheVariants.{Short}
 use Rattle.uadp_header.specs.declared.header.PublisherId.{PublisherId}
 use Rattle.uadp_header.specs.declared.header.SecurityPart.{SecurityPart}
 use Rattle.uadp_header.specs.declared.reading.Group.{Group}
 use Rattle.uadp_header.specs.Formats.{passing}
-use Rattle.uadp_header.specs.Headers.{PublisherValue, U8, U16, U32, U64, Text, IdsValue, NoIds, ListOf, ChunkOf, SecurityValue, HeaderValue, publisher_in, security_in, if_there}
-use Rattle.uadp_header.specs.Layout.{GroupValue, no_group, header_of, flags_fault, extended1_fault, extended2_fault, reserved_fault, text_len, utf8_fault}
-use Rattle.uadp_header.specs.Spelling.{optional, publisher_bytes, security_bytes}
+use Rattle.uadp_header.specs.Headers.{PublisherValue, U8, U16, U32, U64, Text, IdsValue, NoIds, ListOf, ChunkOf, SecurityValue, GroupValue, no_group, HeaderValue, publisher_in, security_in, if_there}
+use Rattle.uadp_header.specs.Layout.{header_of, flags_fault, extended1_fault, extended2_fault, reserved_fault, text_len, utf8_fault}
+use Rattle.uadp_header.specs.Spelling.{publisher_bytes, security_bytes}
 
 -- what an answer stands for
 abbrev pub told : {A B F : Type 0} → (A → B) → Result A F → Result B F

@@ -1,12 +1,15 @@
 //! Laws of headers, each the contract of a function that does nothing.
-ghost use Rattle.std.specs.Prelude.{◌≡◌, ◌+◌, ◌++◌, ◌<◌, ◌^◌, ◌↔◌, ◌⊎◌, ℕ, List, length, take, All, Some, Ok, Err};
+ghost use Rattle.std.specs.Prelude.{◌≡◌, ◌+◌, ◌*◌, ◌/◌, ◌∷◌, [], ◌++◌, ◌<◌, ◌^◌, ◌↔◌, ◌⊎◌, ℕ, List, length, take, drop, slice_index, All, Some, Ok, Err};
+ghost use Rattle.std.specs.Int.{w16, from_le_bytes, to_le_bytes};
+ghost use Rattle.std.specs.List.{flat_map};
 ghost use Rattle.uadp_header.specs.declared.fault.HeaderFault.{HeaderFault as AnyFault};
 ghost use Rattle.uadp_header.specs.declared.fault.HeaderFault.TheVariants as faults;
 ghost use Rattle.uadp_header.specs.Formats.{Spells, Fails};
-ghost use Rattle.uadp_header.specs.Headers.{HeaderValue, SecurityValue};
+ghost use Rattle.uadp_header.specs.Headers.{HeaderValue, SecurityValue, ids_of};
 ghost use Rattle.uadp_header.specs.Layout.{header, header_at};
 ghost use Rattle.uadp_header.specs.Reading.{BeginsWith, IsSecured};
-ghost use Rattle.uadp_header.specs.Spelling.{IsWritten, IsAlike, IsHeader, IsRead, header_bytes, header_len};
+ghost use Rattle.uadp_header.specs.Spelling.{IsSenders, IsWritten, IsAlike, IsHeader, IsRead, header_bytes, header_len, of_writers};
+ghost use Rattle.uadp_header.specs.Wire.{WireHeader, IsWireHeader, wire_bytes, header_read, header_sent, HasIdBytes, BeginsWithHeader};
 
 /// A sender's header, whatever follows it, is read as itself, and up to where its spelling ends.
 pub fn written_headers_are_read()
@@ -16,11 +19,42 @@ pub fn written_headers_are_read()
         → BeginsWith (header_bytes one ++ rest) one (header_len one) }
 {}
 
+/// Each header that stands on the wire, with whatever is read past, is read as what it tells, and up to where it ends.
+/// Bytes are read as a header, with a rest left, exactly where one that tells it stands in front of that rest.
+pub fn headers_are_read_as_spelled()
+    ensures again { (wire : WireHeader) (rest : List ℕ) → IsWireHeader wire
+        → header_at (wire_bytes wire ++ rest) ≡ Ok (header_read wire, rest) }
+    ensures exactly { (bytes rest : List ℕ) (one : HeaderValue) → All (λ byte. byte < 256) bytes
+        → (header_at bytes ≡ Ok (one, rest)) ↔ BeginsWithHeader bytes one rest }
+{}
+
+/// What a sender writes is one of these spellings: the one without the flags that aren't needed, and with nothing that is
+/// read past.
+pub fn senders_write_one_of_the_spellings()
+    ensures { (one : HeaderValue) → IsSenders one → HasIdBytes one.ids
+        → header_bytes one ≡ wire_bytes (header_sent one) }
+{}
+
+/// The ids of a list, two bytes each, are the numbers that it was made of; there is one for each two bytes.
+pub fn ids_are_two_bytes_each()
+    ensures again { (ids : List ℕ) → All (λ id. id < 2 ^ 16) ids
+        → ids_of (flat_map (to_le_bytes w16) ids) ≡ ids }
+    ensures count { (bytes : List ℕ) → length (ids_of bytes) ≡ length bytes / 2 }
+    ensures at { (bytes : List ℕ) (k : ℕ) → k < length bytes / 2
+        → slice_index (ids_of bytes) k ≡ from_le_bytes w16 (take 2 (drop (2 * k) bytes)) }
+{}
+
 /// A written header is as long as its parts tell, and the lengths of its text, ids and nonce: headers
 /// that differ in their numbers alone have the same length.
 pub fn a_length_goes_by_the_parts()
     ensures len { (one : HeaderValue) → IsHeader one → length (header_bytes one) ≡ header_len one }
     ensures alike { (one other : HeaderValue) → IsAlike one other → header_len one ≡ header_len other }
+{}
+
+/// Each writer id after the first makes a header two bytes longer.
+pub fn each_further_id_takes_two_bytes()
+    ensures { (one : HeaderValue) (id : ℕ) (ids : List ℕ)
+        → header_len (of_writers one (id ∷ ids)) ≡ header_len (of_writers one (id ∷ [])) + 2 * length ids }
 {}
 
 /// Bytes begin with the spelling of one sender's header at most.

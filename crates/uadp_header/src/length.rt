@@ -1,7 +1,8 @@
 //! How long a sender's header is.
 ghost use Rattle.std.specs.Prelude.{◌≡◌, ◌<◌, ◌+◌, ◌^◌, ◌≤◌, IfSome, is_some, length};
+ghost use Rattle.ua_binary.specs.Wire.{flag};
 ghost use Rattle.uadp_header.specs.Headers.{publisher_in, ids_in, security_in, header_in, if_there};
-ghost use Rattle.uadp_header.specs.Spelling.{flag, len_if, publisher_len, ids_len, extended_len, group_len, security_len, header_len, header_bytes, IsShortText, AreIds, IsSendersSecurity, IsSenders};
+ghost use Rattle.uadp_header.specs.Spelling.{len_if, publisher_len, ids_len, extended_len, group_len, security_len, header_len, header_bytes, IsShortText, AreIds, IsSendersSecurity, IsSenders};
 
 use crate::header::{Header, Ids, PublisherId, SecurityPart};
 use crate::writing::{extended1_of, is_chunk};

@@ -3,8 +3,9 @@ ghost use Rattle.std.specs.Prelude.{◌≡◌, ◌+◌, ◌/◌, ◌^◌, ◌<�
 ghost use Rattle.std.specs.Int.{w16, w32, to_le_bytes};
 ghost use Rattle.ua_binary.specs.Spelling.{block};
 ghost use Rattle.ua_binary.specs.Writing.{Puts, Writes};
+ghost use Rattle.ua_binary.specs.Wire.{flag, optional};
 ghost use Rattle.uadp_header.specs.Headers.{publisher_in, ids_in, security_in, header_in, if_there};
-ghost use Rattle.uadp_header.specs.Spelling.{flag, optional, type_in, has_ids, is_chunk, publisher_bytes, ids_bytes, extended1_in, extended_bytes, flags_byte, flags_bytes, group_flags, group_bytes, security_flags, security_bytes, header_bytes, IsShortText, AreIds, IsSendersSecurity, IsSenders};
+ghost use Rattle.uadp_header.specs.Spelling.{type_in, has_ids, is_chunk, publisher_bytes, ids_bytes, extended1_in, extended_bytes, flags_byte, flags_bytes, group_flags, group_bytes, security_flags, security_bytes, header_bytes, IsShortText, AreIds, IsSendersSecurity, IsSenders};
 ghost use Rattle.uadp_header.specs.Steps.{HasRoom, publisher_part, security_part};
 
 use crate::flags::{

@@ -1,5 +1,5 @@
 use Rattle.std.proofs.Common.{◌≡◌, ◌∙◌, ap, ◌+◌, ◌-◌, ◌*◌, ◌/◌, ◌%◌, ◌||◌, arith}
-use Rattle.chunker.specs.Cover.{is_marked, is_between}
+use Rattle.chunker.specs.Cover.{has_offset, is_between}
 use Rattle.chunker.proofs.CoverLaws.{whole_laid, between_joined}
 use Rattle.chunker.proofs.cover.mark.Goals as goal
 
@@ -14,7 +14,7 @@ returns c =
     let from : 64 * ((end - 1) / 64) + 0 ≡ 64 * block = omega arith in
     let to : 64 * ((end - 1) / 64) + (end - 1) % 64 + 1 ≡ end = omega arith in
     c.mark_in_word-3.ensures x
-    ∙ ap (λ n. is_between n (64 * ((end - 1) / 64) + (end - 1) % 64 + 1) x || is_marked c.loop-block.words x) from
-    ∙ ap (λ n. is_between (64 * block) n x || is_marked c.loop-block.words x) to
+    ∙ ap (λ n. is_between n (64 * ((end - 1) / 64) + (end - 1) % 64 + 1) x || has_offset c.loop-block.words x) from
+    ∙ ap (λ n. is_between (64 * block) n x || has_offset c.loop-block.words x) to
     ∙ ap (λ t. is_between (64 * block) end x || t) (c.loop-block.invariant x)
-    ∙ between_joined c.args.first (64 * block) end x (is_marked c.args.words.now x) (omega arith) (omega arith)
+    ∙ between_joined c.args.first (64 * block) end x (has_offset c.args.words.now x) (omega arith) (omega arith)

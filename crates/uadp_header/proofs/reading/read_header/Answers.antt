@@ -1,7 +1,8 @@
 use Rattle.std.proofs.Common.{◌<◌, ◌∙◌, arith}
 use Rattle.std.proofs.lemmas.List.Elements.{All-from_get_or}
 use Rattle.uadp_header.specs.Headers.{header_in}
-use Rattle.uadp_header.proofs.Ranges.{AreBytes, header-is_read}
+use Rattle.ua_binary.specs.Wire.{AreBytes}
+use Rattle.uadp_header.proofs.Ranges.{header-is_read}
 use Rattle.uadp_header.proofs.StepLaws.{header_whole}
 use Rattle.uadp_header.proofs.reading.read_header.Goals as goal
 

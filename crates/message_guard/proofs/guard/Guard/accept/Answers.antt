@@ -9,7 +9,7 @@ use Rattle.replay_window.specs.declared.window.Window.{Window}
 use Rattle.message_guard.specs.Acceptance.{numbers_of}
 use Rattle.message_guard.specs.Guards.{high_in}
 use Rattle.message_guard.specs.Modes.{is_secured}
-use Rattle.message_guard.proofs.Accepting.{none_under, high_is, highest_next, window_next, some_from_eq, accepts_pair}
+use Rattle.message_guard.proofs.Accepting.{none_under, high_is, highest_next, window_next, some_from_eq, accepts_pair, pass_acceptable, still_acceptable}
 use Rattle.message_guard.proofs.guard.Guard.accept.Goals as goal
 use Rattle.message_guard.proofs.guard.Guard.accept.Goals.{then-ne, else-ne}
 
@@ -49,3 +49,9 @@ returns-clause-accepted c =
             window_is = window_next accepted token number c.take.new.self below (c.take.ensures (numbers_of accepted token) before);
           }
     ])
+
+pub returns-clause-acceptable : goal.returns-clause-acceptable
+returns-clause-acceptable c =
+    λ accepted is are.
+    let guard = c.args.self.now in
+    still_acceptable guard.mode guard.keys.items c.args.pass accepted (λ secured. pass_acceptable guard c.args.pass accepted secured c.requires is) are

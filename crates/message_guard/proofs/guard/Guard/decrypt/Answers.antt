@@ -2,7 +2,7 @@ use Rattle.std.proofs.Common.{◌≡◌, ◌++◌, sym, ◌∙◌, ap, take, dro
 use Rattle.std.specs.Option.{option_copied}
 use Rattle.std.specs.Prelude.{Option, None, slice_range}
 use Rattle.message_guard.specs.Protection.{keys_with, message_nonce}
-use Rattle.message_guard.specs.Opening.{uncovered}
+use Rattle.message_guard.specs.Opening.{without_stream}
 use Rattle.message_guard.specs.declared.keys.TokenKeys.{TokenKeys}
 use Rattle.message_guard.proofs.Lists.{three_parts}
 use Rattle.message_guard.proofs.guard.Guard.decrypt.Goals as goal
@@ -13,6 +13,6 @@ returns-in_default c =
     let pass = c.args.pass.now in
     let none : keys_with c.args.self.now.keys.items pass.token ≡ None = sym c.keys_with.ensures ∙ ap option_copied c.in_default.is in
     let made = λ (o : Option TokenKeys). take c.args.payload datagram
-    ++ uncovered c.args.self.now.mode o (message_nonce pass.random pass.number) c.args.self.now.first_block (slice_range datagram c.args.payload pass.end)
+    ++ without_stream c.args.self.now.mode o (message_nonce pass.random pass.number) c.args.self.now.first_block (slice_range datagram c.args.payload pass.end)
     ++ drop pass.end datagram in
     sym (three_parts datagram c.args.payload pass.end c.requires.order) ∙ sym (ap made none)

@@ -37,4 +37,4 @@ returns-in_default-clause-pass c =
       | in_default-via-in_default w ↦
           not_true _ (sym (ap (λ (o : Option (Bor SecurityPart)). has_mode guard.mode (security_told o)) w.in_default.is) ∙ sym c.has_mode.ensures ∙ c.if-not-has_mode.false)
     ] in
-    record { not_lower = λ secured. absurd (not_both _ secured unsecured); fresh = λ secured. absurd (not_both _ secured unsecured) }
+    record { known = λ secured. absurd (not_both _ secured unsecured); not_lower = λ secured. absurd (not_both _ secured unsecured); fresh = λ secured. absurd (not_both _ secured unsecured) }
