@@ -1,0 +1,11 @@
+pub mod Sizes
+pub mod Laying
+pub mod RowReading
+pub mod Setting
+pub mod RawGrammar
+pub mod RawLaws
+pub mod FaultLaws
+pub mod SlotLaws
+pub mod JudgeLaws
+pub mod DatagramLaws
+pub mod PlaceLaws

@@ -1,0 +1,9 @@
+pub mod Spelling
+pub mod Reading
+pub mod Wire
+pub mod Begins
+pub mod Slots
+pub mod Faults
+pub mod Datagrams
+pub mod Held
+pub mod Calls
