@@ -1,0 +1,10 @@
+pub mod Places
+pub mod Keys
+pub mod Grammar
+pub mod Tables
+pub mod Seen
+pub mod Words
+pub mod Texts
+pub mod FaultNumbers
+pub mod Paths
+pub mod Values

@@ -1,0 +1,103 @@
+//! The keys of a configuration's tables.
+
+/// A key of one of the tables.
+#[derive(Clone, Copy, Debug, PartialEq, Eq)]
+pub enum Key {
+    Publisher,
+    DataSet,
+    KeyGroup,
+    Group,
+    ReadGroup,
+    Field,
+    Key,
+    Writer,
+    Reader,
+    Id,
+    Port,
+    Name,
+    Major,
+    Minor,
+    Quality,
+    Kind,
+    Cap,
+    Policy,
+    Random,
+    FirstBlock,
+    Used,
+    Token,
+    From,
+    Signing,
+    Encrypting,
+    Nonce,
+    Interval,
+    MaxSize,
+    Layout,
+    Security,
+    Version,
+    Sequence,
+    MessageNumber,
+    ClassId,
+    KeyFrameCount,
+    KeepAlive,
+    FirstNumber,
+    Versions,
+    Offset,
+    Size,
+    Timeout,
+    Numbering,
+}
+
+impl Key {
+    ghost use Rattle.std.specs.Prelude.{◌≡◌};
+    ghost use Rattle.config_tables.specs.Keys.{key_text};
+
+    /// The key as it stands in the document.
+    pub fn text(self) -> &'static str
+        ensures { result.now ≡ key_text self }
+    {
+        match self {
+            Key::Publisher => "publisher",
+            Key::DataSet => "dataset",
+            Key::KeyGroup => "keygroup",
+            Key::Group => "group",
+            Key::ReadGroup => "readgroup",
+            Key::Field => "field",
+            Key::Key => "key",
+            Key::Writer => "writer",
+            Key::Reader => "reader",
+            Key::Id => "id",
+            Key::Port => "port",
+            Key::Name => "name",
+            Key::Major => "major",
+            Key::Minor => "minor",
+            Key::Quality => "quality",
+            Key::Kind => "kind",
+            Key::Cap => "cap",
+            Key::Policy => "policy",
+            Key::Random => "random",
+            Key::FirstBlock => "first_block",
+            Key::Used => "used",
+            Key::Token => "token",
+            Key::From => "from",
+            Key::Signing => "signing",
+            Key::Encrypting => "encrypting",
+            Key::Nonce => "nonce",
+            Key::Interval => "interval",
+            Key::MaxSize => "max_size",
+            Key::Layout => "layout",
+            Key::Security => "security",
+            Key::Version => "version",
+            Key::Sequence => "sequence",
+            Key::MessageNumber => "message_number",
+            Key::ClassId => "class_id",
+            Key::KeyFrameCount => "key_frame_count",
+            Key::KeepAlive => "keep_alive",
+            Key::FirstNumber => "first_number",
+            Key::Versions => "versions",
+            Key::Offset => "offset",
+            Key::Size => "size",
+            Key::Timeout => "timeout",
+            Key::Numbering => "numbering",
+        }
+    }
+}

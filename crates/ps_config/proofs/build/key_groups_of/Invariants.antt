@@ -1,0 +1,11 @@
+use Rattle.std.proofs.Common.{◌≡◌, ◌++◌, map, drop}
+use Rattle.config_tables.specs.declared.place.Part.TheVariants.{KeyGroup}
+use Rattle.ps_config.specs.Configs.{key_group_of}
+use Rattle.ps_config.specs.Fields.{outer_tables}
+use Rattle.config_tables.specs.Seen.{seen}
+use Rattle.ps_config.proofs.build.key_groups_of.Given as goal
+
+-- the parts so far, and those of the tables that are left
+abbrev pub invariant-loop-placed : goal.invariant-loop-placed
+invariant-loop-placed l =
+    l.parts.items ++ map (key_group_of (map seen l.tables)) (outer_tables KeyGroup (map seen (drop l.placed-index l.tables))) ≡ map (key_group_of (map seen l.tables)) (outer_tables KeyGroup (map seen l.tables))

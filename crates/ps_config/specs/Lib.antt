@@ -1,0 +1,16 @@
+pub mod Fields
+pub mod Settings
+pub mod Headers
+pub mod Faults
+pub mod Rooms
+pub mod Slots
+pub mod Configs
+pub mod Messages
+pub mod Refusals
+pub mod Meaning
+pub mod Metas
+pub mod Reading
+pub mod Sound
+pub mod FixedSound
+pub mod Rings
+pub mod BuiltIn

@@ -1,0 +1,44 @@
+//! Laws of configurations, each the contract of a function that does nothing.
+ghost use Rattle.std.specs.Prelude.{◌≡◌, ℕ, ◌+◌, ◌≤◌, List, length, Some, None, Ok};
+ghost use Rattle.dataset_meta.specs.Metas.{MetaData};
+ghost use Rattle.config_tables.specs.declared.fault.Fault.{Fault};
+ghost use Rattle.config_tables.specs.declared.place.Place.{Place};
+ghost use Rattle.config_tables.specs.declared.publisher.Publisher.{Publisher};
+ghost use Rattle.ps_config.specs.BuiltIn.{built_in_text, built_in_config};
+ghost use Rattle.ps_config.specs.Meaning.{IsRefusedBy, IsAccepted};
+ghost use Rattle.ps_config.specs.declared.parts.GroupPart.{GroupPart};
+ghost use Rattle.ps_config.specs.Headers.{signature_len};
+ghost use Rattle.ps_config.specs.Rooms.{chunk_room, datagrams_in, frame_header, IsRoomy};
+ghost use Rattle.ps_config.specs.Reading.{configuration};
+ghost use Rattle.ps_config.specs.Refusals.{refusal};
+ghost use Rattle.config_tables.specs.Tables.{Located};
+
+/// Tables are refused exactly by the first of the faults that stands anywhere, at the first table at
+/// which it stands, and are not refused exactly where no fault stands anywhere.
+pub fn the_first_fault_is_told()
+    ensures refused { (ts : List Located) (fault : Fault) (place : Place)
+        → refusal ts ≡ Some (fault, place) → IsRefusedBy ts fault place }
+    ensures told { (ts : List Located) (fault : Fault) (place : Place)
+        → IsRefusedBy ts fault place → refusal ts ≡ Some (fault, place) }
+    ensures accepted { (ts : List Located) → refusal ts ≡ None → IsAccepted ts }
+    ensures untold { (ts : List Located) → IsAccepted ts → refusal ts ≡ None }
+{}
+
+/// A dynamic group that doesn't lack room has room for one byte in a chunk, needs at most 1,024
+/// datagrams for a turn, and has room for 12 bytes, a keep-alive's most, beside a header with one
+/// writer id and the signature.
+pub fn a_group_with_room_has_room_for_a_keep_alive()
+    ensures chunk { (publisher : Publisher) (metas : List MetaData) (group : GroupPart)
+        → IsRoomy publisher metas group → 1 ≤ chunk_room publisher group }
+    ensures turn { (publisher : Publisher) (metas : List MetaData) (group : GroupPart)
+        → IsRoomy publisher metas group
+        → datagrams_in (chunk_room publisher group) metas group.writer ≤ 1024 }
+    ensures frame { (publisher : Publisher) (metas : List MetaData) (group : GroupPart) (ids : List ℕ)
+        → IsRoomy publisher metas group → length ids ≡ 2
+        → frame_header publisher group ids + 12 + signature_len group.security ≤ group.max_size }
+{}
+
+/// The built-in configuration is what its text is read as.
+pub fn the_built_in_text_is_read()
+    ensures { configuration built_in_text ≡ Ok built_in_config }
+{}

@@ -1,0 +1,33 @@
+//! The configuration of the runtime, read from a TOML document.
+#![tactic(auto)]
+
+mod build;
+mod built_in_config;
+mod faults;
+mod fields;
+mod header;
+mod key_order;
+mod laws;
+mod parts;
+mod read;
+mod refusal;
+mod ring;
+mod rooms;
+mod settings;
+mod slots;
+
+pub use built_in_config::built_in;
+pub use config_tables::{
+    Fault, Layout, NumberingWord, Part, Path, Place, Policy, Publisher, Security,
+};
+pub use header::{HeaderSettings, publisher_id};
+pub use laws::{
+    a_group_with_room_has_room_for_a_keep_alive, the_built_in_text_is_read, the_first_fault_is_told,
+};
+pub use parts::{
+    Config, GroupPart, KeyBytes, KeyGroupPart, KeyPart, Parts, PublisherPart, ReadGroupPart,
+    ReaderPart, WriterPart,
+};
+pub use read::{ConfigEnd, read_config};
+pub use ring::ring_of;
+pub use rooms::{lacks_room, largest_frame};

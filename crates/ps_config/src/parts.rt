@@ -1,0 +1,248 @@
+//! What a configuration is made of: a field for each key, of the same name.
+ghost use Rattle.std.specs.Prelude.{◌≡◌, ◌≤◌, length};
+ghost use Rattle.ps_config.specs.Rooms.{header_settings};
+
+use crate::header::HeaderSettings;
+use arrayvec::ArrayVec;
+use config_tables::{Layout, NumberingWord, Policy, Publisher, Security};
+use dataset_meta::{Meta, Name32};
+use std::marker::Model;
+
+/// Parts in the order of the document. Contracts see them as a list.
+#[derive(Drop)]
+pub struct Parts<T> {
+    parts: Vec<T>,
+}
+
+impl<T> Model for Parts<T> {
+    ghost use Rattle.std.specs.Prelude.{List};
+
+    ghost Value = { List T };
+
+    ghost view = { λ p. p.parts.items };
+}
+
+impl<T> Parts<T> {
+    ghost use Rattle.std.specs.Prelude.{◌≡◌};
+
+    pub fn new(parts: Vec<T>) -> Parts<T>
+        ensures { result ≡ parts.items }
+    {
+        Parts { parts }
+    }
+
+    pub fn as_slice(&self) -> &[T]
+        ensures { result.now ≡ self.now }
+    {
+        &self.parts
+    }
+
+    pub fn into_vec(self) -> Vec<T>
+        ensures { result.items ≡ self }
+    {
+        let Parts { parts } = self;
+        parts
+    }
+}
+
+/// The bytes of an encrypting key, 16 or 32. They take no memory of their own.
+#[derive(Drop)]
+pub struct KeyBytes {
+    bytes: ArrayVec<u8, 32>,
+}
+
+impl Model for KeyBytes {
+    ghost use Rattle.std.specs.Prelude.{List, ℕ};
+
+    ghost Value = { List ℕ };
+
+    ghost view = { λ k. k.bytes.items };
+}
+
+impl KeyBytes {
+    ghost use Rattle.std.specs.Prelude.{◌≡◌, ◌≤◌, length, take};
+
+    pub fn new(bytes: &[u8]) -> KeyBytes
+        requires { length bytes.now ≤ 32 }
+        ensures { result ≡ bytes.now }
+    {
+        KeyBytes {
+            bytes: array_of(bytes),
+        }
+    }
+
+    pub fn as_bytes(&self) -> &[u8]
+        ensures bytes { result.now ≡ self.now }
+        ensures short { length result.now ≤ 32 }
+    {
+        self.bytes.as_slice()
+    }
+
+    /// The bytes, as a key set has them.
+    pub fn to_array(&self) -> ArrayVec<u8, 32>
+        ensures { result.items ≡ self.now }
+    {
+        array_of(self.as_bytes())
+    }
+}
+
+fn array_of(bytes: &[u8]) -> ArrayVec<u8, 32>
+    requires { length bytes.now ≤ 32 }
+    ensures { result.items ≡ bytes.now }
+{
+    let mut room = ArrayVec::new();
+    for byte in bytes {
+        room.push(*byte);
+    }
+    room
+}
+
+/// A configuration (OPC 10000-14, PubSubConfiguration): a field for each table, of its name.
+#[derive(Drop)]
+pub struct Config {
+    pub publisher: PublisherPart,
+    /// The data sets, at most 8.
+    pub dataset: Parts<Meta>,
+    /// At most 4.
+    pub keygroup: Parts<KeyGroupPart>,
+    /// At most 4, with 16 writers in all.
+    pub group: Parts<GroupPart>,
+    /// At most 4, with 16 readers in all.
+    pub readgroup: Parts<ReadGroupPart>,
+}
+
+/// Who publishes.
+#[derive(Clone, Copy, Debug)]
+pub struct PublisherPart {
+    pub id: Publisher,
+    /// The UDP port on this host.
+    pub port: u16,
+}
+
+/// The keys that groups share (OPC 10000-14, SecurityGroup).
+#[derive(Drop)]
+pub struct KeyGroupPart {
+    pub name: Name32,
+    pub policy: Policy,
+    /// The random part of a sender's message nonces.
+    pub random: [u8; 4],
+    /// Where the block counter begins, 0 or 1.
+    pub first_block: u32,
+    /// How many numbers were used under the first token before.
+    pub used: u32,
+    /// At most 16, in the order of their tokens and moments.
+    pub key: Parts<KeyPart>,
+}
+
+/// The keys of one token.
+#[derive(Drop)]
+pub struct KeyPart {
+    /// The SecurityTokenId.
+    pub token: u32,
+    /// The moment from which the keys are used, in milliseconds.
+    pub from: u64,
+    /// The key of HMAC-SHA-256.
+    pub signing: [u8; 32],
+    /// The key of AES-128 or AES-256.
+    pub encrypting: KeyBytes,
+    /// The first four bytes of each counter block.
+    pub nonce: [u8; 4],
+}
+
+/// A group of writers (OPC 10000-14 6.2.6, WriterGroup).
+#[derive(Drop)]
+pub struct GroupPart {
+    pub name: Name32,
+    /// The WriterGroupId, not 0.
+    pub id: u16,
+    /// The PublishingInterval, in milliseconds.
+    pub interval: u32,
+    /// The MaxNetworkMessageSize, in bytes.
+    pub max_size: u32,
+    pub layout: Layout,
+    pub security: Security,
+    /// The index of the key group, where messages are secured.
+    pub keygroup: Option<u8>,
+    /// The GroupVersion, which is carried where it isn't 0.
+    pub version: u32,
+    /// Whether the SequenceNumber is carried.
+    pub sequence: bool,
+    /// Whether the NetworkMessageNumber is carried.
+    pub message_number: bool,
+    /// The DataSetClassId, in the order of the wire.
+    pub class_id: Option<[u8; 16]>,
+    pub writer: Parts<WriterPart>,
+}
+
+impl GroupPart {
+    /// What the headers of its datagrams tell.
+    pub fn header_settings(&self) -> HeaderSettings
+        ensures { result ≡ header_settings self.now }
+    {
+        HeaderSettings {
+            id: self.id,
+            version: self.version,
+            sequence: self.sequence,
+            message_number: self.message_number,
+            class_id: self.class_id,
+            security: self.security,
+        }
+    }
+}
+
+/// A data set's writer (OPC 10000-14 6.2.4, DataSetWriter).
+#[derive(Clone, Copy, Debug)]
+pub struct WriterPart {
+    pub name: Name32,
+    /// The DataSetWriterId, not 0.
+    pub id: u16,
+    /// The index of the data set that it writes.
+    pub dataset: u8,
+    /// The KeyFrameCount, not 0.
+    pub key_frame_count: u32,
+    /// The KeepAliveTime, in milliseconds; 0 for none.
+    pub keep_alive: u64,
+    /// The number of the first message.
+    pub first_number: u16,
+    /// Whether major and minor version are carried.
+    pub versions: bool,
+    /// Where the slot begins in a fixed group, in bytes from the datagram's first.
+    pub offset: u32,
+    /// How many bytes the slot has.
+    pub size: u32,
+}
+
+/// Readers of one publisher's groups (OPC 10000-14 6.2.8, ReaderGroup).
+#[derive(Drop)]
+pub struct ReadGroupPart {
+    pub name: Name32,
+    pub publisher: Publisher,
+    /// The WriterGroupId, 0 for any.
+    pub group: u16,
+    /// The GroupVersion, 0 for any.
+    pub version: u32,
+    /// The DataSetClassId, in the order of the wire; any where there is none.
+    pub class_id: Option<[u8; 16]>,
+    pub layout: Layout,
+    pub security: Security,
+    /// The index of the key group, where messages are secured.
+    pub keygroup: Option<u8>,
+    pub reader: Parts<ReaderPart>,
+}
+
+/// A data set's reader (OPC 10000-14 6.2.9, DataSetReader).
+#[derive(Clone, Copy, Debug)]
+pub struct ReaderPart {
+    pub name: Name32,
+    /// The DataSetWriterId of the writer that it reads, not 0.
+    pub writer: u16,
+    /// The index of the data set that it reads.
+    pub dataset: u8,
+    /// The MessageReceiveTimeout, in milliseconds; 0 for none.
+    pub timeout: u64,
+    pub numbering: NumberingWord,
+    /// Where the slot begins in a fixed read group, in bytes from the datagram's first.
+    pub offset: u32,
+    /// How many bytes the slot has.
+    pub size: u32,
+}
