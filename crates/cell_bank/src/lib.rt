@@ -1,0 +1,9 @@
+//! One cell for each data set, up to eight, and sets of passes with one pass for each cell.
+#![tactic(auto)]
+
+mod bank;
+mod making;
+mod passes;
+
+pub use bank::Bank;
+pub use passes::Passes;

@@ -1,0 +1,31 @@
+//! Sets of passes.
+use std::marker::Model;
+use version_cell::Pass;
+
+/// One pass for each cell of a bank. To a contract it is the list of what they know, in the order of the data sets.
+#[derive(Drop)]
+pub struct Passes {
+    pub(crate) items: Vec<Pass>,
+}
+
+impl Model for Passes {
+    ghost use Rattle.std.specs.Prelude.{List};
+    ghost use Rattle.version_cell.specs.Known.{Known};
+
+    ghost Value = { List Known };
+
+    ghost view = { λ p. p.items.items };
+}
+
+impl Passes {
+    ghost use Rattle.std.specs.Prelude.{◌≡◌, ◌<◌, length};
+    ghost use Rattle.version_cell.specs.Sets.{pass_at};
+
+    /// The pass of a data set.
+    pub fn pass(&self, set: u8) -> &Pass
+        requires { set < length self.now }
+        ensures { result.now ≡ pass_at self.entry.now set }
+    {
+        &self.items[usize::from(set)]
+    }
+}

@@ -1,0 +1,51 @@
+-- The cells of readers, in each of which the keeper has number 0 and is the only author.
+use Rattle.std.specs.Prelude.{◌≡◌, ℕ, ◌<◌, false, List, [], ◌∷◌, length, map, replicate, All, Some, slice_index_or}
+use Rattle.dataset_meta.specs.Metas.{MetaData, meta_of}
+use Rattle.row_words.specs.declared.patch.Patch.{Patch}
+use Rattle.row_words.specs.Belonging.{Belongs}
+use Rattle.row_words.specs.Patches.{patched_words}
+use Rattle.version_cell.specs.Terms.{IsSole}
+use Rattle.version_cell.specs.Known.{Known}
+use Rattle.version_cell.specs.Cells.{CellData}
+use Rattle.version_cell.specs.Passes.{SeesMore, SeesLawful}
+use Rattle.version_cell.specs.Sets.{pass_at}
+
+-- the cells of the readers, and how many stores each may have
+pub record TargetsData : Type 0 where
+  pub cells : List CellData
+  pub limit : ℕ
+
+abbrev pub no_meta : MetaData
+no_meta = meta_of [] [] 0 0 false
+
+-- the meta of each reader's data set
+abbrev pub metas_of : List MetaData → List ℕ → List MetaData
+metas_of metas readers = map (λ set. slice_index_or metas set no_meta) readers
+
+-- the keeper may make so many entries, and nobody else may make one
+abbrev pub keeper_quotas : ℕ → List ℕ
+keeper_quotas limit = limit ∷ replicate 7 0
+
+abbrev pub AreKept : TargetsData → Type 0
+AreKept targets = All (λ cell. cell.quotas ≡ keeper_quotas targets.limit) targets.cells
+
+-- the passes have seen exactly what the keeper has, and what they had seen before is a beginning of it
+pub record IsLevel (keeper old new : Known) : Type 0 where
+  pub more : SeesMore old new
+  pub seen : new.seen ≡ keeper.seen
+
+abbrev pub AreLevel : List Known → List Known → List Known → Type 0
+AreLevel keeper old new = (reader : ℕ) → reader < length old → IsLevel (pass_at keeper reader) (pass_at old reader) (pass_at new reader)
+
+-- a pass with number 0 of a cell in which nobody else may make an entry
+pub record IsKeeper (p : Known) : Type 0 where
+  pub author : p.author ≡ Some 0
+  pub sole : IsSole p.terms
+  pub lawful : SeesLawful p
+
+abbrev pub AreKeepers : List Known → Type 0
+AreKeepers keeper = (reader : ℕ) → reader < length keeper → IsKeeper (pass_at keeper reader)
+
+-- whatever row it is laid into, the patch leaves this one
+abbrev pub IsWhole : MetaData → List ℕ → Patch → Type 0
+IsWhole meta words patch = (before : List ℕ) → Belongs meta before → patched_words meta.fields patch before ≡ words

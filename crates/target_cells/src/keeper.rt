@@ -1,0 +1,23 @@
+//! The keeper of the stores.
+use std::marker::Model;
+use version_cell::Pass;
+
+/// The only author of the cells: it has number 0 in each. To a contract it is the list of what its passes know, in the order of
+/// the readers.
+#[derive(Drop)]
+pub struct Keeper {
+    pub(crate) items: Vec<Pass>,
+}
+
+impl Model for Keeper {
+    ghost use Rattle.std.specs.Prelude.{List};
+    ghost use Rattle.version_cell.specs.Known.{Known};
+
+    ghost Value = { List Known };
+
+    ghost use Rattle.target_cells.specs.Keeping.{AreKeepers};
+
+    ghost view = { λ k. k.items.items };
+
+    ghost invariant = { λ k. AreKeepers k.items.items };
+}

@@ -1,0 +1,11 @@
+pub mod Calls
+pub mod CellLaws
+pub mod Each
+pub mod Fronts
+pub mod Keeps
+pub mod Logs
+pub mod Models
+pub mod Numbers
+pub mod Retries
+pub mod Sole
+pub mod Spellings

@@ -1,0 +1,12 @@
+pub mod Histories
+pub mod Terms
+pub mod Views
+pub mod Rule
+pub mod Steps
+pub mod Known
+pub mod Front
+pub mod Cells
+pub mod CellFields
+pub mod Passes
+pub mod Sets
+pub mod Making

@@ -1,0 +1,26 @@
+//! A cell that threads write and read at once: 151 words under a rule, by which one history comes of all writes, and each pass
+//! has seen a beginning of it.
+//!
+//! A thread has a pass, with a number of its own from 0 to 7. `Cell::try_write` lays a patch into the last row that the pass has
+//! seen and exchanges the words of the cell, once. Where another thread was there before, the pass learns that thread's row, and
+//! nothing is written. Where the exchange wins, the entry is the next of the history, and its version is its place there. So each
+//! version has one author and one row, which is the row before it with the author's patch.
+#![tactic(auto)]
+
+mod cell;
+mod laws;
+mod making;
+mod pass;
+mod rule;
+mod sets;
+mod spelling;
+mod steps;
+
+pub use cell::{Cell, Placed, Wrote};
+pub use laws::{
+    full_authors_make_no_entry, histories_are_the_models, passes_see_on, quotas_bound_the_version,
+    sole_authors_see_nothing_new, spellings_have_equal_parts, steps_keep_the_rule,
+};
+pub use pass::Pass;
+pub use rule::{Entry, View};
+pub use sets::{join_each, split_each};

@@ -1,0 +1,214 @@
+//! The making of a cell, in which the eight numbers are given.
+ghost use Rattle.std.specs.Prelude.{◌≡◌, ℕ, ◌+◌, ◌<◌, ◌^◌, ◌++◌, length, sum, Some, None, IfSome, IfOk};
+ghost use Rattle.crossbeam_utils.specs.Seq.{cell_view};
+ghost use Rattle.dataset_meta.specs.Metas.{IsMeta};
+ghost use Rattle.version_cell.specs.Histories.{opening_words};
+ghost use Rattle.version_cell.specs.Views.{copied, joined, settled};
+ghost use Rattle.version_cell.specs.Rule.{spell};
+ghost use Rattle.version_cell.specs.Passes.{AreNumbered, new_pass};
+ghost use Rattle.version_cell.specs.Making.{AreFresh, AreNew, IsFresh, new_known};
+
+use crate::cell::{Cell, Words};
+use crate::pass::Pass;
+use crate::rule::{Copies, Enrolling, Loads, LoadsAtLast, Longer, View};
+use crate::spelling::{spelled, terms_for};
+use crossbeam_utils::atomic::seq_cell;
+use dataset_meta::{Meta, fields_have_one_fault};
+use row_words::Row;
+use std::alloc::Global;
+use std::sync::Wait;
+use ua_base::NoMemory;
+
+type Place = seq_cell::Pass<[u64; 151], View>;
+
+impl Cell {
+    /// A cell of rows of this meta with no entries yet, whose authors may make so many entries; a pass with no number, and a pass
+    /// for each of the eight numbers, in order. All have seen the opening row alone.
+    pub fn new<R: Wait>(
+        rt: &R,
+        alloc: Global,
+        meta: &Meta,
+        quotas: &[u64; 8],
+    ) -> Result<(Cell, Pass, Vec<Pass>), NoMemory>
+        requires quotas { sum quotas.now < 2 ^ 63 }
+        ensures meta { IfOk result (λ made. made.0.meta ≡ meta.now) }
+        ensures quotas { IfOk result (λ made. made.0.quotas ≡ quotas.now) }
+        ensures first { IfOk result (λ made. made.1 ≡ new_pass made.0 None) }
+        ensures numbered { IfOk result (λ made. AreNumbered made.0 made.2.items) }
+    {
+        let terms = terms_for(quotas, meta);
+        let meta = copy_of(alloc, meta)?;
+        let (words, first, passes) = begun(rt, alloc, &terms)?;
+        Ok((Cell { words, meta, terms }, first, passes))
+    }
+}
+
+fn copy_of(alloc: Global, meta: &Meta) -> Result<Meta, NoMemory>
+    ensures same { IfOk result (λ copy. copy ≡ meta.now) }
+    ensures meta { IfOk result (λ copy. IsMeta copy.fields) }
+{
+    let fields = Vec::from_slice(alloc, meta.fields())?;
+    fields_have_one_fault();
+    match Meta::new(
+        *meta.name(),
+        fields,
+        meta.major(),
+        meta.minor(),
+        meta.quality(),
+    ) {
+        Ok(copy) => Ok(copy),
+        Err(_) => unreachable!(),
+    }
+}
+
+// Nobody else has a token of the words yet, so the first attempt succeeds; no clause says so.
+fn begun<R: Wait>(
+    rt: &R,
+    alloc: Global,
+    terms: &[u64; 24],
+) -> Result<(Words, Pass, Vec<Pass>), NoMemory>
+    requires { length terms.now ≡ 24 }
+    ensures first { IfOk result (λ made. made.1 ≡ new_known made.0.table.shared.table_id terms.now None) }
+    ensures count { IfOk result (λ made. length made.2.items ≡ 8) }
+    ensures numbered { IfOk result (λ made. AreNew made.0.table.shared.table_id terms.now made.2.items) }
+{
+    for _ in rt.forever() {
+        if let Some(made) = attempt(rt, alloc, terms)? {
+            return Ok(made);
+        }
+    }
+    unreachable!()
+}
+
+fn attempt<R: Wait>(
+    rt: &R,
+    alloc: Global,
+    terms: &[u64; 24],
+) -> Result<Option<(Words, Pass, Vec<Pass>)>, NoMemory>
+    requires { length terms.now ≡ 24 }
+    ensures { IfOk result (λ r. IfSome r (λ made. (made.1 ≡ new_known made.0.table.shared.table_id terms.now None)
+        × (length made.2.items ≡ 8) × AreNew made.0.table.shared.table_id terms.now made.2.items)) }
+{
+    let start = words_with(0, terms);
+    let (words, mut first) = Words::ruled(alloc, start)?;
+    if words.load_as::<Loads, R>(rt, &mut first) != start {
+        return Ok(None);
+    }
+    let Some(places) = all_enrolled(rt, alloc, &words, terms, &mut first)? else {
+        return Ok(None);
+    };
+    let passes = passes_of(rt, alloc, &words, terms, &mut first, places)?;
+    let pass = pass_of(&words, terms, first, None);
+    Ok(Some((words, pass, passes)))
+}
+
+// The tokens of the eight numbers, or none where another took one.
+fn all_enrolled<R: Wait>(
+    rt: &R,
+    alloc: Global,
+    words: &Words,
+    terms: &[u64; 24],
+    first: &mut Place,
+) -> Result<Option<Vec<Place>>, NoMemory>
+    requires { IsFresh words.now.table.shared.table_id terms.now None 0 first.old }
+    ensures { IfOk result (λ r. IfSome r (λ places. (length places.items ≡ 8)
+        × AreFresh words.entry.now.table.shared.table_id terms.entry.now places.items
+        × IsFresh words.entry.now.table.shared.table_id terms.entry.now None 8 first.new)) }
+{
+    let mut places = Vec::new(alloc);
+    for number in 0..8 {
+        let Some(place) = enrolled(rt, words, terms, first, number) else {
+            return Ok(None);
+        };
+        places.push(place)?;
+    }
+    Ok(Some(places))
+}
+
+// A new token with this number, which the first then knows of.
+fn enrolled<R: Wait>(
+    rt: &R,
+    words: &Words,
+    terms: &[u64; 24],
+    first: &mut Place,
+    number: u64,
+) -> Option<Place>
+    requires small { number < 8 }
+    requires first { IsFresh words.now.table.shared.table_id terms.now None number first.old }
+    ensures { IfSome result (λ place.
+        IsFresh words.entry.now.table.shared.table_id terms.entry.now (Some number) (number + 1) place
+        × IsFresh words.entry.now.table.shared.table_id terms.entry.now None (number + 1) first.new) }
+{
+    let mut place = words.split_pass::<Copies>(first);
+    let front = words_with(number, terms);
+    let next = words_with(number + 1, terms);
+    let Ok(_) = words.compare_exchange_as::<Enrolling, R>(rt, &mut place, front, next) else {
+        return None;
+    };
+    take_in(rt, words, first, &mut place);
+    Some(place)
+}
+
+// Each token learns that all eight numbers are given, and becomes a pass.
+fn passes_of<R: Wait>(
+    rt: &R,
+    alloc: Global,
+    words: &Words,
+    terms: &[u64; 24],
+    first: &mut Place,
+    places: Vec<Place>,
+) -> Result<Vec<Pass>, NoMemory>
+    requires count { length places.items ≡ 8 }
+    requires wide { length terms.now ≡ 24 }
+    requires numbered { AreFresh words.now.table.shared.table_id terms.now places.items }
+    requires first { IsFresh words.now.table.shared.table_id terms.now None 8 first.old }
+    ensures first { IsFresh words.entry.now.table.shared.table_id terms.entry.now None 8 first.new }
+    ensures passes { IfOk result (λ passes. (length passes.items ≡ 8)
+        × AreNew words.entry.now.table.shared.table_id terms.entry.now passes.items) }
+{
+    let mut passes = Vec::new(alloc);
+    let mut number = 0u8;
+    for place in places {
+        let mut place = place;
+        take_in(rt, words, &mut place, first);
+        passes.push(pass_of(words, terms, place, Some(number)))?;
+        number += 1;
+    }
+    Ok(passes)
+}
+
+// The token learns what the other knows.
+fn take_in<R: Wait>(rt: &R, words: &Words, place: &mut Place, other: &mut Place)
+    requires own { place.old.table_id ≡ words.now.table.shared.table_id }
+    requires other { other.old.table_id ≡ words.now.table.shared.table_id }
+    ensures name { place.new.table_id ≡ place.old.table_id }
+    ensures view { cell_view place.new ≡ settled (joined (cell_view place.old) (copied (cell_view other.old))) }
+    ensures other { (other.new.table_id ≡ other.old.table_id) × (cell_view other.new ≡ cell_view other.old) }
+{
+    let told = words.split_pass::<Copies>(other);
+    words.join_pass::<Longer>(place, told);
+    words.load_as::<LoadsAtLast, R>(rt, place);
+}
+
+// A token that knows all numbers is a pass.
+fn pass_of(words: &Words, terms: &[u64; 24], place: Place, author: Option<u8>) -> Pass
+    requires wide { length terms.now ≡ 24 }
+    requires fresh { IsFresh words.now.table.shared.table_id terms.now author 8 place }
+    requires number { (t : ℕ) → author ≡ Some t → t < 8 }
+    ensures { result ≡ new_known words.entry.now.table.shared.table_id terms.entry.now author }
+{
+    Pass {
+        place,
+        version: 0,
+        row: Row::opening(),
+        author,
+        made: 0,
+    }
+}
+
+// The words of a cell with no entries.
+fn words_with(count: u64, terms: &[u64; 24]) -> [u64; 151]
+    ensures { result ≡ spell 0 count opening_words terms.now }
+{
+    spelled(0, count, &Row::opening(), terms)
+}

@@ -1,0 +1,38 @@
+//! The words of a cell.
+ghost use Rattle.std.specs.Prelude.{◌≡◌, ◌++◌, slice_range};
+ghost use Rattle.row_words.specs.Shapes.{shape_of};
+ghost use Rattle.version_cell.specs.Rule.{spell};
+
+use dataset_meta::Meta;
+use row_words::{Row, shape};
+
+#[inline(always)]
+pub(crate) fn spelled(version: u64, count: u64, row: &Row, terms: &[u64; 24]) -> [u64; 151]
+    ensures { result ≡ spell version count row.now.words terms.now }
+{
+    let mut words = [0u64; 151];
+    words[0] = version;
+    words[1] = count;
+    words[2..127].copy_from_slice(&row.words);
+    words[127..].copy_from_slice(terms);
+    words
+}
+
+#[inline(always)]
+pub(crate) fn row_in(words: &[u64; 151]) -> Row
+    ensures { result.words ≡ slice_range words.now 2 127 }
+{
+    let mut row = [0u64; 125];
+    row.copy_from_slice(&words[2..127]);
+    Row { words: row }
+}
+
+// The quotas, and behind them the shape of the meta.
+pub(crate) fn terms_for(quotas: &[u64; 8], meta: &Meta) -> [u64; 24]
+    ensures { result ≡ quotas.now ++ shape_of meta.now }
+{
+    let mut terms = [0u64; 24];
+    terms[..8].copy_from_slice(quotas);
+    terms[8..].copy_from_slice(&shape(meta));
+    terms
+}
