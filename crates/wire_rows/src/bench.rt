@@ -1,11 +1,11 @@
 //! The calls by their names, and what is kept from line to line.
-use crate::fault::RowFault;
 use crate::guards::GuardRows;
 use crate::joiners::{self, JoinerRows};
-use crate::row::Row;
+use crate::random::{Numbers, Tally, line_of};
 use crate::timers::TimerRows;
 use crate::windows::WindowRows;
-use crate::{frames, headers, metas, payloads, security, values};
+use crate::{frames, headers, metas, payloads, security, slots, values};
+use case_lines::{Line, LineFault};
 use std::alloc::Global;
 
 /// What is kept from line to line: the machines that the calls speak of.
@@ -19,7 +19,7 @@ pub struct Bench {
 }
 
 /// What a call prints, where it answers anything.
-pub type Answer = Result<Option<String>, RowFault>;
+pub type Answer = Result<Option<String>, LineFault>;
 
 impl Bench {
     pub fn new(alloc: Global) -> Bench {
@@ -32,78 +32,141 @@ impl Bench {
         }
     }
 
-    pub fn answer(&mut self, row: &mut Row) -> Answer {
+    pub fn answer(&mut self, line: &mut Line) -> Answer {
+        match line.word()? {
+            "random" => self.random(line),
+            "random_chunks" => self.random_chunks(line),
+            call => self.call(call, line),
+        }
+    }
+
+    /// `random SEED COUNT LONGEST CALL ..`: the answers to so many lines, each the words of the call and at most so many
+    /// bytes
+    fn random(&mut self, line: &mut Line) -> Answer {
+        let mut numbers = Numbers::new(line.u64()?);
+        let (count, longest) = (line.u32()?, line.u64()?);
+        let words = line.rest();
+        let mut tally = Tally::new(self.alloc);
+        for _ in 0..count {
+            let bytes = numbers.bytes(self.alloc, longest)?;
+            let line = line_of(self.alloc, words, &bytes)?;
+            self.tell(&mut tally, line.as_str())?;
+        }
+        Ok(Some(format!(in self.alloc; "{tally}")?))
+    }
+
+    /// `random_chunks SEED COUNT`: the answers to so many chunks of at most 24 bytes, of numbers that go up, of which some are
+    /// of another total, past their message's end or too long; each whole message is told too
+    fn random_chunks(&mut self, line: &mut Line) -> Answer {
+        let mut numbers = Numbers::new(line.u64()?);
+        let count = line.u32()?;
+        let mut tally = Tally::new(self.alloc);
+        self.joiner.anew()?;
+        for index in 0..count {
+            let number = (index / 16).wrapping_add(numbers.below(8) as u32 / 7) % 65536;
+            let offset = numbers.below(5) * 8;
+            let total = [32, 32, 32, 32, 32, 32, 24, 4097][numbers.below(8) as usize];
+            let bytes = numbers.bytes(self.alloc, 24)?;
+            let words = format!(in self.alloc; "chunk {number} {offset} {total}")?;
+            let line = line_of(self.alloc, words.as_str(), &bytes)?;
+            self.tell(&mut tally, line.as_str())?;
+            self.tell(&mut tally, "joined")?;
+        }
+        Ok(Some(format!(in self.alloc; "{tally}")?))
+    }
+
+    /// Counts the answer to one line.
+    fn tell(&mut self, tally: &mut Tally, made: &str) -> Result<(), LineFault> {
+        let mut line = Line::new(made);
+        let call = line.word()?;
+        if let Some(answer) = self.call(call, &mut line)? {
+            tally.add(self.alloc, answer.as_str())?;
+        }
+        Ok(())
+    }
+
+    fn call(&mut self, call: &str, line: &mut Line) -> Answer {
         let alloc = self.alloc;
-        match row.word()? {
-            "read_variant" => values::read_variant(alloc, row),
-            "read_data_value" => values::read_data_value(alloc, row),
-            "prefixes_of_variant" => values::prefixes_of_variant(alloc, row),
-            "prefixes_of_data_value" => values::prefixes_of_data_value(alloc, row),
+        match call {
+            "read_variant" => values::read_variant(alloc, line),
+            "read_data_value" => values::read_data_value(alloc, line),
+            "prefixes_of_variant" => values::prefixes_of_variant(alloc, line),
+            "prefixes_of_data_value" => values::prefixes_of_data_value(alloc, line),
             "kinds" => values::kinds(alloc),
-            "write_variant" => values::write_variant(alloc, row),
-            "write_data_value" => values::write_data_value(alloc, row),
-            "name" => metas::name(alloc, row),
-            "meta" => metas::meta(alloc, row),
-            "told" => metas::told(alloc, row),
-            "text" => values::text(alloc, row),
-            "blob" => values::blob(alloc, row),
-            "fits" => values::fits(alloc, row),
-            "read_frame" => frames::read_frame(alloc, row),
-            "rewrite_frame" => frames::rewrite_frame(alloc, row),
-            "prefixes_of_frame" => frames::prefixes_of_frame(alloc, row),
-            "read_front" => frames::read_front(alloc, row),
-            "read_header" => headers::read_header(alloc, row),
-            "spell_header" => headers::spell_header(alloc, row),
-            "plan" => payloads::plan(alloc, row),
-            "split" => payloads::split(alloc, row),
-            "write_sizes" => payloads::write_sizes(alloc, row),
-            "block128" => security::block128(alloc, row),
-            "block256" => security::block256(alloc, row),
-            "stream128" => security::stream128(alloc, row),
-            "stream256" => security::stream256(alloc, row),
-            "hmac" => security::hmac(alloc, row),
-            "ring" => security::ring(alloc, row),
-            "cut" => joiners::cut(alloc, row),
-            "read_chunk" => joiners::read_chunk(alloc, row),
-            "write_chunk" => joiners::write_chunk(alloc, row),
-            call => self.kept(call, row),
+            "write_variant" => values::write_variant(alloc, line),
+            "write_data_value" => values::write_data_value(alloc, line),
+            "name" => metas::name(alloc, line),
+            "meta" => metas::meta(alloc, line),
+            "told" => metas::told(alloc, line),
+            "text" => values::text(alloc, line),
+            "blob" => values::blob(alloc, line),
+            "fits" => values::fits(alloc, line),
+            "read_frame" => frames::read_frame(alloc, line),
+            "rewrite_frame" => frames::rewrite_frame(alloc, line),
+            "prefixes_of_frame" => frames::prefixes_of_frame(alloc, line),
+            "read_front" => frames::read_front(alloc, line),
+            "read_header" => headers::read_header(alloc, line),
+            "spell_header" => headers::spell_header(alloc, line),
+            "plan" => payloads::plan(alloc, line),
+            "split" => payloads::split(alloc, line),
+            "write_sizes" => payloads::write_sizes(alloc, line),
+            "raw_size" => slots::raw_size(alloc, line),
+            "read_raw" => slots::read_raw(alloc, line),
+            "read_raw_behind" => slots::read_raw_behind(alloc, line),
+            "prefixes_of_raw" => slots::prefixes_of_raw(alloc, line),
+            "write_raw" => slots::write_raw(alloc, line),
+            "slots" => slots::slots(alloc, line),
+            "take" => slots::take(alloc, line),
+            "place" => slots::place(alloc, line),
+            "block128" => security::block128(alloc, line),
+            "block256" => security::block256(alloc, line),
+            "stream128" => security::stream128(alloc, line),
+            "stream256" => security::stream256(alloc, line),
+            "hmac" => security::hmac(alloc, line),
+            "ring" => security::ring(alloc, line),
+            "cut" => joiners::cut(alloc, line),
+            "read_chunk" => joiners::read_chunk(alloc, line),
+            "write_chunk" => joiners::write_chunk(alloc, line),
+            call => self.kept(call, line),
         }
     }
 
     /// The calls of what is kept from line to line.
-    fn kept(&mut self, call: &str, row: &mut Row) -> Answer {
+    fn kept(&mut self, call: &str, line: &mut Line) -> Answer {
         let alloc = self.alloc;
         match call {
             "joiner" => self.joiner.anew(),
             "joiner_clear" => self.joiner.clear(),
-            "chunk" => self.joiner.chunk(alloc, row),
-            "joined_is" => self.joiner.is(alloc, row),
+            "chunk" => self.joiner.chunk(alloc, line),
+            "joined_is" => self.joiner.is(alloc, line),
+            "joined" => self.joiner.joined(alloc),
             "window" => self.window.anew(),
-            "number_seen" => self.window.test(alloc, row),
-            "number_taken" => self.window.take(alloc, row),
-            "timer" => self.timer.limit(row),
-            "seen" => self.timer.seen(row),
+            "number_seen" => self.window.test(alloc, line),
+            "number_taken" => self.window.take(alloc, line),
+            "timer" => self.timer.limit(line),
+            "seen" => self.timer.seen(line),
             "clear" => self.timer.clear(),
-            "due" => self.timer.due(alloc, row),
-            call => self.guarded(call, row),
+            "due" => self.timer.due(alloc, line),
+            call => self.guarded(call, line),
         }
     }
 
     /// The calls of senders and guards.
-    fn guarded(&mut self, call: &str, row: &mut Row) -> Answer {
+    fn guarded(&mut self, call: &str, line: &mut Line) -> Answer {
         let alloc = self.alloc;
         match call {
             "keysets" => self.guards.keysets(),
-            "keyset" => self.guards.keyset(alloc, row),
-            "sender" => self.guards.sender(row),
-            "turn" => self.guards.turn(alloc, row),
+            "keyset" => self.guards.keyset(alloc, line),
+            "sender" => self.guards.sender(line),
+            "turn" => self.guards.turn(alloc, line),
             "spent" => self.guards.spent(alloc),
-            "front" => self.guards.front(alloc, row),
-            "protect" => self.guards.protect(alloc, row),
-            "guard" => self.guards.guard(row),
-            "test" => self.guards.test(alloc, row),
-            "open" => self.guards.open(alloc, row),
-            _ => Err(RowFault::Call),
+            "front" => self.guards.front(alloc, line),
+            "may_protect" => self.guards.may_protect(alloc, line),
+            "protect" => self.guards.protect(alloc, line),
+            "guard" => self.guards.guard(line),
+            "test" => self.guards.test(alloc, line),
+            "open" => self.guards.open(alloc, line),
+            _ => Err(LineFault::Call),
         }
     }
 }

@@ -5,23 +5,21 @@ ghost use Rattle.row_words.specs.Patches.{IsPatchOf};
 ghost use Rattle.frame_codec.specs.Words.{IsFrameOf};
 
 use crate::bench::Answer;
-use crate::fault::RowFault;
 use crate::metas::data_set;
-use crate::row::Row;
-use crate::shown::{Hex, Shown};
+use case_lines::{Hex, Line, LineFault, Shown};
 use dataset_meta::Meta;
 use frame_codec::{
     Frame, FrameFault, FrameKind, read_frame as read_one, read_front as read_first, write_frame,
 };
-use row_words::Row as Words;
+use row_words::Row;
 use std::alloc::Global;
 use std::fmt::Write;
 use ua_binary::{Cursor, Pen};
 
 /// `read_frame META BYTES`: the frame, or the fault
-pub fn read_frame(alloc: Global, row: &mut Row) -> Answer {
-    let meta = data_set(alloc, row.word()?)?;
-    let bytes = row.bytes(alloc)?;
+pub fn read_frame(alloc: Global, line: &mut Line) -> Answer {
+    let meta = data_set(alloc, line.word()?)?;
+    let bytes = line.bytes(alloc)?;
     let answer = match read_one(&meta, &bytes) {
         Ok(frame) => frame_text(alloc, &meta, &frame)?,
         Err(fault) => format!(in alloc; "{fault:?}")?,
@@ -30,11 +28,11 @@ pub fn read_frame(alloc: Global, row: &mut Row) -> Answer {
 }
 
 /// `rewrite_frame META BYTES`: the frame that the bytes are read as, written
-pub fn rewrite_frame(alloc: Global, row: &mut Row) -> Answer {
-    let meta = data_set(alloc, row.word()?)?;
-    let bytes = row.bytes(alloc)?;
+pub fn rewrite_frame(alloc: Global, line: &mut Line) -> Answer {
+    let meta = data_set(alloc, line.word()?)?;
+    let bytes = line.bytes(alloc)?;
     let Ok(frame) = read_one(&meta, &bytes) else {
-        return Err(RowFault::Condition);
+        return Err(LineFault::Condition);
     };
     let mut room = [0; 2048];
     let mut pen = Pen {
@@ -50,9 +48,9 @@ pub fn rewrite_frame(alloc: Global, row: &mut Row) -> Answer {
 }
 
 /// `prefixes_of_frame META BYTES`: how many proper prefixes are Short
-pub fn prefixes_of_frame(alloc: Global, row: &mut Row) -> Answer {
-    let meta = data_set(alloc, row.word()?)?;
-    let bytes = row.bytes(alloc)?;
+pub fn prefixes_of_frame(alloc: Global, line: &mut Line) -> Answer {
+    let meta = data_set(alloc, line.word()?)?;
+    let bytes = line.bytes(alloc)?;
     let short = (0..bytes.len())
         .filter(|len| is_short(&meta, &bytes[..*len]))
         .count();
@@ -67,8 +65,8 @@ fn is_short(meta: &Meta, bytes: &[u8]) -> bool {
 }
 
 /// `read_front BYTES`: the fields before the field count in a fixed layout, and how many bytes are left, or the fault
-pub fn read_front(alloc: Global, row: &mut Row) -> Answer {
-    let bytes = row.bytes(alloc)?;
+pub fn read_front(alloc: Global, line: &mut Line) -> Answer {
+    let bytes = line.bytes(alloc)?;
     let mut cursor = Cursor {
         bytes: &bytes,
         at: 0,
@@ -87,7 +85,7 @@ pub fn read_front(alloc: Global, row: &mut Row) -> Answer {
 }
 
 /// Its kind, its number and versions, and its fields: each index with its value, and its status where that isn't 0.
-fn frame_text(alloc: Global, meta: &Meta, frame: &Frame) -> Result<String, RowFault>
+fn frame_text(alloc: Global, meta: &Meta, frame: &Frame) -> Result<String, LineFault>
     requires { IsFrameOf meta.now frame.now }
 {
     let kind = match &frame.kind {
@@ -110,7 +108,7 @@ fn push_versions(
     number: Option<u16>,
     major: Option<u32>,
     minor: Option<u32>,
-) -> Result<(), RowFault> {
+) -> Result<(), LineFault> {
     if let Some(number) = number {
         write!(text, " {number}")?;
     }
@@ -124,7 +122,7 @@ fn push_versions(
 }
 
 /// The fields whose bits of the mask are set.
-fn push_fields(text: &mut String, meta: &Meta, row: &Words, mask: u64) -> Result<(), RowFault>
+pub fn push_fields(text: &mut String, meta: &Meta, row: &Row, mask: u64) -> Result<(), LineFault>
     requires { Belongs meta.now row.now.words }
 {
     for index in 0..meta.fields().len() {
@@ -135,7 +133,7 @@ fn push_fields(text: &mut String, meta: &Meta, row: &Words, mask: u64) -> Result
     Ok(())
 }
 
-fn push_field(text: &mut String, meta: &Meta, row: &Words, index: u8) -> Result<(), RowFault>
+fn push_field(text: &mut String, meta: &Meta, row: &Row, index: u8) -> Result<(), LineFault>
     requires belongs { Belongs meta.now row.now.words }
     requires index { index < length meta.now.fields }
 {

@@ -4,10 +4,8 @@ ghost use Rattle.message_guard.specs.Guards.{IsPassOf};
 ghost use Rattle.message_guard.specs.Modes.{is_secured};
 
 use crate::bench::Answer;
-use crate::fault::RowFault;
-use crate::row::Row;
-use crate::shown::Digits;
 use arrayvec::ArrayVec;
+use case_lines::{Digits, Line, LineFault};
 use group_keys::{KeySet, Ring};
 use message_guard::{Guard, Mode, OpenFault, Pass1, Sender};
 use std::alloc::Global;
@@ -37,20 +35,20 @@ impl GuardRows {
     }
 
     /// `keyset TOKEN MOMENT SIGNING ENCRYPTING NONCE`
-    pub fn keyset(&mut self, alloc: Global, row: &mut Row) -> Answer {
-        let token = row.u32()?;
-        let from = row.u64()?;
-        let signing = row.array()?;
+    pub fn keyset(&mut self, alloc: Global, line: &mut Line) -> Answer {
+        let token = line.u32()?;
+        let from = line.u64()?;
+        let signing = line.array()?;
         let mut encrypting = ArrayVec::new();
-        for byte in &row.piece(alloc)? {
+        for byte in &line.piece(alloc)? {
             if encrypting.is_full() {
-                return Err(RowFault::Condition);
+                return Err(LineFault::Condition);
             }
             encrypting.push(*byte);
         }
-        let nonce = row.array()?;
+        let nonce = line.array()?;
         if self.sets.is_full() {
-            return Err(RowFault::Condition);
+            return Err(LineFault::Condition);
         }
         self.sets.push(KeySet {
             token,
@@ -62,30 +60,30 @@ impl GuardRows {
         Ok(None)
     }
 
-    fn ring(&self) -> Result<Ring, RowFault> {
+    fn ring(&self) -> Result<Ring, LineFault> {
         let long = self
             .sets
             .as_slice()
             .iter()
             .any(|set| set.encrypting.len() == 32);
-        Ring::new(long, self.sets.clone()?).map_err(|_| RowFault::Condition)
+        Ring::new(long, self.sets.clone()?).map_err(|_| LineFault::Condition)
     }
 
     /// `sender RANDOM FIRST USED`
-    pub fn sender(&mut self, row: &mut Row) -> Answer {
-        let random = row.array()?;
-        let first = row.u32()?;
-        let used = row.u32()?;
+    pub fn sender(&mut self, line: &mut Line) -> Answer {
+        let random = line.array()?;
+        let first = line.u32()?;
+        let used = line.u32()?;
         self.sender = Some(Sender::new(self.ring()?, random, first, used));
         Ok(None)
     }
 
     /// `turn MOMENT`: whether the token changed
-    pub fn turn(&mut self, alloc: Global, row: &mut Row) -> Answer {
-        let now = row.u64()?;
+    pub fn turn(&mut self, alloc: Global, line: &mut Line) -> Answer {
+        let now = line.u64()?;
         match &mut self.sender {
             Some(sender) => yes_or_no(alloc, sender.turn_to(now)),
-            None => Err(RowFault::Condition),
+            None => Err(LineFault::Condition),
         }
     }
 
@@ -93,49 +91,60 @@ impl GuardRows {
     pub fn spent(&self, alloc: Global) -> Answer {
         match &self.sender {
             Some(sender) => yes_or_no(alloc, sender.spent()),
-            None => Err(RowFault::Condition),
+            None => Err(LineFault::Condition),
         }
     }
 
     /// `front MODE`: flags, token and nonce of the next number; the sender isn't spent
-    pub fn front(&mut self, alloc: Global, row: &mut Row) -> Answer {
-        let mode = secured(row)?;
+    pub fn front(&mut self, alloc: Global, line: &mut Line) -> Answer {
+        let mode = secured(line)?;
         match &mut self.sender {
             Some(sender) if !sender.spent() => {
                 let part = sender.front(mode);
                 let flags = if part.encrypted { "se" } else { "s" };
                 Ok(Some(format!(in alloc; "{flags} {} {}", part.token, Digits(part.nonce))?))
             }
-            _ => Err(RowFault::Condition),
+            _ => Err(LineFault::Condition),
         }
     }
 
-    /// `protect MODE HEADER PAYLOAD`: the protected datagram
-    pub fn protect(&self, alloc: Global, row: &mut Row) -> Answer {
-        let mode = secured(row)?;
-        let mut datagram = row.piece(alloc)?;
+    /// `may_protect MODE PAYLOAD DATAGRAM`: whether the datagram carries the last front
+    pub fn may_protect(&self, alloc: Global, line: &mut Line) -> Answer {
+        let mode = secured(line)?;
+        let payload = line.u32()? as usize;
+        let datagram = line.piece(alloc)?;
+        match &self.sender {
+            Some(sender) => yes_or_no(alloc, sender.may_protect(mode, &datagram, payload)),
+            None => Err(LineFault::Condition),
+        }
+    }
+
+    /// `protect MODE HEADER PAYLOAD`: the protected datagram; the header carries the last front
+    pub fn protect(&self, alloc: Global, line: &mut Line) -> Answer {
+        let mode = secured(line)?;
+        let mut datagram = line.piece(alloc)?;
         let at = datagram.len();
-        datagram.extend_from_slice(&row.piece(alloc)?)?;
+        datagram.extend_from_slice(&line.piece(alloc)?)?;
         datagram.extend_from_slice(&[0; 32])?;
         match &self.sender {
-            Some(sender) => {
+            Some(sender) if sender.may_protect(mode, &datagram, at) => {
                 sender.protect(mode, &mut datagram, at);
                 Ok(Some(format!(in alloc; "{}", Digits(&datagram))?))
             }
-            None => Err(RowFault::Condition),
+            _ => Err(LineFault::Condition),
         }
     }
 
     /// `guard MODE FIRST`
-    pub fn guard(&mut self, row: &mut Row) -> Answer {
-        let mode = mode_of(row.word()?)?;
-        self.guard = Some(Guard::new(self.ring()?, mode, row.u32()?));
+    pub fn guard(&mut self, line: &mut Line) -> Answer {
+        let mode = mode_of(line.word()?)?;
+        self.guard = Some(Guard::new(self.ring()?, mode, line.u32()?));
         Ok(None)
     }
 
     /// `test FLAGS TOKEN NONCE PAYLOAD DATAGRAM`: token, number and end, or the refusal
-    pub fn test(&self, alloc: Global, row: &mut Row) -> Answer {
-        let asked = Asked::read(alloc, row)?;
+    pub fn test(&self, alloc: Global, line: &mut Line) -> Answer {
+        let asked = Asked::read(alloc, line)?;
         match &self.guard {
             Some(guard) => match asked.test(guard) {
                 Ok(pass) => Ok(Some(format!(in alloc;
@@ -144,13 +153,13 @@ impl GuardRows {
                 )?)),
                 Err(fault) => Ok(Some(format!(in alloc; "{fault:?}")?)),
             },
-            None => Err(RowFault::Condition),
+            None => Err(LineFault::Condition),
         }
     }
 
     /// `open FLAGS TOKEN NONCE PAYLOAD DATAGRAM`: the decrypted payload, and whether the token was raised, or the refusal
-    pub fn open(&mut self, alloc: Global, row: &mut Row) -> Answer {
-        let mut asked = Asked::read(alloc, row)?;
+    pub fn open(&mut self, alloc: Global, line: &mut Line) -> Answer {
+        let mut asked = Asked::read(alloc, line)?;
         match &mut self.guard {
             Some(guard) => match asked.test(guard) {
                 Ok(pass) => {
@@ -161,7 +170,7 @@ impl GuardRows {
                 }
                 Err(fault) => Ok(Some(format!(in alloc; "{fault:?}")?)),
             },
-            None => Err(RowFault::Condition),
+            None => Err(LineFault::Condition),
         }
     }
 }
@@ -186,22 +195,22 @@ struct Flags {
 }
 
 impl Asked {
-    fn read(alloc: Global, row: &mut Row) -> Result<Asked, RowFault>
+    fn read(alloc: Global, line: &mut Line) -> Result<Asked, LineFault>
         ensures { IfOk result (λ asked. asked.payload ≤ length asked.datagram.items) }
     {
-        let flags = flags_of(row.word()?);
+        let flags = flags_of(line.word()?);
         let token = match flags {
-            Some(_) => row.u32()?,
+            Some(_) => line.u32()?,
             None => {
-                row.word()?;
+                line.word()?;
                 0
             }
         };
-        let nonce = row.piece(alloc)?;
-        let payload = row.u32()? as usize;
-        let datagram = row.piece(alloc)?;
+        let nonce = line.piece(alloc)?;
+        let payload = line.u32()? as usize;
+        let datagram = line.piece(alloc)?;
         if payload > datagram.len() {
-            return Err(RowFault::Condition);
+            return Err(LineFault::Condition);
         }
         Ok(Asked {
             flags,
@@ -246,22 +255,22 @@ fn flags_of(word: &str) -> Option<Flags> {
     })
 }
 
-fn mode_of(word: &str) -> Result<Mode, RowFault> {
+fn mode_of(word: &str) -> Result<Mode, LineFault> {
     match word {
         "none" => Ok(Mode::None),
         "sign" => Ok(Mode::Sign),
         "encrypt" => Ok(Mode::Encrypt),
-        _ => Err(RowFault::Call),
+        _ => Err(LineFault::Call),
     }
 }
 
-fn secured(row: &mut Row) -> Result<Mode, RowFault>
+fn secured(line: &mut Line) -> Result<Mode, LineFault>
     ensures { IfOk result (λ mode. IsTrue (is_secured mode)) }
 {
-    match row.word()? {
+    match line.word()? {
         "sign" => Ok(Mode::Sign),
         "encrypt" => Ok(Mode::Encrypt),
-        _ => Err(RowFault::Call),
+        _ => Err(LineFault::Call),
     }
 }
 

@@ -1,6 +1,5 @@
 //! Headers from words.
-use crate::fault::RowFault;
-use crate::row::{Row, bytes_of};
+use case_lines::{Line, LineFault, bytes_of};
 use std::alloc::Global;
 use uadp_header::{Header, Ids, PublisherId, SecurityPart};
 
@@ -46,7 +45,7 @@ struct Security {
 impl HeaderParts {
     /// The parts that the words name: `id=u8:N`, `u16`, `u32`, `u64` or `text:BYTES`, `class=BYTES`, `group=N`, `version=N`,
     /// `number=N`, `sequence=N`, `ids=list:BYTES` or `ids=chunk:N`, and `security=FLAGS:TOKEN:NONCE` with the flags of s, e, f, r.
-    pub fn parse(alloc: Global, row: &Row) -> Result<HeaderParts, RowFault> {
+    pub fn parse(alloc: Global, line: &Line) -> Result<HeaderParts, LineFault> {
         let mut parts = HeaderParts {
             publisher: None,
             class_id: None,
@@ -57,14 +56,14 @@ impl HeaderParts {
             ids: WriterIds::None,
             security: None,
         };
-        for word in row.words() {
-            let (part, text) = word.split_once('=').ok_or(RowFault::Missing)?;
+        for word in line.words() {
+            let (part, text) = word.split_once('=').ok_or(LineFault::Missing)?;
             parts.take(alloc, part, text)?;
         }
         Ok(parts)
     }
 
-    fn take(&mut self, alloc: Global, part: &str, text: &str) -> Result<(), RowFault> {
+    fn take(&mut self, alloc: Global, part: &str, text: &str) -> Result<(), LineFault> {
         match part {
             "id" => self.publisher = Some(publisher_of(alloc, text)?),
             "class" => self.class_id = bytes_of(alloc, text)?.first_chunk::<16>().copied(),
@@ -74,7 +73,7 @@ impl HeaderParts {
             "sequence" => self.sequence = Some(number16(text)?),
             "ids" => self.ids = ids_of(alloc, text)?,
             "security" => self.security = Some(security_of(alloc, text)?),
-            _ => return Err(RowFault::Missing),
+            _ => return Err(LineFault::Missing),
         }
         Ok(())
     }
@@ -128,30 +127,30 @@ impl Security {
     }
 }
 
-fn publisher_of(alloc: Global, text: &str) -> Result<Publisher, RowFault> {
-    let (kind, id) = text.split_once(':').ok_or(RowFault::Missing)?;
+fn publisher_of(alloc: Global, text: &str) -> Result<Publisher, LineFault> {
+    let (kind, id) = text.split_once(':').ok_or(LineFault::Missing)?;
     match kind {
-        "u8" => Ok(Publisher::U8(id.parse::<u8>().map_err(|_| RowFault::Number)?)),
+        "u8" => Ok(Publisher::U8(id.parse::<u8>().map_err(|_| LineFault::Number)?)),
         "u16" => Ok(Publisher::U16(number16(id)?)),
         "u32" => Ok(Publisher::U32(number32(id)?)),
-        "u64" => Ok(Publisher::U64(id.parse::<u64>().map_err(|_| RowFault::Number)?)),
+        "u64" => Ok(Publisher::U64(id.parse::<u64>().map_err(|_| LineFault::Number)?)),
         "text" => Ok(Publisher::Text(bytes_of(alloc, id)?)),
-        _ => Err(RowFault::Missing),
+        _ => Err(LineFault::Missing),
     }
 }
 
-fn ids_of(alloc: Global, text: &str) -> Result<WriterIds, RowFault> {
-    let (kind, ids) = text.split_once(':').ok_or(RowFault::Missing)?;
+fn ids_of(alloc: Global, text: &str) -> Result<WriterIds, LineFault> {
+    let (kind, ids) = text.split_once(':').ok_or(LineFault::Missing)?;
     match kind {
         "list" => Ok(WriterIds::List(bytes_of(alloc, ids)?)),
         "chunk" => Ok(WriterIds::Chunk(number16(ids)?)),
-        _ => Err(RowFault::Missing),
+        _ => Err(LineFault::Missing),
     }
 }
 
-fn security_of(alloc: Global, text: &str) -> Result<Security, RowFault> {
-    let (flags, rest) = text.split_once(':').ok_or(RowFault::Missing)?;
-    let (token, nonce) = rest.split_once(':').ok_or(RowFault::Missing)?;
+fn security_of(alloc: Global, text: &str) -> Result<Security, LineFault> {
+    let (flags, rest) = text.split_once(':').ok_or(LineFault::Missing)?;
+    let (token, nonce) = rest.split_once(':').ok_or(LineFault::Missing)?;
     Ok(Security {
         signed: flags.contains('s'),
         encrypted: flags.contains('e'),
@@ -162,10 +161,10 @@ fn security_of(alloc: Global, text: &str) -> Result<Security, RowFault> {
     })
 }
 
-fn number16(text: &str) -> Result<u16, RowFault> {
-    text.parse::<u16>().map_err(|_| RowFault::Number)
+fn number16(text: &str) -> Result<u16, LineFault> {
+    text.parse::<u16>().map_err(|_| LineFault::Number)
 }
 
-fn number32(text: &str) -> Result<u32, RowFault> {
-    text.parse::<u32>().map_err(|_| RowFault::Number)
+fn number32(text: &str) -> Result<u32, LineFault> {
+    text.parse::<u32>().map_err(|_| LineFault::Number)
 }

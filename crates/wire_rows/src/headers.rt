@@ -3,18 +3,17 @@ ghost use Rattle.uadp_header.specs.Headers.{header_in};
 ghost use Rattle.uadp_header.specs.Spelling.{IsSenders};
 
 use crate::bench::Answer;
-use crate::fault::RowFault;
 use crate::header_parts::HeaderParts;
-use crate::row::Row;
 use crate::senders::is_senders;
-use crate::shown::{Hex, ShownHeader};
+use crate::shown::ShownHeader;
+use case_lines::{Hex, Line, LineFault};
 use std::alloc::Global;
 use ua_binary::Pen;
 use uadp_header::{Header, HeaderFault, header_len, read_header as read_one, write_header};
 
 /// `read_header BYTES`: the header and where the payload begins, or the fault
-pub fn read_header(alloc: Global, row: &mut Row) -> Answer {
-    let bytes = row.bytes(alloc)?;
+pub fn read_header(alloc: Global, line: &mut Line) -> Answer {
+    let bytes = line.bytes(alloc)?;
     let answer = match read_one(&bytes) {
         Ok((header, end)) => format!(in alloc; "{} end={end}", ShownHeader(&header))?,
         Err(fault) => format!(in alloc; "{fault:?}")?,
@@ -24,11 +23,11 @@ pub fn read_header(alloc: Global, row: &mut Row) -> Answer {
 
 /// `spell_header HEADER`: the bytes of a sender's header; and where it isn't so, that a room of one byte less is refused, that the
 /// bytes are read as the header again, and that each proper prefix is Short
-pub fn spell_header(alloc: Global, row: &mut Row) -> Answer {
-    let parts = HeaderParts::parse(alloc, row)?;
+pub fn spell_header(alloc: Global, line: &mut Line) -> Answer {
+    let parts = HeaderParts::parse(alloc, line)?;
     let header = parts.header();
     if !is_senders(&header) {
-        return Err(RowFault::Condition);
+        return Err(LineFault::Condition);
     }
     let len = header_len(&header);
     let mut bytes = Vec::new(alloc);

@@ -1,8 +1,6 @@
 //! Rows of `chunker`.
 use crate::bench::Answer;
-use crate::fault::RowFault;
-use crate::row::Row;
-use crate::shown::Hex;
+use case_lines::{Hex, Line, LineFault};
 use chunker::{
     ChunkPayload, Joined, Joiner, cut as cut_one, read_chunk as read_one, write_chunk as write_one,
 };
@@ -10,18 +8,18 @@ use std::alloc::Global;
 use ua_binary::Pen;
 
 /// `cut TOTAL ROOM K`: the chunk's offset and how many bytes it has
-pub fn cut(alloc: Global, row: &mut Row) -> Answer {
-    let (total, room, k) = (row.u32()?, row.u32()?, row.u32()?);
+pub fn cut(alloc: Global, line: &mut Line) -> Answer {
+    let (total, room, k) = (line.u32()?, line.u32()?, line.u32()?);
     if room == 0 || u64::from(k) * u64::from(room) >= u64::from(total) {
-        return Err(RowFault::Condition);
+        return Err(LineFault::Condition);
     }
     let (offset, len) = cut_one(total, room, k);
     Ok(Some(format!(in alloc; "{offset} {len}")?))
 }
 
 /// `read_chunk BYTES`: number, offset, total and the data, or the fault
-pub fn read_chunk(alloc: Global, row: &mut Row) -> Answer {
-    let bytes = row.bytes(alloc)?;
+pub fn read_chunk(alloc: Global, line: &mut Line) -> Answer {
+    let bytes = line.bytes(alloc)?;
     let answer = match read_one(&bytes) {
         Ok(chunk) => {
             let (number, offset, total) = (chunk.number, chunk.offset, chunk.total);
@@ -33,13 +31,13 @@ pub fn read_chunk(alloc: Global, row: &mut Row) -> Answer {
 }
 
 /// `write_chunk NUMBER OFFSET TOTAL ROOM BYTES`: what is written into so much room, or Room
-pub fn write_chunk(alloc: Global, row: &mut Row) -> Answer {
-    let (number, offset, total) = (row.u16()?, row.u32()?, row.u32()?);
+pub fn write_chunk(alloc: Global, line: &mut Line) -> Answer {
+    let (number, offset, total) = (line.u16()?, line.u32()?, line.u32()?);
     let mut room = [0; 512];
-    let len = usize::from(row.u16()?).min(512);
-    let data = row.bytes(alloc)?;
+    let len = usize::from(line.u16()?).min(512);
+    let data = line.bytes(alloc)?;
     if data.len() > 512 {
-        return Err(RowFault::Condition);
+        return Err(LineFault::Condition);
     }
     let chunk = ChunkPayload {
         number,
@@ -85,9 +83,9 @@ impl JoinerRows {
     }
 
     /// `chunk NUMBER OFFSET TOTAL BYTES`: what it makes of its message
-    pub fn chunk(&mut self, alloc: Global, row: &mut Row) -> Answer {
-        let (number, offset, total) = (row.u16()?, row.u32()?, row.u32()?);
-        let part = row.bytes(alloc)?;
+    pub fn chunk(&mut self, alloc: Global, line: &mut Line) -> Answer {
+        let (number, offset, total) = (line.u16()?, line.u32()?, line.u32()?);
+        let part = line.bytes(alloc)?;
         let answer = match self.joiner.chunk(number, offset, total, &part) {
             Joined::Whole(len) => format!(in alloc; "whole {len}")?,
             Joined::Part => format!(in alloc; "part")?,
@@ -99,9 +97,14 @@ impl JoinerRows {
         Ok(Some(answer))
     }
 
+    /// `joined`: the bytes of the whole message
+    pub fn joined(&self, alloc: Global) -> Answer {
+        Ok(Some(format!(in alloc; "joined {}", Hex(self.joiner.bytes()))?))
+    }
+
     /// `joined_is BYTES`: whether these are the bytes of the whole message
-    pub fn is(&self, alloc: Global, row: &mut Row) -> Answer {
-        let bytes = row.bytes(alloc)?;
+    pub fn is(&self, alloc: Global, line: &mut Line) -> Answer {
+        let bytes = line.bytes(alloc)?;
         let same = self.joiner.bytes() == bytes.as_slice();
         let answer = if same { "yes" } else { "no" };
         Ok(Some(format!(in alloc; "{answer}")?))

@@ -3,25 +3,24 @@
 #![tactic(auto)]
 
 mod bench;
-mod fault;
 mod frames;
 mod guards;
 mod header_parts;
 mod headers;
 mod joiners;
 mod metas;
-mod parsed;
 mod payloads;
-mod row;
+mod random;
 mod security;
 mod senders;
 mod shown;
+mod slots;
 mod timers;
 mod values;
 mod windows;
 
 use bench::Bench;
-use row::Row;
+use case_lines::Line;
 use std::io;
 
 fn main(rt: HostRuntime) -> io::Result<()> {
@@ -33,10 +32,10 @@ fn main(rt: HostRuntime) -> io::Result<()> {
             println!(rt; "{text}")?;
             continue;
         }
-        match bench.answer(&mut Row::new(text)) {
+        match bench.answer(&mut Line::new(text)) {
             Ok(Some(answer)) => println!(rt; "{text} -> {answer}")?,
             Ok(None) => println!(rt; "{text}")?,
-            Err(fault) => println!(rt; "{text} -> not a row: {fault:?}")?,
+            Err(fault) => println!(rt; "{text} -> not a case: {fault:?}")?,
         }
     }
     Ok(())

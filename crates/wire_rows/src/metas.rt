@@ -1,15 +1,13 @@
 //! Rows of `dataset_meta`.
 use crate::bench::Answer;
-use crate::fault::RowFault;
-use crate::parsed::kind_of;
-use crate::row::Row;
+use case_lines::{Line, LineFault, kind_of};
 use dataset_meta::{Field, Meta, MetaFault, Name32};
 use std::alloc::Global;
 use std::fmt::{self, Write};
 
 /// `name BYTES`: whether the bytes are a name of a data set or a field
-pub fn name(alloc: Global, row: &mut Row) -> Answer {
-    let bytes = row.optional().unwrap_or("").as_bytes();
+pub fn name(alloc: Global, line: &mut Line) -> Answer {
+    let bytes = line.optional().unwrap_or("").as_bytes();
     let answer = match Name32::new(bytes) {
         Some(_) => "is a name",
         None => "is no name",
@@ -18,8 +16,8 @@ pub fn name(alloc: Global, row: &mut Row) -> Answer {
 }
 
 /// `meta FIELD ..`, a field as NAME:KIND or NAME:KIND:CAP: the words of a row, or the fault
-pub fn meta(alloc: Global, row: &mut Row) -> Answer {
-    let answer = match new_meta(fields_of(alloc, row)?, 1, 0, false)? {
+pub fn meta(alloc: Global, line: &mut Line) -> Answer {
+    let answer = match new_meta(fields_of(alloc, line)?, 1, 0, false)? {
         Ok(meta) => format!(in alloc; "{} words", meta.words())?,
         Err(fault) => format!(in alloc; "{fault:?}")?,
     };
@@ -27,11 +25,11 @@ pub fn meta(alloc: Global, row: &mut Row) -> Answer {
 }
 
 /// `told MAJOR MINOR QUALITY FIELD ..`: what the meta tells
-pub fn told(alloc: Global, row: &mut Row) -> Answer {
-    let (major, minor) = (row.u32()?, row.u32()?);
-    let quality = row.word()? == "true";
-    let Ok(meta) = new_meta(fields_of(alloc, row)?, major, minor, quality)? else {
-        return Err(RowFault::Condition);
+pub fn told(alloc: Global, line: &mut Line) -> Answer {
+    let (major, minor) = (line.u32()?, line.u32()?);
+    let quality = line.word()? == "true";
+    let Ok(meta) = new_meta(fields_of(alloc, line)?, major, minor, quality)? else {
+        return Err(LineFault::Condition);
     };
     let mut told = format!(in alloc; "{} {} {}:", meta.major(), meta.minor(), meta.quality())?;
     for (index, field) in meta.fields().iter().enumerate() {
@@ -60,31 +58,31 @@ impl fmt::Display for Letters<'_> {
     }
 }
 
-fn fields_of(alloc: Global, row: &mut Row) -> Result<Vec<Field>, RowFault> {
+fn fields_of(alloc: Global, line: &mut Line) -> Result<Vec<Field>, LineFault> {
     let mut fields = Vec::new(alloc);
-    for word in row.words() {
+    for word in line.words() {
         fields.push(field_of(word)?)?;
     }
     Ok(fields)
 }
 
 /// A data set in one word: its version and its fields, as `1.0/a:UInt32/b:String:60`, and `1.0+quality/..` where it has quality.
-pub fn data_set(alloc: Global, word: &str) -> Result<Meta, RowFault> {
-    let (version, rest) = word.split_once('/').ok_or(RowFault::Missing)?;
+pub fn data_set(alloc: Global, word: &str) -> Result<Meta, LineFault> {
+    let (version, rest) = word.split_once('/').ok_or(LineFault::Missing)?;
     let (version, quality) = match version.split_once('+') {
         Some((version, _)) => (version, true),
         None => (version, false),
     };
-    let (major, minor) = version.split_once('.').ok_or(RowFault::Missing)?;
-    let major = major.parse::<u32>().map_err(|_| RowFault::Number)?;
-    let minor = minor.parse::<u32>().map_err(|_| RowFault::Number)?;
+    let (major, minor) = version.split_once('.').ok_or(LineFault::Missing)?;
+    let major = major.parse::<u32>().map_err(|_| LineFault::Number)?;
+    let minor = minor.parse::<u32>().map_err(|_| LineFault::Number)?;
     let mut fields = Vec::new(alloc);
     for field in rest.split('/') {
         fields.push(field_of(field)?)?;
     }
     match new_meta(fields, major, minor, quality)? {
         Ok(meta) => Ok(meta),
-        Err(_) => Err(RowFault::Condition),
+        Err(_) => Err(LineFault::Condition),
     }
 }
 
@@ -93,19 +91,19 @@ fn new_meta(
     major: u32,
     minor: u32,
     quality: bool,
-) -> Result<Result<Meta, MetaFault>, RowFault> {
-    let name = Name32::new(b"demo").ok_or(RowFault::Condition)?;
+) -> Result<Result<Meta, MetaFault>, LineFault> {
+    let name = Name32::new(b"demo").ok_or(LineFault::Condition)?;
     Ok(Meta::new(name, fields, major, minor, quality))
 }
 
-fn field_of(word: &str) -> Result<Field, RowFault> {
-    let (name, rest) = word.split_once(':').ok_or(RowFault::Missing)?;
+fn field_of(word: &str) -> Result<Field, LineFault> {
+    let (name, rest) = word.split_once(':').ok_or(LineFault::Missing)?;
     let (kind, cap) = match rest.split_once(':') {
-        Some((kind, cap)) => (kind, cap.parse::<u16>().map_err(|_| RowFault::Number)?),
+        Some((kind, cap)) => (kind, cap.parse::<u16>().map_err(|_| LineFault::Number)?),
         None => (rest, 0),
     };
     Ok(Field {
-        name: Name32::new(name.as_bytes()).ok_or(RowFault::Condition)?,
+        name: Name32::new(name.as_bytes()).ok_or(LineFault::Condition)?,
         kind: kind_of(kind)?,
         cap,
     })

@@ -1,9 +1,7 @@
 //! Rows of `payload_layout`.
 use crate::bench::Answer;
-use crate::fault::RowFault;
-use crate::row::Row;
-use crate::shown::Hex;
 use arrayvec::ArrayVec;
+use case_lines::{Hex, Line, LineFault};
 use payload_layout::{
     Packs, Parts, plan as plan_packs, split as split_parts, write_sizes as write_list,
 };
@@ -12,9 +10,9 @@ use std::fmt::Write;
 use ua_binary::Pen;
 
 /// `plan ROOM SIZE ..`: the packs, each with how many frames it has, and `cut` behind one that is to be cut
-pub fn plan(alloc: Global, row: &mut Row) -> Answer {
-    let room = row.u32()?;
-    let sizes = sizes_of(row)?;
+pub fn plan(alloc: Global, line: &mut Line) -> Answer {
+    let room = line.u32()?;
+    let sizes = sizes_of(line)?;
     let mut packs = Packs::new();
     plan_packs(&sizes, room, &mut packs);
     let mut text = String::new(alloc);
@@ -27,11 +25,11 @@ pub fn plan(alloc: Global, row: &mut Row) -> Answer {
 }
 
 /// `split COUNT BYTES`: the parts as START-END, or BadSizes
-pub fn split(alloc: Global, row: &mut Row) -> Answer {
-    let Ok(count) = u8::try_from(row.u16()?) else {
-        return Err(RowFault::Number);
+pub fn split(alloc: Global, line: &mut Line) -> Answer {
+    let Ok(count) = u8::try_from(line.u16()?) else {
+        return Err(LineFault::Number);
     };
-    let bytes = row.bytes(alloc)?;
+    let bytes = line.bytes(alloc)?;
     let mut parts = Parts::new();
     if split_parts(&bytes, count, &mut parts).is_err() {
         let left = if parts.is_empty() { "" } else { " left" };
@@ -46,10 +44,10 @@ pub fn split(alloc: Global, row: &mut Row) -> Answer {
 }
 
 /// `write_sizes ROOM SIZE ..`: the bytes written into so much room, or Room
-pub fn write_sizes(alloc: Global, row: &mut Row) -> Answer {
+pub fn write_sizes(alloc: Global, line: &mut Line) -> Answer {
     let mut room = [0xaa; 64];
-    let len = usize::from(row.u16()?).min(64);
-    let sizes = sizes_of(row)?;
+    let len = usize::from(line.u16()?).min(64);
+    let sizes = sizes_of(line)?;
     let mut pen = Pen {
         bytes: &mut room[..len],
         at: 0,
@@ -78,13 +76,13 @@ fn named(alloc: Global, text: String) -> Answer {
 }
 
 /// The sizes that are left in the line, at most 16.
-fn sizes_of(row: &Row) -> Result<ArrayVec<u16, 16>, RowFault> {
+fn sizes_of(line: &Line) -> Result<ArrayVec<u16, 16>, LineFault> {
     let mut sizes = ArrayVec::new();
-    for word in row.words() {
+    for word in line.words() {
         if sizes.is_full() {
-            return Err(RowFault::Condition);
+            return Err(LineFault::Condition);
         }
-        sizes.push(word.parse::<u16>().map_err(|_| RowFault::Number)?);
+        sizes.push(word.parse::<u16>().map_err(|_| LineFault::Number)?);
     }
     Ok(sizes)
 }

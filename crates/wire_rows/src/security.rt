@@ -1,53 +1,51 @@
 //! Rows of `aes_ctr`, `aes_plain`, `hmac_sign` and `group_keys`.
 use crate::bench::Answer;
-use crate::fault::RowFault;
-use crate::row::Row;
-use crate::shown::Hex;
 use aes_ctr::{Key, Key128, Key256, apply_stream};
 use arrayvec::ArrayVec;
+use case_lines::{Hex, Line, LineFault};
 use group_keys::{KeySet, Ring};
 use hmac_sign::{SigningKey, matches, sign};
 use std::alloc::Global;
 
 /// `block128 KEY BLOCK`: the block under the key (FIPS 197)
-pub fn block128(alloc: Global, row: &mut Row) -> Answer {
-    let key = Key128::new(&row.array()?);
-    let block = key.encrypt_block(&row.array()?);
+pub fn block128(alloc: Global, line: &mut Line) -> Answer {
+    let key = Key128::new(&line.array()?);
+    let block = key.encrypt_block(&line.array()?);
     Ok(Some(format!(in alloc; "{}", Hex(&block))?))
 }
 
 /// `block256 KEY BLOCK`: the block under the key (FIPS 197)
-pub fn block256(alloc: Global, row: &mut Row) -> Answer {
-    let key = Key256::new(&row.array()?);
-    let block = key.encrypt_block(&row.array()?);
+pub fn block256(alloc: Global, line: &mut Line) -> Answer {
+    let key = Key256::new(&line.array()?);
+    let block = key.encrypt_block(&line.array()?);
     Ok(Some(format!(in alloc; "{}", Hex(&block))?))
 }
 
 /// `stream128 KEY FRONT FIRST BYTES`, the first block as four bytes, big-endian: the bytes with the stream added (NIST SP
 /// 800-38A, 6.5)
-pub fn stream128(alloc: Global, row: &mut Row) -> Answer {
-    let key = Key::Short(Key128::new(&row.array()?));
-    stream(alloc, row, &key)
+pub fn stream128(alloc: Global, line: &mut Line) -> Answer {
+    let key = Key::Short(Key128::new(&line.array()?));
+    stream(alloc, line, &key)
 }
 
 /// `stream256 KEY FRONT FIRST BYTES`, as `stream128`
-pub fn stream256(alloc: Global, row: &mut Row) -> Answer {
-    let key = Key::Long(Key256::new(&row.array()?));
-    stream(alloc, row, &key)
+pub fn stream256(alloc: Global, line: &mut Line) -> Answer {
+    let key = Key::Long(Key256::new(&line.array()?));
+    stream(alloc, line, &key)
 }
 
-fn stream(alloc: Global, row: &mut Row, key: &Key) -> Answer {
-    let front: [u8; 12] = row.array()?;
-    let first = u32::from_be_bytes(row.array()?);
-    let mut bytes = row.bytes(alloc)?;
+fn stream(alloc: Global, line: &mut Line, key: &Key) -> Answer {
+    let front: [u8; 12] = line.array()?;
+    let first = u32::from_be_bytes(line.array()?);
+    let mut bytes = line.bytes(alloc)?;
     apply_stream(key, &front, first, &mut bytes);
     Ok(Some(format!(in alloc; "{}", Hex(&bytes))?))
 }
 
 /// `hmac KEY TEXT`: the signature (RFC 2104 over SHA-256), and whether `matches` and a key that is kept hashed agree with it
-pub fn hmac(alloc: Global, row: &mut Row) -> Answer {
-    let key = row.piece(alloc)?;
-    let text = row.bytes(alloc)?;
+pub fn hmac(alloc: Global, line: &mut Line) -> Answer {
+    let key = line.piece(alloc)?;
+    let text = line.bytes(alloc)?;
     let signature = sign(&key, &text);
     let same = matches(&key, &text, &signature);
     let kept = kept_signature(&key, &text).is_none_or(|it| it == signature);
@@ -65,12 +63,12 @@ fn kept_signature(key: &[u8], text: &[u8]) -> Option<[u8; 32]> {
 }
 
 /// `ring LONG SET ..`, a key set as TOKEN:MOMENT:LENGTH of its encrypting key: accepted, or the fault
-pub fn ring(alloc: Global, row: &mut Row) -> Answer {
-    let long = row.word()? == "long";
+pub fn ring(alloc: Global, line: &mut Line) -> Answer {
+    let long = line.word()? == "long";
     let mut sets = ArrayVec::new();
-    for word in row.words() {
+    for word in line.words() {
         if sets.is_full() {
-            return Err(RowFault::Condition);
+            return Err(LineFault::Condition);
         }
         sets.push(key_set(word)?);
     }
@@ -81,20 +79,20 @@ pub fn ring(alloc: Global, row: &mut Row) -> Answer {
     Ok(Some(answer))
 }
 
-fn key_set(word: &str) -> Result<KeySet, RowFault> {
-    let (token, rest) = word.split_once(':').ok_or(RowFault::Missing)?;
-    let (moment, length) = rest.split_once(':').ok_or(RowFault::Missing)?;
-    let length = length.parse::<u8>().map_err(|_| RowFault::Number)?;
+fn key_set(word: &str) -> Result<KeySet, LineFault> {
+    let (token, rest) = word.split_once(':').ok_or(LineFault::Missing)?;
+    let (moment, length) = rest.split_once(':').ok_or(LineFault::Missing)?;
+    let length = length.parse::<u8>().map_err(|_| LineFault::Number)?;
     let mut encrypting = ArrayVec::new();
     for _ in 0..length {
         if encrypting.is_full() {
-            return Err(RowFault::Condition);
+            return Err(LineFault::Condition);
         }
         encrypting.push(0);
     }
     Ok(KeySet {
-        token: token.parse::<u32>().map_err(|_| RowFault::Number)?,
-        from: moment.parse::<u64>().map_err(|_| RowFault::Number)?,
+        token: token.parse::<u32>().map_err(|_| LineFault::Number)?,
+        from: moment.parse::<u64>().map_err(|_| LineFault::Number)?,
         signing: [0; 32],
         encrypting,
         nonce: [0; 4],

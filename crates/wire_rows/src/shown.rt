@@ -1,77 +1,7 @@
-//! Values and bytes as text.
+//! Headers as text.
+use case_lines::Digits;
 use std::fmt;
-use ua_values::Value;
 use uadp_header::{Header, Ids, PublisherId, SecurityPart};
-
-/// Bytes as pairs of hexadecimal digits with spaces between them, or `-` where there are none.
-#[derive(Clone, Copy)]
-pub struct Hex<'a>(pub &'a [u8]);
-
-impl fmt::Display for Hex<'_> {
-    fn fmt<W: fmt::Write>(&self, f: &mut fmt::Formatter<W>) -> fmt::Result {
-        if self.0.is_empty() {
-            return f.write_str("-");
-        }
-        for (index, byte) in self.0.iter().enumerate() {
-            let before = if index == 0 { "" } else { " " };
-            write!(f, "{before}{byte:02x}")?;
-        }
-        Ok(())
-    }
-}
-
-/// Bytes as pairs of hexadecimal digits without spaces, or `-` where there are none.
-#[derive(Clone, Copy)]
-pub struct Digits<'a>(pub &'a [u8]);
-
-impl fmt::Display for Digits<'_> {
-    fn fmt<W: fmt::Write>(&self, f: &mut fmt::Formatter<W>) -> fmt::Result {
-        if self.0.is_empty() {
-            return f.write_str("-");
-        }
-        write_digits(f, self.0)
-    }
-}
-
-/// A value: its kind, and then its number, or its bytes.
-#[derive(Clone, Copy)]
-pub struct Shown<'a>(pub &'a Value);
-
-impl fmt::Display for Shown<'_> {
-    fn fmt<W: fmt::Write>(&self, f: &mut fmt::Formatter<W>) -> fmt::Result {
-        match self.0 {
-            Value::String(text) => write!(f, "String {}", Hex(text.as_bytes())),
-            Value::ByteString(blob) => write!(f, "ByteString {}", Hex(blob.as_bytes())),
-            Value::Guid(bytes) => write!(f, "Guid {}", Hex(bytes)),
-            Value::Float(bits) => write!(f, "Float 0x{bits:08x}"),
-            Value::Double(bits) => write!(f, "Double 0x{bits:016x}"),
-            Value::StatusCode(code) => write!(f, "StatusCode 0x{code:08x}"),
-            other => write!(f, "{}", Number(other)),
-        }
-    }
-}
-
-/// The kinds that are printed as a decimal number or a truth value.
-#[derive(Clone, Copy)]
-struct Number<'a>(&'a Value);
-
-impl fmt::Display for Number<'_> {
-    fn fmt<W: fmt::Write>(&self, f: &mut fmt::Formatter<W>) -> fmt::Result {
-        match self.0 {
-            Value::Boolean(truth) => write!(f, "Boolean {truth}"),
-            Value::SByte(n) => write!(f, "SByte {n}"),
-            Value::Byte(n) => write!(f, "Byte {n}"),
-            Value::Int16(n) => write!(f, "Int16 {n}"),
-            Value::UInt16(n) => write!(f, "UInt16 {n}"),
-            Value::Int32(n) => write!(f, "Int32 {n}"),
-            Value::UInt32(n) => write!(f, "UInt32 {n}"),
-            Value::Int64(n) => write!(f, "Int64 {n}"),
-            Value::UInt64(n) => write!(f, "UInt64 {n}"),
-            Value::DateTime(steps) => write!(f, "DateTime {steps}"),
-            _ => Ok(()),
-        }
-    }
-}
 
 /// A header by its parts, as `spell_header` takes them; `-` where there is none.
 #[derive(Clone, Copy)]
@@ -87,7 +17,7 @@ impl fmt::Display for ShownHeader<'_> {
         }
         if let Some(class_id) = &header.class_id {
             words.next(f, "class=")?;
-            write_digits(f, class_id)?;
+            write!(f, "{}", Digits(class_id))?;
         }
         write_group_header(f, header, &mut words)?;
         write_ids(f, &header.ids, &mut words)?;
@@ -126,7 +56,7 @@ fn write_publisher<W: fmt::Write>(
         PublisherId::U64(id) => write!(f, "u64:{id}"),
         PublisherId::Text(text) => {
             f.write_str("text:")?;
-            write_digits(f, text.as_bytes())
+            write!(f, "{}", Digits(text.as_bytes()))
         }
     }
 }
@@ -164,7 +94,7 @@ fn write_ids<W: fmt::Write>(
         Ids::None => Ok(()),
         Ids::List(bytes) => {
             words.next(f, "ids=list:")?;
-            write_digits(f, bytes)
+            write!(f, "{}", Digits(bytes))
         }
         Ids::Chunk(id) => {
             words.next(f, "ids=chunk:")?;
@@ -189,13 +119,5 @@ fn write_security<W: fmt::Write>(f: &mut fmt::Formatter<W>, part: &SecurityPart)
         f.write_str("-")?;
     }
     write!(f, ":{}:", part.token)?;
-    write_digits(f, part.nonce)
-}
-
-/// Bytes as pairs of hexadecimal digits without spaces.
-fn write_digits<W: fmt::Write>(f: &mut fmt::Formatter<W>, bytes: &[u8]) -> fmt::Result {
-    for byte in bytes {
-        write!(f, "{byte:02x}")?;
-    }
-    Ok(())
+    write!(f, "{}", Digits(part.nonce))
 }

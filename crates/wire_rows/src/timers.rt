@@ -1,6 +1,6 @@
 //! Rows of `receive_timer`.
 use crate::bench::Answer;
-use crate::row::Row;
+use case_lines::Line;
 use receive_timer::Timer;
 use std::alloc::Global;
 
@@ -18,14 +18,14 @@ impl TimerRows {
     }
 
     /// `timer LIMIT`
-    pub fn limit(&mut self, row: &mut Row) -> Answer {
-        self.timer = Timer::new(row.u64()?);
+    pub fn limit(&mut self, line: &mut Line) -> Answer {
+        self.timer = Timer::new(line.u64()?);
         Ok(None)
     }
 
     /// `seen NOW`
-    pub fn seen(&mut self, row: &mut Row) -> Answer {
-        self.timer.seen(row.u64()?);
+    pub fn seen(&mut self, line: &mut Line) -> Answer {
+        self.timer.seen(line.u64()?);
         Ok(None)
     }
 
@@ -36,8 +36,8 @@ impl TimerRows {
     }
 
     /// `due NOW`: yes or no
-    pub fn due(&self, alloc: Global, row: &mut Row) -> Answer {
-        let due = self.timer.due(row.u64()?);
+    pub fn due(&self, alloc: Global, line: &mut Line) -> Answer {
+        let due = self.timer.due(line.u64()?);
         let answer = if due { "yes" } else { "no" };
         Ok(Some(format!(in alloc; "{answer}")?))
     }

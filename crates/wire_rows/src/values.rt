@@ -1,9 +1,6 @@
 //! Rows of `ua_values` and `ua_binary`.
 use crate::bench::Answer;
-use crate::fault::RowFault;
-use crate::parsed::{kind_of, value_of};
-use crate::row::Row;
-use crate::shown::{Hex, Shown};
+use case_lines::{Hex, Line, LineFault, Shown, kind_of, value_of};
 use std::alloc::Global;
 use std::fmt::Write;
 use ua_binary::{
@@ -13,8 +10,8 @@ use ua_binary::{
 use ua_values::{Blob, Text, fits as fits_field};
 
 /// `text BYTES`: how many bytes the text has, or the fault
-pub fn text(alloc: Global, row: &mut Row) -> Answer {
-    let bytes = row.bytes(alloc)?;
+pub fn text(alloc: Global, line: &mut Line) -> Answer {
+    let bytes = line.bytes(alloc)?;
     let answer = match Text::from_bytes(&bytes) {
         Ok(text) => {
             let same = text.as_bytes() == bytes.as_slice();
@@ -26,8 +23,8 @@ pub fn text(alloc: Global, row: &mut Row) -> Answer {
 }
 
 /// `blob BYTES`: how many bytes the blob has, or the fault
-pub fn blob(alloc: Global, row: &mut Row) -> Answer {
-    let bytes = row.bytes(alloc)?;
+pub fn blob(alloc: Global, line: &mut Line) -> Answer {
+    let bytes = line.bytes(alloc)?;
     let answer = match Blob::from_bytes(&bytes) {
         Ok(blob) => {
             let same = blob.as_bytes() == bytes.as_slice();
@@ -39,15 +36,15 @@ pub fn blob(alloc: Global, row: &mut Row) -> Answer {
 }
 
 /// `fits KIND CAP BYTES`, the bytes of a Variant: whether its value fits such a field
-pub fn fits(alloc: Global, row: &mut Row) -> Answer {
-    let kind = kind_of(row.word()?)?;
-    let cap = row.u16()?;
-    let bytes = row.bytes(alloc)?;
+pub fn fits(alloc: Global, line: &mut Line) -> Answer {
+    let kind = kind_of(line.word()?)?;
+    let cap = line.u16()?;
+    let bytes = line.bytes(alloc)?;
     let Ok(value) = read_value(&mut Cursor {
         bytes: &bytes,
         at: 0,
     }) else {
-        return Err(RowFault::Condition);
+        return Err(LineFault::Condition);
     };
     let answer = if fits_field(&value, kind, cap) {
         "yes"
@@ -58,8 +55,8 @@ pub fn fits(alloc: Global, row: &mut Row) -> Answer {
 }
 
 /// `read_variant BYTES`: the value, and how many bytes are left, or the fault
-pub fn read_variant(alloc: Global, row: &mut Row) -> Answer {
-    let bytes = row.bytes(alloc)?;
+pub fn read_variant(alloc: Global, line: &mut Line) -> Answer {
+    let bytes = line.bytes(alloc)?;
     let mut cursor = Cursor {
         bytes: &bytes,
         at: 0,
@@ -75,8 +72,8 @@ pub fn read_variant(alloc: Global, row: &mut Row) -> Answer {
 }
 
 /// `read_data_value BYTES`: the value, where there is one, the status, and how many bytes are left, or the fault
-pub fn read_data_value(alloc: Global, row: &mut Row) -> Answer {
-    let bytes = row.bytes(alloc)?;
+pub fn read_data_value(alloc: Global, line: &mut Line) -> Answer {
+    let bytes = line.bytes(alloc)?;
     let mut cursor = Cursor {
         bytes: &bytes,
         at: 0,
@@ -88,7 +85,7 @@ pub fn read_data_value(alloc: Global, row: &mut Row) -> Answer {
     Ok(Some(answer))
 }
 
-fn measured_text(alloc: Global, measured: &Measured, rest: usize) -> Result<String, RowFault> {
+fn measured_text(alloc: Global, measured: &Measured, rest: usize) -> Result<String, LineFault> {
     let mut text = match measured.value {
         Some(value) => format!(in alloc; "{}", Shown(&value))?,
         None => format!(in alloc; "no value")?,
@@ -98,14 +95,14 @@ fn measured_text(alloc: Global, measured: &Measured, rest: usize) -> Result<Stri
 }
 
 /// The fault, and whether the cursor moved.
-fn refused(alloc: Global, fault: ValueFault, at: usize) -> Result<String, RowFault> {
+fn refused(alloc: Global, fault: ValueFault, at: usize) -> Result<String, LineFault> {
     let moved = if at == 0 { "" } else { " moved" };
     Ok(format!(in alloc; "{fault:?}{moved}")?)
 }
 
 /// `prefixes_of_variant BYTES`: how many proper prefixes are Short, and leave the cursor
-pub fn prefixes_of_variant(alloc: Global, row: &mut Row) -> Answer {
-    let bytes = row.bytes(alloc)?;
+pub fn prefixes_of_variant(alloc: Global, line: &mut Line) -> Answer {
+    let bytes = line.bytes(alloc)?;
     let short = (0..bytes.len())
         .filter(|len| is_short_variant(&bytes[..*len]))
         .count();
@@ -121,8 +118,8 @@ fn is_short_variant(bytes: &[u8]) -> bool {
 }
 
 /// `prefixes_of_data_value BYTES`: how many proper prefixes are Short, and leave the cursor
-pub fn prefixes_of_data_value(alloc: Global, row: &mut Row) -> Answer {
-    let bytes = row.bytes(alloc)?;
+pub fn prefixes_of_data_value(alloc: Global, line: &mut Line) -> Answer {
+    let bytes = line.bytes(alloc)?;
     let short = (0..bytes.len())
         .filter(|len| is_short_data_value(&bytes[..*len]))
         .count();
@@ -157,10 +154,10 @@ pub fn kinds(alloc: Global) -> Answer {
 }
 
 /// `write_variant ROOM VALUE`: the bytes, or Room, in a buffer of so many bytes
-pub fn write_variant(alloc: Global, row: &mut Row) -> Answer {
+pub fn write_variant(alloc: Global, line: &mut Line) -> Answer {
     let mut room = [0xaa; 512];
-    let len = usize::from(row.u16()?).min(512);
-    let value = value_of(alloc, row)?;
+    let len = usize::from(line.u16()?).min(512);
+    let value = value_of(alloc, line)?;
     let mut pen = Pen {
         bytes: &mut room[..len],
         at: 0,
@@ -171,11 +168,11 @@ pub fn write_variant(alloc: Global, row: &mut Row) -> Answer {
 }
 
 /// `write_data_value ROOM STATUS VALUE`, the status 0x.. or `none`: the bytes, or Room, in a buffer of so many bytes
-pub fn write_data_value(alloc: Global, row: &mut Row) -> Answer {
+pub fn write_data_value(alloc: Global, line: &mut Line) -> Answer {
     let mut room = [0xaa; 512];
-    let len = usize::from(row.u16()?).min(512);
-    let status = row.optional_hex()?;
-    let value = value_of(alloc, row)?;
+    let len = usize::from(line.u16()?).min(512);
+    let status = line.optional_hex()?;
+    let value = value_of(alloc, line)?;
     let mut pen = Pen {
         bytes: &mut room[..len],
         at: 0,

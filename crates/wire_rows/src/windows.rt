@@ -1,6 +1,6 @@
 //! Rows of `replay_window`.
 use crate::bench::Answer;
-use crate::row::Row;
+use case_lines::Line;
 use replay_window::{Seen, Window};
 use std::alloc::Global;
 
@@ -24,8 +24,8 @@ impl WindowRows {
     }
 
     /// `number_seen N`: fresh, repeated, or old and the greatest number taken
-    pub fn test(&self, alloc: Global, row: &mut Row) -> Answer {
-        let answer = match self.window.test(row.u32()?) {
+    pub fn test(&self, alloc: Global, line: &mut Line) -> Answer {
+        let answer = match self.window.test(line.u32()?) {
             Seen::Fresh => format!(in alloc; "fresh")?,
             Seen::Repeated => format!(in alloc; "repeated")?,
             Seen::TooOld { high } => format!(in alloc; "old {high}")?,
@@ -34,8 +34,8 @@ impl WindowRows {
     }
 
     /// `number_taken N`: the same, and the number is taken where it is fresh
-    pub fn take(&mut self, alloc: Global, row: &mut Row) -> Answer {
-        let number = row.u32()?;
+    pub fn take(&mut self, alloc: Global, line: &mut Line) -> Answer {
+        let number = line.u32()?;
         let answer = match self.window.test(number) {
             Seen::Fresh => {
                 self.window.take(number);

@@ -1,10 +1,10 @@
-//! Why a line is no row.
+//! Why a line is no case.
 use std::alloc::{AllocError, AllocFailed};
 use std::fmt;
 
-/// Why a line is no row.
+/// Why a line is no case.
 #[derive(Clone, Copy, Debug, Drop)]
-pub enum RowFault {
+pub enum LineFault {
     /// No call of this name.
     Call,
     /// A word is missing.
@@ -18,20 +18,20 @@ pub enum RowFault {
     Memory,
 }
 
-impl From<AllocError> for RowFault {
-    fn from(_: AllocError) -> RowFault {
-        RowFault::Memory
+impl From<AllocError> for LineFault {
+    fn from(_: AllocError) -> LineFault {
+        LineFault::Memory
     }
 }
 
-impl<T: Drop> From<AllocFailed<T>> for RowFault {
-    fn from(_: AllocFailed<T>) -> RowFault {
-        RowFault::Memory
+impl<T: Drop> From<AllocFailed<T>> for LineFault {
+    fn from(_: AllocFailed<T>) -> LineFault {
+        LineFault::Memory
     }
 }
 
-impl From<fmt::Error> for RowFault {
-    fn from(_: fmt::Error) -> RowFault {
-        RowFault::Memory
+impl From<fmt::Error> for LineFault {
+    fn from(_: fmt::Error) -> LineFault {
+        LineFault::Memory
     }
 }

@@ -1,0 +1,157 @@
+//! Cases of `row_words` and `key_delta`. A row is shown by its words in hexadecimal digits, `N*WORD` for N equal ones where they
+//! are four or more, and without the zeros at the end, so
+//! that `0` is no word but zeros. A change is INDEX=VALUE!STATUS.
+use crate::bench::Answer;
+use crate::fields::{Case, changes_of, patch_of};
+use case_lines::Line;
+use key_delta::{apply, changed as changes};
+use row_words::{Patch, shape as shape_of};
+use std::alloc::Global;
+use std::fmt;
+
+/// `words FIELDS`: the words of the row
+pub fn words(alloc: Global, line: &mut Line) -> Answer {
+    let case = Case::read(alloc, line)?;
+    Ok(Some(format!(in alloc; "{}", ShownWords(&case.row.words))?))
+}
+
+/// `shape FIELDS`: the words of the shape
+pub fn shape(alloc: Global, line: &mut Line) -> Answer {
+    let case = Case::read(alloc, line)?;
+    Ok(Some(format!(in alloc; "{}", ShownWords(&shape_of(&case.meta)))?))
+}
+
+/// `set INDEX=VALUE | FIELDS`: the words after `set`; the field's status stays
+pub fn set(alloc: Global, line: &mut Line) -> Answer {
+    let (mut case, puts) = changes_of(alloc, line)?;
+    for put in &puts {
+        case.set_value(put)?;
+    }
+    Ok(Some(format!(in alloc; "{}", ShownWords(&case.row.words))?))
+}
+
+/// `status INDEX STATUS | FIELDS`: the words after `set_status`
+pub fn status(alloc: Global, line: &mut Line) -> Answer {
+    let (index, status) = (line.u8()?, line.hex32()?);
+    let (_, mut behind) = line.halves()?;
+    let mut case = Case::read(alloc, &mut behind)?;
+    case.set_status(index, status)?;
+    Ok(Some(format!(in alloc; "{}", ShownWords(&case.row.words))?))
+}
+
+/// `first COUNT | FIELDS`: the words of the row cut to its first fields
+pub fn first(alloc: Global, line: &mut Line) -> Answer {
+    let count = line.u8()?;
+    let (_, mut behind) = line.halves()?;
+    let case = Case::read(alloc, &mut behind)?;
+    let row = case.first(alloc, usize::from(count))?;
+    Ok(Some(format!(in alloc; "{}", ShownWords(&row.words))?))
+}
+
+/// `put CHANGE .. | FIELDS`: mask and words of the patch with each change put into the empty patch in turn
+pub fn put(alloc: Global, line: &mut Line) -> Answer {
+    let (case, puts) = changes_of(alloc, line)?;
+    let patch = patch_of(&case.meta, &puts)?;
+    Ok(Some(format!(in alloc; "{}", ShownPatch(&patch))?))
+}
+
+/// `lay CHANGE .. | FIELDS`: the words of the row with that patch laid in
+pub fn lay(alloc: Global, line: &mut Line) -> Answer {
+    let (case, puts) = changes_of(alloc, line)?;
+    let patch = patch_of(&case.meta, &puts)?;
+    let mut row = case.row;
+    patch.lay(&case.meta, &mut row);
+    Ok(Some(format!(in alloc; "{}", ShownWords(&row.words))?))
+}
+
+/// `changed CHANGE .. | FIELDS`: mask and words of what `changed` answers between the row and the row with each change set;
+/// `apply` of it to the row gives that row
+pub fn changed(alloc: Global, line: &mut Line) -> Answer {
+    let (mut case, puts) = changes_of(alloc, line)?;
+    let mut old = case.row;
+    case.set_all(&puts)?;
+    let patch = changes(&case.meta, &old, &case.row);
+    apply(&case.meta, &mut old, &patch);
+    if old != case.row {
+        return Ok(Some(format!(in alloc; "another row")?));
+    }
+    Ok(Some(format!(in alloc; "{}", ShownPatch(&patch))?))
+}
+
+/// Words in hexadecimal digits.
+#[derive(Clone, Copy)]
+struct ShownWords<'a>(&'a [u64]);
+
+impl fmt::Display for ShownWords<'_> {
+    fn fmt<W: fmt::Write>(&self, f: &mut fmt::Formatter<W>) -> fmt::Result {
+        let mut run = Run {
+            word: 0,
+            times: 0,
+            any: false,
+        };
+        for word in kept(self.0) {
+            run.push(f, *word)?;
+        }
+        run.end(f)?;
+        if run.any { Ok(()) } else { f.write_str("0") }
+    }
+}
+
+/// The words but for the zeros at the end.
+fn kept(words: &[u64]) -> &[u64] {
+    match words {
+        [front @ .., 0] => kept(front),
+        _ => words,
+    }
+}
+
+/// Equal words that aren't shown yet, and whether any were shown.
+#[derive(Drop)]
+struct Run {
+    word: u64,
+    times: u8,
+    any: bool,
+}
+
+impl Run {
+    fn push<W: fmt::Write>(&mut self, f: &mut fmt::Formatter<W>, word: u64) -> fmt::Result {
+        if word != self.word {
+            self.end(f)?;
+            self.word = word;
+            self.times = 0;
+        }
+        self.times = self.times.saturating_add(1);
+        Ok(())
+    }
+
+    fn end<W: fmt::Write>(&mut self, f: &mut fmt::Formatter<W>) -> fmt::Result {
+        if self.times > 3 {
+            return self.show(f, self.times);
+        }
+        for _ in 0..self.times {
+            self.show(f, 1)?;
+        }
+        Ok(())
+    }
+
+    fn show<W: fmt::Write>(&mut self, f: &mut fmt::Formatter<W>, times: u8) -> fmt::Result {
+        if self.any {
+            f.write_str(" ")?;
+        }
+        self.any = true;
+        if times > 1 {
+            write!(f, "{times}*")?;
+        }
+        write!(f, "{:x}", self.word)
+    }
+}
+
+/// A patch: its mask and its words.
+#[derive(Clone, Copy)]
+struct ShownPatch<'a>(&'a Patch);
+
+impl fmt::Display for ShownPatch<'_> {
+    fn fmt<W: fmt::Write>(&self, f: &mut fmt::Formatter<W>) -> fmt::Result {
+        write!(f, "{:x}: {}", self.0.mask, ShownWords(&self.0.row.words))
+    }
+}

@@ -1,0 +1,222 @@
+//! Cases of `dataset_writer`.
+ghost use Rattle.std.specs.Prelude.{◌≡◌, ◌<◌, length};
+ghost use Rattle.row_words.specs.Belonging.{Belongs};
+ghost use Rattle.row_words.specs.Patches.{IsPatchOf};
+ghost use Rattle.dataset_writer.specs.Standing.{HoldsRowOf};
+ghost use Rattle.dataset_writer.specs.Props.{HoldsRowOf-prop};
+ghost use Rattle.frame_codec.specs.Words.{IsFrameOf};
+
+use crate::bench::Answer;
+use crate::fields::{Case, Put};
+use case_lines::{Line, LineFault};
+use dataset_meta::{Field, Meta, Name32};
+use dataset_writer::{Turn, Writer, WriterSettings};
+use frame_codec::{Frame, FrameKind};
+use row_words::{Patch, Row};
+use std::alloc::Global;
+use std::fmt::Write;
+use ua_values::{Kind, Value};
+
+/// Turns that a writer has room for.
+const TURNS: u32 = 70_000;
+
+/// The writer of the last line `writer`, and the data set of the last line `data` where no writer has it yet.
+#[derive(Drop)]
+pub struct WriterRows {
+    next: Option<Case>,
+    served: Option<Served>,
+}
+
+impl WriterRows {
+    pub fn new() -> WriterRows {
+        WriterRows {
+            next: None,
+            served: None,
+        }
+    }
+
+    /// `data NAME ..`: the data set of the next `writer` or `refresh`, with a UInt32 field for each name
+    pub fn data(&mut self, alloc: Global, line: &mut Line) -> Answer {
+        let mut fields = Vec::new(alloc);
+        for name in line.words() {
+            fields.push(Field {
+                name: Name32::new(name.as_bytes()).ok_or(LineFault::Condition)?,
+                kind: Kind::UInt32,
+                cap: 0,
+            })?;
+        }
+        self.next = Some(Case::opening(fields, 7, 3, false)?);
+        Ok(None)
+    }
+
+    /// `writer FIRST KEY_FRAME_COUNT KEEP_ALIVE VERSIONS`: a fresh writer whose first number is FIRST
+    pub fn writer(&mut self, alloc: Global, line: &mut Line) -> Answer {
+        let settings = WriterSettings {
+            first_number: line.u16()?,
+            key_frame_count: line.u32()?,
+            keep_alive: line.u64()?,
+            versions: line.word()? == "yes",
+        };
+        if settings.key_frame_count == 0 {
+            return Err(LineFault::Condition);
+        }
+        let case = self.next_case()?;
+        let Ok(writer) = Writer::new(alloc, settings, TURNS) else {
+            return Err(LineFault::Memory);
+        };
+        self.served = Some(Served { case, writer });
+        Ok(None)
+    }
+
+    /// `refresh`: the writer is fresh, and its data set from now on is that of a line `data` since
+    pub fn refresh(&mut self) -> Answer {
+        let Some(served) = self.served.take() else {
+            return Err(LineFault::Missing);
+        };
+        let Served { case, mut writer } = served;
+        writer.refresh();
+        let case = match self.next.take() {
+            Some(grown) => grown,
+            None => case,
+        };
+        self.served = Some(Served { case, writer });
+        Ok(None)
+    }
+
+    /// `turn NOW VERSION VALUE ..`, or `closing` for `turn`: the frame's kind, its number, for a delta frame INDEX=VALUE of each
+    /// change, and the version where the frame carries it; or `quiet`
+    pub fn turn(&mut self, alloc: Global, line: &mut Line, closing: bool) -> Answer {
+        let (now, version) = (line.u64()?, line.u64()?);
+        let values = values_of(alloc, line)?;
+        let Some(served) = &mut self.served else {
+            return Err(LineFault::Missing);
+        };
+        Ok(Some(served.turn(alloc, now, version, &values, closing)?))
+    }
+
+    /// `quiet TURNS NOW VERSION VALUE ..`: whether so many turns, each the same, were all quiet
+    pub fn quiet(&mut self, alloc: Global, line: &mut Line) -> Answer {
+        let turns = line.u32()?;
+        let (now, version) = (line.u64()?, line.u64()?);
+        let values = values_of(alloc, line)?;
+        let Some(served) = &mut self.served else {
+            return Err(LineFault::Missing);
+        };
+        let mut quiet = true;
+        for _ in 0..turns {
+            quiet &= served.turn(alloc, now, version, &values, false)?.as_str() == "quiet";
+        }
+        let answer = if quiet { "yes" } else { "no" };
+        Ok(Some(format!(in alloc; "{answer}")?))
+    }
+
+    /// `log`: PLACE:VERSION of each data frame
+    pub fn log(&self, alloc: Global) -> Answer {
+        let Some(served) = &self.served else {
+            return Err(LineFault::Missing);
+        };
+        let mut text = String::new(alloc);
+        for (place, version) in served.writer.log() {
+            let before = if text.is_empty() { "" } else { " " };
+            write!(text, "{before}{place}:{version}")?;
+        }
+        Ok(Some(text))
+    }
+
+    /// The data set that no writer has yet, or that of the writer before.
+    fn next_case(&mut self) -> Result<Case, LineFault> {
+        if let Some(case) = self.next.take() {
+            return Ok(case);
+        }
+        match self.served.take() {
+            Some(served) => Ok(served.case),
+            None => Err(LineFault::Missing),
+        }
+    }
+}
+
+/// A value for each field, Good.
+fn values_of(alloc: Global, line: &Line) -> Result<Vec<Put>, LineFault> {
+    let mut values = Vec::new(alloc);
+    for (index, word) in line.words().enumerate() {
+        values.push(Put {
+            index: u8::try_from(index).map_err(|_| LineFault::Condition)?,
+            value: Value::UInt32(word.parse::<u32>().map_err(|_| LineFault::Number)?),
+            status: 0,
+        })?;
+    }
+    Ok(values)
+}
+
+/// A writer, with its data set and the row of the last turn.
+#[derive(Drop)]
+struct Served {
+    case: Case,
+    writer: Writer,
+    ghost holds: { HoldsRowOf case.meta writer } by { HoldsRowOf-prop case.meta writer },
+}
+
+impl Served {
+    fn turn(
+        &mut self,
+        alloc: Global,
+        now: u64,
+        version: u64,
+        values: &[Put],
+        closing: bool,
+    ) -> Result<String, LineFault> {
+        if self.writer.left() == 0 {
+            return Err(LineFault::Condition);
+        }
+        self.case.set_all(values)?;
+        let Case { meta, row } = &self.case;
+        match self.writer.turn(meta, now, row, version, closing) {
+            Turn::Send(frame) => frame_text(alloc, meta, &frame),
+            Turn::Quiet => Ok(format!(in alloc; "quiet")?),
+        }
+    }
+}
+
+/// Kind, number, changes and version of a frame.
+fn frame_text(alloc: Global, meta: &Meta, frame: &Frame) -> Result<String, LineFault>
+    requires { IsFrameOf meta.now frame.now }
+{
+    let kind = match &frame.kind {
+        FrameKind::Whole(_) => "whole",
+        FrameKind::Change(_) => "change",
+        FrameKind::Alive => "alive",
+    };
+    let mut text = format!(in alloc; "{kind}")?;
+    if let Some(number) = frame.number {
+        write!(text, " {number}")?;
+    }
+    if let FrameKind::Change(patch) = &frame.kind {
+        push_changes(&mut text, meta, patch)?;
+    }
+    if let (Some(major), Some(minor)) = (frame.major, frame.minor) {
+        write!(text, " version {major}.{minor}")?;
+    }
+    Ok(text)
+}
+
+/// INDEX=VALUE of each field that is marked.
+fn push_changes(text: &mut String, meta: &Meta, patch: &Patch) -> Result<(), LineFault>
+    requires { IsPatchOf meta.now patch.now }
+{
+    for index in 0..meta.fields().len() {
+        if patch.mask >> (index % 64) & 1 == 1 {
+            push_change(text, meta, &patch.row, index as u8)?;
+        }
+    }
+    Ok(())
+}
+
+fn push_change(text: &mut String, meta: &Meta, row: &Row, index: u8) -> Result<(), LineFault>
+    requires belongs { Belongs meta.now row.now.words }
+    requires index { index < length meta.now.fields }
+{
+    if let Value::UInt32(value) = row.field(meta, index) {
+        write!(text, " {index}={value}")?;
+    }
+    Ok(())
+}
