@@ -377,16 +377,39 @@ def frame(word, data):
     return text
 
 
-# ---- rows
+# ---- rows as RawData (OPC 10000-14, field encoding RawData)
+
+
+def raw_value(reader, kind, cap):
+    if kind not in (12, 15):
+        return plain_value(reader, kind)[0]
+    length = reader.number(4, signed=True)
+    if length < -1 or length > cap:
+        raise Fault("BadLength")
+    data = reader.take(max(length, 0))
+    if kind == 12 and not is_utf8(data):
+        raise Fault("BadUtf8")
+    reader.take(cap - len(data))
+    return f"{'String' if kind == 12 else 'ByteString'} {spaced(data)}"
+
+
+def raw_row(word, data):
+    reader = Reader(data)
+    fields = [raw_value(reader, kind, cap) for kind, cap in Meta(word).fields]
+    return "row" + "".join(f", {index}={text}" for index, text in enumerate(fields)) + f", rest {reader.rest()}"
+
+
+# ---- rows of cases
 
 
 def answered(call, words, data):
     try:
         if call == "split":
             return split(int(words[0]), bytes.fromhex("".join(words[1:])) + data)
-        front = bytes.fromhex("".join(words[1:] if call == "read_frame" else words))
-        if call == "read_frame":
-            return frame(words[0], front + data)
+        of_meta = {"read_frame": frame, "read_raw": raw_row}
+        front = bytes.fromhex("".join(words[1:] if call in of_meta else words))
+        if call in of_meta:
+            return of_meta[call](words[0], front + data)
         return {"read_header": header, "read_chunk": chunk, "read_variant": read_variant, "read_data_value": read_data_value}[call](front + data)
     except Fault as fault:
         return str(fault)

@@ -5,6 +5,7 @@ pub mod Puttings
 pub mod Lengths
 pub mod Again
 pub mod Ranges
+pub mod FaultLaws
 pub mod FlagLaws
 pub mod TextLaws
 pub mod IdLaws

@@ -1,3 +1,4 @@
+pub mod Flags
 pub mod Formats
 pub mod Headers
 pub mod Layout

@@ -1,9 +1,10 @@
 //! Laws of headers, each the contract of a function that does nothing.
-ghost use Rattle.std.specs.Prelude.{◌≡◌, ◌+◌, ◌*◌, ◌/◌, ◌∷◌, [], ◌++◌, ◌<◌, ◌^◌, ◌↔◌, ◌⊎◌, ℕ, List, length, take, drop, slice_index, All, Some, Ok, Err};
+ghost use Rattle.std.specs.Prelude.{◌≡◌, ◌≢◌, ◌+◌, ◌*◌, ◌/◌, ◌%◌, ◌∷◌, [], ◌++◌, ◌<◌, ◌^◌, ◌↔◌, ◌⊎◌, ℕ, List, length, take, drop, slice_index, All, Some, Ok, Err};
 ghost use Rattle.std.specs.Int.{w16, from_le_bytes, to_le_bytes};
 ghost use Rattle.std.specs.List.{flat_map};
 ghost use Rattle.uadp_header.specs.declared.fault.HeaderFault.{HeaderFault as AnyFault};
 ghost use Rattle.uadp_header.specs.declared.fault.HeaderFault.TheVariants as faults;
+ghost use Rattle.uadp_header.specs.Flags.{HasExtended1, HasExtended2};
 ghost use Rattle.uadp_header.specs.Formats.{Spells, Fails};
 ghost use Rattle.uadp_header.specs.Headers.{HeaderValue, SecurityValue, ids_of};
 ghost use Rattle.uadp_header.specs.Layout.{header, header_at};
@@ -70,6 +71,21 @@ pub fn reading_is_by_parts()
         → (header_at bytes ≡ Ok (one, rest)) ↔ Spells header bytes one rest }
     ensures faults { (bytes : List ℕ) (fault : AnyFault)
         → (header_at bytes ≡ Err fault) ↔ Fails header bytes fault }
+{}
+
+/// The flags are judged from left to right, each by its bits, whatever follows: another version, a PublisherId's type that
+/// isn't one, the message types 1 and 2 of discovery, and those that are reserved.
+pub fn flags_are_judged_by_their_bits()
+    ensures version { (flags : ℕ) (rest : List ℕ) → flags % 16 ≢ 1
+        → header_at (flags ∷ rest) ≡ Err (faults.Version (flags % 16)) }
+    ensures publisher_type { (flags extended1 : ℕ) (rest : List ℕ) → HasExtended1 flags → 4 < extended1 % 8
+        → header_at (flags ∷ extended1 ∷ rest) ≡ Err faults.BadPublisherType }
+    ensures discovery { (flags extended1 extended2 : ℕ) (rest : List ℕ) → HasExtended2 flags extended1
+        → (extended2 / 4 % 8 ≡ 1) ⊎ (extended2 / 4 % 8 ≡ 2)
+        → header_at (flags ∷ extended1 ∷ extended2 ∷ rest) ≡ Err faults.DiscoveryOut }
+    ensures message_type { (flags extended1 extended2 : ℕ) (rest : List ℕ) → HasExtended2 flags extended1
+        → 2 < extended2 / 4 % 8
+        → header_at (flags ∷ extended1 ∷ extended2 ∷ rest) ≡ Err faults.ReservedBits }
 {}
 
 /// Bytes begin with one header and one payload, or have one fault.
