@@ -122,6 +122,13 @@ impl Fault {
         }
     }
 
+    /// All faults, in the order of their numbers.
+    pub fn all() -> &'static [Fault]
+        ensures { result.now ≡ all_faults }
+    {
+        &FAULTS
+    }
+
     /// The fault that has a number.
     pub fn numbered(number: u8) -> Option<Fault>
         ensures { result ≡ find (λ fault. number_of fault == number) all_faults }

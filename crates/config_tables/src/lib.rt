@@ -3,7 +3,6 @@
 #![tactic(auto)]
 
 mod class_id;
-mod decimal;
 mod document;
 mod fault;
 mod grammar;
@@ -15,7 +14,6 @@ mod values;
 mod words;
 
 pub use class_id::{guid_spelled, hex_bytes};
-pub use decimal::decimal_number;
 pub use document::{Placed, tables_of};
 pub use fault::Fault;
 pub use grammar::{Choice, Form, Row, Spelling, rows_of};
@@ -23,5 +21,6 @@ pub use key::Key;
 pub use path::Path;
 pub use place::{Part, Place};
 pub use publisher::Publisher;
+pub use value_texts::decimal_number;
 pub use values::{number_of, row_fault, text_if, text_of, text_or, truth_of, value_of};
 pub use words::{Layout, NumberingWord, Policy, Security, kind_named};

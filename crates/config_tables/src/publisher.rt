@@ -3,8 +3,8 @@ ghost use Rattle.std.specs.Prelude.{◌≡◌, ◌≤◌, option_map, option_and
 ghost use Rattle.std.specs.List.{list_all};
 ghost use Rattle.config_tables.specs.Texts.{after, number_spelled, number_after, is_printable, is_id, id_spelled, publisher_named, width_of};
 
-use crate::decimal::decimal_number;
 use ua_values::Text;
+use value_texts::decimal_number;
 
 /// Who publishes (OPC 10000-14 7.2.4.4, PublisherId). A text is 1 to 64 bytes from `!` to `~`.
 #[derive(Clone, Copy, Debug, PartialEq, Eq)]

@@ -1,7 +1,7 @@
 use Rattle.std.proofs.Common.{arith, ◌≡◌, length, get_or}
-use Rattle.config_tables.proofs.Decimals.{number_found, number_none, no_text, no_plus, no_zero, no_empty, single}
-use Rattle.config_tables.proofs.decimal.decimal_number.Goals as goal
-use Rattle.config_tables.proofs.decimal.decimal_number.Goals.{else-word-eq48-via-then-word-eq48+else-word-gt1, else-word-eq48-via-else-word-eq48}
+use Rattle.value_texts.proofs.Decimals.{number_found, number_none, no_text, no_plus, no_zero, no_empty, single}
+use Rattle.value_texts.proofs.decimal.decimal_number.Goals as goal
+use Rattle.value_texts.proofs.decimal.decimal_number.Goals.{else-word-eq48-via-then-word-eq48+else-word-gt1, else-word-eq48-via-else-word-eq48}
 
 pub returns-then-is_empty : goal.returns-then-is_empty
 returns-then-is_empty c = no_empty c.args.word.now (grind arith)

@@ -1,0 +1,5 @@
+pub mod Candidates
+pub mod Decimals
+pub mod OfKinds
+pub mod Spellings
+pub mod TextLaws
