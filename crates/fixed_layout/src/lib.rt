@@ -20,7 +20,7 @@ pub use laws::{
     values_are_refused_at_their_first_fault, written_rows_are_read,
 };
 pub use reading::read_raw;
-pub use size::raw_size;
+pub use size::{raw_size, raw_width};
 pub use slot::Slot;
 pub use slot_fault::SlotFault;
 pub use slots::Slots;

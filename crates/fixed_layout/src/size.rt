@@ -17,9 +17,9 @@ pub fn raw_size(meta: &Meta) -> u32
     size
 }
 
-/// How many bytes a value of this field takes.
+/// How many bytes a value of this field takes as RawData: a text or a byte string its cap, behind a length.
 #[inline(always)]
-fn raw_width(field: &Field) -> u32
+pub fn raw_width(field: &Field) -> u32
     ensures width { result ≡ raw_width_of field.now }
     ensures small { result ≤ 65539 }
 {

@@ -10,25 +10,24 @@ use Rattle.toml.specs.Data.{Members}
 use Rattle.config_tables.specs.declared.key.Key.TheVariants as key
 use Rattle.config_tables.specs.declared.place.Part.TheVariants.{DataSet, KeyGroup, Group, ReadGroup}
 use Rattle.config_tables.specs.declared.place.Place.{Place}
-use Rattle.config_tables.specs.Places.{outer_key, is_outer, is_inner, shares_ids}
+use Rattle.config_tables.specs.Places.{outer_key, is_outer, is_inner, is_inner_of, shares_ids}
 use Rattle.config_tables.specs.Tables.{Located, inner_tables, tables_at, tables}
 use Rattle.config_tables.specs.Values.{number_at}
 use Rattle.ps_config.specs.declared.parts.GroupPart.{GroupPart}
 use Rattle.ps_config.specs.declared.parts.WriterPart.{WriterPart}
 use Rattle.ps_config.specs.declared.parts.ReadGroupPart.{ReadGroupPart}
+use Rattle.ps_config.specs.declared.parts.ReaderPart.{ReaderPart}
 use Rattle.ps_config.specs.Configs.{config_of, data_set_of, key_group_of, group_of, writer_of, read_group_of, reader_of}
 use Rattle.ps_config.specs.Faults.{id_of, id_key}
-use Rattle.ps_config.specs.Fields.{outer_tables}
+use Rattle.ps_config.specs.Fields.{outer_tables, elements_of}
 use Rattle.ps_config.specs.Meaning.{PassTables}
 use Rattle.ps_config.specs.Sound.{AreDistinct, IsFew, writers, readers, group_ids, writer_ids}
 use Rattle.ps_config.proofs.Clean.{clean}
 use Rattle.ps_config.proofs.Elements.{few_elements, few_writers, few_readers}
-use Rattle.ps_config.proofs.Passing.{outer_place, any_inner_place}
+use Rattle.ps_config.proofs.Pairs.{Test, pairs}
+use Rattle.ps_config.proofs.Passing.{outer_place, inner_place, any_inner_place}
 use Rattle.ps_config.proofs.Rising.{map_twice}
 use Rattle.ps_config.proofs.Structure.{Element, outer_table, outers, inners, owned}
-
-abbrev Test : Type 0
-Test = Located → Bool
 
 itself : (n : ℕ) → (n == n) ≡ true
 itself n = grind (arith, nat_tests)
@@ -48,33 +47,12 @@ among p num n (t ∷ ts) = go (p t) (among p num n ts)
     go true same = ap (λ r. (n == num t) || r) same
     go false same = same
 
-distinct_from : (p : Test) (num : Located → ℕ) (before rest : List Located) → AreDistinct (map num (filter p before))
-    → ((front : List Located) (t : Located) (back : List Located) → rest ≡ front ++ t ∷ back → p t ≡ true → list_any (λ s. p s && num t == num s) (before ++ front) ≡ false)
-    → AreDistinct (map num (filter p (before ++ rest)))
-distinct_from p num before [] so each = subst (λ (l : List Located). AreDistinct (map num (filter p l))) (sym (append-nil before)) so
-distinct_from p num before (t ∷ rest) so each =
-    let more : AreDistinct (map num (filter p (before ++ t ∷ []))) = go (p t) refl in
-    subst (λ (l : List Located). AreDistinct (map num (filter p l))) (append_assoc before (t ∷ []) rest)
-    (distinct_from p num (before ++ t ∷ []) rest more
-    (λ front s back is passes. subst (λ (l : List Located). list_any (λ x. p x && num s == num x) l ≡ false) (sym (append_assoc before (t ∷ []) front))
-    (each (t ∷ front) s back (ap (λ l. t ∷ l) is) passes)))
-  where
-    go : (b : Bool) → p t ≡ b → AreDistinct (map num (filter p (before ++ t ∷ [])))
-    go true is =
-        let none : list_any (λ s. p s && num t == num s) before ≡ false = subst (λ (l : List Located). list_any (λ s. p s && num t == num s) l ≡ false) (append-nil before) (each [] t rest refl is) in
-        let parts : map num (filter p (before ++ t ∷ [])) ≡ map num (filter p before) ++ num t ∷ [] =
-        ap (map num) (filter-append p before (t ∷ []) ∙ ap (λ b. filter p before ++ cond b (t ∷ []) []) is) ∙ map-append num (filter p before) (t ∷ []) in
-        subst AreDistinct (sym parts)
-        (all_pairs_push (λ one other. one ≢ other) (map num (filter p before)) (num t) so
-        (not_among (num t) (map num (filter p before)) (sym (among p num (num t) before) ∙ none)))
-    go false is =
-        let parts : filter p (before ++ t ∷ []) ≡ filter p before = filter-append p before (t ∷ []) ∙ ap (λ b. filter p before ++ cond b (t ∷ []) []) is ∙ append-nil (filter p before) in
-        subst (λ (l : List Located). AreDistinct (map num l)) (sym parts) so
-
 distinct : (p : Test) (num : Located → ℕ) (ts : List Located)
     → ((front : List Located) (t : Located) (back : List Located) → ts ≡ front ++ t ∷ back → p t ≡ true → list_any (λ s. p s && num t == num s) front ≡ false)
     → AreDistinct (map num (filter p ts))
-distinct p num ts each = distinct_from p num [] ts (λ i j d lt within. absurd (omega arith)) each
+distinct p num ts each =
+    pairs (λ one other. one ≢ other) p num ts
+    (λ front t back split is. not_among (num t) (map num (filter p front)) (sym (among p num (num t) front) ∙ each front t back split is))
 
 same_on : (p : Test) (f g : Located → ℕ) (ts : List Located) → ((t : Located) → p t ≡ true → f t ≡ g t) → map f (filter p ts) ≡ map g (filter p ts)
 same_on p f g [] same = refl
@@ -99,17 +77,32 @@ group_ids_distinct ts h =
     (distinct p id_of ts (λ front t back split is.
     subst (λ (q : Place). list_any (λ s. shares_ids q s.place && id_of t == id_of s) front ≡ false) (outer_place Group t.place is) (clean ts h front t back split).double_id))
 
+-- ---- the writers that the readers of one read group read
+
+abbrev read_id_at : Located → ℕ
+read_id_at t = number_at key.Writer 65535 0 t.members
+
+pub read_ids_distinct : (ts : List Located) → PassTables ts → (index : ℕ) → AreDistinct (map (λ (reader : ReaderPart). reader.writer) (map (reader_of ts) (elements_of ReadGroup index ts)))
+unfolding reader_of
+read_ids_distinct ts h index =
+    let p = λ (t : Located). is_inner_of ReadGroup index t.place in
+    let ids : map id_of (filter p ts) ≡ map read_id_at (filter p ts) =
+    same_on p id_of read_id_at ts (λ t is. ap (λ (q : Place). number_at (id_key q) 65535 0 t.members) (inner_place ReadGroup index t.place is).1) in
+    subst AreDistinct (sym (map_twice (reader_of ts) (λ (reader : ReaderPart). reader.writer) (filter p ts) ∙ sym ids))
+    (distinct p id_of ts (λ front t back split is.
+    subst (λ (q : Place). list_any (λ s. shares_ids q s.place && id_of t == id_of s) front ≡ false) (inner_place ReadGroup index t.place is).1 (clean ts h front t back split).double_id))
+
 -- ---- writers of all groups
 
-flat_map_map : {X Y Z : Type 0} (F : Y → List Z) (f : X → Y) (xs : List X) → flat_map F (map f xs) ≡ flat_map (λ x. F (f x)) xs
+pub flat_map_map : {X Y Z : Type 0} (F : Y → List Z) (f : X → Y) (xs : List X) → flat_map F (map f xs) ≡ flat_map (λ x. F (f x)) xs
 flat_map_map F f [] = refl
 flat_map_map F f (x ∷ xs) = ap (λ l. F (f x) ++ l) (flat_map_map F f xs)
 
-map_flat : {X Y Z : Type 0} (F : X → List Y) (g : Y → Z) (xs : List X) → flat_map (λ x. map g (F x)) xs ≡ map g (flat_map F xs)
+pub map_flat : {X Y Z : Type 0} (F : X → List Y) (g : Y → Z) (xs : List X) → flat_map (λ x. map g (F x)) xs ≡ map g (flat_map F xs)
 map_flat F g [] = refl
 map_flat F g (x ∷ xs) = ap (λ l. map g (F x) ++ l) (map_flat F g xs) ∙ sym (map-append g (F x) (flat_map F xs))
 
-flat_same : {Z : Type 0} (f g : Element → List Z) (es : List Element) → ((front : List Element) (e : Element) (back : List Element) → es ≡ front ++ e ∷ back → f e ≡ g e) → flat_map f es ≡ flat_map g es
+pub flat_same : {Z : Type 0} (f g : Element → List Z) (es : List Element) → ((front : List Element) (e : Element) (back : List Element) → es ≡ front ++ e ∷ back → f e ≡ g e) → flat_map f es ≡ flat_map g es
 flat_same f g [] same = refl
 flat_same f g (e ∷ es) same =
     ap (λ l. l ++ flat_map f es) (same [] e es refl) ∙ ap (λ l. g e ++ l) (flat_same f g es (λ front x back is. same (e ∷ front) x back (ap (λ l. e ∷ l) is)))

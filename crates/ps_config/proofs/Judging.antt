@@ -1,5 +1,5 @@
 -- From what reading a document and judging its tables gave to what the bytes are.
-use Rattle.std.proofs.Common.{◌≡◌, ℕ, Bool, true, false, cond, List, Some, None, Ok, Err, option_map, refl, sym, ap, ◌∙◌, subst}
+use Rattle.std.proofs.Common.{◌≡◌, ℕ, Bool, true, false, cond, List, Some, None, Ok, Err, option_map, refl, sym, ap, ◌∙◌}
 use Rattle.std.specs.Str.{IsUtf8, is_utf8}
 use Rattle.std.proofs.lemmas.Str.{IsUtf8-from_is_utf8, is_utf8-from_IsUtf8}
 use Rattle.toml.specs.Data.{Members}
@@ -15,10 +15,6 @@ use Rattle.config_tables.specs.Paths.{path_text}
 use Rattle.ps_config.specs.Reading.{judged_by, judgement_of, configuration}
 use Rattle.ps_config.specs.Meaning.{PassTables}
 use Rattle.ps_config.specs.Refusals.{table_faults, first_at, refusal_by, refusal}
-use Rattle.ps_config.specs.Sound.{IsSound}
-use Rattle.ps_config.specs.FixedSound.{IsFixedSound}
-use Rattle.ps_config.proofs.Accepted.{sound_of}
-use Rattle.ps_config.proofs.FixedSound.{fixed_sound}
 use Rattle.ps_config.proofs.Scans.{none_stands}
 use Rattle.ps_config.proofs.Tables.{told_by_tables, told_last, at_place}
 use Rattle.config_tables.specs.Tables.{Located, tables}
@@ -60,12 +56,3 @@ accepted_config document ts config e none room is = accepted_of document ts conf
 
 pub passing_tables : (ts : List Located) → None ≡ refusal_by table_faults ts → PassTables ts
 passing_tables ts none = none_stands table_faults ts (sym none)
-
-pub sound_config : (document : Members) (ts : List Located) (config : Config) → ts ≡ tables document → None ≡ refusal_by table_faults ts → None ≡ first_at FrameLarge ts → config ≡ config_of ts
-    → IsSound config
-sound_config document ts config e none room is =
-    subst IsSound (sym (is ∙ ap config_of e))
-    (sound_of document (subst PassTables e (passing_tables ts none)) (ap (first_at FrameLarge) (sym e) ∙ sym room))
-
-pub fixed_config : (document : Members) (ts : List Located) (config : Config) → ts ≡ tables document → None ≡ refusal_by table_faults ts → config ≡ config_of ts → IsFixedSound config
-fixed_config document ts config e none is = subst IsFixedSound (sym (is ∙ ap config_of e)) (fixed_sound document (subst PassTables e (passing_tables ts none)))

@@ -15,7 +15,9 @@ pub mod MetaFacts
 pub mod Rising
 pub mod Hexes
 pub mod Sound
+pub mod Pairs
 pub mod Distinct
+pub mod Naming
 pub mod FixedSound
 pub mod Accepted
 pub mod BuiltIn

@@ -45,7 +45,8 @@ name_unless : (b : Bool) → is_fault BadName (unless b BadName) ≡ false → b
 name_unless true h = refl
 name_unless false h = sym h
 
-name_ok : (outer : Members) (o : Option Data) → is_none o ≡ false → is_fault WrongType (option_and_then (value_fault outer (Text spelling.Name)) o) ≡ false
+-- the name that has to be there, where no fault stands at it
+pub name_ok : (outer : Members) (o : Option Data) → is_none o ≡ false → is_fault WrongType (option_and_then (value_fault outer (Text spelling.Name)) o) ≡ false
     → is_fault BadName (option_and_then (value_fault outer (Text spelling.Name)) o) ≡ false → is_name (unwrap_or (option_and_then as_str o) []) ≡ true
 name_ok outer None a b c = absurd (false≢true (sym a))
 name_ok outer (Some (string s)) a b c = name_unless (is_name s) c

@@ -35,6 +35,7 @@ use Rattle.ps_config.specs.Rooms.{lacks_room}
 use Rattle.ps_config.specs.Settings.{policy_at, security_at}
 use Rattle.ps_config.specs.Sound.{IsWithin, IsKeyGroup, IsKeyed, IsWriter, IsGroup, IsReader, IsReadGroup}
 use Rattle.ps_config.proofs.Clean.{IsClean}
+use Rattle.ps_config.proofs.Distinct.{read_ids_distinct}
 use Rattle.ps_config.proofs.Elements.{IsOuterOf, IsInnerOf, IsOwn, outer_elements, inner_elements, own_elements, few_elements, few_keys}
 use Rattle.ps_config.proofs.Hexes.{hex_length}
 use Rattle.ps_config.proofs.MetaFacts.{accepted_meta}
@@ -185,6 +186,9 @@ writer_is ts h t s o =
       key_frame_count = given s 3 key.KeyFrameCount 1 65535 1 (ap (λ (q : Place). slice_get (rows_of q) 3) o.inner.place) (omega arith, omega arith) c.wrong c.bad_number;
       keep_alive = not_short alive (number_at key.Interval 3600000 0 t.members) _ _ refl refl
           (subst (λ (ms : Members). (nat_lt 0 alive && nat_lt alive (number_at key.Interval 3600000 0 ms)) ≡ false) o.outer short);
+      keep_alive_most = (given s 4 key.KeepAlive 0 3600000 0 (ap (λ (q : Place). slice_get (rows_of q) 4) o.inner.place) (omega arith, omega arith) c.wrong c.bad_number).1;
+      offset = (given s 7 key.Offset 0 65000 0 (ap (λ (q : Place). slice_get (rows_of q) 7) o.inner.place) (omega arith, omega arith) c.wrong c.bad_number).1;
+      size = (given s 8 key.Size 0 65000 0 (ap (λ (q : Place). slice_get (rows_of q) 8) o.inner.place) (omega arith, omega arith) c.wrong c.bad_number).1;
     }
 
 has_room : (ts : List Located) → StandsNowhere ts FrameLarge → (t : Located) → IsOuterOf Group ts t → lacks_room (config_of ts).publisher.id (config_of ts).dataset (group_of ts t) ≡ false
@@ -222,6 +226,9 @@ reader_is ts h index s o =
     record {
       writer = needed s 1 key.Writer 1 65535 0 (ap (λ (q : Place). slice_get (rows_of q) 1) o.place) c.missing c.wrong c.bad_number;
       dataset = data_set_there ts h o.before s 2 c (ap (λ (q : Place). slice_get (rows_of q) 2) o.place);
+      timeout = (given s 3 key.Timeout 0 3600000 0 (ap (λ (q : Place). slice_get (rows_of q) 3) o.place) (omega arith, omega arith) c.wrong c.bad_number).1;
+      offset = (given s 5 key.Offset 0 65000 0 (ap (λ (q : Place). slice_get (rows_of q) 5) o.place) (omega arith, omega arith) c.wrong c.bad_number).1;
+      size = (given s 6 key.Size 0 65000 0 (ap (λ (q : Place). slice_get (rows_of q) 6) o.place) (omega arith, omega arith) c.wrong c.bad_number).1;
     }
 
 or_second : (a b : Bool) → b ≡ true → (a || b) ≡ true
@@ -234,6 +241,7 @@ read_group_is ts h t o = record {
   keys = keyed ts h o.front t 7 o.is_clean (or_second (is_outer Group t.place) (is_outer ReadGroup t.place) o.passes) (ap (λ (q : Place). slice_get (rows_of q) 7) o.place);
   readers = All-map (IsReader (config_of ts)) (reader_of ts) (elements_of ReadGroup (index_of t.place) ts)
       (λ k d within. reader_is ts h (index_of t.place) _ (inner_elements ReadGroup (index_of t.place) ts h k d within));
+  one_reader = read_ids_distinct ts h (index_of t.place);
 }
 
 pub read_groups_are : (ts : List Located) → PassTables ts → All (IsReadGroup (config_of ts)) (map (read_group_of ts) (outer_tables ReadGroup ts))

@@ -190,7 +190,7 @@ owns_same part n document (x ∷ front) e back h =
 
 -- ---- all tables of a document
 
-split5 : (p : Test) (a b c d e : List Located) → filter p (a ++ b ++ c ++ d ++ e) ≡ filter p a ++ filter p b ++ filter p c ++ filter p d ++ filter p e
+pub split5 : (p : Test) (a b c d e : List Located) → filter p (a ++ b ++ c ++ d ++ e) ≡ filter p a ++ filter p b ++ filter p c ++ filter p d ++ filter p e
 split5 p a b c d e =
     filter-append p (a ++ b ++ c ++ d) e
     ∙ ap (λ l. l ++ filter p e) (filter-append p (a ++ b ++ c) d ∙ ap (λ l. l ++ filter p d) (filter-append p (a ++ b) c ∙ ap (λ l. l ++ filter p c) (filter-append p a b)))
@@ -202,7 +202,7 @@ record IsOnlyOf (p : Test) (part : Part) (document : Members) (found : List Loca
   other : (own : Part) → is_part part own ≡ false → filter p (tables_of own document) ≡ []
   same : filter p (tables_of part document) ≡ found
 
-first_none : (p : Test) (document : Members) (o : Option Data) → p (located Root document document) ≡ false → ((ms : Members) → p (located Publisher document ms) ≡ false)
+pub first_none : (p : Test) (document : Members) (o : Option Data) → p (located Root document document) ≡ false → ((ms : Members) → p (located Publisher document ms) ≡ false)
     → filter p (located Root document document ∷ publisher_in document o) ≡ []
 first_none p document None root publisher = ap (λ b. cond b (located Root document document ∷ []) []) root
 first_none p document (Some (table ms)) root publisher =

@@ -1,5 +1,5 @@
 -- What holds of every accepted configuration.
-use Rattle.std.specs.Prelude.{◌≡◌, ◌≢◌, ◌⊎◌, ℕ, ◌<◌, ◌≤◌, Bool, false, List, length, map, flat_map, is_some, slice_index, All, AllPairs, Option, IfSome}
+use Rattle.std.specs.Prelude.{◌≡◌, ◌≢◌, ◌⊎◌, ℕ, ◌<◌, ◌≤◌, Bool, false, List, ◌∷◌, ◌++◌, length, map, flat_map, codes, is_some, slice_index, All, AllPairs, Option, IfSome}
 use Rattle.std.specs.List.Sorted.{IsStrictlyIncreasing}
 use Rattle.dataset_meta.specs.Metas.{IsMeta}
 use Rattle.group_keys.specs.KeySets.{encrypting_length}
@@ -12,6 +12,10 @@ use Rattle.ps_config.specs.declared.parts.ReaderPart.{ReaderPart}
 use Rattle.ps_config.specs.Configs.{is_long}
 use Rattle.ps_config.specs.Headers.{is_secured}
 use Rattle.ps_config.specs.Rooms.{lacks_room}
+
+-- none stands twice
+abbrev pub AreDistinct : {X : Type 0} → List X → Type 0
+AreDistinct items = AllPairs (λ one other. one ≢ other) items
 
 -- from the first to the second
 abbrev pub IsWithin : ℕ → ℕ → ℕ → Type 0
@@ -42,6 +46,9 @@ pub record IsWriter (config : Config) (group : GroupPart) (writer : WriterPart) 
   pub dataset : writer.dataset < length config.dataset
   pub key_frame_count : IsWithin 1 65535 writer.key_frame_count
   pub keep_alive : (writer.keep_alive ≡ 0) ⊎ (group.interval ≤ writer.keep_alive)
+  pub keep_alive_most : writer.keep_alive ≤ 3600000
+  pub offset : writer.offset ≤ 65000
+  pub size : writer.size ≤ 65000
 
 pub record IsGroup (config : Config) (group : GroupPart) : Type 0 where
   pub id : IsWithin 1 65535 group.id
@@ -54,10 +61,18 @@ pub record IsGroup (config : Config) (group : GroupPart) : Type 0 where
 pub record IsReader (config : Config) (reader : ReaderPart) : Type 0 where
   pub writer : IsWithin 1 65535 reader.writer
   pub dataset : reader.dataset < length config.dataset
+  pub timeout : reader.timeout ≤ 3600000
+  pub offset : reader.offset ≤ 65000
+  pub size : reader.size ≤ 65000
+
+-- the writers' ids that a group's readers read, one each
+abbrev pub read_ids : ReadGroupPart → List ℕ
+read_ids group = map (λ reader. reader.writer) group.reader
 
 pub record IsReadGroup (config : Config) (group : ReadGroupPart) : Type 0 where
   pub keys : IsKeyed config (is_secured group.security) group.keygroup
   pub readers : All (IsReader config) group.reader
+  pub one_reader : AreDistinct (read_ids group)
 
 -- the writers of all groups, in order
 abbrev pub writers : Config → List WriterPart
@@ -73,6 +88,24 @@ writer_ids config = map (λ writer. writer.id) (writers config)
 abbrev pub group_ids : Config → List ℕ
 group_ids config = map (λ group. group.id) config.group
 
+-- the names of components (OPC 10000-14 6.2.1, PubSubState): a group's before its writers', a read group's before its readers'
+abbrev pub group_names : GroupPart → List (List ℕ)
+group_names group = group.name ∷ map (λ writer. writer.name) group.writer
+
+abbrev pub read_group_names : ReadGroupPart → List (List ℕ)
+read_group_names group = group.name ∷ map (λ reader. reader.name) group.reader
+
+-- the two that aren't in the document are first
+abbrev pub component_names : Config → List (List ℕ)
+component_names config =
+    codes "root" ∷ codes "connection" ∷ flat_map group_names config.group ++ flat_map read_group_names config.readgroup
+
+abbrev pub data_set_names : Config → List (List ℕ)
+data_set_names config = map (λ meta. meta.name) config.dataset
+
+abbrev pub key_group_names : Config → List (List ℕ)
+key_group_names config = map (λ group. group.name) config.keygroup
+
 -- no more of each than there may be
 pub record IsFew (config : Config) : Type 0 where
   pub datasets : length config.dataset ≤ 8
@@ -82,10 +115,6 @@ pub record IsFew (config : Config) : Type 0 where
   pub writers : length (writers config) ≤ 16
   pub readers : length (readers config) ≤ 16
 
--- no number stands twice
-abbrev pub AreDistinct : List ℕ → Type 0
-AreDistinct numbers = AllPairs (λ one other. one ≢ other) numbers
-
 pub record IsSound (config : Config) : Type 0 where
   pub few : IsFew config
   pub metas : All (λ meta. IsMeta meta.fields) config.dataset
@@ -94,3 +123,6 @@ pub record IsSound (config : Config) : Type 0 where
   pub readgroups : All (IsReadGroup config) config.readgroup
   pub one_group : AreDistinct (group_ids config)
   pub one_writer : AreDistinct (writer_ids config)
+  pub one_component : AreDistinct (component_names config)
+  pub one_data_set : AreDistinct (data_set_names config)
+  pub one_key_group : AreDistinct (key_group_names config)

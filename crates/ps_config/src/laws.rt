@@ -6,11 +6,14 @@ ghost use Rattle.config_tables.specs.declared.place.Place.{Place};
 ghost use Rattle.config_tables.specs.declared.publisher.Publisher.{Publisher};
 ghost use Rattle.ps_config.specs.BuiltIn.{built_in_text, built_in_config};
 ghost use Rattle.ps_config.specs.Meaning.{IsRefusedBy, IsAccepted};
+ghost use Rattle.ps_config.specs.declared.parts.Config.{Config};
 ghost use Rattle.ps_config.specs.declared.parts.GroupPart.{GroupPart};
+ghost use Rattle.ps_config.specs.FixedSound.{IsFixedSound};
 ghost use Rattle.ps_config.specs.Headers.{signature_len};
 ghost use Rattle.ps_config.specs.Rooms.{chunk_room, datagrams_in, frame_header, IsRoomy};
 ghost use Rattle.ps_config.specs.Reading.{configuration};
 ghost use Rattle.ps_config.specs.Refusals.{refusal};
+ghost use Rattle.ps_config.specs.Sound.{IsSound};
 ghost use Rattle.config_tables.specs.Tables.{Located};
 
 /// Tables are refused exactly by the first of the faults that stands anywhere, at the first table at
@@ -38,7 +41,21 @@ pub fn a_group_with_room_has_room_for_a_keep_alive()
         → frame_header publisher group ids + 12 + signature_len group.security ≤ group.max_size }
 {}
 
+/// Whatever bytes a configuration is accepted from, it is sound.
+pub fn an_accepted_configuration_is_sound()
+    ensures sound { (bytes : List ℕ) (config : Config) → configuration bytes ≡ Ok config
+        → IsSound config }
+    ensures fixed { (bytes : List ℕ) (config : Config) → configuration bytes ≡ Ok config
+        → IsFixedSound config }
+{}
+
 /// The built-in configuration is what its text is read as.
 pub fn the_built_in_text_is_read()
     ensures { configuration built_in_text ≡ Ok built_in_config }
+{}
+
+/// So it is sound as well.
+pub fn the_built_in_configuration_is_sound()
+    ensures sound { IsSound built_in_config }
+    ensures fixed { IsFixedSound built_in_config }
 {}

@@ -22,7 +22,8 @@ pub use config_tables::{
 };
 pub use header::{HeaderSettings, publisher_id};
 pub use laws::{
-    a_group_with_room_has_room_for_a_keep_alive, the_built_in_text_is_read, the_first_fault_is_told,
+    a_group_with_room_has_room_for_a_keep_alive, an_accepted_configuration_is_sound,
+    the_built_in_configuration_is_sound, the_built_in_text_is_read, the_first_fault_is_told,
 };
 pub use parts::{
     Config, GroupPart, KeyBytes, KeyGroupPart, KeyPart, Parts, PublisherPart, ReadGroupPart,

@@ -6,10 +6,12 @@ use crate::header::HeaderSettings;
 use arrayvec::ArrayVec;
 use config_tables::{Layout, NumberingWord, Policy, Publisher, Security};
 use dataset_meta::{Meta, Name32};
+use std::alloc::AllocError;
+use std::fmt::{self, Debug, Formatter, Write};
 use std::marker::Model;
 
 /// Parts in the order of the document. Contracts see them as a list.
-#[derive(Drop)]
+#[derive(Debug, Drop)]
 pub struct Parts<T> {
     parts: Vec<T>,
 }
@@ -42,6 +44,16 @@ impl<T> Parts<T> {
     {
         let Parts { parts } = self;
         parts
+    }
+}
+
+impl<T: Clone> Clone for Parts<T> {
+    ghost use Rattle.std.specs.List.{AllZip};
+
+    ghost is_clone = { λ parts copy. AllZip T.is_clone parts copy };
+
+    fn clone(&self) -> Result<Parts<T>, AllocError> {
+        Ok(Parts::new(self.parts.clone()?))
     }
 }
 
@@ -86,6 +98,25 @@ impl KeyBytes {
     }
 }
 
+impl Clone for KeyBytes {
+    ghost use Rattle.std.specs.Prelude.{◌≡◌, ⊤};
+
+    ghost is_clone = { λ bytes copy. copy ≡ bytes };
+
+    ghost is_infallible = { λ _. ⊤ };
+
+    fn clone(&self) -> Result<KeyBytes, AllocError> {
+        Ok(KeyBytes::new(self.as_bytes()))
+    }
+}
+
+/// The length alone is shown.
+impl Debug for KeyBytes {
+    fn fmt<W: Write>(&self, f: &mut Formatter<W>) -> fmt::Result {
+        write!(f, "KeyBytes({})", self.as_bytes().len())
+    }
+}
+
 fn array_of(bytes: &[u8]) -> ArrayVec<u8, 32>
     requires { length bytes.now ≤ 32 }
     ensures { result.items ≡ bytes.now }
@@ -98,7 +129,7 @@ fn array_of(bytes: &[u8]) -> ArrayVec<u8, 32>
 }
 
 /// A configuration (OPC 10000-14, PubSubConfiguration): a field for each table, of its name.
-#[derive(Drop)]
+#[derive(Debug, Drop)]
 pub struct Config {
     pub publisher: PublisherPart,
     /// The data sets, at most 8.
@@ -111,6 +142,22 @@ pub struct Config {
     pub readgroup: Parts<ReadGroupPart>,
 }
 
+impl Clone for Config {
+    ghost use Rattle.std.specs.Prelude.{◌≡◌};
+
+    ghost is_clone = { λ part copy. copy ≡ part };
+
+    fn clone(&self) -> Result<Config, AllocError> {
+        Ok(Config {
+            publisher: self.publisher,
+            dataset: self.dataset.clone()?,
+            keygroup: self.keygroup.clone()?,
+            group: self.group.clone()?,
+            readgroup: self.readgroup.clone()?,
+        })
+    }
+}
+
 /// Who publishes.
 #[derive(Clone, Copy, Debug)]
 pub struct PublisherPart {
@@ -120,7 +167,7 @@ pub struct PublisherPart {
 }
 
 /// The keys that groups share (OPC 10000-14, SecurityGroup).
-#[derive(Drop)]
+#[derive(Debug, Drop)]
 pub struct KeyGroupPart {
     pub name: Name32,
     pub policy: Policy,
@@ -132,6 +179,23 @@ pub struct KeyGroupPart {
     pub used: u32,
     /// At most 16, in the order of their tokens and moments.
     pub key: Parts<KeyPart>,
+}
+
+impl Clone for KeyGroupPart {
+    ghost use Rattle.std.specs.Prelude.{◌≡◌};
+
+    ghost is_clone = { λ part copy. copy ≡ part };
+
+    fn clone(&self) -> Result<KeyGroupPart, AllocError> {
+        Ok(KeyGroupPart {
+            name: self.name,
+            policy: self.policy,
+            random: self.random,
+            first_block: self.first_block,
+            used: self.used,
+            key: self.key.clone()?,
+        })
+    }
 }
 
 /// The keys of one token.
@@ -149,8 +213,35 @@ pub struct KeyPart {
     pub nonce: [u8; 4],
 }
 
+impl Clone for KeyPart {
+    ghost use Rattle.std.specs.Prelude.{◌≡◌};
+
+    ghost is_clone = { λ part copy. copy ≡ part };
+
+    fn clone(&self) -> Result<KeyPart, AllocError> {
+        Ok(KeyPart {
+            token: self.token,
+            from: self.from,
+            signing: self.signing,
+            encrypting: self.encrypting.clone()?,
+            nonce: self.nonce,
+        })
+    }
+}
+
+/// The keys aren't shown.
+impl Debug for KeyPart {
+    fn fmt<W: Write>(&self, f: &mut Formatter<W>) -> fmt::Result {
+        write!(
+            f,
+            "KeyPart {{ token: {}, from: {}, .. }}",
+            self.token, self.from
+        )
+    }
+}
+
 /// A group of writers (OPC 10000-14 6.2.6, WriterGroup).
-#[derive(Drop)]
+#[derive(Debug, Drop)]
 pub struct GroupPart {
     pub name: Name32,
     /// The WriterGroupId, not 0.
@@ -190,6 +281,29 @@ impl GroupPart {
     }
 }
 
+impl Clone for GroupPart {
+    ghost use Rattle.std.specs.Prelude.{◌≡◌};
+
+    ghost is_clone = { λ part copy. copy ≡ part };
+
+    fn clone(&self) -> Result<GroupPart, AllocError> {
+        Ok(GroupPart {
+            name: self.name,
+            id: self.id,
+            interval: self.interval,
+            max_size: self.max_size,
+            layout: self.layout,
+            security: self.security,
+            keygroup: self.keygroup,
+            version: self.version,
+            sequence: self.sequence,
+            message_number: self.message_number,
+            class_id: self.class_id,
+            writer: self.writer.clone()?,
+        })
+    }
+}
+
 /// A data set's writer (OPC 10000-14 6.2.4, DataSetWriter).
 #[derive(Clone, Copy, Debug)]
 pub struct WriterPart {
@@ -213,7 +327,7 @@ pub struct WriterPart {
 }
 
 /// Readers of one publisher's groups (OPC 10000-14 6.2.8, ReaderGroup).
-#[derive(Drop)]
+#[derive(Debug, Drop)]
 pub struct ReadGroupPart {
     pub name: Name32,
     pub publisher: Publisher,
@@ -228,6 +342,26 @@ pub struct ReadGroupPart {
     /// The index of the key group, where messages are secured.
     pub keygroup: Option<u8>,
     pub reader: Parts<ReaderPart>,
+}
+
+impl Clone for ReadGroupPart {
+    ghost use Rattle.std.specs.Prelude.{◌≡◌};
+
+    ghost is_clone = { λ part copy. copy ≡ part };
+
+    fn clone(&self) -> Result<ReadGroupPart, AllocError> {
+        Ok(ReadGroupPart {
+            name: self.name,
+            publisher: self.publisher,
+            group: self.group,
+            version: self.version,
+            class_id: self.class_id,
+            layout: self.layout,
+            security: self.security,
+            keygroup: self.keygroup,
+            reader: self.reader.clone()?,
+        })
+    }
 }
 
 /// A data set's reader (OPC 10000-14 6.2.9, DataSetReader).

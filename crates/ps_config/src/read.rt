@@ -58,8 +58,6 @@ fn judged(alloc: Global, document: &Table) -> Result<Config, ConfigEnd>
     ensures ok { IfOk result (λ config.
         judgement_of (Some (table_view document.now)) ≡ Ok config) }
     ensures refused { IfErr result (IsEnd (judgement_of (Some (table_view document.now)))) }
-    ensures sound { IfOk result IsSound }
-    ensures fixed { IfOk result IsFixedSound }
 {
     let tables = tables_of(alloc, document)?;
     if let Some((fault, place)) = table_refusal(&tables) {

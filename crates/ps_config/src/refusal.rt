@@ -16,33 +16,6 @@ use crate::rooms::lacks_room;
 use crate::slots::{has_slot_clash, is_not_for_fixed, is_slot_past, is_slot_small};
 use config_tables::{Fault, Part, Place, Placed};
 
-// The faults that tables have, in the order in which they are judged, up to the last.
-const FAULTS: [Fault; 23] = [
-    Fault::UnknownKey,
-    Fault::MissingKey,
-    Fault::WrongType,
-    Fault::TooMany,
-    Fault::BadName,
-    Fault::DoubleName,
-    Fault::BadPublisher,
-    Fault::BadNumber,
-    Fault::BadChoice,
-    Fault::BadUuid,
-    Fault::BadHex,
-    Fault::BadField,
-    Fault::NoFields,
-    Fault::TooWide,
-    Fault::KeyOrder,
-    Fault::UnknownRef,
-    Fault::DoubleId,
-    Fault::KeyNeeded,
-    Fault::KeepAliveShort,
-    Fault::FixedOnlyKeys,
-    Fault::SlotClash,
-    Fault::SlotSmall,
-    Fault::SlotPast,
-];
-
 /// The first of the faults that stands anywhere, but for the last, and the first table at which it
 /// stands.
 pub(crate) fn table_refusal(tables: &[Placed]) -> Option<(Fault, Place)>
@@ -56,11 +29,14 @@ pub(crate) fn table_refusal(tables: &[Placed]) -> Option<(Fault, Place)>
     None
 }
 
+/// The faults that tables have, in the order in which they are judged: all but the first, which is
+/// the document's, and the last.
 #[tactic(auto, unfolding(crate::specs::Refusals::table_faults))]
 fn faults() -> &'static [Fault]
     ensures { result.now ≡ table_faults }
 {
-    &FAULTS
+    let faults = Fault::all();
+    &faults[1..24]
 }
 
 fn first_at(fault: Fault, tables: &[Placed]) -> Option<Place>

@@ -7,16 +7,15 @@ ghost use Rattle.config_tables.specs.Places.{shares_outer};
 ghost use Rattle.config_tables.specs.Seen.{seen};
 ghost use Rattle.ps_config.specs.Fields.{fields_of, set_named, width_named};
 ghost use Rattle.ps_config.specs.Slots.{is_slot, offset_of, size_of, overlaps, header_of_fixed, overlaps_header, has_slot_clash, front_length, is_slot_small, slot_limit, is_slot_past, has_quality, is_not_for_fixed};
-ghost use Rattle.fixed_layout.specs.Spelling.{raw_width_of, raw_size};
+ghost use Rattle.fixed_layout.specs.Spelling.{raw_size};
 
 use crate::fields::{field_of, text_name_of};
 use crate::header::{header_size, signature_size};
 use crate::rooms::is_fixed;
 use crate::settings::{layout_of, publisher_id_of, security_of, settings_of};
 use config_tables::{Key, Part, Placed, number_of, text_of, truth_of};
-use dataset_meta::Field;
+use fixed_layout::raw_width;
 use toml::Table;
-use ua_values::Kind;
 
 /// A writer that can't be in a fixed group.
 pub(crate) fn is_not_for_fixed(tables: &[Placed], placed: &Placed) -> bool
@@ -150,24 +149,10 @@ fn raw_size(tables: &[Placed], index: usize) -> u128
     let mut size = 0;
     for placed in tables {
         if placed.place.is_inner_of(Part::DataSet, index) {
-            size += u128::from(raw_width(field_of(placed)));
+            size += u128::from(raw_width(&field_of(placed)));
         }
     }
     size
-}
-
-fn raw_width(field: Field) -> u32
-    ensures width { result ≡ raw_width_of field }
-    ensures bound { result ≤ 65539 }
-{
-    match field.kind {
-        Kind::Boolean | Kind::SByte | Kind::Byte => 1,
-        Kind::Int16 | Kind::UInt16 => 2,
-        Kind::Int32 | Kind::UInt32 | Kind::Float | Kind::StatusCode => 4,
-        Kind::Int64 | Kind::UInt64 | Kind::Double | Kind::DateTime => 8,
-        Kind::Guid => 16,
-        Kind::String | Kind::ByteString => 4 + u32::from(field.cap),
-    }
 }
 
 /// A slot, and the signature behind it, go past the datagram's end.

@@ -5,6 +5,7 @@
 
 mod config;
 mod escaped;
+mod value;
 
 use std::alloc::Global;
 use std::io;
@@ -27,6 +28,9 @@ fn main(rt: HostRuntime) -> io::Result<()> {
 fn answer(alloc: Global, line: &str) -> io::Result<String> {
     match line.split_once(' ') {
         Some(("config", text)) => config::answer(alloc, text),
+        Some(("values", text)) => config::values(alloc, text),
+        Some(("built_in", _)) => config::built_in_values(alloc),
+        Some(("value", text)) => value::answer(alloc, text),
         _ => Ok(String::from_str(alloc, "not a row")?),
     }
 }

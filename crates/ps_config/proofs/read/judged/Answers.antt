@@ -5,7 +5,7 @@ use Rattle.config_tables.specs.declared.fault.Fault.TheVariants.{FrameLarge}
 use Rattle.ps_config.specs.Configs.{config_of}
 use Rattle.ps_config.specs.Refusals.{table_faults, refusal_by, first_at}
 use Rattle.ps_config.proofs.MetaFacts.{accepted_meta}
-use Rattle.ps_config.proofs.Judging.{refused_by_tables, refused_as_large, accepted_config, sound_config, fixed_config, passing_tables}
+use Rattle.ps_config.proofs.Judging.{refused_by_tables, refused_as_large, accepted_config, passing_tables}
 use Rattle.ps_config.proofs.read.judged.Goals as goal
 
 pub returns-in-Some-clause-refused : goal.returns-in-Some-clause-refused
@@ -31,16 +31,3 @@ returns-clause-ok c =
     let config = c.in_ok-config.ensures ∙ ap (λ ts. config_of (map seen ts)) (c.deref-2.ensures.value ∙ sym c.deref.ensures.value) in
     let room = sym c.in_default-first_large.is ∙ c.first_large.ensures ∙ ap (λ ts. first_at FrameLarge (map seen ts)) (c.deref-3.ensures.value ∙ sym c.deref.ensures.value) in
     accepted_config (table_view c.args.document.now) _ _ listed (sym c.in_default.is ∙ c.table_refusal.ensures) room config
-
-pub returns-clause-sound : goal.returns-clause-sound
-returns-clause-sound c =
-    let listed = ap (map seen) c.deref.ensures.value ∙ c.in_ok-tables.ensures in
-    let config = c.in_ok-config.ensures ∙ ap (λ ts. config_of (map seen ts)) (c.deref-2.ensures.value ∙ sym c.deref.ensures.value) in
-    let room = sym c.in_default-first_large.is ∙ c.first_large.ensures ∙ ap (λ ts. first_at FrameLarge (map seen ts)) (c.deref-3.ensures.value ∙ sym c.deref.ensures.value) in
-    sound_config (table_view c.args.document.now) _ _ listed (sym c.in_default.is ∙ c.table_refusal.ensures) room config
-
-pub returns-clause-fixed : goal.returns-clause-fixed
-returns-clause-fixed c =
-    let listed = ap (map seen) c.deref.ensures.value ∙ c.in_ok-tables.ensures in
-    let config = c.in_ok-config.ensures ∙ ap (λ ts. config_of (map seen ts)) (c.deref-2.ensures.value ∙ sym c.deref.ensures.value) in
-    fixed_config (table_view c.args.document.now) _ _ listed (sym c.in_default.is ∙ c.table_refusal.ensures) config
