@@ -5,7 +5,6 @@ pub mod PlayingLaws
 pub mod Pieces
 pub mod OneWrite
 pub mod OneTick
-pub mod Decimals
 pub mod EightDones
 pub mod Ending
 pub mod Parts
@@ -13,3 +12,6 @@ pub mod OneReport
 pub mod OneHistory
 pub mod NeverFalling
 pub mod Standing
+pub mod Told
+pub mod Ended
+pub mod Shapes

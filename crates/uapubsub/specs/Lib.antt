@@ -2,6 +2,8 @@ pub mod Script
 pub mod Playing
 pub mod Words
 pub mod Status
+pub mod Reads
+pub mod Check
 pub mod Telling
 pub mod Play
 pub mod PlayEnds

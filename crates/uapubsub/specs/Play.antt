@@ -1,5 +1,5 @@
 -- What the command `play` does: the session of a script's lines, its report, and what each status says.
-use Rattle.std.specs.Prelude.{◌≡◌, ◌≤◌, ◌<◌, ◌⊎◌, ℕ, List, [], ◌∷◌, length, reverse, Bool, true, false, Option}
+use Rattle.std.specs.Prelude.{◌≡◌, ◌≤◌, ℕ, List, [], ◌∷◌, length, reverse, Bool, true, false, Option}
 use Rattle.ua_base.specs.Files.{ToldFile, TellsFile}
 use Rattle.ua_base.specs.Journal.{Entry, LinkState}
 use Rattle.ua_base.specs.Output.{appended, AppendsPrefix}
@@ -14,8 +14,9 @@ use Rattle.pubsub_engine.specs.Report.{report_text}
 use Rattle.uapubsub.specs.declared.script.Line.{Line}
 use Rattle.uapubsub.specs.declared.script.Line.TheVariants as line
 use Rattle.uapubsub.specs.declared.status.Status.{Status}
-use Rattle.uapubsub.specs.declared.status.Status.TheVariants.{Done, BadWords, ScriptRefused, Unread, Unwritten, OutOfMemory, Unopened}
+use Rattle.uapubsub.specs.declared.status.Status.TheVariants.{Done, BadWords, ConfigRefused, ScriptRefused, Unread, Unwritten, OutOfMemory, Unopened, Long}
 use Rattle.uapubsub.specs.Script.{IsScript}
+use Rattle.uapubsub.specs.Status.{IsLong}
 use Rattle.uapubsub.specs.Playing.{written, threads_of, patches_of}
 
 -- what a tick after these lines, the latest first, samples: how many writes there were, and the row that they left
@@ -55,9 +56,10 @@ pub record IsAccepted (file : ToldFile) (lines : List Line) : Type 0 where
   pub short : length bytes ≤ 1048576
   pub script : IsScript bytes lines
 
--- a file that is too long, or no script
-abbrev pub IsRefused : List ℕ → Type 0
-IsRefused bytes = (1048576 < length bytes) ⊎ ((lines : List Line) → IsScript bytes lines → ⊥)
+-- a file that isn't too long, and is no script
+pub record IsRefused (bytes : List ℕ) : Type 0 where
+  pub short : length bytes ≤ 1048576
+  pub none : (lines : List Line) → IsScript bytes lines → ⊥
 
 -- the text is the report of the lines of the file
 abbrev pub Reports : ToldFile → Option LinkState → List ℕ → Type 0
@@ -68,7 +70,9 @@ abbrev pub Plays : Status → ToldFile → Option LinkState → Option (List ℕ
 Plays Done file told old new = (text : List ℕ) × Reports file told text × (new ≡ appended old text)
 Plays Unwritten file told old new = (text : List ℕ) × Reports file told text × AppendsPrefix old new text
 Plays ScriptRefused file told old new = TellsFile file IsRefused × (new ≡ old)
+Plays Long file told old new = TellsFile file IsLong × (new ≡ old)
 Plays Unopened file told old new = (lines : List Line) × IsAccepted file lines × (new ≡ old)
 Plays Unread file told old new = new ≡ old
 Plays OutOfMemory file told old new = new ≡ old
 Plays BadWords file told old new = ⊥
+Plays (ConfigRefused code path) file told old new = ⊥

@@ -2,7 +2,8 @@
 #![tactic(auto)]
 
 mod application;
-mod decimal;
+mod check;
+mod file;
 mod laws;
 mod play;
 mod player;
@@ -43,7 +44,7 @@ fn refuse<E: Sink>(kind: ErrorKind, err: &mut E) -> ExitCode {
     } else {
         Status::BadWords
     };
-    tell(err, status, "");
+    tell(err, &status, "");
     ExitCode::from(status.number())
 }
 

@@ -5,14 +5,12 @@ ghost use Rattle.uapubsub.specs.Play.{Plays};
 ghost use Rattle.uapubsub.specs.PlayEnds.{ReadsScript, Performs, MakesReport, built_in_opening};
 ghost use Rattle.uapubsub.specs.Player.{IsPlayable};
 
+use crate::file::read_file;
 use crate::player::Player;
 use crate::script::{Line, ScriptEnd, read_script};
 use crate::status::Status;
 use std::alloc::Global;
-use ua_base::{Folder, Link, Opened, ReadEnd, Sink, WriteEnd};
-
-/// A file may have so many bytes.
-const MAX_FILE: u64 = 1_048_576;
+use ua_base::{Folder, Link, Opened, Sink, WriteEnd};
 
 /// The port of the built-in configuration: the machine chooses one.
 const PORT: u16 = 0;
@@ -24,13 +22,7 @@ fn read<F: Folder>(alloc: Global, name: &str, folder: &mut F) -> Result<Vec<Line
     ensures folder_faults { F.faults folder.old ≤ F.faults folder.new }
     ensures files { (other : List ℕ) → F.tells folder.new other ≡ F.tells folder.old other }
 {
-    let mut bytes = Vec::new(alloc);
-    match folder.read_whole(name, MAX_FILE, &mut bytes) {
-        ReadEnd::Done => {}
-        ReadEnd::Failed => return Err(Status::Unread),
-        ReadEnd::Long { .. } => return Err(Status::ScriptRefused),
-        ReadEnd::Memory => return Err(Status::OutOfMemory),
-    }
+    let bytes = read_file(alloc, name, folder)?;
     match read_script(alloc, &bytes) {
         Ok(lines) => Ok(lines),
         Err(ScriptEnd::Refused) => Err(Status::ScriptRefused),
@@ -75,7 +67,7 @@ fn report_of<F: Folder, A: Link>(
     ensures unopened { result ≡ Err Status.Unopened → Rose (A.faults lab.old) (A.faults lab.new) }
     ensures unused { result ≡ Err Status.Unopened → (A.told lab.new ≡ A.told lab.old) × (A.opened_with lab.new ≡ A.opened_with lab.old) }
     ensures link_faults { A.faults lab.old ≤ A.faults lab.new }
-    ensures unlinked { (result ≡ Err Status.ScriptRefused) ⊎ (result ≡ Err Status.Unread) → lab.new ≡ lab.old }
+    ensures unlinked { (result ≡ Err Status.ScriptRefused) ⊎ (result ≡ Err Status.Unread) ⊎ (result ≡ Err Status.Long) → lab.new ≡ lab.old }
     ensures files { (other : List ℕ) → F.tells folder.new other ≡ F.tells folder.old other }
 {
     let lines = read(alloc, name, folder)?;
@@ -101,7 +93,7 @@ pub fn play<F: Folder, A: Link, K: Sink>(
     ensures unopened { result ≡ Status.Unopened → Rose (A.faults lab.old) (A.faults lab.new) }
     ensures unused { result ≡ Status.Unopened → (A.told lab.new ≡ A.told lab.old) × (A.opened_with lab.new ≡ A.opened_with lab.old) }
     ensures link_faults { A.faults lab.old ≤ A.faults lab.new }
-    ensures unlinked { (result ≡ Status.ScriptRefused) ⊎ (result ≡ Status.Unread) → lab.new ≡ lab.old }
+    ensures unlinked { (result ≡ Status.ScriptRefused) ⊎ (result ≡ Status.Unread) ⊎ (result ≡ Status.Long) → lab.new ≡ lab.old }
     ensures silent { result ≢ Status.Done → result ≢ Status.Unwritten → out.new ≡ out.old }
     ensures files { (other : List ℕ) → F.tells folder.new other ≡ F.tells folder.old other }
 {

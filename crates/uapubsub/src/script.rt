@@ -5,7 +5,7 @@ ghost use Rattle.uapubsub.specs.declared.script.Line.{Line as LineValue};
 ghost use Rattle.uapubsub.specs.declared.script.ScriptEnd.TheVariants.{Memory};
 ghost use Rattle.uapubsub.specs.Script.{text_lines, IsTick, IsWrite, Spells, IsText, IsScript, Reads, is_tick, is_write, is_by};
 
-use crate::decimal::decimal_number;
+use config_tables::decimal_number;
 use std::alloc::{AllocError, AllocFailed, Global};
 
 /// A script may have so many ticks.

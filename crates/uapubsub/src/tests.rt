@@ -238,7 +238,15 @@ fn other_words_are_refused(rt: HostRuntime) -> Result<(), Fail> {
         &["Play", "s"],
         &["play s"],
         &["s", "play"],
-        &["check", "--config", "c"],
+        &["check"],
+        &["check", "s"],
+        &["check", "--config"],
+        &["check", "--config", ""],
+        &["check", "--config", "-s"],
+        &["check", "-config", "s"],
+        &["check", "--config", "s", "t"],
+        &["--config", "s", "check"],
+        &["play", "--config", "s"],
         &["run", "s"],
         &["load", "1"],
     ] {
@@ -280,7 +288,6 @@ fn other_scripts_are_refused(rt: HostRuntime) -> Result<(), Fail> {
     let alloc = rt.alloc();
     let many_ticks = "tick 1\n".repeat(alloc, 4097)?;
     let many_writes = "write 0 demo a=1\n".repeat(alloc, 32_769)?;
-    let long_file = "#".repeat(alloc, 1_048_577)?;
     for script in [
         b"\n".as_slice(),
         b"tick 1\n\n",
@@ -310,11 +317,23 @@ fn other_scripts_are_refused(rt: HostRuntime) -> Result<(), Fail> {
         b"# text\n",
         many_ticks.as_bytes(),
         many_writes.as_bytes(),
-        long_file.as_bytes(),
     ] {
         let ran = run(&rt, alloc, &["play", "s"], Some(script), &Faults::default())?;
         assert_eq!(rt; ran.status, 4);
         assert_eq!(rt; ran.err.bytes(), b"script refused\n".as_slice());
+        assert_eq!(rt; ran.out.bytes().len(), 0);
+    }
+    Ok(())
+}
+
+#[test]
+fn long_files_are_told(rt: HostRuntime) -> Result<(), Fail> {
+    let alloc = rt.alloc();
+    let long = "#".repeat(alloc, 1_048_577)?;
+    for words in [["play", "s"].as_slice(), &["check", "--config", "s"]] {
+        let ran = run(&rt, alloc, words, Some(long.as_bytes()), &Faults::default())?;
+        assert_eq!(rt; ran.status, 9);
+        assert_eq!(rt; ran.err.bytes(), b"file too long: s\n".as_slice());
         assert_eq!(rt; ran.out.bytes().len(), 0);
     }
     Ok(())
@@ -346,9 +365,10 @@ end
     Ok(())
 }
 
-/// A row: the script, the calls that fail, and what the run leaves: status, output, and error output.
+/// A row: the words, the file `s`, the calls that fail, and what the run leaves: status, output, and error output.
 #[derive(Clone, Copy)]
 struct Row<'a> {
+    words: &'a [&'a str],
     script: Option<&'a str>,
     faults: Faults<'a>,
     status: u8,
@@ -361,6 +381,7 @@ fn faults_are_told(rt: HostRuntime) -> Result<(), Fail> {
     let alloc = rt.alloc();
     let none = Faults::default();
     let first_run = Row {
+        words: &["play", "s"],
         script: Some("write 0 demo a=7\ntick 100\n"),
         faults: none,
         status: 0,
@@ -371,6 +392,17 @@ fn faults_are_told(rt: HostRuntime) -> Result<(), Fail> {
         status: 5,
         err: "cannot read s\n",
         ..first_run
+    };
+    let checked = Row {
+        words: &["check", "--config", "s"],
+        script: Some("[publisher]\nid = \"u8:5\"\n"),
+        ..first_run
+    };
+    let config_refused = Row {
+        script: Some("x = 1"),
+        status: 3,
+        err: "config: C2 UnknownKey .\n",
+        ..checked
     };
     for row in [
         Row {
@@ -464,9 +496,39 @@ fn faults_are_told(rt: HostRuntime) -> Result<(), Fail> {
             out: FIRST_RUN,
             ..first_run
         },
+        Row {
+            out: "ok\n",
+            ..checked
+        },
+        config_refused,
+        Row {
+            faults: Faults { err: &[2], ..none },
+            err: "config: C2",
+            ..config_refused
+        },
+        Row {
+            script: None,
+            status: 5,
+            err: "cannot read s\n",
+            ..checked
+        },
+        Row {
+            faults: Faults {
+                reads: &[0],
+                ..none
+            },
+            status: 5,
+            err: "cannot read s\n",
+            ..config_refused
+        },
+        Row {
+            faults: Faults { out: &[0], ..none },
+            status: 6,
+            ..checked
+        },
     ] {
         let script = row.script.map(|text| text.as_bytes());
-        let ran = run(&rt, alloc, &["play", "s"], script, &row.faults)?;
+        let ran = run(&rt, alloc, row.words, script, &row.faults)?;
         assert_eq!(rt; ran.status, row.status, "for {}{}", row.out, row.err);
         assert_eq!(rt;
             ran.out.bytes(),

@@ -1,6 +1,6 @@
 //! The words of the command line.
-ghost use Rattle.std.specs.Prelude.{◌≡◌, List, ℕ, Some, None, MatchOption};
-ghost use Rattle.uapubsub.specs.Words.{script_of, is_file_name};
+ghost use Rattle.std.specs.Prelude.{◌≡◌, ◌∷◌, []};
+ghost use Rattle.uapubsub.specs.Words.{Asks, is_file_name};
 
 use std::marker::Model;
 
@@ -41,16 +41,41 @@ fn names_file(word: &[u8]) -> bool
     1 <= word.len() && word.len() <= 255 && word[0] != b'-'
 }
 
-/// The script of the words `play SCRIPT`. No other words have a script.
-pub fn script_in(words: &[Word]) -> Option<&str>
-    ensures { MatchOption result (script_of words.now ≡ None) (λ script. script_of words.now ≡ Some script.now) }
+/// What the words ask for.
+#[derive(Clone, Copy)]
+pub enum Command<'a> {
+    /// To judge the configuration in this file.
+    Check(&'a str),
+    /// To play the script in this file over a link in memory.
+    Play(&'a str),
+}
+
+/// What the words ask for: `check --config FILE` or `play SCRIPT`. No other words ask for anything.
+pub fn command_in(words: &[Word]) -> Option<Command<'_>>
+    ensures { Asks words.now result }
 {
-    let [command, script] = words else {
-        return None;
-    };
-    let script = script.as_str();
-    if command.as_str() == "play" && names_file(script.as_bytes()) {
-        Some(script)
+    match words {
+        [command, script] => play_of(command.as_str(), script.as_str()),
+        [command, option, config] => check_of(command.as_str(), option.as_str(), config.as_str()),
+        _ => None,
+    }
+}
+
+fn play_of<'a>(command: &str, script: &'a str) -> Option<Command<'a>>
+    ensures { Asks (command.now ∷ script.now ∷ []) result }
+{
+    if command == "play" && names_file(script.as_bytes()) {
+        Some(Command::Play(script))
+    } else {
+        None
+    }
+}
+
+fn check_of<'a>(command: &str, option: &str, config: &'a str) -> Option<Command<'a>>
+    ensures { Asks (command.now ∷ option.now ∷ config.now ∷ []) result }
+{
+    if command == "check" && option == "--config" && names_file(config.as_bytes()) {
+        Some(Command::Check(config))
     } else {
         None
     }

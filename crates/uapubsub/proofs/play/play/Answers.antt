@@ -16,7 +16,7 @@ pub returns-clause-unwritten : goal.returns-clause-unwritten
 returns-clause-unwritten g c = λ _. c.write.ensures.cause.rose c.in-Failed.is
 
 pub returns-in-Done-clause-unlinked : goal.returns-in-Done-clause-unlinked
-returns-in-Done-clause-unlinked g c = λ other. absurd (elim other [ inl e ↦ cc | inr e ↦ cc ])
+returns-in-Done-clause-unlinked g c = λ other. absurd (elim other [ inl e ↦ cc | inr rest ↦ elim rest [ inl e ↦ cc | inr e ↦ cc ] ])
 
 pub returns-clause-unlinked : goal.returns-clause-unlinked
-returns-clause-unlinked g c = λ other. absurd (elim other [ inl e ↦ cc | inr e ↦ cc ])
+returns-clause-unlinked g c = λ other. absurd (elim other [ inl e ↦ cc | inr rest ↦ elim rest [ inl e ↦ cc | inr e ↦ cc ] ])

@@ -3,7 +3,8 @@ use Rattle.uapubsub.proofs.Pieces.{puts_tells}
 use Rattle.uapubsub.proofs.telling.tell.Goals as goal
 
 pub returns-in-Unread-clause-told : goal.returns-in-Unread-clause-told
-returns-in-Unread-clause-told g c = rw c.in-Unread.is (puts_tells _ _ _ _ _ _ c.put_unread-whole.ensures.told)
+unfolding text_of
+returns-in-Unread-clause-told g c = rw c.in-Unread.is (puts_tells _ _ _ _ _ _ c.put_both-whole.ensures.told)
 
 pub returns-in-OutOfMemory-clause-told : goal.returns-in-OutOfMemory-clause-told
 unfolding text_of
