@@ -1,0 +1,34 @@
+use Rattle.std.proofs.Common.{◌≡◌, ℕ, ◌≤◌, List, All, length, map, sum, sym, ap, subst, ◌∙◌}
+use Rattle.ps_config.specs.declared.parts.GroupPart.{GroupPart}
+use Rattle.ps_config.specs.declared.parts.ReadGroupPart.{ReadGroupPart}
+use Rattle.pubsub_states.specs.Components.{counts_of, components}
+use Rattle.pubsub_states.proofs.Few.{terms-small, writers-counted, readers-counted, few-groups, few-read_groups, writers-summed, readers-summed}
+use Rattle.pubsub_states.proofs.components.Components.new.Goals as goal
+
+pub writer_counts-writers-requires-clause-small : goal.writer_counts-writers-requires-clause-small
+writer_counts-writers-requires-clause-small c =
+    subst (λ (groups : List GroupPart). All (λ (group : GroupPart). length group.writer ≤ 16) groups) (sym c.as_slice.ensures)
+    (terms-small (λ (group : GroupPart). length group.writer) 16 c.args.config.now.group (writers-counted c.args.config.now c.requires))
+
+pub reader_counts-readers-requires-clause-small : goal.reader_counts-readers-requires-clause-small
+reader_counts-readers-requires-clause-small c =
+    subst (λ (groups : List ReadGroupPart). All (λ (group : ReadGroupPart). length group.reader ≤ 16) groups) (sym c.as_slice-2.ensures)
+    (terms-small (λ (group : ReadGroupPart). length group.reader) 16 c.args.config.now.readgroup (readers-counted c.args.config.now c.requires))
+
+pub invariant_of-result : goal.invariant_of-result
+invariant_of-result c =
+    let config = c.args.config.now in
+    let writers : c.writer_counts-writers.result.items ≡ (counts_of config).writers =
+    c.writer_counts-writers.ensures ∙ ap (map (λ (group : GroupPart). length group.writer)) c.as_slice.ensures in
+    let readers : c.reader_counts-readers.result.items ≡ (counts_of config).readers =
+    c.reader_counts-readers.ensures ∙ ap (map (λ (group : ReadGroupPart). length group.reader)) c.as_slice-2.ensures in
+    record {
+      list =
+          c.in_ok-in_order.ensures
+          ∙ ap (λ ws. components (record { writers = ws; readers = c.as_slice-4.result.now })) c.as_slice-3.ensures.value
+          ∙ ap (λ rs. components (record { writers = c.writer_counts-writers.result.items; readers = rs })) c.as_slice-4.ensures.value;
+      few_groups = subst (λ (xs : List ℕ). length xs ≤ 4) (sym writers) (few-groups config c.requires);
+      few_read_groups = subst (λ (xs : List ℕ). length xs ≤ 4) (sym readers) (few-read_groups config c.requires);
+      few_writers = subst (λ (xs : List ℕ). sum xs ≤ 16) (sym writers) (writers-summed config c.requires);
+      few_readers = subst (λ (xs : List ℕ). sum xs ≤ 16) (sym readers) (readers-summed config c.requires);
+    }
