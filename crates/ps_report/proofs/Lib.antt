@@ -1,0 +1,4 @@
+pub mod CauseCount
+pub mod Groups
+pub mod Pairs
+pub mod Rows

@@ -1,0 +1,31 @@
+-- The words of a report.
+use Rattle.std.specs.Prelude.{ℕ, List, [], ◌∷◌, codes}
+use Rattle.pubsub_model.specs.declared.reading.Why.{Why}
+use Rattle.pubsub_model.specs.declared.reading.Why.TheVariants.{Start, Gap, Timeout, NewToken, Jump, Restarted}
+use Rattle.ps_report.specs.declared.state.State.{State}
+use Rattle.ps_report.specs.declared.state.State.TheVariants.{Disabled, Paused, Operational, Error, PreOperational}
+
+unfoldable pub state_word : State → List ℕ
+state_word Disabled = codes "disabled"
+state_word Paused = codes "paused"
+state_word Operational = codes "operational"
+state_word Error = codes "error"
+state_word PreOperational = codes "preoperational"
+
+unfoldable pub why_word : Why → List ℕ
+why_word Start = codes "start"
+why_word Gap = codes "gap"
+why_word Timeout = codes "timeout"
+why_word NewToken = codes "newtoken"
+why_word Jump = codes "jump"
+why_word Restarted = codes "restarted"
+
+-- why a datagram is refused, in the order of a report: for its header, as another's, by the guard,
+-- for its writers, its sizes and its parts
+unfoldable pub cause_words : List (List ℕ)
+cause_words =
+    codes "Short" ∷ codes "Version" ∷ codes "DiscoveryOut" ∷ codes "BadPublisherType" ∷ codes "ReservedBits" ∷ codes "BadId"
+    ∷ codes "NotOurs"
+    ∷ codes "ModeDiffers" ∷ codes "FooterOut" ∷ codes "KeyResetOut" ∷ codes "BadNonceLength" ∷ codes "GuardShort"
+    ∷ codes "UnknownToken" ∷ codes "OldToken" ∷ codes "BadSignature" ∷ codes "Repeated" ∷ codes "TooOld"
+    ∷ codes "NoIds" ∷ codes "BadSizes" ∷ codes "BadFrame" ∷ []

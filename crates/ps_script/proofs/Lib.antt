@@ -1,0 +1,13 @@
+pub mod Pieces
+pub mod Taken
+pub mod MetaTest
+pub mod Finding
+pub mod Judging
+pub mod Demo
+pub mod Counts
+pub mod Kept
+pub mod Said
+pub mod Growth
+pub mod Reading
+pub mod Acting
+pub mod Readers

@@ -1,0 +1,17 @@
+use Rattle.std.proofs.Common.{◌≡◌, ◌≤◌, length}
+use Rattle.ps_script.specs.Texts.{lines_of}
+use Rattle.ps_script.specs.Values.{ValueReader}
+use Rattle.ps_script.specs.Past.{done_by}
+use Rattle.ps_script.specs.Scripts.{judged, judged_from}
+use Rattle.ps_script.proofs.read.judged.Given as goal
+
+-- no line so far has a fault
+abbrev pub invariant-lines : goal.invariant-lines
+invariant-lines l = record {
+  few : length l.past.metas.items ≤ 8;
+  judged : (reader : ValueReader) → judged_from reader l.given.config.now l.given.plain (done_by l.past) l.number (lines_of l.rest)
+      ≡ judged reader l.given.config.now l.given.plain l.bytes;
+}
+
+abbrev pub decreases-lines : goal.decreases-lines
+decreases-lines l = length l.rest

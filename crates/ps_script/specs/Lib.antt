@@ -1,0 +1,17 @@
+pub mod Texts
+pub mod Verbs
+pub mod FaultNumbers
+pub mod Numbers
+pub mod Names
+pub mod Values
+pub mod Spelled
+pub mod Fields
+pub mod Changes
+pub mod Past
+pub mod Given
+pub mod Faults
+pub mod Refusals
+pub mod Acts
+pub mod Scripts
+pub mod Sessions
+pub mod Generated

@@ -1,0 +1,28 @@
+//! The script of a session: lines that write, tick, switch, append, give fates and watch.
+#![tactic(auto)]
+
+mod acts;
+mod appends;
+mod changes;
+mod fault;
+mod faults;
+mod generated;
+mod kinds;
+mod laws;
+mod names;
+mod numbers;
+mod past;
+mod read;
+mod refusal;
+mod script;
+mod session;
+mod shapes;
+mod texts;
+mod verbs;
+
+pub use fault::ScriptFault;
+pub use generated::generate;
+pub use laws::{a_patch_is_the_words_of_what_it_stands_for, there_is_one_reader_of_values};
+pub use read::{ScriptEnd, read_script};
+pub use script::{Act, Line, Script};
+pub use value_texts::parse_value;

@@ -1,0 +1,92 @@
+//! Reading a script.
+ghost use Rattle.std.specs.Prelude.{◌≡◌, ◌≤◌, length, Ok, IfOk, IfErr};
+ghost use Rattle.ps_config.specs.Sound.{IsSound};
+ghost use Rattle.ps_script.specs.Values.{ValueReader};
+ghost use Rattle.ps_script.specs.Past.{done_by};
+ghost use Rattle.ps_script.specs.Given.{HasNames};
+ghost use Rattle.ps_script.specs.Scripts.{judged, script, IsEnd, IsEndOf};
+
+use crate::acts::lines_of;
+use crate::fault::ScriptFault;
+use crate::past::{Given, Past};
+use crate::refusal::step;
+use crate::script::Script;
+use crate::texts::cut;
+use ps_config::{Config, Parts};
+use std::alloc::{AllocError, Global};
+
+/// Why there is no script.
+#[derive(Clone, Copy, Debug, PartialEq, Eq)]
+pub enum ScriptEnd {
+    /// The number of the first line that has a fault, from 1, and the first of its faults.
+    Refused { line: u32, fault: ScriptFault },
+    /// Memory ran out.
+    Memory,
+}
+
+impl From<AllocError> for ScriptEnd {
+    ghost use Rattle.std.specs.Prelude.{◌≡◌};
+    ghost use Rattle.ps_script.specs.declared.read.ScriptEnd.TheVariants.{Memory};
+
+    ghost from_gives = { λ _ e. e ≡ Memory };
+
+    fn from(_: AllocError) -> ScriptEnd {
+        ScriptEnd::Memory
+    }
+}
+
+/// The script that the bytes are, for a session with this configuration. Where links have no fates,
+/// `plain` is false, and a line that gives one is refused.
+#[tactic(auto, using(crate::proofs::Reading::ended, crate::proofs::Reading::accepted), unfolding(crate::specs::Scripts::script_with))]
+pub fn read_script(
+    alloc: Global,
+    config: &Config,
+    bytes: &[u8],
+    plain: bool,
+) -> Result<Script, ScriptEnd>
+    requires { IsSound config.now }
+    ensures ok { (reader : ValueReader) → IfOk result (λ found.
+        script reader config.now bytes.now plain ≡ Ok found) }
+    ensures refused { (reader : ValueReader)
+        → IfErr result (IsEnd (script reader config.now bytes.now plain)) }
+{
+    let given = Given::new(alloc, config, plain)?;
+    let past = match judged(alloc, &given, bytes) {
+        Ok(past) => past,
+        Err(end) => return Err(end),
+    };
+    let lines = lines_of(alloc, &given, &past.metas, bytes)?;
+    let Past { metas, fated, .. } = past;
+    drop(fated);
+    Ok(Script {
+        lines: Parts::new(lines),
+        metas: Parts::new(metas),
+    })
+}
+
+/// What all lines have done.
+#[tactic(auto, using(crate::proofs::Judging::judged_next, crate::proofs::Judging::judged_fault, crate::proofs::Judging::judged_end, crate::proofs::Kept::after_kept), unfolding(crate::specs::Scripts::judged, crate::specs::Past::nothing_done))]
+fn judged(alloc: Global, given: &Given, bytes: &[u8]) -> Result<Past, ScriptEnd>
+    requires { HasNames given.now }
+    ensures ok { (reader : ValueReader) → IfOk result (λ past.
+        judged reader given.now.config.now given.now.plain bytes.now ≡ Ok (done_by past)) }
+    ensures few { IfOk result (λ past. length past.metas.items ≤ 8) }
+    ensures refused { (reader : ValueReader)
+        → IfErr result (IsEndOf (judged reader given.now.config.now given.now.plain bytes.now)) }
+{
+    let mut past = Past::new(alloc, given.config)?;
+    let mut number = 1u32;
+    let mut rest = bytes;
+    'lines: while !rest.is_empty() {
+        let (line, behind) = cut(rest, b'\n');
+        if let Some(fault) = step(alloc, given, &mut past, line)? {
+            return Err(ScriptEnd::Refused {
+                line: number,
+                fault,
+            });
+        }
+        number = number.saturating_add(1);
+        rest = behind;
+    }
+    Ok(past)
+}
