@@ -2,7 +2,7 @@
 ghost use Rattle.std.specs.Prelude.{◌≡◌, ◌<◌, length, map, IsSome, IfOk};
 ghost use Rattle.row_words.specs.Patches.{IsPatchOf};
 ghost use Rattle.version_cell.specs.Passes.{SeesLawful, SeesMore, Tried, WasPlaced, shared_by};
-ghost use Rattle.version_cell.specs.Sets.{cell_at, pass_at, ArePassesOf, ChangesAt, JoinEach};
+ghost use Rattle.version_cell.specs.Sets.{cell_at, pass_at, ArePassesOf, ChangesAt, EachSeesLawful, JoinEach};
 
 use crate::passes::Passes;
 use row_words::Patch;
@@ -28,7 +28,7 @@ impl Model for Bank {
 }
 
 impl Bank {
-    /// One load of the cell of a data set. That pass has then seen what the cell has, and the answer is its version.
+    /// One load of the cell of a data set, and the answer is the version that its pass has then seen, as `Cell::read`.
     pub fn read<R: Wait>(&self, rt: &R, passes: &mut Passes, set: u8) -> u64
         requires own { ArePassesOf self.now passes.old }
         requires set { set < length self.now }
@@ -91,6 +91,7 @@ impl Bank {
         requires own { ArePassesOf self.now passes.old }
         requires other { ArePassesOf self.now other }
         ensures joins { JoinEach passes.old other passes.new }
+        ensures lawful { EachSeesLawful passes.new }
         ensures own { ArePassesOf self.now passes.new }
     {
         join_each(rt, &self.cells, &mut passes.items, other.items);

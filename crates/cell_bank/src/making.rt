@@ -1,6 +1,7 @@
 //! The making of a bank.
-ghost use Rattle.std.specs.Prelude.{◌≡◌, ℕ, ◌<◌, ◌++◌, [], ◌∷◌, length, map, replicate, slice_index_or, None, IfOk, OnOk};
+ghost use Rattle.std.specs.Prelude.{◌≡◌, ℕ, ◌<◌, ◌++◌, [], ◌∷◌, length, map, replicate, slice_index_or, All, None, IfOk, OnOk};
 ghost use Rattle.version_cell.specs.Known.{nothing};
+ghost use Rattle.version_cell.specs.Cells.{IsCell};
 ghost use Rattle.cell_bank.specs.Hands.{AreSmall, AreHands};
 ghost use Rattle.version_cell.specs.Sets.{ArePassesOf, new_passes};
 
@@ -23,6 +24,7 @@ impl Bank {
     ) -> Result<(Bank, Passes, Vec<Passes>), NoMemory>
         requires count { length quotas.now ≡ length metas.now }
         requires quotas { AreSmall quotas.now }
+        ensures cells { IfOk result (λ made. All IsCell made.0) }
         ensures metas { IfOk result (λ made. map (λ cell. cell.meta) made.0 ≡ metas.now) }
         ensures quotas { IfOk result (λ made. map (λ cell. cell.quotas) made.0 ≡ quotas.now) }
         ensures first { IfOk result (λ made. made.1 ≡ new_passes made.0 None) }
@@ -59,7 +61,8 @@ fn hand_out(hands: &mut Vec<Passes>, passes: Vec<Pass>) -> Result<(), NoMemory>
     requires { length passes.items ≡ length hands.old.items }
     ensures count { length hands.new.items ≡ length hands.old.items }
     ensures each { OnOk result ((t : ℕ) → t < length hands.old.items
-        → slice_index_or hands.new.items t [] ≡ slice_index_or hands.old.items t [] ++ slice_index_or passes.items t nothing ∷ []) }
+        → slice_index_or hands.new.items t []
+        ≡ slice_index_or hands.old.items t [] ++ slice_index_or passes.items t nothing ∷ []) }
 {
     let mut t = 0;
     for pass in passes {

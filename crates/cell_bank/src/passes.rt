@@ -19,13 +19,17 @@ impl Model for Passes {
 
 impl Passes {
     ghost use Rattle.std.specs.Prelude.{◌≡◌, ◌<◌, length};
+    ghost use Rattle.version_cell.specs.Passes.{SeesLawful};
     ghost use Rattle.version_cell.specs.Sets.{pass_at};
 
     /// The pass of a data set.
     pub fn pass(&self, set: u8) -> &Pass
         requires { set < length self.now }
-        ensures { result.now ≡ pass_at self.entry.now set }
+        ensures pass { result.now ≡ pass_at self.entry.now set }
+        ensures lawful { SeesLawful (pass_at self.entry.now set) }
     {
-        &self.items[usize::from(set)]
+        let pass = &self.items[usize::from(set)];
+        let _ = pass.row();
+        pass
     }
 }

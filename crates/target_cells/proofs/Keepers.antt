@@ -11,14 +11,14 @@ use Rattle.version_cell.specs.Terms.{quota, IsEntry, IsSole}
 use Rattle.version_cell.specs.Known.{Known}
 use Rattle.version_cell.specs.Cells.{CellData, terms_of}
 use Rattle.version_cell.specs.Passes.{SeesLawful, Adds, Joins, Tried, new_pass}
-use Rattle.version_cell.specs.Sets.{cell_at, no_cell, new_passes}
+use Rattle.version_cell.specs.Sets.{ArePassesOf, cell_at, no_cell, no_meta, new_passes, pass_at}
 use Rattle.version_cell.proofs.Each.{new_at}
 use Rattle.dataset_meta.specs.Metas.{MetaData}
 use Rattle.row_words.specs.Shapes.{shape_of}
 use Rattle.version_cell.specs.declared.rule.Entry.{Entry}
 use Rattle.version_cell.proofs.Logs.{longer_left, longer_right, whole}
 use Rattle.version_cell.proofs.Sole.{sole_author, sole_sees_nothing}
-use Rattle.target_cells.specs.Keeping.{IsKeeper, AreKeepers, IsLevel, keeper_quotas, metas_of, no_meta}
+use Rattle.target_cells.specs.Keeping.{TargetsData, IsKeeper, AreKeepers, AreKept, IsLevel, keeper_quotas, metas_of}
 
 -- the keeper's exchange isn't lost, since it has seen all entries
 pub never_moved : (cell : CellData) (patch : Patch) (old new : Known) (v : ℕ) → IsKeeper old → SeesLawful new → Tried cell patch old new (wrote.Moved v) → ⊥
@@ -64,6 +64,18 @@ levelled keeper pass other new starts same j = record {
   seen = j.longer_is ∙ ap (longer pass.seen) same ∙ longest pass.seen keeper.seen starts;
 }
 
+-- nobody but number 0 has a quota
+sole_new : (limit : ℕ) (shape : List ℕ) → IsSole (keeper_quotas limit ++ shape)
+sole_new limit shape zero above small = absurd (omega arith)
+sole_new limit shape (suc zero) above small = refl
+sole_new limit shape (suc (suc zero)) above small = refl
+sole_new limit shape (suc (suc (suc zero))) above small = refl
+sole_new limit shape (suc (suc (suc (suc zero)))) above small = refl
+sole_new limit shape (suc (suc (suc (suc (suc zero))))) above small = refl
+sole_new limit shape (suc (suc (suc (suc (suc (suc zero)))))) above small = refl
+sole_new limit shape (suc (suc (suc (suc (suc (suc (suc zero))))))) above small = refl
+sole_new limit shape (suc (suc (suc (suc (suc (suc (suc (suc t)))))))) above small = absurd (omega arith)
+
 -- the passes of the first numbers are the keeper's
 pub new_keepers : (limit : ℕ) (cells : List CellData) → All (λ cell. cell.quotas ≡ keeper_quotas limit) cells → AreKeepers (new_passes cells (Some 0))
 new_keepers limit cells quotas reader lt =
@@ -76,21 +88,17 @@ new_keepers limit cells quotas reader lt =
       sole = subst (λ (qs : List ℕ). IsSole (terms_of qs cell.meta)) (sym q) (sole_new limit (shape_of cell.meta));
       lawful = record { entries = All-nil (IsEntry 8 (terms_of cell.quotas cell.meta)); within = λ t small. zero-le };
     })
-  where
-    sole_new : (limit : ℕ) (shape : List ℕ) → IsSole (keeper_quotas limit ++ shape)
-    sole_new limit shape zero above small = absurd (omega arith)
-    sole_new limit shape (suc zero) above small = refl
-    sole_new limit shape (suc (suc zero)) above small = refl
-    sole_new limit shape (suc (suc (suc zero))) above small = refl
-    sole_new limit shape (suc (suc (suc (suc zero)))) above small = refl
-    sole_new limit shape (suc (suc (suc (suc (suc zero))))) above small = refl
-    sole_new limit shape (suc (suc (suc (suc (suc (suc zero)))))) above small = refl
-    sole_new limit shape (suc (suc (suc (suc (suc (suc (suc zero))))))) above small = refl
-    sole_new limit shape (suc (suc (suc (suc (suc (suc (suc (suc t)))))))) above small = absurd (omega arith)
 
-pub kept_push : (limit : ℕ) (cells more : List CellData) (cell : CellData) → more ≡ cells ++ cell ∷ [] → All (λ c. c.quotas ≡ keeper_quotas limit) cells → cell.quotas ≡ keeper_quotas limit
-    → All (λ c. c.quotas ≡ keeper_quotas limit) more
-kept_push limit cells more cell e all here = subst (λ (l : List CellData). All (λ c. c.quotas ≡ keeper_quotas limit) l) (sym e) (All-push (λ (c : CellData). c.quotas ≡ keeper_quotas limit) cells cell all here)
+-- the passes of the cells know that the keeper is the only author
+pub kept_sole : (targets : TargetsData) (passes : List Known) (reader : ℕ) → AreKept targets → ArePassesOf targets.cells passes → reader < length targets.cells → IsSole (pass_at passes reader).terms
+kept_sole targets passes reader kept own lt =
+    let cell = cell_at targets.cells reader in
+    let q : cell.quotas ≡ keeper_quotas targets.limit = kept reader no_cell lt in
+    subst IsSole (sym ((own.each reader lt).terms ∙ ap (λ (qs : List ℕ). terms_of qs cell.meta) q)) (sole_new targets.limit (shape_of cell.meta))
+
+-- what holds of each cell holds of one more
+pub each_push : (P : CellData → Type 0) (cells more : List CellData) (cell : CellData) → more ≡ cells ++ cell ∷ [] → All P cells → P cell → All P more
+each_push P cells more cell e all here = subst (λ (l : List CellData). All P l) (sym e) (All-push P cells cell all here)
 
 -- the meta of one reader more
 pub metas_push : (metas : List MetaData) (readers : List ℕ) (k set d : ℕ) (meta : MetaData) (cells more : List CellData) (cell : CellData) → more ≡ cells ++ cell ∷ []

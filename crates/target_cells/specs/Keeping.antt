@@ -1,6 +1,6 @@
 -- The cells of readers, in each of which the keeper has number 0 and is the only author.
-use Rattle.std.specs.Prelude.{◌≡◌, ℕ, ◌<◌, false, List, [], ◌∷◌, length, map, replicate, All, Some, slice_index_or}
-use Rattle.dataset_meta.specs.Metas.{MetaData, meta_of}
+use Rattle.std.specs.Prelude.{◌≡◌, ℕ, ◌<◌, List, [], ◌∷◌, length, map, replicate, All, Some, slice_index_or}
+use Rattle.dataset_meta.specs.Metas.{MetaData}
 use Rattle.row_words.specs.declared.patch.Patch.{Patch}
 use Rattle.row_words.specs.Belonging.{Belongs}
 use Rattle.row_words.specs.Patches.{patched_words}
@@ -8,15 +8,12 @@ use Rattle.version_cell.specs.Terms.{IsSole}
 use Rattle.version_cell.specs.Known.{Known}
 use Rattle.version_cell.specs.Cells.{CellData}
 use Rattle.version_cell.specs.Passes.{SeesMore, SeesLawful}
-use Rattle.version_cell.specs.Sets.{pass_at}
+use Rattle.version_cell.specs.Sets.{no_meta, pass_at}
 
 -- the cells of the readers, and how many stores each may have
 pub record TargetsData : Type 0 where
   pub cells : List CellData
   pub limit : ℕ
-
-abbrev pub no_meta : MetaData
-no_meta = meta_of [] [] 0 0 false
 
 -- the meta of each reader's data set
 abbrev pub metas_of : List MetaData → List ℕ → List MetaData
@@ -26,6 +23,7 @@ metas_of metas readers = map (λ set. slice_index_or metas set no_meta) readers
 abbrev pub keeper_quotas : ℕ → List ℕ
 keeper_quotas limit = limit ∷ replicate 7 0
 
+-- in each cell the keeper is the only author
 abbrev pub AreKept : TargetsData → Type 0
 AreKept targets = All (λ cell. cell.quotas ≡ keeper_quotas targets.limit) targets.cells
 

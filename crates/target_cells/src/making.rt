@@ -1,7 +1,8 @@
 //! The making of targets.
 ghost use Rattle.std.specs.Prelude.{◌≡◌, ◌<◌, ◌^◌, length, map, All, Some, None, IfOk};
 ghost use Rattle.version_cell.specs.Sets.{ArePassesOf, new_passes};
-ghost use Rattle.target_cells.specs.Keeping.{metas_of};
+ghost use Rattle.version_cell.specs.Cells.{IsCell};
+ghost use Rattle.target_cells.specs.Keeping.{AreKept, metas_of};
 
 use crate::keeper::Keeper;
 use crate::passes::Passes;
@@ -13,8 +14,8 @@ use ua_base::NoMemory;
 use version_cell::Cell;
 
 impl Targets {
-    /// A cell for each reader, of rows of the meta of its data set, with the keeper that may make so many stores of each, and passes
-    /// that look. All have seen the opening rows alone.
+    /// A cell for each reader, of rows of the meta of its data set, with the keeper that may make so many stores of each and is
+    /// the only author, and passes that look. All have seen the opening rows alone.
     pub fn new<R: Wait>(
         rt: &R,
         alloc: Global,
@@ -25,6 +26,8 @@ impl Targets {
         requires limit { limit < 2 ^ 63 }
         requires readers { All (λ set. set < length metas.now) readers.now }
         ensures limit { IfOk result (λ made. made.0.limit ≡ limit) }
+        ensures kept { IfOk result (λ made. AreKept made.0) }
+        ensures cells { IfOk result (λ made. All IsCell made.0.cells) }
         ensures metas { IfOk result
             (λ made. map (λ cell. cell.meta) made.0.cells ≡ metas_of metas.now readers.now) }
         ensures keeper { IfOk result (λ made. made.1 ≡ new_passes made.0.cells (Some 0)) }

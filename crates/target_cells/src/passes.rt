@@ -19,13 +19,17 @@ impl Model for Passes {
 
 impl Passes {
     ghost use Rattle.std.specs.Prelude.{◌≡◌, ◌<◌, length};
+    ghost use Rattle.version_cell.specs.Passes.{SeesLawful};
     ghost use Rattle.version_cell.specs.Sets.{pass_at};
 
     /// The pass of a reader.
     pub fn pass(&self, reader: u8) -> &Pass
         requires { reader < length self.now }
-        ensures { result.now ≡ pass_at self.entry.now reader }
+        ensures pass { result.now ≡ pass_at self.entry.now reader }
+        ensures lawful { SeesLawful (pass_at self.entry.now reader) }
     {
-        &self.items[usize::from(reader)]
+        let pass = &self.items[usize::from(reader)];
+        let _ = pass.row();
+        pass
     }
 }

@@ -3,9 +3,9 @@ ghost use Rattle.std.specs.Prelude.{◌≡◌, ◌<◌, ◌≤◌, ◌^◌, ◌-
 ghost use Rattle.row_words.specs.Belonging.{Belongs};
 ghost use Rattle.row_words.specs.Patches.{IsPatchOf};
 ghost use Rattle.version_cell.specs.Terms.{quota};
-ghost use Rattle.version_cell.specs.Passes.{IsPassOf, Adds};
+ghost use Rattle.version_cell.specs.Passes.{IsPassOf, Adds, SeesLawful};
 ghost use Rattle.target_cells.specs.Keeping.{IsKeeper, AreKeepers, IsLevel, AreLevel, IsWhole};
-ghost use Rattle.version_cell.specs.Sets.{ArePassesOf};
+ghost use Rattle.version_cell.specs.Sets.{ArePassesOf, EachSeesLawful};
 
 use dataset_meta::Meta;
 use row_words::{Patch, Row};
@@ -66,6 +66,7 @@ pub(crate) fn level_each<R: Wait>(
     requires own { ArePassesOf cells.now passes.old.items }
     ensures same { keeper.new.items ≡ keeper.old.items }
     ensures level { AreLevel keeper.old.items passes.old.items passes.new.items }
+    ensures lawful { EachSeesLawful passes.new.items }
     ensures own { ArePassesOf cells.now passes.new.items }
 {
     for k in 0..cells.len() {
@@ -82,6 +83,7 @@ fn level<R: Wait>(rt: &R, cell: &Cell, keeper: &mut Pass, pass: &mut Pass)
     requires own { IsPassOf cell.now pass.old }
     ensures same { keeper.new ≡ keeper.old }
     ensures level { IsLevel keeper.old pass.old pass.new }
+    ensures lawful { SeesLawful pass.new }
 {
     let seen = cell.split(pass);
     cell.join(rt, keeper, seen);

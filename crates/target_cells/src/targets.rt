@@ -2,7 +2,7 @@
 ghost use Rattle.std.specs.Prelude.{◌≡◌, ◌<◌, length, map, IfOk};
 ghost use Rattle.row_words.specs.Belonging.{Belongs};
 ghost use Rattle.version_cell.specs.Passes.{SeesLawful, SeesMore, Adds, shared_by};
-ghost use Rattle.version_cell.specs.Sets.{cell_at, pass_at, ArePassesOf, ChangesAt, JoinEach};
+ghost use Rattle.version_cell.specs.Sets.{cell_at, pass_at, ArePassesOf, ChangesAt, EachSeesLawful, JoinEach};
 ghost use Rattle.target_cells.specs.Keeping.{AreLevel};
 
 use crate::keeper::Keeper;
@@ -34,13 +34,15 @@ impl Model for Targets {
 }
 
 impl Targets {
-    /// Stores the row that a reader holds, and answers how many stores of it there are now.
+    /// Stores the row that a reader holds, and answers how many stores of it there are now. The keeper has seen them all, since
+    /// nobody else makes one.
     pub fn store<R: Wait>(&self, rt: &R, keeper: &mut Keeper, reader: u8, row: &Row) -> u64
         requires own { ArePassesOf self.now.cells keeper.old }
         requires reader { reader < length self.now.cells }
         requires left { length (pass_at keeper.old reader).seen < self.now.limit }
         requires row { Belongs (cell_at self.now.cells reader).meta row.now.words }
-        ensures stored { Adds (pass_at keeper.old reader) (pass_at keeper.new reader) row.now.words }
+        ensures stored { Adds (pass_at keeper.old reader) (pass_at keeper.new reader)
+            row.now.words }
         ensures count { result ≡ length (pass_at keeper.new reader).seen }
         ensures others { ChangesAt reader keeper.old keeper.new }
         ensures own { ArePassesOf self.now.cells keeper.new }
@@ -49,7 +51,7 @@ impl Targets {
         store(rt, &self.cells[usize::from(reader)], pass, row)
     }
 
-    /// One load of the cell of a reader. That pass has then seen what the cell has, and the answer is how many stores there are.
+    /// One load of the cell of a reader, and the answer is how many of its stores the pass has then seen, as `Cell::read`.
     pub fn look<R: Wait>(&self, rt: &R, passes: &mut Passes, reader: u8) -> u64
         requires own { ArePassesOf self.now.cells passes.old }
         requires reader { reader < length self.now.cells }
@@ -69,6 +71,7 @@ impl Targets {
         requires own { ArePassesOf self.now.cells passes.old }
         ensures same { keeper.new ≡ keeper.old }
         ensures level { AreLevel keeper.old passes.old passes.new }
+        ensures lawful { EachSeesLawful passes.new }
         ensures own { ArePassesOf self.now.cells passes.new }
     {
         level_each(rt, &self.cells, &mut keeper.items, &mut passes.items);
@@ -91,6 +94,7 @@ impl Targets {
         requires own { ArePassesOf self.now.cells passes.old }
         requires other { ArePassesOf self.now.cells other }
         ensures joins { JoinEach passes.old other passes.new }
+        ensures lawful { EachSeesLawful passes.new }
         ensures own { ArePassesOf self.now.cells passes.new }
     {
         join_each(rt, &self.cells, &mut passes.items, other.items);

@@ -1,11 +1,13 @@
 -- A loop that joins the pass of one cell after another.
-use Rattle.std.proofs.Common.{◌≡◌, ◌≢◌, ℕ, zero, suc, ◌+◌, ◌<◌, ◌≤◌, List, [], ◌∷◌, ◌++◌, length, map, take, get_or, set, drop, refl, sym, ap, ◌∙◌, subst, arith, get_or-set_same, get_or-set_other}
+use Rattle.std.proofs.Common.{◌≡◌, ◌≢◌, ℕ, zero, suc, ◌+◌, ◌<◌, ◌≤◌, List, [], ◌∷◌, ◌++◌, length, map, take, get_or, set, drop, refl, sym, ap, ◌∙◌, subst, arith, get_or-set_same, get_or-set_other, zero-le}
 use Rattle.std.specs.Prelude.{Option}
 use Rattle.std.proofs.lemmas.List.{length-set, get_or_default, length-map, get_or-map, map-append, take_more}
+use Rattle.std.proofs.lemmas.List.Elements.{All-nil}
 use native.Mathlib.Decide.{ℕ_discrete}
 use Rattle.version_cell.specs.Known.{Known, nothing}
-use Rattle.version_cell.specs.Cells.{CellData}
-use Rattle.version_cell.specs.Passes.{IsPassOf, new_pass, shared_by}
+use Rattle.version_cell.specs.Cells.{CellData, terms_of}
+use Rattle.version_cell.specs.Terms.{IsEntry}
+use Rattle.version_cell.specs.Passes.{IsPassOf, SeesLawful, new_pass, shared_by}
 use Rattle.version_cell.specs.Sets.{ArePassesOf, cell_at, new_passes, no_cell, pass_at}
 
 module _ (now : List Known) (k : ℕ) (y : Known) (room : k < length now) where
@@ -72,6 +74,9 @@ new_own cells author = record {
   count = length-map cells (λ (cell : CellData). new_pass cell author);
   each = λ k lt. subst (IsPassOf (cell_at cells k)) (sym (new_at cells author k lt)) (record { name = refl; terms = refl });
 }
+
+pub new_lawful : (cell : CellData) (author : Option ℕ) → SeesLawful (new_pass cell author)
+new_lawful cell author = record { entries = All-nil (IsEntry 8 (terms_of cell.quotas cell.meta)); within = λ t h. zero-le }
 
 -- one more cell of a list that is being made
 pub new_passes-push : (cells more : List CellData) (cell : CellData) (author : Option ℕ) (old new : List Known) (p : Known) → more ≡ cells ++ cell ∷ [] → new ≡ old ++ p ∷ []

@@ -1,4 +1,4 @@
--- What a contract sees of a cell, and how its fields stand for that.
+-- What a contract sees of a cell.
 use Rattle.std.specs.Prelude.{◌≡◌, ℕ, ◌^◌, ◌<◌, List, ◌++◌, length, sum}
 use Rattle.atomic_table.specs.Seated.{TableId}
 use Rattle.dataset_meta.specs.Metas.{MetaData, IsMeta}

@@ -1,13 +1,17 @@
 -- Lists of cells, and of passes, one of each cell.
 use Rattle.std.specs.Prelude.{◌≡◌, ℕ, ◌<◌, false, List, [], length, map, Option, slice_index_or, slice_set}
-use Rattle.dataset_meta.specs.Metas.{meta_of}
+use Rattle.dataset_meta.specs.Metas.{MetaData, meta_of}
 use Rattle.version_cell.specs.Known.{Known, no_table, nothing}
 use Rattle.version_cell.specs.Cells.{CellData}
-use Rattle.version_cell.specs.Passes.{IsPassOf, Joins, new_pass}
+use Rattle.version_cell.specs.Passes.{IsPassOf, Joins, SeesLawful, new_pass}
+
+-- stands where a list has no meta
+abbrev pub no_meta : MetaData
+no_meta = meta_of [] [] 0 0 false
 
 -- stands where a list has no cell
 abbrev pub no_cell : CellData
-no_cell = record { id = no_table; meta = meta_of [] [] 0 0 false; quotas = [] }
+no_cell = record { id = no_table; meta = no_meta; quotas = [] }
 
 abbrev pub cell_at : List CellData → ℕ → CellData
 cell_at cells k = slice_index_or cells k no_cell
@@ -19,6 +23,10 @@ pass_at passes k = slice_index_or passes k nothing
 pub record ArePassesOf (cells : List CellData) (passes : List Known) : Type 0 where
   pub count : length passes ≡ length cells
   pub each : (k : ℕ) → k < length cells → IsPassOf (cell_at cells k) (pass_at passes k)
+
+-- what each has seen is lawful
+abbrev pub EachSeesLawful : List Known → Type 0
+EachSeesLawful passes = (k : ℕ) → k < length passes → SeesLawful (pass_at passes k)
 
 -- only the pass of this cell changes
 abbrev pub ChangesAt : ℕ → List Known → List Known → Type 0

@@ -6,7 +6,7 @@ use Rattle.version_cell.specs.declared.rule.Entry.{Entry}
 use Rattle.version_cell.specs.declared.rule.View.{View}
 use Rattle.version_cell.specs.Histories.{entry, own, row_after, StartsWith}
 use Rattle.version_cell.specs.Terms.{quota, shape_in, IsLawful}
-use Rattle.version_cell.specs.Views.{view}
+use Rattle.version_cell.specs.Views.{settled, view}
 use Rattle.version_cell.specs.Rule.{spell, FirstHasOwn}
 
 -- a load, and an exchange that lost: the pass has seen the whole history
@@ -26,7 +26,7 @@ pub record Reads (v : View) (x y : List ℕ) (w : View) : Type 0 where
 
 -- the load that ends a join: the olds were beginnings of one history, as what was seen is
 pub record Closes (v : View) (x y : List ℕ) (w : View) : Type 0 where
-  pub rest : w ≡ view v.seen v.author v.count v.terms []
+  pub rest : w ≡ settled v
   pub log : List Entry
   pub seen : StartsWith log v.seen
   pub olds : All (StartsWith log) v.olds

@@ -8,7 +8,7 @@ pub(crate) type Words = RuledSeqCell<[u64; 151], View, OneHistory, 151>;
 
 /// The rows of a data set, one after another. Its words are the version (the number of entries), the count of numbers given, the
 /// 125 words of the last row, the quotas of the eight authors, and the 16 words of the shape of the meta. To a contract it is its
-/// name, the meta and the quotas.
+/// name, the meta and the quotas; what stands in it is known only by what its passes have seen.
 #[derive(Drop)]
 pub struct Cell {
     pub(crate) words: Words,

@@ -18,8 +18,10 @@ mod steps;
 
 pub use cell::{Cell, Placed, Wrote};
 pub use laws::{
-    full_authors_make_no_entry, histories_are_the_models, passes_see_on, quotas_bound_the_version,
-    sole_authors_see_nothing_new, spellings_have_equal_parts, steps_keep_the_rule,
+    full_authors_make_no_entry, histories_are_the_models, histories_go_on,
+    new_passes_are_of_their_cells, own_entries_are_those_made, passes_see_on,
+    quotas_bound_the_version, sole_authors_see_nothing_new, spellings_have_equal_parts,
+    steps_keep_the_rule,
 };
 pub use pass::Pass;
 pub use rule::{Entry, View};

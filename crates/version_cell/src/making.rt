@@ -5,6 +5,7 @@ ghost use Rattle.dataset_meta.specs.Metas.{IsMeta};
 ghost use Rattle.version_cell.specs.Histories.{opening_words};
 ghost use Rattle.version_cell.specs.Views.{copied, joined, settled};
 ghost use Rattle.version_cell.specs.Rule.{spell};
+ghost use Rattle.version_cell.specs.Cells.{IsCell};
 ghost use Rattle.version_cell.specs.Passes.{AreNumbered, new_pass};
 ghost use Rattle.version_cell.specs.Making.{AreFresh, AreNew, IsFresh, new_known};
 
@@ -31,6 +32,7 @@ impl Cell {
         quotas: &[u64; 8],
     ) -> Result<(Cell, Pass, Vec<Pass>), NoMemory>
         requires quotas { sum quotas.now < 2 ^ 63 }
+        ensures cell { IfOk result (λ made. IsCell made.0) }
         ensures meta { IfOk result (λ made. made.0.meta ≡ meta.now) }
         ensures quotas { IfOk result (λ made. made.0.quotas ≡ quotas.now) }
         ensures first { IfOk result (λ made. made.1 ≡ new_pass made.0 None) }
@@ -68,9 +70,11 @@ fn begun<R: Wait>(
     terms: &[u64; 24],
 ) -> Result<(Words, Pass, Vec<Pass>), NoMemory>
     requires { length terms.now ≡ 24 }
-    ensures first { IfOk result (λ made. made.1 ≡ new_known made.0.table.shared.table_id terms.now None) }
+    ensures first { IfOk result
+        (λ made. made.1 ≡ new_known made.0.table.shared.table_id terms.now None) }
     ensures count { IfOk result (λ made. length made.2.items ≡ 8) }
-    ensures numbered { IfOk result (λ made. AreNew made.0.table.shared.table_id terms.now made.2.items) }
+    ensures numbered { IfOk result
+        (λ made. AreNew made.0.table.shared.table_id terms.now made.2.items) }
 {
     for _ in rt.forever() {
         if let Some(made) = attempt(rt, alloc, terms)? {
@@ -86,8 +90,10 @@ fn attempt<R: Wait>(
     terms: &[u64; 24],
 ) -> Result<Option<(Words, Pass, Vec<Pass>)>, NoMemory>
     requires { length terms.now ≡ 24 }
-    ensures { IfOk result (λ r. IfSome r (λ made. (made.1 ≡ new_known made.0.table.shared.table_id terms.now None)
-        × (length made.2.items ≡ 8) × AreNew made.0.table.shared.table_id terms.now made.2.items)) }
+    ensures { IfOk result (λ r. IfSome r (λ made.
+        (made.1 ≡ new_known made.0.table.shared.table_id terms.now None)
+        × (length made.2.items ≡ 8)
+        × AreNew made.0.table.shared.table_id terms.now made.2.items)) }
 {
     let start = words_with(0, terms);
     let (words, mut first) = Words::ruled(alloc, start)?;
@@ -136,8 +142,9 @@ fn enrolled<R: Wait>(
     requires small { number < 8 }
     requires first { IsFresh words.now.table.shared.table_id terms.now None number first.old }
     ensures { IfSome result (λ place.
-        IsFresh words.entry.now.table.shared.table_id terms.entry.now (Some number) (number + 1) place
-        × IsFresh words.entry.now.table.shared.table_id terms.entry.now None (number + 1) first.new) }
+        let id = words.entry.now.table.shared.table_id in let count = number + 1 in
+        IsFresh id terms.entry.now (Some number) count place
+        × IsFresh id terms.entry.now None count first.new) }
 {
     let mut place = words.split_pass::<Copies>(first);
     let front = words_with(number, terms);
@@ -182,8 +189,10 @@ fn take_in<R: Wait>(rt: &R, words: &Words, place: &mut Place, other: &mut Place)
     requires own { place.old.table_id ≡ words.now.table.shared.table_id }
     requires other { other.old.table_id ≡ words.now.table.shared.table_id }
     ensures name { place.new.table_id ≡ place.old.table_id }
-    ensures view { cell_view place.new ≡ settled (joined (cell_view place.old) (copied (cell_view other.old))) }
-    ensures other { (other.new.table_id ≡ other.old.table_id) × (cell_view other.new ≡ cell_view other.old) }
+    ensures view { cell_view place.new
+        ≡ settled (joined (cell_view place.old) (copied (cell_view other.old))) }
+    ensures other { (other.new.table_id ≡ other.old.table_id)
+        × (cell_view other.new ≡ cell_view other.old) }
 {
     let told = words.split_pass::<Copies>(other);
     words.join_pass::<Longer>(place, told);

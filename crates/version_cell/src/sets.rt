@@ -1,7 +1,7 @@
 //! Steps of a pass of each of several cells.
 ghost use Rattle.std.specs.Prelude.{◌≡◌, length, map, IfOk};
 ghost use Rattle.version_cell.specs.Passes.{shared_by};
-ghost use Rattle.version_cell.specs.Sets.{ArePassesOf, JoinEach};
+ghost use Rattle.version_cell.specs.Sets.{ArePassesOf, EachSeesLawful, JoinEach};
 
 use crate::cell::Cell;
 use crate::pass::Pass;
@@ -33,6 +33,7 @@ pub fn join_each<R: Wait>(rt: &R, cells: &[Cell], passes: &mut Vec<Pass>, others
     requires own { ArePassesOf cells.now passes.old.items }
     requires other { ArePassesOf cells.now others.items }
     ensures joins { JoinEach passes.old.items others.items passes.new.items }
+    ensures lawful { EachSeesLawful passes.new.items }
     ensures own { ArePassesOf cells.now passes.new.items }
 {
     let mut k = 0;

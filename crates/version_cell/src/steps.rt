@@ -11,7 +11,8 @@ use row_words::{Patch, patched_words_belong, words_belong_by_shape};
 use std::sync::Wait;
 
 impl Cell {
-    /// One load. The pass has then seen what the cell has, and the answer is its version.
+    /// One load, and the answer is the version that the pass has then seen. The contract binds the answer to what the pass has
+    /// seen, and that to what it had seen before; it doesn't say that the load is made now.
     pub fn read<R: Wait>(&self, rt: &R, pass: &mut Pass) -> u64
         requires own { IsPassOf self.now pass.old }
         ensures seen { SeesMore pass.old pass.new }
@@ -25,7 +26,8 @@ impl Cell {
     }
 
     /// One exchange that expects what the pass has seen, and lays the patch into the last row of it. `Full` comes exactly where
-    /// the pass has made as many entries as its number's quota, and then no exchange is made.
+    /// the pass has made as many entries as its number's quota, and then no exchange is made. The contract doesn't count the
+    /// steps of the other answers.
     pub fn try_write<R: Wait>(&self, rt: &R, pass: &mut Pass, patch: &Patch) -> Wrote
         requires own { IsPassOf self.now pass.old }
         requires numbered { IsSome pass.old.author }

@@ -1,4 +1,7 @@
-use Rattle.std.proofs.Common.{◌<◌, Some, None, sym, subst, ◌∙◌}
+use Rattle.std.proofs.Common.{◌<◌, List, Some, None, sym, subst, ◌∙◌}
+use Rattle.std.specs.Prelude.{All}
+use Rattle.std.proofs.lemmas.List.Elements.{All-push}
+use Rattle.version_cell.specs.Cells.{CellData, IsCell}
 use Rattle.version_cell.specs.Known.{nothing}
 use Rattle.version_cell.specs.Sets.{ArePassesOf}
 use Rattle.version_cell.proofs.Each.{map_more_of, new_own, new_passes-push}
@@ -13,6 +16,7 @@ loop-set-preserved g c =
     let pushed = c.in_ok-push.ensures.items in
     let within = c.loop-set-test.true in
     record {
+      cells = subst (λ (l : List CellData). All IsCell l) (sym pushed) (All-push IsCell cells cell i.cells c.in_ok-cell.ensures.cell);
       metas = map_more_of (λ d. d.meta) cells more cell c.args.metas.now c.loop-set.set _ pushed i.metas (c.in_ok-cell.ensures.meta ∙ c.index-metas-set.is) within;
       quotas = map_more_of (λ d. d.quotas) cells more cell c.args.quotas.now c.loop-set.set _ pushed i.quotas c.in_ok-cell.ensures.quotas (subst (λ n. c.loop-set.set < n) (sym c.requires.count) within);
       first = new_passes-push cells more cell None c.loop-set.items.items _ c.in_ok-cell.first pushed c.in_ok-push-2.ensures.items i.first c.in_ok-cell.ensures.first;

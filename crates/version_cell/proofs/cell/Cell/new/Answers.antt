@@ -1,11 +1,16 @@
 use Rattle.std.proofs.Common.{rules, ◌<◌, ℕ, List, Some, None, subst, sym, ap, ◌∙◌}
 use Rattle.version_cell.specs.declared.cell.Cell.TheInside.{Inside as CellInside}
 use Rattle.version_cell.specs.Making.{new_known}
-use Rattle.version_cell.proofs.CellLaws.{has_terms, quotas_here, terms_here}
+use Rattle.version_cell.proofs.CellLaws.{has_terms, is_cell, quotas_here, terms_here}
 use Rattle.version_cell.proofs.cell.Cell.new.Goals as goal
 
 pub invariant_of-result : goal.invariant_of-result
 invariant_of-result g c = has_terms _ c.args.quotas.now c.args.meta.now c.terms_for-terms.ensures c.in_ok-meta.ensures.same (search rules) (search rules) c.requires.quotas c.in_ok-meta.ensures.meta
+
+pub returns-clause-cell : goal.returns-clause-cell
+returns-clause-cell g c =
+    let cell : CellInside = record { words = c.in_ok-words.words; meta = c.in_ok-meta.meta; terms = c.terms_for-terms.result } in
+    is_cell cell (has_terms cell c.args.quotas.now c.args.meta.now c.terms_for-terms.ensures c.in_ok-meta.ensures.same (search rules) (search rules) c.requires.quotas c.in_ok-meta.ensures.meta)
 
 pub returns-clause-quotas : goal.returns-clause-quotas
 returns-clause-quotas g c = quotas_here _ c.args.quotas.now _ c.terms_for-terms.ensures (search rules)

@@ -1,0 +1,33 @@
+//! Cases of the crates of cells, one a line, on one thread: what writes and reads of a cell, of a bank and of readers' targets are
+//! answered. Each line is printed again, with what the call answers behind ` -> `. Lines that begin with `#`, and empty ones, are
+//! printed as they are.
+#![tactic(auto)]
+
+mod banks;
+mod bench;
+mod cells;
+mod fields;
+mod shown;
+mod targets;
+
+use bench::Bench;
+use case_lines::Line;
+use std::io;
+
+fn main(rt: HostRuntime) -> io::Result<()> {
+    let mut bench = Bench::new(rt.alloc());
+    for line in rt.lines(rt.alloc()) {
+        let line = line?;
+        let text = line.as_str();
+        if text.is_empty() || text.starts_with('#') {
+            println!(rt; "{text}")?;
+            continue;
+        }
+        match bench.answer(&rt, &mut Line::new(text)) {
+            Ok(Some(answer)) => println!(rt; "{text} -> {answer}")?,
+            Ok(None) => println!(rt; "{text}")?,
+            Err(fault) => println!(rt; "{text} -> not a case: {fault:?}")?,
+        }
+    }
+    Ok(())
+}

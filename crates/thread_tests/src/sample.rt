@@ -1,0 +1,41 @@
+//! A meta and its patches.
+ghost use Rattle.std.specs.Prelude.{◌≡◌, IfOk, false};
+ghost use Rattle.row_words.specs.Patches.{IsPatchOf};
+
+use dataset_meta::{Field, Meta, Name32};
+use row_words::Patch;
+use std::alloc::Global;
+use std::process::Abort;
+use std::test::Fail;
+use ua_values::{Kind, Value, fits};
+
+/// Four fields of the kind UInt32.
+pub fn meta(alloc: Global) -> Result<Meta, Fail>
+    ensures { IfOk result (λ meta. meta.quality ≡ false) }
+{
+    let mut fields = Vec::new(alloc);
+    for name in [b"a", b"b", b"c", b"d"] {
+        let name = Name32::new(name).ok_or("no name")?;
+        fields.push(Field {
+            name,
+            kind: Kind::UInt32,
+            cap: 0,
+        })?;
+    }
+    let name = Name32::new(b"demo").ok_or("no name")?;
+    Ok(Meta::new(name, fields, 1, 0, false).ok().ok_or("no meta")?)
+}
+
+/// The field at this index has this number.
+pub fn patch(rt: &impl Abort, meta: &Meta, index: u8, number: u32) -> Patch
+    requires { meta.now.quality ≡ false }
+    ensures { IsPatchOf meta.now result }
+{
+    let value = Value::UInt32(number);
+    assert!(rt; usize::from(index) < meta.fields().len());
+    let field = meta.fields()[usize::from(index)];
+    assert!(rt; fits(&value, field.kind, field.cap));
+    let mut patch = Patch::empty();
+    patch.put(meta, index, &value, 0);
+    patch
+}
