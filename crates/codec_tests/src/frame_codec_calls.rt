@@ -7,7 +7,7 @@ use row_words::Row;
 use std::alloc::Global;
 use std::process::Abort;
 use std::test::Fail;
-use ua_binary::{Cursor, Pen};
+use ua_binary::{Cursor, Pen, Room};
 use ua_values::{Kind, Value, fits};
 
 /// Four numbers, the first of them 7 with the status 0x80000000.
@@ -60,6 +60,14 @@ fn a_frame_with_a_status(rt: HostRuntime) -> Result<(), Fail> {
     assert_eq!(rt; pen.at, 33);
     assert!(rt; page == KEY);
     assert_eq!(rt; read_frame(&meta, &KEY), Ok(frame));
+    let mut short = [0xee; 32];
+    let mut pen = Pen {
+        bytes: &mut short,
+        at: 0,
+    };
+    assert_eq!(rt; write_frame(&mut pen, &meta, &frame), Err(Room));
+    assert_eq!(rt; pen.at, 0);
+    assert!(rt; short == [0xee; 32]);
     Ok(())
 }
 
@@ -71,16 +79,21 @@ fn a_front_with_raw_data(rt: HostRuntime) -> Result<(), Fail> {
         major: Some(2),
         minor: Some(3),
     };
-    let mut page = [0; 12];
+    let mut page = [0; 20];
     let mut pen = Pen {
         bytes: &mut page,
         at: 0,
     };
     assert_eq!(rt; write_front(&mut pen, &alive), Ok(()));
+    assert!(rt; pen.at <= pen.bytes.len());
+    // there is no room for a second
+    assert_eq!(rt; write_front(&mut pen, &alive), Err(Room));
+    assert_eq!(rt; pen.at, 12);
     let bytes = [
         0xeb, 0x03, 0x01, 0x00, 0x02, 0x00, 0x00, 0x00, 0x03, 0x00, 0x00, 0x00,
     ];
-    assert!(rt; page == bytes);
+    assert!(rt; page[..12] == bytes[..]);
+    assert!(rt; page[12..].iter().all(|byte| *byte == 0));
     let mut cursor = Cursor {
         bytes: &bytes,
         at: 0,

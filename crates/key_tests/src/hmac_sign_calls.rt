@@ -54,3 +54,16 @@ fn signs_the_test_cases(rt: HostRuntime) {
         }
     }
 }
+
+#[test]
+fn tells_a_change_in_each_byte(rt: HostRuntime) {
+    let signature = sign(b"Jefe", b"what do ya want for nothing?");
+    for i in 0..32 {
+        let mut changed = signature;
+        changed[i] ^= 0x80;
+        assert!(rt;
+            !matches(b"Jefe", b"what do ya want for nothing?", &changed),
+            "byte {i}"
+        );
+    }
+}
