@@ -70,8 +70,7 @@ impl BankCase {
         let answer = match call {
             "show" => Answered::Seen,
             "read" => Answered::Version(self.read(rt, place, set)),
-            "try_write" => self.try_write(rt, place, set, line)?,
-            "write" => self.write(rt, place, set, line)?,
+            "try_write" | "write" => self.write(rt, call, place, set, line)?,
             _ => return Err(LineFault::Call),
         };
         self.seen(alloc, answer, place, set)
@@ -101,29 +100,11 @@ impl BankCase {
         self.bank.read(rt, passes, set)
     }
 
-    /// `try_write HAND SET INDEX=VALUE ..`
-    fn try_write<R: Wait>(
-        &mut self,
-        rt: &R,
-        place: usize,
-        set: u8,
-        line: &Line,
-    ) -> Result<Answered, LineFault>
-        requires hand { place < length self.old.hands }
-        requires set { set < length self.old.metas }
-    {
-        let patch = patch_of(&self.metas[usize::from(set)], line)?;
-        if self.hands[place].pass(set).author().is_none() {
-            return Err(LineFault::Condition);
-        }
-        let passes = &mut self.hands[place];
-        Ok(Answered::Wrote(self.bank.try_write(rt, set, passes, &patch)))
-    }
-
-    /// `write HAND SET INDEX=VALUE ..`
+    /// `try_write HAND SET INDEX=VALUE ..`, `write HAND SET INDEX=VALUE ..`
     fn write<R: Wait>(
         &mut self,
         rt: &R,
+        call: &str,
         place: usize,
         set: u8,
         line: &Line,
@@ -136,6 +117,9 @@ impl BankCase {
             return Err(LineFault::Condition);
         }
         let passes = &mut self.hands[place];
+        if call == "try_write" {
+            return Ok(Answered::Wrote(self.bank.try_write(rt, set, passes, &patch)));
+        }
         Ok(Answered::Placed(self.bank.write(rt, set, passes, &patch)))
     }
 

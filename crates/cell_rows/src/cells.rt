@@ -59,8 +59,7 @@ impl CellCase {
         let answer = match call {
             "show" => Answered::Seen,
             "read" => Answered::Version(self.read(rt, place)),
-            "try_write" => self.try_write(rt, place, line)?,
-            "write" => self.write(rt, place, line)?,
+            "try_write" | "write" => self.write(rt, call, place, line)?,
             "split" => return self.split(alloc, place),
             "join" => return self.join(rt, alloc, place),
             _ => return Err(LineFault::Call),
@@ -84,10 +83,11 @@ impl CellCase {
         self.cell.read(rt, pass)
     }
 
-    /// `try_write PASS INDEX=VALUE ..`
-    fn try_write<R: Wait>(
+    /// `try_write PASS INDEX=VALUE ..`, `write PASS INDEX=VALUE ..`
+    fn write<R: Wait>(
         &mut self,
         rt: &R,
+        call: &str,
         place: usize,
         line: &Line,
     ) -> Result<Answered, LineFault>
@@ -98,18 +98,9 @@ impl CellCase {
             return Err(LineFault::Condition);
         }
         let pass = &mut self.passes[place];
-        Ok(Answered::Wrote(self.cell.try_write(rt, pass, &patch)))
-    }
-
-    /// `write PASS INDEX=VALUE ..`
-    fn write<R: Wait>(&mut self, rt: &R, place: usize, line: &Line) -> Result<Answered, LineFault>
-        requires { place < length self.old.1 }
-    {
-        let patch = patch_of(self.cell.meta(), line)?;
-        if self.passes[place].author().is_none() {
-            return Err(LineFault::Condition);
+        if call == "try_write" {
+            return Ok(Answered::Wrote(self.cell.try_write(rt, pass, &patch)));
         }
-        let pass = &mut self.passes[place];
         Ok(Answered::Placed(self.cell.write(rt, pass, &patch)))
     }
 

@@ -20,6 +20,7 @@ pub(crate) fn store<R: Wait>(rt: &R, cell: &Cell, pass: &mut Pass, row: &Row) ->
     requires row { Belongs cell.now.meta row.now.words }
     ensures stored { Adds pass.old pass.new row.now.words }
     ensures count { result ≡ length pass.new.seen }
+    ensures lawful { SeesLawful pass.new }
     ensures keeper { IsKeeper pass.new }
 {
     histories_are_the_models();

@@ -44,6 +44,7 @@ impl Targets {
         ensures stored { Adds (pass_at keeper.old reader) (pass_at keeper.new reader)
             row.now.words }
         ensures count { result ≡ length (pass_at keeper.new reader).seen }
+        ensures lawful { SeesLawful (pass_at keeper.new reader) }
         ensures others { ChangesAt reader keeper.old keeper.new }
         ensures own { ArePassesOf self.now.cells keeper.new }
     {

@@ -21,12 +21,12 @@ use Rattle.app_threads.specs.Items.{FitsItem, patches_in}
 use Rattle.app_threads.specs.Duties.{Duty, IsDone}
 use Rattle.app_threads.specs.Crews.{AreDone, AreReady, AreWithin, given_to, list_of}
 use Rattle.app_threads.proofs.Starting.{ready}
-use Rattle.thread_tests.specs.Lists.{IsDoneOf, three_items}
+use Rattle.thread_tests.specs.Lists.{AreThreeItems, IsDoneOf, three_items}
 
-list_is : (lists : List (Vec Item Global)) (first second : Patch) (t : ℕ) → All (λ list. list.items ≡ three_items first second) lists → t < length lists → list_of lists t ≡ three_items first second
+list_is : (lists : List (Vec Item Global)) (first second : Patch) (t : ℕ) → All (λ list. AreThreeItems first second list.items) lists → t < length lists → AreThreeItems first second (list_of lists t)
 list_is [] first second t all lt = absurd (omega arith)
-list_is (list ∷ lists) first second zero all lt = All-head (λ (l : Vec Item Global). l.items ≡ three_items first second) list lists all
-list_is (list ∷ lists) first second (suc t) all lt = list_is lists first second t (All-tail (λ (l : Vec Item Global). l.items ≡ three_items first second) list lists all) (omega arith)
+list_is (list ∷ lists) first second zero all lt = All-head (λ (l : Vec Item Global). AreThreeItems first second l.items) list lists all
+list_is (list ∷ lists) first second (suc t) all lt = list_is lists first second t (All-tail (λ (l : Vec Item Global). AreThreeItems first second l.items) list lists all) (omega arith)
 
 two_for : (t : ℕ) → t < 8 → slice_index (replicate 8 2) t ≡ 2
 two_for t lt = get_or-replicate 8 t 2 0 lt
@@ -36,9 +36,9 @@ one_cell bank e = sym (length-map bank (λ (cell : CellData). cell.quotas)) ∙ 
 
 pub within : (bank targets : List CellData) (lists : List (Vec Item Global)) (first second : Patch) → map (λ cell. cell.quotas) bank ≡ replicate 8 2 ∷ []
     → IsPatchOf (cell_at bank 0).meta first → IsPatchOf (cell_at bank 0).meta second → 0 < length targets → length lists ≡ 8
-    → All (λ list. list.items ≡ three_items first second) lists → AreWithin bank targets lists
+    → All (λ list. AreThreeItems first second list.items) lists → AreWithin bank targets lists
 within bank targets lists first second quotas one two some eight all = record {
-  fit = λ t lt. subst (All (FitsItem bank targets)) (sym (list_is lists first second t all lt)) fits;
+  fit = λ t lt. let is = list_is lists first second t all lt in subst (All (FitsItem bank targets)) (sym is.1) (fits is.0);
   enough = λ t set lt small.
       let zero_is : 0 ≡ set = omega (arith, small, count) in
       subst (λ (s : ℕ). length (patches_in s (list_of lists t)) ≤ slice_index (cell_at bank s).quotas t) zero_is (enough t lt);
@@ -50,14 +50,14 @@ within bank targets lists first second quotas one two some eight all = record {
     there : 0 < length bank
     there = omega (arith, count)
 
-    fits : All (FitsItem bank targets) (three_items first second)
-    fits = All-cons (FitsItem bank targets) (items.Write 0 first) (items.Write 0 second ∷ items.Watch 0 1000 ∷ []) (there, one)
-        (All-cons (FitsItem bank targets) (items.Write 0 second) (items.Watch 0 1000 ∷ []) (there, two)
-        (All-cons (FitsItem bank targets) (items.Watch 0 1000) [] some (All-nil (FitsItem bank targets))))
+    fits : (times : ℕ) → All (FitsItem bank targets) (three_items first second times)
+    fits times = All-cons (FitsItem bank targets) (items.Write 0 first) (items.Write 0 second ∷ items.Watch 0 times ∷ []) (there, one)
+        (All-cons (FitsItem bank targets) (items.Write 0 second) (items.Watch 0 times ∷ []) (there, two)
+        (All-cons (FitsItem bank targets) (items.Watch 0 times) [] some (All-nil (FitsItem bank targets))))
 
     enough : (t : ℕ) → t < length lists → length (patches_in 0 (list_of lists t)) ≤ slice_index (cell_at bank 0).quotas t
     enough t lt =
-        let n = ap (λ (l : List Item). length (patches_in 0 l)) (list_is lists first second t all lt) in
+        let n = ap (λ (l : List Item). length (patches_in 0 l)) (list_is lists first second t all lt).1 in
         let q = sym (get_or-map (λ (cell : CellData). cell.quotas) bank 0 no_cell [] there) ∙ ap (λ (l : List (List ℕ)). get_or l 0 []) quotas in
         let two = ap (λ (l : List ℕ). slice_index l t) q ∙ two_for t (omega (arith, lt, eight)) in
         omega (arith, n, two)
@@ -66,7 +66,7 @@ within bank targets lists first second quotas one two some eight all = record {
 pub made_ready : (bank targets : List CellData) (hands : List (List Known)) (looks : List Known) (lists : List (Vec Item Global)) (first second : Patch) (meta : MetaData)
     → All IsCell bank → AreHands bank hands → map (λ cell. cell.quotas) bank ≡ replicate 8 2 ∷ [] → (cell_at bank 0).meta ≡ meta → IsPatchOf meta first
     → IsPatchOf meta second → ArePassesOf targets looks → 0 < length targets → length lists ≡ 8
-    → All (λ list. list.items ≡ three_items first second) lists → AreReady bank targets (given_to lists hands (map shared_by looks))
+    → All (λ list. AreThreeItems first second list.items) lists → AreReady bank targets (given_to lists hands (map shared_by looks))
 made_ready bank targets hands looks lists first second meta cells are quotas is one two own some eight all =
     ready bank targets hands (map shared_by looks) lists cells are (shared_own targets looks own) eight
     (within bank targets lists first second quotas (subst (λ (m : MetaData). IsPatchOf m first) (sym is) one)

@@ -1,5 +1,5 @@
 -- The list of each of a crew's threads.
-use Rattle.std.specs.Prelude.{ℕ, ◌<◌, List, [], ◌∷◌, length, IsSome, slice_index_or}
+use Rattle.std.specs.Prelude.{◌≡◌, ℕ, ◌<◌, List, [], ◌∷◌, length, IsSome, slice_index_or}
 use Rattle.row_words.specs.declared.patch.Patch.{Patch}
 use Rattle.app_threads.specs.declared.item.Item.{Item}
 use Rattle.app_threads.specs.declared.item.Item.TheVariants as items
@@ -9,9 +9,12 @@ use Rattle.version_cell.specs.Known.{Known}
 use Rattle.version_cell.specs.Passes.{IsPassOf}
 use Rattle.version_cell.specs.Sets.{ArePassesOf}
 
--- two writes, and then 1,000 looks
-abbrev pub three_items : Patch → Patch → List Item
-three_items first second = items.Write 0 first ∷ items.Write 0 second ∷ items.Watch 0 1000 ∷ []
+-- two writes, and then so many looks
+abbrev pub three_items : Patch → Patch → ℕ → List Item
+three_items first second times = items.Write 0 first ∷ items.Write 0 second ∷ items.Watch 0 times ∷ []
+
+abbrev pub AreThreeItems : Patch → Patch → List Item → Type 0
+AreThreeItems first second list = (times : ℕ) × (list ≡ three_items first second times)
 
 -- what a thread left was made by the bank and the targets
 pub record IsDoneOf (bank targets : List CellData) (done : Done) : Type 0 where

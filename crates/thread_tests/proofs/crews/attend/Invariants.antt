@@ -1,9 +1,10 @@
 use Rattle.std.proofs.Common.{◌≡◌, length}
 use Rattle.version_cell.specs.Sets.{ArePassesOf, pass_at}
-use Rattle.thread_tests.proofs.crews.store_all.Given as goal
+use Rattle.thread_tests.proofs.crews.attend.Given as goal
 
 abbrev pub invariant-loop-k : goal.invariant-loop-k
 invariant-loop-k g l = record {
-  own : ArePassesOf l.targets.cells l.keeper;
+  seen : ArePassesOf l.bank l.seen;
+  keeper : ArePassesOf l.targets.cells l.keeper;
   stored : length (pass_at l.keeper 0).seen ≡ l.k;
 }
