@@ -1,14 +1,16 @@
 -- Accepted tables give a sound configuration.
-use Rattle.std.proofs.Common.{◌≡◌, ℕ, List, [], ◌∷◌, Option, Some, None, Result, Ok, Err, IfOk, option_map, refl, sym, ap, ◌∙◌, subst}
+use Rattle.std.proofs.Common.{◌≡◌, ℕ, List, [], ◌∷◌, Option, Some, None, Result, Ok, Err, IfOk, option_map, refl, sym, ◌∙◌, subst}
 use Rattle.std.specs.Option.{option_or}
 use Rattle.toml.specs.Data.{Members}
 use Rattle.config_tables.specs.declared.fault.Fault.{Fault}
 use Rattle.config_tables.specs.declared.fault.Fault.TheVariants.{FrameLarge}
+use Rattle.config_tables.specs.declared.key.Key.TheVariants.{Id}
 use Rattle.config_tables.specs.declared.place.Place.{Place}
-use Rattle.config_tables.specs.Tables.{Located, tables}
+use Rattle.config_tables.specs.Tables.{tables}
 use Rattle.ps_config.specs.declared.parts.Config.{Config}
 use Rattle.ps_config.specs.declared.read.ConfigEnd.{ConfigEnd}
-use Rattle.ps_config.specs.Configs.{config_of}
+use Rattle.ps_config.specs.Configs.{config_of, publisher_part}
+use Rattle.ps_config.specs.Fields.{publisher_members}
 use Rattle.ps_config.specs.FixedSound.{IsFixedSound}
 use Rattle.ps_config.specs.Meaning.{PassTables}
 use Rattle.ps_config.specs.Reading.{document_of, judged_by, judgement_of, configuration}
@@ -17,15 +19,17 @@ use Rattle.ps_config.specs.Sound.{IsSound}
 use Rattle.ps_config.proofs.Distinct.{few_parts, group_ids_distinct, writer_ids_distinct}
 use Rattle.ps_config.proofs.FixedSound.{fixed_sound}
 use Rattle.ps_config.proofs.Naming.{component_names_distinct, data_set_names_distinct, key_group_names_distinct}
+use Rattle.ps_config.proofs.Publishers.{short_at}
 use Rattle.ps_config.proofs.Scans.{scan_none, none_stands}
 use Rattle.ps_config.proofs.Sound.{metas_are, key_groups_are, groups_are, read_groups_are}
 use Rattle.ps_config.proofs.Tables.{at_place, refusal_by-append, told_last}
 
 sound_of : (document : Members) → PassTables (tables document) → first_at FrameLarge (tables document) ≡ None → IsSound (config_of (tables document))
-unfolding config_of
+unfolding config_of publisher_part
 sound_of document h none =
     let ts = tables document in
     record {
+      publisher = short_at Id (publisher_members ts);
       few = few_parts document h;
       metas = metas_are ts h;
       keygroups = key_groups_are document h;

@@ -9,7 +9,7 @@ use Rattle.config_tables.specs.declared.place.Part.TheVariants.{KeyGroup, Group,
 use Rattle.config_tables.specs.declared.place.Place.{Place}
 use Rattle.config_tables.specs.declared.place.Place.TheVariants.{Outer, Inner}
 use Rattle.config_tables.specs.Places.{inner_key, is_outer, is_inner, is_inner_of, index_of, counts_with, limit_of}
-use Rattle.config_tables.specs.Tables.{Located, located, tables_at, inner_tables, tables}
+use Rattle.config_tables.specs.Tables.{Located, located, tables_at, tables}
 use Rattle.ps_config.specs.Fields.{outer_tables, elements_of}
 use Rattle.ps_config.specs.Meaning.{PassTables}
 use Rattle.ps_config.proofs.Clean.{IsClean, clean}
@@ -52,14 +52,18 @@ pub record IsOwn (part : Part) (index : ℕ) (members : Members) (ts : List Loca
   pub inner : IsInnerOf part index ts t
   pub outer : t.outer ≡ members
 
+-- the elements of an element's array stand in its table
+pub in_own_table : (part : Part) (document : Members) (front : List Located) (t : Located) (back : List Located) → tables document ≡ front ++ t ∷ back → is_outer part t.place ≡ true
+    → All (λ (s : Located). s.outer ≡ t.members) (elements_of part (index_of t.place) (tables document))
+in_own_table part document front t back split passes =
+    subst (All (λ (s : Located). s.outer ≡ t.members)) (sym (own_tables part document front t back split passes))
+    (All-from_recursion (λ (s : Located). s.outer ≡ t.members) _ (in_table part (index_of t.place) t.members (tables_at (inner_key part) t.members)))
+
 pub own_elements : (part : Part) (document : Members) → PassTables (tables document) → (t : Located) → IsOuterOf part (tables document) t
     → All (IsOwn part (index_of t.place) t.members (tables document)) (elements_of part (index_of t.place) (tables document))
 own_elements part document h t o =
     let all = inner_elements part (index_of t.place) (tables document) h in
-    let listed = own_tables part document o.front t o.back o.split o.passes in
-    let outers : All (λ (s : Located). s.outer ≡ t.members) (inner_tables part (index_of t.place) t.members) =
-    All-from_recursion (λ (s : Located). s.outer ≡ t.members) _ (in_table part (index_of t.place) t.members (tables_at (inner_key part) t.members)) in
-    let inside : All (λ (s : Located). s.outer ≡ t.members) (elements_of part (index_of t.place) (tables document)) = subst (All (λ (s : Located). s.outer ≡ t.members)) (sym listed) outers in
+    let inside = in_own_table part document o.front t o.back o.split o.passes in
     λ k d within. record { inner = all k d within; outer = inside k d within }
 
 below_limit : (limit count : ℕ) → nat_le limit count ≡ false → count < limit

@@ -14,12 +14,15 @@ pub mod MetaLists
 pub mod MetaFacts
 pub mod Rising
 pub mod Hexes
+pub mod Publishers
 pub mod Sound
 pub mod Pairs
 pub mod Distinct
 pub mod Naming
+pub mod SlotFaults
 pub mod FixedSound
 pub mod Accepted
 pub mod BuiltIn
 pub mod Rings
+pub mod KeyOrders
 pub mod Roomy

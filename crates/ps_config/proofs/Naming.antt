@@ -1,5 +1,5 @@
 -- Names of accepted tables stand once.
-use Rattle.std.proofs.Common.{◌≡◌, ◌≢◌, ℕ, Bool, true, false, ◌&&◌, ◌||◌, cond, List, [], ◌∷◌, ◌++◌, length, map, filter, flat_map, codes, slice_get, All, AllPairs, Some, refl, sym, ap, ◌∙◌, subst}
+use Rattle.std.proofs.Common.{◌≡◌, ◌≢◌, ℕ, Bool, true, false, ◌&&◌, cond, List, [], ◌∷◌, ◌++◌, map, filter, flat_map, codes, slice_get, All, Some, refl, sym, ap, ◌∙◌, subst}
 use Rattle.std.specs.List.{list_any, AllByRecursion}
 use Rattle.std.specs.Str.{bytes_eq}
 use Rattle.std.proofs.lemmas.Bool.{false≢true, or_parts}
@@ -22,13 +22,11 @@ use Rattle.config_tables.specs.Grammar.{rows_of, required}
 use Rattle.config_tables.specs.Places.{outer_key, inner_key, is_outer, is_component, shares_names}
 use Rattle.config_tables.specs.Tables.{Located, located, inner_tables, tables_at, tables_with, tables_of, publisher_of, tables}
 use Rattle.config_tables.specs.Values.{value_at, text_at}
-use Rattle.ps_config.specs.declared.parts.GroupPart.{GroupPart}
 use Rattle.ps_config.specs.declared.parts.KeyGroupPart.{KeyGroupPart}
-use Rattle.ps_config.specs.declared.parts.ReadGroupPart.{ReadGroupPart}
 use Rattle.ps_config.specs.declared.parts.ReaderPart.{ReaderPart}
 use Rattle.ps_config.specs.declared.parts.WriterPart.{WriterPart}
 use Rattle.ps_config.specs.Configs.{config_of, data_set_of, key_group_of, group_of, writer_of, read_group_of, reader_of}
-use Rattle.ps_config.specs.Faults.{has_double_name, is_reserved}
+use Rattle.ps_config.specs.Faults.{is_reserved}
 use Rattle.ps_config.specs.Fields.{name_of, name_at, outer_tables, elements_of}
 use Rattle.ps_config.specs.Meaning.{PassTables}
 use Rattle.ps_config.specs.Sound.{AreDistinct, group_names, read_group_names, component_names, data_set_names, key_group_names}

@@ -40,6 +40,7 @@ use Rattle.ps_config.proofs.Elements.{IsOuterOf, IsInnerOf, IsOwn, outer_element
 use Rattle.ps_config.proofs.Hexes.{hex_length}
 use Rattle.ps_config.proofs.MetaFacts.{accepted_meta}
 use Rattle.ps_config.proofs.Passing.{none_at, number_within}
+use Rattle.ps_config.proofs.Publishers.{short_at}
 use Rattle.ps_config.proofs.References.{IsThere, named_there, index_there}
 use Rattle.ps_config.proofs.Rising.{rising, some_first, map_twice}
 
@@ -53,11 +54,11 @@ metas_are ts h =
 
 -- ---- key groups
 
-not_no : (b : Bool) → not b ≡ false → b ≡ true
+pub not_no : (b : Bool) → not b ≡ false → b ≡ true
 not_no true h = refl
 not_no false h = sym h
 
-lengths : (ts : List Located) (t s : Located) → s.outer ≡ t.members → length (key_of s).encrypting ≡ encrypting_length (is_long (policy_at t.members))
+pub lengths : (ts : List Located) (t s : Located) → s.outer ≡ t.members → length (key_of s).encrypting ≡ encrypting_length (is_long (policy_at t.members))
 unfolding key_of
 lengths ts t s e =
     go (is_long (policy_at s.outer)) refl ∙ ap (λ ms. encrypting_length (is_long (policy_at ms))) e
@@ -66,11 +67,11 @@ lengths ts t s e =
     go true is = hex_length 32 (text_at key.Encrypting s.members)
     go false is = hex_length 16 (text_at key.Encrypting s.members)
 
-moments_are : (keys : List Located) → map (λ (part : KeyPart). part.from) (map key_of keys) ≡ map (λ k. number_at key.From (2 ^ 40) 0 k.members) keys
+pub moments_are : (keys : List Located) → map (λ (part : KeyPart). part.from) (map key_of keys) ≡ map (λ k. number_at key.From (2 ^ 40) 0 k.members) keys
 unfolding key_of
 moments_are keys = map_twice key_of (λ (part : KeyPart). part.from) keys
 
-tokens_are : (keys : List Located) → map (λ (part : KeyPart). part.token) (map key_of keys) ≡ map (λ k. number_at key.Token 4294967295 0 k.members) keys
+pub tokens_are : (keys : List Located) → map (λ (part : KeyPart). part.token) (map key_of keys) ≡ map (λ k. number_at key.Token 4294967295 0 k.members) keys
 unfolding key_of
 tokens_are keys = map_twice key_of (λ (part : KeyPart). part.token) keys
 
@@ -238,6 +239,7 @@ or_second false b h = h
 read_group_is : (ts : List Located) → PassTables ts → (t : Located) → IsOuterOf ReadGroup ts t → IsReadGroup (config_of ts) (read_group_of ts t)
 unfolding read_group_of
 read_group_is ts h t o = record {
+  publisher = short_at key.Publisher t.members;
   keys = keyed ts h o.front t 7 o.is_clean (or_second (is_outer Group t.place) (is_outer ReadGroup t.place) o.passes) (ap (λ (q : Place). slice_get (rows_of q) 7) o.place);
   readers = All-map (IsReader (config_of ts)) (reader_of ts) (elements_of ReadGroup (index_of t.place) ts)
       (λ k d within. reader_is ts h (index_of t.place) _ (inner_elements ReadGroup (index_of t.place) ts h k d within));

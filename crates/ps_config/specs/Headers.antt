@@ -1,6 +1,7 @@
 -- The headers of a group's datagrams (OPC 10000-14 7.2.4.4, UADP NetworkMessage), as its settings tell them.
-use Rattle.std.specs.Prelude.{ℕ, ◌==◌, Bool, true, false, replicate, Option, Some, None, if◌then◌else◌}
+use Rattle.std.specs.Prelude.{ℕ, ◌≤◌, ◌==◌, Bool, true, false, replicate, Option, Some, None, if◌then◌else◌}
 use Rattle.uadp_header.specs.Headers.{PublisherValue, U8, U16, U32, U64, Text, IdsValue, NoIds, ChunkOf, SecurityValue, HeaderValue}
+use Rattle.uadp_header.specs.Spelling.{publisher_len}
 use Rattle.config_tables.specs.declared.publisher.Publisher.{Publisher}
 use Rattle.config_tables.specs.declared.publisher.Publisher.TheVariants as publisher
 use Rattle.config_tables.specs.declared.words.Security.{Security}
@@ -13,6 +14,10 @@ publisher_value (publisher.U16 id) = U16 id
 publisher_value (publisher.U32 id) = U32 id
 publisher_value (publisher.U64 id) = U64 id
 publisher_value (publisher.Text text) = Text text
+
+-- a PublisherId of at most 68 bytes: those of a text are at most 64, behind the four of its length
+abbrev pub IsShortId : Publisher → Type 0
+IsShortId publisher = publisher_len (publisher_value publisher) ≤ 68
 
 abbrev pub is_secured : Security → Bool
 is_secured security.None = false

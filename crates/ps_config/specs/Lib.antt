@@ -12,5 +12,6 @@ pub mod Metas
 pub mod Reading
 pub mod Sound
 pub mod FixedSound
+pub mod Layouts
 pub mod Rings
 pub mod BuiltIn

@@ -10,7 +10,7 @@ use Rattle.ps_config.specs.declared.parts.WriterPart.{WriterPart}
 use Rattle.ps_config.specs.declared.parts.ReadGroupPart.{ReadGroupPart}
 use Rattle.ps_config.specs.declared.parts.ReaderPart.{ReaderPart}
 use Rattle.ps_config.specs.Configs.{is_long}
-use Rattle.ps_config.specs.Headers.{is_secured}
+use Rattle.ps_config.specs.Headers.{is_secured, IsShortId}
 use Rattle.ps_config.specs.Rooms.{lacks_room}
 
 -- none stands twice
@@ -70,6 +70,7 @@ abbrev pub read_ids : ReadGroupPart → List ℕ
 read_ids group = map (λ reader. reader.writer) group.reader
 
 pub record IsReadGroup (config : Config) (group : ReadGroupPart) : Type 0 where
+  pub publisher : IsShortId group.publisher
   pub keys : IsKeyed config (is_secured group.security) group.keygroup
   pub readers : All (IsReader config) group.reader
   pub one_reader : AreDistinct (read_ids group)
@@ -116,6 +117,7 @@ pub record IsFew (config : Config) : Type 0 where
   pub readers : length (readers config) ≤ 16
 
 pub record IsSound (config : Config) : Type 0 where
+  pub publisher : IsShortId config.publisher.id
   pub few : IsFew config
   pub metas : All (λ meta. IsMeta meta.fields) config.dataset
   pub keygroups : All IsKeyGroup config.keygroup

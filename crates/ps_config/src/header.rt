@@ -28,8 +28,9 @@ pub struct HeaderSettings {
 // A nonce's place.
 static NONCE: [u8; 8] = [0; 8];
 
-/// How many bytes the header takes: that of a chunk, or one without a payload header.
-pub(crate) fn header_size(publisher: &Publisher, settings: &HeaderSettings, is_chunk: bool) -> u32
+/// How many bytes a header takes in front of a chunk, or one without a payload header. It goes by
+/// the settings alone: a number that a datagram tells counts by its presence, not by its value.
+pub fn header_size(publisher: &Publisher, settings: &HeaderSettings, is_chunk: bool) -> u32
     ensures size { result ≡ header_len (header_of publisher.now settings.now (ids_of is_chunk)) }
     ensures bound { result ≤ 400 }
 {
@@ -135,8 +136,8 @@ fn is_encrypted(security: Security) -> bool
     matches!(security, Security::Encrypt)
 }
 
-/// The bytes of the signature.
-pub(crate) fn signature_size(security: Security) -> u32
+/// The bytes of the signature behind a datagram's payload: 32, or none where nothing is signed.
+pub fn signature_size(security: Security) -> u32
     ensures size { result ≡ signature_len security }
     ensures bound { result ≤ 32 }
 {

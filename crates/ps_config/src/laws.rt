@@ -1,20 +1,25 @@
 //! Laws of configurations, each the contract of a function that does nothing.
-ghost use Rattle.std.specs.Prelude.{◌≡◌, ℕ, ◌+◌, ◌≤◌, List, length, Some, None, Ok};
+ghost use Rattle.std.specs.Prelude.{◌≡◌, ℕ, ◌+◌, ◌≤◌, List, length, All, Some, None, Ok};
+ghost use Rattle.toml.specs.Data.{Members};
 ghost use Rattle.dataset_meta.specs.Metas.{MetaData};
 ghost use Rattle.config_tables.specs.declared.fault.Fault.{Fault};
 ghost use Rattle.config_tables.specs.declared.place.Place.{Place};
+ghost use Rattle.config_tables.specs.declared.place.Part.TheVariants.{KeyGroup, Group, ReadGroup};
 ghost use Rattle.config_tables.specs.declared.publisher.Publisher.{Publisher};
 ghost use Rattle.ps_config.specs.BuiltIn.{built_in_text, built_in_config};
 ghost use Rattle.ps_config.specs.Meaning.{IsRefusedBy, IsAccepted};
 ghost use Rattle.ps_config.specs.declared.parts.Config.{Config};
 ghost use Rattle.ps_config.specs.declared.parts.GroupPart.{GroupPart};
+ghost use Rattle.ps_config.specs.Fields.{outer_tables};
 ghost use Rattle.ps_config.specs.FixedSound.{IsFixedSound};
 ghost use Rattle.ps_config.specs.Headers.{signature_len};
+ghost use Rattle.ps_config.specs.Layouts.{IsJudgedByLayout, IsReadByLayout};
+ghost use Rattle.ps_config.specs.Rings.{IsJudgedByRing};
 ghost use Rattle.ps_config.specs.Rooms.{chunk_room, datagrams_in, frame_header, IsRoomy};
 ghost use Rattle.ps_config.specs.Reading.{configuration};
 ghost use Rattle.ps_config.specs.Refusals.{refusal};
 ghost use Rattle.ps_config.specs.Sound.{IsSound};
-ghost use Rattle.config_tables.specs.Tables.{Located};
+ghost use Rattle.config_tables.specs.Tables.{Located, tables};
 
 /// Tables are refused exactly by the first of the faults that stands anywhere, at the first table at
 /// which it stands, and are not refused exactly where no fault stands anywhere.
@@ -25,6 +30,21 @@ pub fn the_first_fault_is_told()
         → IsRefusedBy ts fault place → refusal ts ≡ Some (fault, place) }
     ensures accepted { (ts : List Located) → refusal ts ≡ None → IsAccepted ts }
     ensures untold { (ts : List Located) → IsAccepted ts → refusal ts ≡ None }
+{}
+
+/// KeyOrder stands at exactly those key groups whose keys no ring takes.
+pub fn key_orders_are_the_rings()
+    ensures { (document : Members)
+        → All (IsJudgedByRing (tables document)) (outer_tables KeyGroup (tables document)) }
+{}
+
+/// SlotClash, SlotSmall or SlotPast stands in exactly those fixed groups and read groups whose slots
+/// no fixed layout takes.
+pub fn slots_are_those_of_the_layout()
+    ensures writers { (document : Members)
+        → All (IsJudgedByLayout (tables document)) (outer_tables Group (tables document)) }
+    ensures readers { (document : Members)
+        → All (IsReadByLayout (tables document)) (outer_tables ReadGroup (tables document)) }
 {}
 
 /// A dynamic group that doesn't lack room has room for one byte in a chunk, needs at most 1,024

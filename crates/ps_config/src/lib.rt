@@ -20,10 +20,11 @@ pub use built_in_config::built_in;
 pub use config_tables::{
     Fault, Layout, NumberingWord, Part, Path, Place, Policy, Publisher, Security,
 };
-pub use header::{HeaderSettings, publisher_id};
+pub use header::{HeaderSettings, header_size, publisher_id, signature_size};
 pub use laws::{
     a_group_with_room_has_room_for_a_keep_alive, an_accepted_configuration_is_sound,
-    the_built_in_configuration_is_sound, the_built_in_text_is_read, the_first_fault_is_told,
+    key_orders_are_the_rings, slots_are_those_of_the_layout, the_built_in_configuration_is_sound,
+    the_built_in_text_is_read, the_first_fault_is_told,
 };
 pub use parts::{
     Config, GroupPart, KeyBytes, KeyGroupPart, KeyPart, Parts, PublisherPart, ReadGroupPart,
@@ -31,4 +32,4 @@ pub use parts::{
 };
 pub use read::{ConfigEnd, read_config};
 pub use ring::ring_of;
-pub use rooms::{lacks_room, largest_frame};
+pub use rooms::{chunk_room, is_fixed, lacks_room, largest_frame};

@@ -72,7 +72,7 @@ impl Model for KeyBytes {
 }
 
 impl KeyBytes {
-    ghost use Rattle.std.specs.Prelude.{◌≡◌, ◌≤◌, length, take};
+    ghost use Rattle.std.specs.Prelude.{◌≡◌, ◌≤◌, length};
 
     pub fn new(bytes: &[u8]) -> KeyBytes
         requires { length bytes.now ≤ 32 }

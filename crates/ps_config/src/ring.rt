@@ -2,7 +2,7 @@
 ghost use Rattle.std.specs.Prelude.{◌≡◌, ◌≤◌, map, length};
 ghost use Rattle.group_keys.specs.Ring.{is_long as is_long_ring, key_sets};
 ghost use Rattle.ps_config.specs.Configs.{is_long};
-ghost use Rattle.ps_config.specs.Rings.{key_part};
+ghost use Rattle.ps_config.specs.Rings.{key_set};
 ghost use Rattle.ps_config.specs.Sound.{IsKeyGroup};
 
 use crate::parts::{KeyGroupPart, KeyPart};
@@ -14,7 +14,7 @@ use group_keys::{KeySet, Ring};
 pub fn ring_of(group: &KeyGroupPart) -> Ring
     requires { IsKeyGroup group.now }
     ensures long { is_long_ring result ≡ is_long group.now.policy }
-    ensures keys { map key_part (key_sets result) ≡ group.now.key }
+    ensures keys { key_sets result ≡ map key_set group.now.key }
 {
     match Ring::new(is_long(group.policy), key_sets_of(group.key.as_slice())) {
         Ok(ring) => ring,
@@ -31,7 +31,7 @@ fn is_long(policy: Policy) -> bool
 
 fn key_sets_of(keys: &[KeyPart]) -> ArrayVec<KeySet, 16>
     requires { length keys.now ≤ 16 }
-    ensures { map key_part result.items ≡ keys.now }
+    ensures { result.items ≡ map key_set keys.now }
 {
     let mut sets = ArrayVec::new();
     for key in keys {
@@ -41,7 +41,7 @@ fn key_sets_of(keys: &[KeyPart]) -> ArrayVec<KeySet, 16>
 }
 
 fn key_set_of(key: &KeyPart) -> KeySet
-    ensures { key_part result ≡ key.now }
+    ensures { result ≡ key_set key.now }
 {
     KeySet {
         token: key.token,

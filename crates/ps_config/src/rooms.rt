@@ -1,5 +1,5 @@
 //! Room for the messages of a group that isn't fixed.
-ghost use Rattle.std.specs.Prelude.{◌≡◌, ◌==◌, ◌≤◌, ◌<◌, ◌*◌, ◌^◌, ◌||◌, nat_lt, length, slice_get};
+ghost use Rattle.std.specs.Prelude.{◌≡◌, ◌==◌, ◌≤◌, ◌<◌, ◌*◌, ◌^◌, ◌||◌, nat_lt, slice_get};
 ghost use Rattle.std.specs.Option.{option_map_or};
 ghost use Rattle.ps_config.specs.Rooms.{is_fixed, field_front, largest_frame, chunk_room, datagrams_of, datagrams_in, lacks_room};
 
@@ -26,15 +26,16 @@ fn lacks_chunk_room(room: u32, metas: &[Meta], group: &GroupPart) -> bool
     room == 0 || MOST_DATAGRAMS < datagrams_in(room, metas, group.writer.as_slice())
 }
 
-/// Whether data messages stand in slots.
-pub(crate) fn is_fixed(layout: Layout) -> bool
+/// Whether the messages of a group with this layout stand in slots.
+pub fn is_fixed(layout: Layout) -> bool
     ensures { result ≡ is_fixed layout }
 {
     matches!(layout, Layout::Fixed)
 }
 
-/// The bytes of a message that one chunk carries.
-fn chunk_room(publisher: &Publisher, group: &GroupPart) -> u32
+/// The bytes of a message that one chunk carries: what the largest datagram leaves beside the
+/// header, 14 bytes of the chunk's own and the signature, and 0 where it leaves nothing.
+pub fn chunk_room(publisher: &Publisher, group: &GroupPart) -> u32
     ensures { result ≡ chunk_room publisher.now group.now }
 {
     let header = header_size(publisher, &group.header_settings(), true);

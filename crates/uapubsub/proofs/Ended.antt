@@ -1,5 +1,5 @@
 -- How reading a file ends a command.
-use Rattle.std.proofs.Common.{◌≡◌, List, ℕ, Option, Err, refl}
+use Rattle.std.proofs.Common.{List, ℕ, Option, Err, refl}
 use Rattle.ua_base.specs.Files.{ToldFile}
 use Rattle.uapubsub.specs.declared.status.Status.{Status}
 use Rattle.uapubsub.specs.declared.status.Status.TheVariants.{Done, BadWords, ConfigRefused, ScriptRefused, Unread, Unwritten, OutOfMemory, Unopened, Long}

@@ -10,7 +10,7 @@ use Rattle.std.proofs.lemmas.List.Elements.{All-nil, All-cons, All-tail}
 use Rattle.std.proofs.lemmas.List.FromFn.{get_or-map-range_with_len, length-map-range_with_len}
 use Rattle.dataset_meta.specs.DataValues.{DataValue}
 use Rattle.dataset_meta.specs.Rows.{patched}
-use Rattle.pubsub_engine.specs.BuiltIn.{demo_fields, demo_meta}
+use Rattle.pubsub_engine.specs.BuiltIn.{demo_fields}
 use Rattle.pubsub_model.specs.History.{IsLegal, times_of, legal_rows, last_row, patch_at, no_patch}
 use Rattle.pubsub_model.proofs.HistoryLaws.{times_of-cons}
 use Rattle.uapubsub.specs.declared.script.Line.{Line}

@@ -7,7 +7,7 @@ use Rattle.dataset_meta.specs.Rows.{cons_if, patched}
 use Rattle.pubsub_model.specs.History.{last_row}
 use Rattle.pubsub_model.specs.Cadence.{Answered, cadence, answer, is_fresh, next_place}
 use Rattle.pubsub_model.proofs.CadenceLaws.{answer-key}
-use Rattle.pubsub_engine.specs.BuiltIn.{demo_fields, demo_meta}
+use Rattle.pubsub_engine.specs.BuiltIn.{demo_fields}
 use Rattle.pubsub_engine.specs.Steps.{Step, Tick as TickStep, moment_of}
 use Rattle.pubsub_engine.specs.Publishing.{Deed, Ticked, Turned, GroupTurn, built_in, writer_past, deeds, turn_at, datagrams_of, is_due}
 use Rattle.uapubsub.specs.declared.script.Line.{Line}

@@ -1,8 +1,8 @@
 -- What a status says, where the folder tells the file.
-use Rattle.std.proofs.Common.{◌≡◌, ◌≢◌, ◌↔◌, ◌⊎◌, inl, inr, ℕ, ◌<◌, ◌≤◌, List, length, Option, Some, Ok, Err, refl, sym, ap, ◌∙◌, subst, arith}
+use Rattle.std.proofs.Common.{◌≡◌, ◌≢◌, ◌↔◌, ◌⊎◌, inl, inr, ℕ, ◌≤◌, List, length, Option, Some, Ok, Err, refl, sym, ap, ◌∙◌, subst, arith}
 use Rattle.std.specs.Prelude.{IsErr, is_err}
 use Rattle.std.proofs.lemmas.Bool.{false≢true}
-use Rattle.ua_base.specs.Files.{ToldFile, TellsFile}
+use Rattle.ua_base.specs.Files.{ToldFile}
 use Rattle.ua_base.specs.Journal.{LinkState}
 use Rattle.ua_base.proofs.Told.{TellsFile-at}
 use Rattle.ps_config.specs.declared.parts.Config.{Config}

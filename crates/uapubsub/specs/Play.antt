@@ -4,7 +4,7 @@ use Rattle.ua_base.specs.Files.{ToldFile, TellsFile}
 use Rattle.ua_base.specs.Journal.{Entry, LinkState}
 use Rattle.ua_base.specs.Output.{appended, AppendsPrefix}
 use Rattle.pubsub_model.specs.History.{IsLegal, legal_rows, last_row}
-use Rattle.pubsub_engine.specs.BuiltIn.{demo_fields, demo_meta}
+use Rattle.pubsub_engine.specs.BuiltIn.{demo_fields}
 use Rattle.pubsub_engine.specs.Samples.{Sample}
 use Rattle.pubsub_engine.specs.Steps.{Step, Tick, Pump}
 use Rattle.pubsub_engine.specs.Publishing.{IsRun}

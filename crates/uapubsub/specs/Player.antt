@@ -5,7 +5,7 @@ use Rattle.ua_base.specs.Journal.{LinkState}
 use Rattle.dataset_meta.specs.DataValues.{DataValue}
 use Rattle.pubsub_model.specs.History.{last_row, places}
 use Rattle.row_words.specs.Belonging.{row_in}
-use Rattle.pubsub_engine.specs.BuiltIn.{demo_fields, demo_meta}
+use Rattle.pubsub_engine.specs.BuiltIn.{demo_fields}
 use Rattle.pubsub_engine.specs.Authored.{answers_of}
 use Rattle.pubsub_engine.specs.Steps.{Step}
 use Rattle.pubsub_engine.specs.Standing.{Stands}

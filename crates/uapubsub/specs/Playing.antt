@@ -4,7 +4,7 @@ use Rattle.std.specs.List.{All, range_with_len}
 use Rattle.dataset_meta.specs.DataValues.{DataValue}
 use Rattle.dataset_meta.specs.Rows.{patched}
 use Rattle.pubsub_model.specs.History.{last_row}
-use Rattle.pubsub_engine.specs.BuiltIn.{demo_fields, demo_meta}
+use Rattle.pubsub_engine.specs.BuiltIn.{demo_fields}
 use Rattle.uapubsub.specs.declared.script.Line.{Line}
 use Rattle.uapubsub.specs.declared.script.Line.TheVariants.{Write, Tick}
 use Rattle.uapubsub.specs.Script.{only_a}

@@ -4,7 +4,7 @@ use Rattle.dataset_meta.specs.DataValues.{DataValue}
 use Rattle.dataset_meta.specs.Rows.{opening_row}
 use Rattle.pubsub_model.specs.Frames.{Whole}
 use Rattle.pubsub_model.specs.Cadence.{Answered}
-use Rattle.pubsub_engine.specs.BuiltIn.{demo_fields, demo_meta}
+use Rattle.pubsub_engine.specs.BuiltIn.{demo_fields}
 
 -- the row of a version: the opening row, or the one that the write with this number left (the rows have the latest first)
 abbrev pub row_at : List (List DataValue) → ℕ → List DataValue

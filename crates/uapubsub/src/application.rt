@@ -1,5 +1,5 @@
 //! The threads of the application, and the data set that they write.
-ghost use Rattle.std.specs.Prelude.{◌≡◌, ◌≤◌, ◌<◌, ◌-◌, ◌++◌, ◌∷◌, [], ℕ, List, IfOk, vec_len, map, replicate, count_by, slice_set, slice_index_or};
+ghost use Rattle.std.specs.Prelude.{◌≡◌, ◌≤◌, ◌<◌, ◌-◌, ◌++◌, ◌∷◌, [], List, IfOk, vec_len, map, replicate, count_by, slice_set, slice_index_or};
 ghost use Rattle.std.specs.List.{range_with_len};
 ghost use Rattle.row_words.specs.Patches.{IsPatchOf, patch_in};
 ghost use Rattle.pubsub_engine.specs.BuiltIn.{demo_fields, demo_meta};

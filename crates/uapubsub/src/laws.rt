@@ -7,7 +7,7 @@ ghost use Rattle.pubsub_engine.specs.Publishing.{log_at};
 ghost use Rattle.dataset_reader.specs.Keeping.{Keeps};
 ghost use Rattle.pubsub_engine.specs.Reading.{arrivals, kept_at, held_by};
 ghost use Rattle.pubsub_engine.specs.Closing.{version_at};
-ghost use Rattle.pubsub_engine.specs.BuiltIn.{demo_fields, demo_meta};
+ghost use Rattle.pubsub_engine.specs.BuiltIn.{demo_fields};
 ghost use Rattle.uapubsub.specs.declared.script.Line.{Line as LineValue};
 ghost use Rattle.pubsub_model.specs.History.{IsLegal, legal_rows, legal_history, row_of};
 ghost use Rattle.uapubsub.specs.Script.{IsScript};

@@ -1,5 +1,5 @@
 //! The session of a script, played line by line.
-ghost use Rattle.std.specs.Prelude.{◌≡◌, ◌≤◌, ◌<◌, ◌+◌, ◌∷◌, [], ℕ, List, Bool, Option, Some, IsTrue, OnOk, OnErr, IfOk, length, reverse, string_bytes, IsSome};
+ghost use Rattle.std.specs.Prelude.{◌≡◌, ◌≤◌, ◌<◌, ◌+◌, ◌∷◌, [], List, Bool, Option, Some, IsTrue, OnOk, OnErr, IfOk, length, reverse, string_bytes, IsSome};
 ghost use Rattle.std.specs.List.{All};
 ghost use Rattle.ua_base.specs.Journal.{LinkState, Entry};
 ghost use Rattle.ua_base.specs.Links.{KeepsLink};

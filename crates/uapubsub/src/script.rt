@@ -1,5 +1,5 @@
 //! Scripts: the lines of a played session, and how they are read.
-ghost use Rattle.std.specs.Prelude.{◌≡◌, ◌≢◌, ◌<◌, ◌^◌, ◌∷◌, ◌++◌, ◌==◌, ℕ, List, length, count_by, position, MatchOption, IfSome, true};
+ghost use Rattle.std.specs.Prelude.{◌≡◌, ◌≢◌, ◌<◌, ◌^◌, ◌∷◌, ◌++◌, ◌==◌, ℕ, List, length, count_by, position, MatchOption, IfSome};
 ghost use Rattle.std.specs.Fmt.{decimal};
 ghost use Rattle.uapubsub.specs.declared.script.Line.{Line as LineValue};
 ghost use Rattle.uapubsub.specs.declared.script.ScriptEnd.TheVariants.{Memory};

@@ -1,6 +1,6 @@
 use Rattle.std.proofs.Common.{List, ◌∙◌, sym, ap}
 use Rattle.dataset_meta.specs.DataValues.{DataValue}
-use Rattle.pubsub_engine.specs.BuiltIn.{demo_fields, demo_meta}
+use Rattle.pubsub_engine.specs.BuiltIn.{demo_fields}
 use Rattle.uapubsub.specs.Playing.{threads_of, patches_of}
 use Rattle.uapubsub.specs.Versions.{row_at}
 use Rattle.uapubsub.proofs.PlayingLaws.{lines_legal, written-legal, script_threads}

@@ -1,4 +1,4 @@
-use Rattle.std.proofs.Common.{List, ℕ, true, false, subst}
+use Rattle.std.proofs.Common.{true, false, subst}
 use Rattle.std.specs.Fmt.{decimal}
 use Rattle.uapubsub.specs.Status.{fault_text}
 use Rattle.uapubsub.specs.Telling.{Puts}

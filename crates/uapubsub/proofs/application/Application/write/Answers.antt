@@ -2,7 +2,7 @@ use Rattle.std.proofs.Common.{arith, length, ap, ℕ, List, ◌≡◌, ◌+◌, 
 use Rattle.dataset_meta.specs.DataValues.{DataValue}
 use Rattle.dataset_meta.specs.Rows.{patched}
 use Rattle.row_words.specs.Belonging.{row_in}
-use Rattle.pubsub_engine.specs.BuiltIn.{demo_fields, demo_meta}
+use Rattle.pubsub_engine.specs.BuiltIn.{demo_fields}
 use Rattle.uapubsub.proofs.OneWrite.{wrote_more, fits_less}
 use Rattle.uapubsub.proofs.application.Application.write.Goals as goal
 
