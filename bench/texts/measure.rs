@@ -1,10 +1,28 @@
-// Times the calls of libtext_bench.a on texts of 1 MiB and of a tenth of it, in turns, and prints the least time of each.
+// Times the calls of libtext_bench.a on the largest texts and on a tenth of them, and prints the least time of each; scripts
+// and reports beside plain hand-written Rust, in turns.
 use std::hint::black_box;
 use std::process::exit;
 use std::time::Instant;
 
+mod configs;
+mod reports;
+#[allow(dead_code)]
+mod scripts;
+
 unsafe extern "C" {
     fn bench_config(turns: u32, bytes: *const u8, length: usize) -> u32;
+    fn bench_script(turns: u32, config: *const u8, config_length: usize, bytes: *const u8, length: usize) -> u32;
+    fn script_sum(config: *const u8, config_length: usize, bytes: *const u8, length: usize) -> u64;
+    fn bench_report(
+        turns: u32,
+        config: *const u8,
+        config_length: usize,
+        versions: u32,
+        entries: u32,
+        looks: u32,
+        bytes: *mut u8,
+        length: usize,
+    ) -> usize;
 }
 
 const WHOLE: usize = 1_048_576;
@@ -13,74 +31,176 @@ const ROUNDS: u32 = 20;
 /// The largest ratio of the whole text's time to that of a tenth.
 const MOST: f64 = 11.0;
 
-/// Configurations of so many bytes, and how reading each ends.
-mod configs {
-    fn filled(mut text: String, bytes: usize, more: impl Fn(usize) -> String) -> String {
-        let mut count = 0;
-        loop {
-            let next = more(count);
-            if text.len() + next.len() > bytes {
-                break;
-            }
-            text.push_str(&next);
-            count += 1;
-        }
-        let rest = bytes - text.len();
-        text.extend(std::iter::repeat('#').take(rest));
-        text
-    }
-
-    /// Accepted: as many tables as there may be, and comments.
-    pub fn accepted(bytes: usize) -> String {
-        let mut text = String::from("[publisher]\nid = \"u8:5\"\n");
-        for set in 0..8 {
-            text.push_str(&format!("[[dataset]]\nname = \"d{set}\"\n"));
-            for field in 0..64 {
-                text.push_str(&format!("[[dataset.field]]\nname = \"f{field}\"\nkind = \"UInt32\"\n"));
-            }
-        }
-        filled(text, bytes, |line| format!("# comment {line}\n"))
-    }
-
-    /// Refused as TooMany: nothing but data sets.
-    pub fn many_tables(bytes: usize) -> String {
-        filled(String::from("[publisher]\nid = \"u8:5\"\n"), bytes, |set| format!("[[dataset]]\nname = \"d{set}\"\n"))
-    }
-
-    /// Refused as UnknownKey, at the document: as many keys as there is room for.
-    pub fn many_keys(bytes: usize) -> String {
-        filled(String::new(), bytes, |key| format!("k{key} = {key}\n"))
-    }
+/// The time of a call, in microseconds.
+fn time<T>(call: impl FnOnce() -> T) -> (f64, T) {
+    let start = Instant::now();
+    let end = black_box(call());
+    (start.elapsed().as_secs_f64() * 1e6, end)
 }
 
-/// The least time of a reading, in microseconds.
-fn time(text: &str, end: u32) -> f64 {
+/// Prints a row, and says whether the time is linear.
+fn is_linear(name: &str, whole: f64, tenth: f64) -> bool {
+    println!("{name}: whole {whole:.0} us, a tenth {tenth:.0} us, ratio {:.1}", whole / tenth);
+    whole / tenth <= MOST
+}
+
+fn compare(name: &str, ours: f64, theirs: f64) {
+    println!("{name}: {ours:.0} us, by hand {theirs:.0} us, ratio {:.2}", theirs / ours);
+}
+
+fn config_time(text: &str, end: u32) -> f64 {
     let mut least = f64::MAX;
     for _ in 0..ROUNDS {
-        let start = Instant::now();
-        let got = unsafe { bench_config(1, black_box(text.as_ptr()), text.len()) };
-        least = least.min(start.elapsed().as_secs_f64() * 1e6);
+        let (each, got) = time(|| unsafe { bench_config(1, black_box(text.as_ptr()), text.len()) });
+        least = least.min(each);
         assert_eq!(got, end);
     }
     least
 }
 
-/// Prints a row, and says whether the time is linear.
-fn measure(name: &str, text: impl Fn(usize) -> String, end: u32) -> bool {
-    let whole = time(&text(WHOLE), end);
-    let tenth = time(&text(WHOLE / 10), end);
-    println!("{name}: 1 MiB {whole:.0} us, a tenth {tenth:.0} us, ratio {:.1}", whole / tenth);
-    whole / tenth <= MOST
+fn config(name: &str, text: impl Fn(usize) -> String, end: u32) -> bool {
+    is_linear(name, config_time(&text(WHOLE), end), config_time(&text(WHOLE / 10), end))
+}
+
+/// So many writes of two fields by eight threads, 32 bytes each: 32,768 of them are 1 MiB.
+fn writes(count: usize) -> String {
+    (0..count).map(|n| format!("write {} demo f0={:06} f3={:05}\n", n % 8, 100_000 + n, 10_000 + n % 90_000)).collect()
+}
+
+fn plain_config() -> scripts::Config {
+    let fields = [b"f0".as_slice(), b"f1", b"f2", b"f3"];
+    scripts::Config {
+        set: scripts::DataSet {
+            name: b"demo",
+            fields: fields.map(|name| scripts::Field { name, kind: scripts::Kind::UInt32 }).into(),
+        },
+        components: vec![b"root", b"connection", b"g1", b"w1", b"rg1", b"r1"],
+        readers: vec![b"r1"],
+    }
+}
+
+/// The sum that `script_sum` makes.
+fn plain_sum(lines: &[scripts::Line]) -> u64 {
+    let mut sum = 0u64;
+    for line in lines {
+        sum = sum.wrapping_mul(31).wrapping_add(u64::from(line.at));
+        if let scripts::Act::Write { patch, .. } = &line.act {
+            sum = sum.wrapping_mul(31).wrapping_add(patch.mask);
+            sum = patch.words.iter().fold(sum, |sum, word| sum.wrapping_add(*word));
+        }
+    }
+    sum
+}
+
+/// The least times of reading a script, ours and by hand.
+fn script_times(config: &str, text: &str) -> (f64, f64) {
+    let plain = plain_config();
+    let lines = scripts::read(&plain, text.as_bytes()).expect("accepted");
+    let sum = unsafe { script_sum(config.as_ptr(), config.len(), text.as_ptr(), text.len()) };
+    assert_eq!(sum, plain_sum(&lines), "the scripts differ");
+    drop(lines);
+    let (mut ours, mut theirs) = (f64::MAX, f64::MAX);
+    for _ in 0..ROUNDS {
+        let (each, end) =
+            time(|| unsafe { bench_script(1, config.as_ptr(), config.len(), black_box(text.as_ptr()), text.len()) });
+        assert_eq!(end, 0);
+        ours = ours.min(each);
+        let (each, read) = time(|| scripts::read(black_box(&plain), black_box(text.as_bytes())));
+        assert!(read.is_ok());
+        theirs = theirs.min(each);
+    }
+    (ours, theirs)
+}
+
+fn scripts_are_linear() -> bool {
+    let config = configs::session(4, 1);
+    let whole = script_times(&config, &writes(32_768));
+    let tenth = script_times(&config, &writes(3_276));
+    compare("script, 32,768 writes", whole.0, whole.1);
+    compare("script, 3,276 writes", tenth.0, tenth.1);
+    is_linear("script, 32,768 writes", whole.0, tenth.0)
+}
+
+const WRITERS: usize = 16;
+const FIELDS: usize = 64;
+
+/// The session that `bench_report` makes.
+fn session(versions: u32, entries: u32, looks: u32) -> reports::Session {
+    let log: Vec<_> = (0..u64::from(entries)).map(|place| (place, place * 8)).collect();
+    let reader = |number| reports::Reader {
+        name: format!("r{number}"),
+        number: Some(4096),
+        version: Some(32_768),
+        row: vec![0; FIELDS],
+        breaks: 1000,
+        recent: vec![(40_000, 40_002); 8],
+    };
+    reports::Session {
+        set: "demo",
+        fields: (0..FIELDS).map(|field| format!("f{field}")).collect(),
+        threads: (0..versions).map(|version| (version % 8) as u8).collect(),
+        group: "g1",
+        writers: (1..=WRITERS).map(|number| reports::Writer { name: format!("w{number}"), log: log.clone() }).collect(),
+        read_group: "rg1",
+        taken: u64::from(entries),
+        readers: (1..=WRITERS).map(reader).collect(),
+        watches: (0..64u8)
+            .map(|line| reports::Watch {
+                thread: line / 8,
+                reader: 0,
+                counts: (0..u64::from(looks)).map(|look| look * 4).collect(),
+            })
+            .collect(),
+        link: [u64::from(entries), 0, u64::from(entries), 0, 0, 0],
+    }
+}
+
+const TURNS: u32 = 10;
+
+/// The least times of a report, ours and by hand, and its bytes. A call that writes it more often makes the session once,
+/// too, so ours is the difference.
+fn report_times(config: &str, versions: u32, entries: u32, looks: u32) -> (f64, f64, f64) {
+    let plain = session(versions, entries, looks);
+    let theirs_text = reports::report(&plain);
+    let mut text = vec![0; 2 * WHOLE];
+    let mut make = |turns| {
+        let (pointer, length) = (text.as_mut_ptr(), text.len());
+        time(|| unsafe { bench_report(turns, config.as_ptr(), config.len(), versions, entries, looks, pointer, length) })
+    };
+    let (mut once, mut often, mut theirs) = (f64::MAX, f64::MAX, f64::MAX);
+    let mut end = 0;
+    for _ in 0..ROUNDS {
+        let (each, _) = make(0);
+        once = once.min(each);
+        let (each, length) = make(TURNS);
+        often = often.min(each);
+        end = length;
+        let (each, _) = time(|| reports::report(black_box(&plain)));
+        theirs = theirs.min(each);
+    }
+    assert!(text[..end] == theirs_text, "the reports differ");
+    ((often - once) / f64::from(TURNS), theirs, end as f64)
+}
+
+fn reports_are_linear() -> bool {
+    let config = configs::session(FIELDS, WRITERS);
+    let whole = report_times(&config, 32_768, 4097, 1000);
+    let tenth = report_times(&config, 3_276, 409, 100);
+    compare("report, the largest", whole.0, whole.1);
+    compare("report, entries a tenth of it", tenth.0, tenth.1);
+    // its numbers have more digits: what counts is a tenth of its bytes
+    is_linear("report, the largest", whole.0, tenth.0 * whole.2 / tenth.2 / 10.0)
 }
 
 fn main() {
-    let configurations = [
-        measure("configuration, accepted, mostly comments", configs::accepted, 0),
-        measure("configuration, too many data sets", configs::many_tables, 5),
-        measure("configuration, unknown keys", configs::many_keys, 2),
+    let linear = [
+        config("configuration of 1 MiB, accepted, mostly comments", configs::accepted, 0),
+        config("configuration of 1 MiB, too many data sets", configs::many_tables, 5),
+        config("configuration of 1 MiB, unknown keys", configs::many_keys, 2),
+        scripts_are_linear(),
+        reports_are_linear(),
     ];
-    // Scripts and reports are measured here.
-    if !configurations.iter().all(|linear| *linear) {
+    if !linear.iter().all(|linear| *linear) {
         exit(1);
     }
 }

@@ -1,4 +1,5 @@
 pub mod CauseCount
+pub mod FirstRun
 pub mod Groups
 pub mod Pairs
 pub mod Rows

@@ -2,7 +2,8 @@
 use Rattle.std.proofs.Common.{◌≡◌, ℕ, zero, suc, ◌+◌, ◌<◌, List, [], ◌∷◌, ◌++◌, length, get_or, take, drop, refl, sym, ap, ◌∙◌, subst, arith, append_assoc, add-one}
 use Rattle.std.specs.List.{flat_map, zip, AllZip}
 use Rattle.std.proofs.Math.Seq.{drop-cons, take-length}
-use Rattle.std.proofs.lemmas.List.{append-nil}
+use Rattle.std.proofs.lemmas.List.{append-nil, take_more}
+use Rattle.std.proofs.lemmas.Grind.{flat_map-append}
 
 -- the text of pairs, one pair more
 more : {A B : Type 0} (f : A × B → List ℕ) (xs : List A) (ys : List B) (i : ℕ) (x : A) (y : B)
@@ -65,3 +66,29 @@ pub zip_behind : {A B : Type 0} (R : A → B → Type 0) (xs ys : List A) (zs : 
 zip_behind R [] ys zs h = h
 zip_behind R (x ∷ xs) ys [] h = absurd h
 zip_behind R (x ∷ xs) ys (z ∷ zs) h = zip_behind R xs ys zs h.1
+
+zip_more : {A B : Type 0} (R : A → B → Type 0) (xs : List A) (ys : List B) (x : A) (y : B) → AllZip R xs ys → R x y
+    → AllZip R (xs ++ x ∷ []) (ys ++ y ∷ [])
+zip_more R [] [] x y all is = (is, tt)
+zip_more R [] (b ∷ ys) x y all is = absurd all
+zip_more R (a ∷ xs) [] x y all is = absurd all
+zip_more R (a ∷ xs) (b ∷ ys) x y all is = (all.0, zip_more R xs ys x y all.1 is)
+
+to_place : {A : Type 0} (xs : List A) (i : ℕ) (x : A) → i < length xs → x ≡ get_or xs i x → take (i + 1) xs ≡ take i xs ++ x ∷ []
+to_place xs i x in_xs is = take_more xs i x in_xs ∙ ap (λ v. take i xs ++ v ∷ []) (sym is)
+
+-- behind other pairs those up to a place, one pair more
+pub zip_place_more : {A B : Type 0} (R : A → B → Type 0) (before xs : List A) (ys : List B) (i : ℕ) (x : A) (y : B)
+    → i < length xs → x ≡ get_or xs i x → AllZip R (before ++ take i xs) ys → R x y
+    → AllZip R (before ++ take (i + 1) xs) (ys ++ y ∷ [])
+zip_place_more R before xs ys i x y in_xs is all one =
+    subst (λ l. AllZip R l (ys ++ y ∷ []))
+    (append_assoc before (take i xs) (x ∷ []) ∙ ap (λ l. before ++ l) (sym (to_place xs i x in_xs is)))
+    (zip_more R (before ++ take i xs) ys x y all one)
+
+-- the lists of all up to a place, one list more
+pub lists_place_more : {A B : Type 0} (f : A → List B) (xs : List A) (i : ℕ) (x : A) → i < length xs → x ≡ get_or xs i x
+    → flat_map f (take (i + 1) xs) ≡ flat_map f (take i xs) ++ f x
+lists_place_more f xs i x in_xs is =
+    ap (flat_map f) (to_place xs i x in_xs is) ∙ flat_map-append f (take i xs) (x ∷ [])
+    ∙ ap (λ l. flat_map f (take i xs) ++ l) (append-nil (f x))

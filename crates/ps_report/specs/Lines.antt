@@ -7,19 +7,20 @@ use Rattle.dataset_meta.specs.declared.field.Field.{Field}
 use Rattle.dataset_meta.specs.DataValues.{DataValue}
 use Rattle.pubsub_model.specs.declared.reading.Break.{Break}
 use Rattle.pubsub_model.specs.declared.reading.Why.{Why}
-use Rattle.ps_report.specs.declared.state.State.{State}
+use Rattle.pubsub_states.specs.declared.state.State.{State}
+use Rattle.pubsub_states.specs.States.{word_of}
 use Rattle.ps_report.specs.declared.closed.GroupEnd.{GroupEnd}
 use Rattle.ps_report.specs.declared.closed.LinkEnd.{LinkEnd}
 use Rattle.ps_report.specs.declared.closed.ReadGroupEnd.{ReadGroupEnd}
 use Rattle.ps_report.specs.declared.closed.WriterEnd.{WriterEnd}
-use Rattle.ps_report.specs.Words.{state_word, why_word, cause_words}
+use Rattle.ps_report.specs.Words.{why_word, cause_words}
 
 abbrev pub feed : List ℕ
 feed = 10 ∷ []
 
 -- `WORD NAME STATE`
 unfoldable pub component_text : List ℕ → List ℕ → State → List ℕ
-component_text word name state = word ++ codes " " ++ name ++ codes " " ++ state_word state
+component_text word name state = word ++ codes " " ++ name ++ codes " " ++ word_of state
 
 -- ` N:`
 unfoldable pub count_text : ℕ → List ℕ

@@ -2,15 +2,6 @@
 use Rattle.std.specs.Prelude.{ℕ, List, [], ◌∷◌, codes}
 use Rattle.pubsub_model.specs.declared.reading.Why.{Why}
 use Rattle.pubsub_model.specs.declared.reading.Why.TheVariants.{Start, Gap, Timeout, NewToken, Jump, Restarted}
-use Rattle.ps_report.specs.declared.state.State.{State}
-use Rattle.ps_report.specs.declared.state.State.TheVariants.{Disabled, Paused, Operational, Error, PreOperational}
-
-unfoldable pub state_word : State → List ℕ
-state_word Disabled = codes "disabled"
-state_word Paused = codes "paused"
-state_word Operational = codes "operational"
-state_word Error = codes "error"
-state_word PreOperational = codes "preoperational"
 
 unfoldable pub why_word : Why → List ℕ
 why_word Start = codes "start"

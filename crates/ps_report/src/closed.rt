@@ -1,8 +1,8 @@
 //! What a session was when it closed. Counts stand still at their type's end.
-use crate::state::State;
 use arrayvec::ArrayVec;
 use ps_config::Parts;
 use pubsub_model::{Break, Why};
+use pubsub_states::State;
 use row_words::Row;
 
 /// A closed session: an entry for each data set, group and read group of its configuration, in order, and for each writer and

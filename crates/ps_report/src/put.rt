@@ -3,9 +3,9 @@ ghost use Rattle.std.specs.Prelude.{◌≡◌, ◌++◌, OnOk};
 ghost use Rattle.std.specs.Fmt.{decimal};
 ghost use Rattle.ps_report.specs.Lines.{feed, component_text, count_text, number_or_dash, numbers_text};
 
-use crate::state::State;
 use dataset_meta::Name32;
 use itoa::Buffer;
+use pubsub_states::State;
 use ua_base::NoMemory;
 
 pub fn put(out: &mut Vec<u8>, text: &[u8]) -> Result<(), NoMemory>

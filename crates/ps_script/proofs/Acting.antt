@@ -1,12 +1,11 @@
 -- What a line means, by its verb.
-use Rattle.std.proofs.Common.{◌≡◌, ℕ, Bool, List, Option, Some, None, slice_get, option_and_then, false, refl, sym, ap, ◌∙◌}
+use Rattle.std.proofs.Common.{◌≡◌, ℕ, Bool, List, Option, Some, None, slice_get, option_and_then, false, sym, ap, ◌∙◌}
 use Rattle.std.specs.Option.{option_map_or}
 use Rattle.dataset_meta.specs.Metas.{MetaData}
 use Rattle.row_words.specs.declared.patch.Patch.{Patch}
 use Rattle.ps_config.specs.declared.parts.Config.{Config}
 use Rattle.ps_script.specs.declared.script.Act.{Act}
 use Rattle.ps_script.specs.declared.script.Act.TheVariants as act
-use Rattle.ps_script.specs.declared.verbs.Verb.{Verb}
 use Rattle.ps_script.specs.declared.verbs.Verb.TheVariants as verb
 use Rattle.ps_script.specs.Texts.{word}
 use Rattle.ps_script.specs.Verbs.{verb_of}

@@ -1,5 +1,5 @@
 -- The faults of a line, one after another.
-use Rattle.std.proofs.Common.{◌≡◌, ◌≢◌, ℕ, zero, suc, ◌+◌, ◌<◌, Bool, true, false, not, cond, List, [], ◌∷◌, ◌++◌, length, drop, get_or, Option, Some, None, find, refl, sym, ap, ◌∙◌, subst, arith, lit<}
+use Rattle.std.proofs.Common.{◌≡◌, ◌≢◌, ℕ, zero, suc, ◌+◌, ◌<◌, Bool, true, false, cond, List, [], ◌∷◌, ◌++◌, length, drop, get_or, Option, Some, None, find, refl, sym, ap, ◌∙◌, subst, arith, lit<}
 use Rattle.std.specs.List.{list_all}
 use Rattle.std.proofs.lemmas.List.{at_drop_more}
 use Rattle.std.proofs.lemmas.Bool.{false≢true, and_parts}
@@ -64,7 +64,8 @@ last_is_told reader config plain done line e bad = last_decides reader config pl
 pub none_is_told : (reader : ValueReader) (config : Config) (plain : Bool) (done : Done) (line : List ℕ) → None ≡ first_of reader early_faults config plain done line → is_bad_append config done line (verb_of line) ≡ false → fault_of reader config plain done line ≡ None
 none_is_told reader config plain done line e good = last_decides reader config plain done line e ∙ ap (λ (v : Bool). cond v (Some BadAppend) None) good
 
-none_at : (p : ScriptFault → Bool) (xs : List ScriptFault) (k : ℕ) (d : ScriptFault) → find p xs ≡ None → k < length xs → p (get_or xs k d) ≡ false
+-- none of them stands
+pub none_at : (p : ScriptFault → Bool) (xs : List ScriptFault) (k : ℕ) (d : ScriptFault) → find p xs ≡ None → k < length xs → p (get_or xs k d) ≡ false
 none_at p [] k d e lt = absurd (omega arith)
 none_at p (x ∷ xs) zero d e lt = (none_step (p x) x (find p xs) e).0
 none_at p (x ∷ xs) (suc k) d e lt = none_at p xs k d (none_step (p x) x (find p xs) e).1 (omega arith)

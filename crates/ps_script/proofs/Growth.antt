@@ -1,12 +1,11 @@
 -- What a line `append` is refused for, and what it does.
-use Rattle.std.proofs.Common.{◌≡◌, ℕ, ◌+◌, Bool, true, false, ◌||◌, List, Option, Some, None, slice_get, refl, sym, ap, ◌∙◌}
+use Rattle.std.proofs.Common.{◌≡◌, ℕ, ◌+◌, Bool, true, false, ◌||◌, List, Option, Some, None, slice_get, sym, ap, ◌∙◌}
 use Rattle.std.specs.List.{list_any}
 use Rattle.std.proofs.Math.ListN.{set}
 use Rattle.std.proofs.lemmas.Bool.{false≢true}
 use Rattle.dataset_meta.specs.Metas.{MetaData}
 use Rattle.ps_config.specs.declared.parts.Config.{Config}
 use Rattle.ps_config.specs.Rooms.{lacks_room}
-use Rattle.ps_script.specs.declared.verbs.Verb.{Verb}
 use Rattle.ps_script.specs.declared.verbs.Verb.TheVariants.{Append}
 use Rattle.ps_script.specs.Texts.{word}
 use Rattle.ps_script.specs.Names.{set_named}
@@ -14,7 +13,7 @@ use Rattle.ps_script.specs.Past.{Done, field_of, grown, grown_at, grown_by, meta
 use Rattle.ps_script.specs.Faults.{is_unfit, has_mute_writer, is_bad_growth, is_bad_append_to, is_bad_append, Appends}
 use Rattle.std.specs.Option.{option_map_or}
 
-metas_some : (metas : List MetaData) (line : List ℕ) (index : ℕ) (meta : MetaData) → set_named metas (word 1 line) ≡ Some index → slice_get metas index ≡ Some meta → metas_after metas line ≡ set metas index (grown meta (field_of line))
+pub metas_some : (metas : List MetaData) (line : List ℕ) (index : ℕ) (meta : MetaData) → set_named metas (word 1 line) ≡ Some index → slice_get metas index ≡ Some meta → metas_after metas line ≡ set metas index (grown meta (field_of line))
 unfolding metas_after
 metas_some metas line index meta named found =
     ap (grown_by metas (field_of line)) named ∙ ap (grown_at metas index (field_of line)) found
@@ -23,7 +22,7 @@ metas_none : (metas : List MetaData) (line : List ℕ) → set_named metas (word
 unfolding metas_after
 metas_none metas line named = ap (grown_by metas (field_of line)) named
 
-bad_to : (config : Config) (done : Done) (line : List ℕ) (index : ℕ) (meta : MetaData) → set_named done.metas (word 1 line) ≡ Some index → slice_get done.metas index ≡ Some meta → is_bad_append config done line (Some Append) ≡ is_bad_growth config done line index meta
+pub bad_to : (config : Config) (done : Done) (line : List ℕ) (index : ℕ) (meta : MetaData) → set_named done.metas (word 1 line) ≡ Some index → slice_get done.metas index ≡ Some meta → is_bad_append config done line (Some Append) ≡ is_bad_growth config done line index meta
 bad_to config done line index meta named found =
     ap (is_bad_append_to config done line) named
     ∙ ap (λ (o : Option MetaData). option_map_or (is_bad_growth config done line index) o false) found

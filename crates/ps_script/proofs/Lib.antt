@@ -11,3 +11,14 @@ pub mod Growth
 pub mod Reading
 pub mod Acting
 pub mod Readers
+pub mod KindTexts
+pub mod Below
+pub mod Writing
+pub mod Fine
+pub mod Telling
+pub mod Counting
+pub mod Sound
+pub mod Growing
+pub mod Patching
+pub mod Moments
+pub mod Work

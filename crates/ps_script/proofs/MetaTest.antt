@@ -1,6 +1,6 @@
 -- The test for fields that make a meta is right.
-use Rattle.std.proofs.Common.{◌≡◌, ℕ, ◌+◌, ◌<◌, ◌≤◌, Bool, true, false, ◌&&◌, not, nat_le, IsTrue, List, [], length, take, get_or, Contains, refl, sym, ap, ◌∙◌, subst, arith, zero-add}
-use Rattle.std.specs.List.{list_any, list_all, range_with_len, All}
+use Rattle.std.proofs.Common.{◌≡◌, ℕ, ◌<◌, ◌≤◌, Bool, true, false, ◌&&◌, not, nat_le, IsTrue, List, [], length, take, get_or, refl, sym, ap, ◌∙◌, subst, arith, zero-add}
+use Rattle.std.specs.List.{list_any, list_all, range_with_len}
 use Rattle.std.specs.Str.{bytes_eq}
 use Rattle.std.specs.Cmp.Lexicographic.{nat_list_eq_equiv}
 use Rattle.std.proofs.lemmas.Bool.{false≢true}
@@ -11,7 +11,7 @@ use Rattle.std.proofs.lemmas.Map.Views.{list_any-from_Contains, Contains-from_an
 use Rattle.std.proofs.lemmas.Slice.Eq.{bytes_eq-Decides}
 use Rattle.dataset_meta.specs.declared.field.Field.{Field}
 use Rattle.dataset_meta.specs.Fields.{has_cap}
-use Rattle.dataset_meta.specs.Metas.{names, words_of, IsDouble, IsMeta, AreDistinct, AreCapped}
+use Rattle.dataset_meta.specs.Metas.{names, words_of, IsMeta, AreDistinct}
 use Rattle.ps_script.specs.Faults.{is_fresh, is_meta}
 
 both : (b c : Bool) → (b && c) ≡ true → (b ≡ true) × (c ≡ true)

@@ -1,9 +1,9 @@
 -- Cuts at a byte, pieces, and words.
-use Rattle.std.proofs.Common.{◌≡◌, ℕ, zero, suc, ◌-◌, ◌+◌, ◌<◌, ◌≤◌, ◌==◌, not, Bool, true, false, cond, List, [], ◌∷◌, length, take, drop, filter, Option, Some, None, position, nat_lt, refl, ap, sym, subst, ◌∙◌, arith}
+use Rattle.std.proofs.Common.{◌≡◌, ℕ, zero, suc, ◌-◌, ◌+◌, ◌<◌, ◌≤◌, ◌==◌, not, Bool, true, false, cond, List, [], ◌∷◌, length, take, drop, filter, Some, None, position, nat_lt, refl, ap, subst, ◌∙◌, arith}
 use Rattle.std.specs.List.{position_or_len}
 use Rattle.std.proofs.lemmas.Bool.Decides.{nat_tests}
 use Rattle.std.proofs.lemmas.Grind.{common_steps}
-use Rattle.ps_script.specs.Texts.{until, behind, longer, pieces, lines_of, has_bytes, words_of}
+use Rattle.ps_script.specs.Texts.{until, behind, longer, pieces, has_bytes, words_of}
 
 abbrev pub place : ℕ → List ℕ → ℕ
 place mark bytes = position_or_len (λ byte. byte == mark) bytes

@@ -1,12 +1,11 @@
 -- What is judged, and the script.
-use Rattle.std.proofs.Common.{◌≡◌, ℕ, Bool, List, Result, Ok, Err, refl, sym, ap, ◌∙◌}
+use Rattle.std.proofs.Common.{◌≡◌, ℕ, Bool, List, Ok, sym, ap, ◌∙◌}
 use Rattle.dataset_meta.specs.Metas.{MetaData}
 use Rattle.ps_config.specs.declared.parts.Config.{Config}
 use Rattle.ps_script.specs.declared.script.Line.{Line}
 use Rattle.ps_script.specs.declared.script.Script.{Script}
 use Rattle.ps_script.specs.declared.read.ScriptEnd.{ScriptEnd}
 use Rattle.ps_script.specs.declared.read.ScriptEnd.TheVariants.{Refused, Memory}
-use Rattle.ps_script.specs.declared.fault.ScriptFault.{ScriptFault}
 use Rattle.ps_script.specs.Texts.{lines_of}
 use Rattle.ps_script.specs.Values.{ValueReader}
 use Rattle.ps_script.specs.Past.{Done}

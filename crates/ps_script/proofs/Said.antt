@@ -1,11 +1,11 @@
 -- Field words one after another.
 use Rattle.std.proofs.Common.{◌≡◌, ℕ, Bool, true, false, ◌||◌, List, [], ◌∷◌, Option, Some, None, is_none, option_map, refl, sym, ap, ◌∙◌}
-use Rattle.std.specs.List.{list_any, list_all}
+use Rattle.std.specs.List.{list_any}
 use Rattle.dataset_meta.specs.declared.field.Field.{Field}
 use Rattle.dataset_meta.specs.DataValues.{DataValue}
 use Rattle.ps_script.specs.declared.changes.Change.{Change}
 use Rattle.ps_script.specs.Values.{ValueReader}
-use Rattle.ps_script.specs.Fields.{change_of, with_change, patch_with, is_field_word}
+use Rattle.ps_script.specs.Fields.{change_of, with_change, patch_with}
 use Rattle.ps_script.specs.Changes.{change_by}
 
 abbrev pub is_bad : ValueReader → Bool → List Field → List ℕ → Bool

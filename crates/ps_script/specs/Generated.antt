@@ -1,5 +1,5 @@
 -- Generated work: 32n writes and 4n ticks.
-use Rattle.std.specs.Prelude.{ℕ, ◌+◌, ◌*◌, ◌/◌, ◌%◌, ◌==◌, List, [], ◌∷◌, map, if◌then◌else◌}
+use Rattle.std.specs.Prelude.{ℕ, ◌+◌, ◌*◌, ◌/◌, ◌%◌, ◌==◌, [], ◌∷◌, map, if◌then◌else◌}
 use Rattle.std.specs.List.{range_with_len}
 use Rattle.ua_values.specs.declared.value.Value.TheVariants.{UInt32}
 use Rattle.dataset_meta.specs.DataValues.{DataValue}

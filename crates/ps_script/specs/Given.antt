@@ -1,7 +1,8 @@
 -- What a script is read for.
 use Rattle.std.specs.Prelude.{◌≡◌, ◌≤◌, length}
 use Rattle.ps_script.specs.declared.past.Given.{Given}
-use Rattle.ps_script.specs.Names.{component_names, reader_names}
+use Rattle.ps_config.specs.Sound.{component_names}
+use Rattle.ps_script.specs.Names.{reader_names}
 
 -- the names are those of the configuration, and not more than there may be
 pub record HasNames (given : Given) : Type 0 where

@@ -14,4 +14,5 @@ pub mod Refusals
 pub mod Acts
 pub mod Scripts
 pub mod Sessions
+pub mod Sound
 pub mod Generated

@@ -1,5 +1,6 @@
 -- What a session takes from the lines of a script.
-use Rattle.std.specs.Prelude.{ℕ, ◌+◌, ◌==◌, Bool, true, false, ◌&&◌, List, [], ◌∷◌, length, take, flat_map, count_by, sum, if◌then◌else◌}
+use Rattle.std.specs.Prelude.{ℕ, ◌+◌, ◌==◌, Bool, true, false, ◌&&◌, ◌||◌, not, List, [], ◌∷◌, length, take, flat_map, count_by, sum, if◌then◌else◌}
+use Rattle.std.specs.List.{fold}
 use Rattle.dataset_meta.specs.Metas.{MetaData, meta_of}
 use Rattle.row_words.specs.declared.patch.Patch.{Patch}
 use Rattle.ua_base.specs.declared.link.Fate.{Fate}
@@ -37,6 +38,10 @@ patches_by thread set _ = []
 abbrev pub patches_of : ℕ → ℕ → List Line → List Patch
 patches_of thread set lines = flat_map (λ line. patches_by thread set line.act) lines
 
+abbrev pub gives_fate : Act → Bool
+gives_fate (act.Fated number fate) = true
+gives_fate _ = false
+
 abbrev pub fates_by : Act → List (ℕ × Fate)
 fates_by (act.Fated number fate) = (number, fate) ∷ []
 fates_by _ = []
@@ -59,3 +64,23 @@ abbrev pub meta_behind : ℕ → MetaData → MetaData → List Line → MetaDat
 meta_behind set configured full lines =
     meta_of full.name (take (length configured.fields + appends_in set lines) full.fields) full.major
     (configured.minor + appends_in set lines) full.quality
+
+-- the same of all data sets; the first of these has this number
+abbrev pub metas_from : ℕ → List MetaData → List MetaData → List Line → List MetaData
+metas_from set [] full lines = []
+metas_from set (meta ∷ configured) [] lines = []
+metas_from set (meta ∷ configured) (whole ∷ full) lines =
+    meta_behind set meta whole lines ∷ metas_from (set + 1) configured full lines
+
+-- the configured data sets behind these lines; with all fields that the script appends they are the second
+abbrev pub metas_behind : List MetaData → List MetaData → List Line → List MetaData
+metas_behind configured full lines = metas_from 0 configured full lines
+
+abbrev pub enabled_by : ℕ → Bool → Act → Bool
+enabled_by id on (act.Enable other) = other == id || on
+enabled_by id on (act.Disable other) = not (other == id) && on
+enabled_by id on _ = on
+
+-- whether a component is enabled behind these lines (OPC 10000-14 6.2.1, PubSubState): each is at first
+abbrev pub is_enabled : ℕ → List Line → Bool
+is_enabled id lines = fold (λ on line. enabled_by id on line.act) true lines

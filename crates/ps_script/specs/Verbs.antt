@@ -1,5 +1,5 @@
 -- What lines begin with, and the words for what happens to a datagram.
-use Rattle.std.specs.Prelude.{ℕ, ◌==◌, Bool, true, false, List, [], ◌∷◌, codes, Option, Some, None, if◌then◌else◌}
+use Rattle.std.specs.Prelude.{ℕ, ◌==◌, Bool, true, List, [], ◌∷◌, codes, Option, Some, None, if◌then◌else◌}
 use Rattle.std.specs.Str.{bytes_eq}
 use Rattle.ps_script.specs.declared.verbs.Verb.{Verb}
 use Rattle.ps_script.specs.declared.verbs.Verb.TheVariants as verb

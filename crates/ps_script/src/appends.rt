@@ -8,9 +8,8 @@ ghost use Rattle.ps_script.specs.Texts.{word};
 ghost use Rattle.ps_script.specs.Past.{done_by, field_of, grown, done_with};
 ghost use Rattle.ps_script.specs.Faults.{is_meta, has_mute_writer, is_bad_append, IsGrowth, Appends};
 
-use crate::kinds::kind_named;
 use crate::laws::fields_make_a_meta_exactly_by_the_test;
-use crate::names::set_named;
+use crate::names::{kind_spelled, set_named};
 use crate::numbers::number_at;
 use crate::past::Past;
 use crate::texts::word;
@@ -58,7 +57,7 @@ fn grown(alloc: Global, meta: &Meta, line: &[u8]) -> Result<Option<Meta>, AllocE
     };
     let field = Field {
         name,
-        kind: kind_named(word(line, 3)).unwrap_or(Kind::Boolean),
+        kind: kind_spelled(word(line, 3)).unwrap_or(Kind::Boolean),
         cap: number_at(word(line, 4), 1, 256) as u16,
     };
     let mut fields = Vec::with_capacity(alloc, meta.fields().len() + 1)?;

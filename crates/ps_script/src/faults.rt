@@ -9,8 +9,7 @@ ghost use Rattle.ps_script.specs.Given.{HasNames};
 ghost use Rattle.ps_script.specs.Faults.{has_name, has_unknown_name, meta_named, is_bad_field, is_bad_value, is_on, is_bad_state, is_past_limit, is_early, is_bad_fate};
 
 use crate::changes::{has_bad_field, has_bad_value};
-use crate::kinds::kind_named;
-use crate::names::{named, set_named};
+use crate::names::{kind_spelled, named, set_named};
 use crate::numbers::number_at;
 use crate::past::{Given, Past};
 use crate::shapes::LAST_DATAGRAM;
@@ -85,7 +84,7 @@ pub(crate) fn is_bad_value(past: &Past, line: &[u8]) -> bool
             Some(meta) => has_bad_value(meta, line),
             None => false,
         },
-        Some(Verb::Append) => kind_named(word(line, 3)).is_none(),
+        Some(Verb::Append) => kind_spelled(word(line, 3)).is_none(),
         _ => false,
     }
 }

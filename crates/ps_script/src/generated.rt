@@ -1,11 +1,12 @@
 //! Work for a session, made and not read.
 ghost use Rattle.std.specs.Prelude.{◌≡◌, ◌≤◌, ◌<◌, ◌*◌, [], ◌∷◌, map, IfOk};
 ghost use Rattle.std.specs.List.{range_with_len};
-ghost use Rattle.ps_config.specs.BuiltIn.{demo};
+ghost use Rattle.ps_config.specs.BuiltIn.{built_in_config, demo};
 ghost use Rattle.ps_script.specs.Generated.{generated_write, generated_act, generated_line, generated};
+ghost use Rattle.ps_script.specs.Sound.{IsScript};
 
 use crate::acts::add_line;
-use crate::laws::a_patch_is_the_words_of_what_it_stands_for;
+use crate::laws::{a_patch_is_the_words_of_what_it_stands_for, generated_work_is_sound};
 use crate::past::copies;
 use crate::script::{Act, Line, Script};
 use dataset_meta::Meta;
@@ -18,10 +19,19 @@ use ua_values::Value;
 /// Work for the built-in configuration. Threads 0 to 3 write by turns, `8n` times each: thread 0 the
 /// field `a`, thread 1 `b`, thread 2 `c`, thread 3 `d`. After each 8 writes 100 milliseconds pass,
 /// and a tick follows.
-#[tactic(auto, unfolding(crate::specs::Generated::generated, ps_config::specs::BuiltIn::built_in_config))]
 pub fn generate(alloc: Global, n: u32) -> Result<Script, NoMemory>
     requires least { 1 ≤ n }
     requires most { n ≤ 1024 }
+    ensures work { IfOk result (λ script. script ≡ generated n) }
+    ensures sound { IfOk result (IsScript built_in_config) }
+{
+    generated_work_is_sound();
+    work(alloc, n)
+}
+
+#[tactic(auto, unfolding(crate::specs::Generated::generated, ps_config::specs::BuiltIn::built_in_config))]
+fn work(alloc: Global, n: u32) -> Result<Script, NoMemory>
+    requires { n ≤ 1024 }
     ensures { IfOk result (λ script. script ≡ generated n) }
 {
     let config = built_in(alloc)?;

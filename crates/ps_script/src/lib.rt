@@ -7,7 +7,6 @@ mod changes;
 mod fault;
 mod faults;
 mod generated;
-mod kinds;
 mod laws;
 mod names;
 mod numbers;
@@ -22,7 +21,12 @@ mod verbs;
 
 pub use fault::ScriptFault;
 pub use generated::generate;
-pub use laws::{a_patch_is_the_words_of_what_it_stands_for, there_is_one_reader_of_values};
+pub use laws::{
+    a_patch_is_the_words_of_what_it_stands_for, an_accepted_script_is_sound,
+    data_sets_begin_as_configured, data_sets_grow_by_appended_fields_alone,
+    fates_come_in_the_order_of_lines, generated_work_is_sound, there_is_one_reader_of_values,
+    time_rises_by_ticks, written_patches_are_of_their_data_set,
+};
 pub use read::{ScriptEnd, read_script};
 pub use script::{Act, Line, Script};
 pub use value_texts::parse_value;

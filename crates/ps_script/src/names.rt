@@ -1,15 +1,18 @@
 //! The names that lines speak of.
 ghost use Rattle.std.specs.Prelude.{◌≡◌, ◌++◌, ◌∷◌, map, flat_map, option_copied, slice_get, length, ◌<◌, IfOk, IfSome, OnOk, IsTrue};
 ghost use Rattle.dataset_meta.specs.Names.{is_name};
-ghost use Rattle.ps_script.specs.Names.{component_names, reader_names, group_names, read_group_names, named, set_named};
+ghost use Rattle.config_tables.specs.Words.{kind_named};
+ghost use Rattle.ps_config.specs.Sound.{component_names, group_names, read_group_names};
+ghost use Rattle.ps_script.specs.Names.{reader_names, named, set_named};
 
+use config_tables::kind_named;
 use dataset_meta::{Meta, Name32};
 use ps_config::{Config, GroupPart, ReadGroupPart, ReaderPart, WriterPart};
 use std::alloc::{AllocError, Global};
+use ua_values::Kind;
 
 /// The names of all components, in the order of their ids: root, connection, each group before its
 /// writers, each read group before its readers.
-#[tactic(auto, unfolding(crate::specs::Names::component_names))]
 pub(crate) fn component_names(alloc: Global, config: &Config) -> Result<Vec<Name32>, AllocError>
     ensures { IfOk result (λ names. names.items ≡ component_names config.now) }
 {
@@ -105,4 +108,14 @@ pub(crate) fn meta_at(metas: &[Meta], set: usize) -> Option<&Meta>
     ensures { option_copied result ≡ slice_get metas.now set }
 {
     metas.get(set)
+}
+
+/// The kind with this name (OPC 10000-6 5.1.2, built-in types).
+pub(crate) fn kind_spelled(word: &[u8]) -> Option<Kind>
+    ensures { result ≡ kind_named word.now }
+{
+    match str::from_utf8(word) {
+        Ok(name) => kind_named(name),
+        Err(_) => None,
+    }
 }

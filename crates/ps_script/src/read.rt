@@ -1,13 +1,16 @@
 //! Reading a script.
-ghost use Rattle.std.specs.Prelude.{◌≡◌, ◌≤◌, length, Ok, IfOk, IfErr};
+ghost use Rattle.std.specs.Prelude.{◌≡◌, ◌≤◌, [], false, length, Ok, IfOk, IfErr};
 ghost use Rattle.ps_config.specs.Sound.{IsSound};
 ghost use Rattle.ps_script.specs.Values.{ValueReader};
 ghost use Rattle.ps_script.specs.Past.{done_by};
 ghost use Rattle.ps_script.specs.Given.{HasNames};
 ghost use Rattle.ps_script.specs.Scripts.{judged, script, IsEnd, IsEndOf};
+ghost use Rattle.ps_script.specs.Sessions.{fates_of};
+ghost use Rattle.ps_script.specs.Sound.{IsScript};
 
 use crate::acts::lines_of;
 use crate::fault::ScriptFault;
+use crate::laws::{an_accepted_script_is_sound, there_is_one_reader_of_values};
 use crate::past::{Given, Past};
 use crate::refusal::step;
 use crate::script::Script;
@@ -37,13 +40,29 @@ impl From<AllocError> for ScriptEnd {
 
 /// The script that the bytes are, for a session with this configuration. Where links have no fates,
 /// `plain` is false, and a line that gives one is refused.
-#[tactic(auto, using(crate::proofs::Reading::ended, crate::proofs::Reading::accepted), unfolding(crate::specs::Scripts::script_with))]
 pub fn read_script(
     alloc: Global,
     config: &Config,
     bytes: &[u8],
     plain: bool,
 ) -> Result<Script, ScriptEnd>
+    requires { IsSound config.now }
+    ensures ok { (reader : ValueReader) → IfOk result (λ found.
+        script reader config.now bytes.now plain ≡ Ok found) }
+    ensures refused { (reader : ValueReader)
+        → IfErr result (IsEnd (script reader config.now bytes.now plain)) }
+    // What lines name is there, patches are of their data sets, numbers and counts are in range.
+    ensures sound { IfOk result (IsScript config.now) }
+    ensures fateless { IfOk result (λ found. plain ≡ false → fates_of found.lines ≡ []) }
+{
+    there_is_one_reader_of_values();
+    an_accepted_script_is_sound();
+    read(alloc, config, bytes, plain)
+}
+
+/// The script, or what refuses it: the lines are judged, and then those that do something are kept.
+#[tactic(auto, using(crate::proofs::Reading::ended, crate::proofs::Reading::accepted), unfolding(crate::specs::Scripts::script_with))]
+fn read(alloc: Global, config: &Config, bytes: &[u8], plain: bool) -> Result<Script, ScriptEnd>
     requires { IsSound config.now }
     ensures ok { (reader : ValueReader) → IfOk result (λ found.
         script reader config.now bytes.now plain ≡ Ok found) }

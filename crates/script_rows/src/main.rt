@@ -2,15 +2,16 @@
 //! answers behind ` -> `. Lines that begin with `#`, and empty ones, are printed as they are.
 #![tactic(auto)]
 
-mod escaped;
 mod shown;
+mod work;
 
 ghost use Rattle.ps_config.specs.Sound.{IsSound};
 
-use crate::escaped::bytes_of;
-use crate::shown::ShownLine;
+use crate::shown::lines_shown;
+use crate::work::{ends, generated, reread};
+use line_texts::unescaped;
 use ps_config::{Config, read_config};
-use ps_script::{Script, ScriptEnd, read_script};
+use ps_script::{ScriptEnd, read_script};
 use std::alloc::Global;
 use std::io;
 
@@ -37,16 +38,19 @@ fn answer(alloc: Global, document: &str, line: &str) -> io::Result<String> {
     match line.split_once(' ') {
         Some(("play", text)) => read(alloc, document, text, true),
         Some(("run", text)) => read(alloc, document, text, false),
+        Some(("generate", count)) => generated(alloc, count),
+        Some(("ends", count)) => ends(alloc, count),
+        Some(("reread", count)) => read_again(alloc, document, count),
         _ => told(alloc, "not a row"),
     }
 }
 
 /// The lines of a script, or what refuses it.
 fn read(alloc: Global, document: &str, text: &str, plain: bool) -> io::Result<String> {
-    let Some(document) = bytes_of(alloc, document)? else {
+    let Some(document) = unescaped(alloc, document)? else {
         return told(alloc, "not a configuration");
     };
-    let Some(bytes) = bytes_of(alloc, text)? else {
+    let Some(bytes) = unescaped(alloc, text)? else {
         return told(alloc, "not a text");
     };
     match read_config(alloc, &document) {
@@ -58,11 +62,25 @@ fn read(alloc: Global, document: &str, text: &str, plain: bool) -> io::Result<St
     }
 }
 
+/// Whether the text of generated work is read as that work.
+fn read_again(alloc: Global, document: &str, count: &str) -> io::Result<String> {
+    let Some(document) = unescaped(alloc, document)? else {
+        return told(alloc, "not a configuration");
+    };
+    match read_config(alloc, &document) {
+        Ok(config) => reread(alloc, &config, count),
+        Err(end) => {
+            drop(end);
+            told(alloc, "not a configuration")
+        }
+    }
+}
+
 fn read_with(alloc: Global, config: &Config, bytes: &[u8], plain: bool) -> io::Result<String>
     requires { IsSound config.now }
 {
     match read_script(alloc, config, bytes, plain) {
-        Ok(script) => all_shown(alloc, &script),
+        Ok(script) => Ok(lines_shown(alloc, "ok", script.lines.as_slice())?),
         Err(ScriptEnd::Memory) => told(alloc, "no memory"),
         Err(ScriptEnd::Refused { line, fault }) => {
             let code = fault.number();
@@ -71,15 +89,7 @@ fn read_with(alloc: Global, config: &Config, bytes: &[u8], plain: bool) -> io::R
     }
 }
 
-fn all_shown(alloc: Global, script: &Script) -> io::Result<String> {
-    let mut text = String::from_str(alloc, "ok")?;
-    for line in script.lines.as_slice() {
-        let line = format!(in alloc; "; {}", ShownLine(line))?;
-        text.push_str(line.as_str())?;
-    }
-    Ok(text)
-}
-
-fn told(alloc: Global, text: &str) -> io::Result<String> {
+/// A short answer.
+pub fn told(alloc: Global, text: &str) -> io::Result<String> {
     Ok(String::from_str(alloc, text)?)
 }

@@ -1,12 +1,23 @@
 //! Lines of scripts as text.
 use ps_script::{Act, Line};
 use row_words::Patch;
+use std::alloc::{AllocError, Global};
 use std::fmt;
 use ua_base::Fate;
 
+/// A word, and behind it each of the lines.
+pub fn lines_shown(alloc: Global, word: &str, lines: &[Line]) -> Result<String, AllocError> {
+    let mut text = String::from_str(alloc, word)?;
+    for line in lines {
+        let line = format!(in alloc; "; {}", ShownLine(line))?;
+        text.push_str(line.as_str())?;
+    }
+    Ok(text)
+}
+
 /// A line: its number, and what it does. Data sets, readers and components are numbers from 0.
 #[derive(Clone, Copy)]
-pub struct ShownLine<'a>(pub &'a Line);
+struct ShownLine<'a>(&'a Line);
 
 impl fmt::Display for ShownLine<'_> {
     fn fmt<W: fmt::Write>(&self, f: &mut fmt::Formatter<W>) -> fmt::Result {
@@ -56,6 +67,30 @@ impl fmt::Display for ShownFate {
             Fate::Repeat { times } => write!(f, "repeat {times}"),
             Fate::Hold { after } => write!(f, "hold {after}"),
             Fate::Again { after } => write!(f, "again {after}"),
+        }
+    }
+}
+
+/// A line of generated work as a script spells it: a tick, or a write of one of the four fields of
+/// the built-in data set.
+#[derive(Clone, Copy)]
+pub struct SpelledLine<'a>(pub &'a Line);
+
+impl fmt::Display for SpelledLine<'_> {
+    fn fmt<W: fmt::Write>(&self, f: &mut fmt::Formatter<W>) -> fmt::Result {
+        match &self.0.act {
+            Act::Write { thread, patch, .. } => {
+                let words = &patch.row.words;
+                let (name, word) = match patch.mask {
+                    1 => ("a", words[0]),
+                    2 => ("b", words[1]),
+                    4 => ("c", words[2]),
+                    _ => ("d", words[3]),
+                };
+                write!(f, "write {thread} demo {name}={word}")
+            }
+            Act::Tick(ms) => write!(f, "tick {ms}"),
+            _ => f.write_str("#"),
         }
     }
 }

@@ -1,12 +1,12 @@
 //! Configurations.
-use crate::escaped::bytes_of;
+use line_texts::unescaped;
 use ps_config::{Config, ConfigEnd, Fault, KeyPart, Path, built_in, read_config};
 use std::alloc::Global;
 use std::io;
 
 /// `ok`, or the number, the name and the table of what refuses the text.
 pub fn answer(alloc: Global, text: &str) -> io::Result<String> {
-    let Some(bytes) = bytes_of(alloc, text)? else {
+    let Some(bytes) = unescaped(alloc, text)? else {
         return Ok(String::from_str(alloc, "not a text")?);
     };
     match read_config(alloc, &bytes) {
@@ -20,7 +20,7 @@ pub fn answer(alloc: Global, text: &str) -> io::Result<String> {
 
 /// All that an accepted text says, keys in digits behind it, or what refuses it.
 pub fn values(alloc: Global, text: &str) -> io::Result<String> {
-    let Some(bytes) = bytes_of(alloc, text)? else {
+    let Some(bytes) = unescaped(alloc, text)? else {
         return Ok(String::from_str(alloc, "not a text")?);
     };
     match read_config(alloc, &bytes) {

@@ -4,7 +4,6 @@
 #![tactic(auto)]
 
 mod config;
-mod escaped;
 mod value;
 
 use std::alloc::Global;

@@ -1,6 +1,6 @@
 //! Texts of values.
-use crate::escaped::bytes_of;
 use config_tables::kind_named;
+use line_texts::unescaped;
 use std::alloc::Global;
 use std::io;
 use value_texts::{parse_value, value_text};
@@ -10,7 +10,7 @@ pub fn answer(alloc: Global, text: &str) -> io::Result<String> {
     let Some((kind, cap, word)) = arguments(text) else {
         return Ok(String::from_str(alloc, "not a row")?);
     };
-    let Some(word) = bytes_of(alloc, word)? else {
+    let Some(word) = unescaped(alloc, word)? else {
         return Ok(String::from_str(alloc, "not a text")?);
     };
     let (Some(kind), Ok(cap)) = (kind_named(kind), cap.parse::<u16>()) else {

@@ -1,5 +1,5 @@
 use Rattle.std.proofs.Common.{◌≡◌, ◌++◌, flat_map, drop}
-use Rattle.ps_script.specs.Names.{group_names}
+use Rattle.ps_config.specs.Sound.{group_names}
 use Rattle.ps_script.proofs.names.add_groups.Given as goal
 
 -- the names so far, and those of the groups that are left

@@ -1,11 +1,31 @@
-//! Texts in one line.
+//! Texts of several lines in one, for the programs that run cases.
+#![tactic(auto)]
+
+ghost use Rattle.std.specs.Prelude.{◌≡◌, IfOk, IfSome, Contains};
+
 use std::alloc::{AllocError, Global};
 
-/// The bytes of a text in which `\n`, `\r`, `\t` and `\\` are those characters, `\x{HH..}` bytes,
-/// and `\*N(T)` the text T, N times, in which `/` is a line feed; none where it has another escape.
-pub fn bytes_of(alloc: Global, text: &str) -> Result<Option<Vec<u8>>, AllocError> {
+/// The bytes of a text in which `\n`, `\r`, `\t` and `\\` are those characters, `\x{HH..}` bytes, and `\*N(T)` the text T,
+/// N times, in which `/` is a line feed; none where it has another escape. A text without a backslash is itself.
+pub fn unescaped(alloc: Global, text: &str) -> Result<Option<Vec<u8>>, AllocError>
+    ensures { ¬ Contains text.now 92 → IfOk result (λ told. IfSome told (λ bytes. bytes.items ≡ text.now)) }
+{
     let mut bytes = Vec::new(alloc);
-    let mut is_raw = true;
+    let Some((plain, rest)) = text.split_once('\\') else {
+        bytes.extend_from_slice(text.as_bytes())?;
+        return Ok(Some(bytes));
+    };
+    bytes.extend_from_slice(plain.as_bytes())?;
+    if push_escapes(alloc, &mut bytes, rest)? {
+        Ok(Some(bytes))
+    } else {
+        Ok(None)
+    }
+}
+
+/// What follows a first backslash.
+fn push_escapes(alloc: Global, bytes: &mut Vec<u8>, text: &str) -> Result<bool, AllocError> {
+    let mut is_raw = false;
     for piece in text.split('\\') {
         if is_raw {
             bytes.extend_from_slice(piece.as_bytes())?;
@@ -13,11 +33,11 @@ pub fn bytes_of(alloc: Global, text: &str) -> Result<Option<Vec<u8>>, AllocError
         } else if piece.is_empty() {
             bytes.push(b'\\')?;
             is_raw = true;
-        } else if !push_escape(alloc, &mut bytes, piece)? {
-            return Ok(None);
+        } else if !push_escape(alloc, bytes, piece)? {
+            return Ok(false);
         }
     }
-    Ok(Some(bytes))
+    Ok(true)
 }
 
 /// An escape, without its backslash, and what follows it.
