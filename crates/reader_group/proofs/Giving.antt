@@ -1,0 +1,63 @@
+-- A reader is given what was read.
+use Rattle.std.proofs.Common.{◌≡◌, refl, sym, ap, ◌∙◌, subst, arith, ℕ, ◌<◌, false, Option, Some, None}
+use Rattle.std.specs.Prelude.{IfSome, option_map, Result, Ok}
+use Rattle.seq_number.specs.Numbers.{number_of_place}
+use Rattle.frame_codec.specs.declared.fault.FrameFault.{FrameFault}
+use Rattle.frame_codec.specs.declared.frame.Frame.{Frame as FrameWords}
+use Rattle.frame_codec.specs.Frames.{Frame}
+use Rattle.frame_codec.specs.Words.{frame_in}
+use Rattle.dataset_reader.specs.declared.took.Numbering.{Numbering}
+use Rattle.dataset_reader.specs.declared.took.Took.{Took}
+use Rattle.dataset_reader.specs.Kept.{Kept}
+use Rattle.dataset_reader.specs.Cases.{frame_case}
+use Rattle.dataset_reader.specs.declared.reader.Reader.{Reader}
+use Rattle.dataset_reader.specs.Reader as readers
+use Rattle.dataset_reader.specs.Reader.{kept_by, after_frame}
+use Rattle.reader_group.specs.declared.member.Member.{Member}
+use Rattle.reader_group.specs.declared.receipt.Receipt.{Receipt}
+use Rattle.reader_group.specs.Members.{Seat, MemberValue, noted, numbering_of}
+use Rattle.reader_group.specs.MemberWords.{IsMemberOf, Follows}
+use Rattle.reader_group.specs.Plain.{short, given, read_case}
+
+-- a number of 16 bits is the one that is carried
+short_on : (o : Option ℕ) → IfSome o (λ n. n < 65536) → option_map number_of_place o ≡ o
+short_on None fits = refl
+short_on (Some n) fits = let same : number_of_place n ≡ n = omega (arith, fits) in ap (λ (k : ℕ). Some k) same
+
+-- a frame whose number is carried is the one that is given
+short_is : (frame : Frame) → option_map number_of_place frame.number ≡ frame.number → short frame ≡ frame
+short_is frame carried = ap (λ (number : Option ℕ). record frame { number = number }) carried
+
+-- what the reader makes of a frame is what the plain reading has
+pub frame_is : (seat : Seat) (receipt : Receipt) (member : MemberValue) (frame : FrameWords) (old : Member) → option_map number_of_place frame.number ≡ frame.number → IsMemberOf seat member old
+    → after_frame seat.meta old.reader frame receipt.stamp
+    ≡ frame_case (numbering_of seat.part.numbering) seat.meta.major member.kept (short (frame_in seat.meta.fields frame)) receipt.stamp
+frame_is seat receipt member frame old carried h =
+    let value = frame_in seat.meta.fields frame in
+    ap (λ (numbering : Numbering). frame_case numbering seat.meta.major (kept_by seat.meta.fields old.reader) value receipt.stamp) h.numbering
+    ∙ ap (λ (kept : Kept). frame_case (numbering_of seat.part.numbering) seat.meta.major kept value receipt.stamp) h.kept
+    ∙ ap (λ (message : Frame). frame_case (numbering_of seat.part.numbering) seat.meta.major member.kept message receipt.stamp) (sym (short_is value carried))
+
+-- after the reader took the frame, and once its answer is noted
+pub given_is : (seat : Seat) (receipt : Receipt) (member : MemberValue) (frame : FrameWords) (old : Member) (between : Reader) (new : Member) (took : Took) → option_map number_of_place frame.number ≡ frame.number → IsMemberOf seat member old
+    → kept_by seat.meta.fields between ≡ (after_frame seat.meta old.reader frame receipt.stamp).0 → took ≡ (after_frame seat.meta old.reader frame receipt.stamp).1
+    → ((value : MemberValue) → IsMemberOf seat value (record old { reader = between }) → IsMemberOf seat (noted receipt.moment took.outcome value) new)
+    → readers.numbering_of between ≡ readers.numbering_of old.reader → IsMemberOf seat (given seat receipt member (frame_in seat.meta.fields frame)) new
+given_is seat receipt member frame old between new took carried h kept took_is note numbering =
+    let taken = frame_case (numbering_of seat.part.numbering) seat.meta.major member.kept (short (frame_in seat.meta.fields frame)) receipt.stamp in
+    let same = frame_is seat receipt member frame old carried h in
+    let here : IsMemberOf seat (record member { kept = taken.0 }) (record old { reader = between }) = record {
+      kept = kept ∙ ap (λ (t : Kept × Took). t.0) same;
+      numbering = numbering ∙ h.numbering;
+      joining = h.joining;
+      timer = h.timer;
+      late = h.late;
+      ready = h.ready;
+    } in
+    subst (λ (t : Took). IsMemberOf seat (noted receipt.moment t.outcome (record member { kept = taken.0 })) new) (took_is ∙ ap (λ (t : Kept × Took). t.1) same)
+    (note (record member { kept = taken.0 }) here)
+
+-- a frame that was read, and was given
+pub read_follows : (seat : Seat) (receipt : Receipt) (member : MemberValue) (frame : Frame) (read : Result Frame FrameFault) (new : Member) → read ≡ Ok frame
+    → IsMemberOf seat (given seat receipt member frame) new → Follows seat (read_case seat receipt member read) new false
+read_follows seat receipt member frame read new is h = subst (λ (r : Result Frame FrameFault). Follows seat (read_case seat receipt member r) new false) (sym is) (h, refl)

@@ -1,0 +1,110 @@
+-- The messages of a dynamic datagram, one after another.
+use Rattle.std.proofs.Common.{◌≡◌, ◌≢◌, refl, sym, ap, ◌∙◌, subst, arith, ℕ, ◌+◌, ◌*◌, ◌<◌, Bool, true, false, List, [], ◌∷◌, length, take, map, Some}
+use Rattle.std.specs.Prelude.{◌==◌, fold, slice_get}
+use Rattle.std.proofs.lemmas.Bool.Decides.{nat_tests}
+use Rattle.std.proofs.lemmas.List.{length-map}
+use Rattle.std.proofs.lemmas.List.Sums.{fold_more}
+use Rattle.std.proofs.lemmas.Option.{get_or_from_slice_get, slice_get_within}
+use Rattle.std.proofs.lemmas.Slice.Zip.{get_or-zip, length-zip}
+use Rattle.std.proofs.Math.Seq.{take-length}
+use Rattle.uadp_header.specs.Headers.{ids_of}
+use Rattle.uadp_header.proofs.IdLaws.{ids-count}
+use Rattle.payload_layout.specs.Payloads.{frame_at}
+use Rattle.ps_config.specs.declared.parts.ReaderPart.{ReaderPart}
+use Rattle.reader_group.specs.declared.payload.Messages.{Messages as MessagesWords}
+use Rattle.reader_group.specs.declared.receipt.Receipt.{Receipt}
+use Rattle.reader_group.specs.declared.member.Member.{Member}
+use Rattle.reader_group.specs.declared.tally.Tally.{Tally}
+use Rattle.reader_group.specs.Members.{Seat}
+use Rattle.reader_group.specs.MemberWords.{Follows, IsFed}
+use Rattle.reader_group.specs.Payloads.{Message, Messages, pieces}
+use Rattle.reader_group.specs.Held.{listed, listed_at}
+use Rattle.reader_group.specs.Plain.{Fed, fed_on, fed_if, count_if, piece_case}
+
+-- a message for the reader of this writer, or for another
+abbrev pub offered : Seat → Receipt → ℕ → Fed → ℕ × List ℕ → Fed
+offered seat receipt writer fed part = fed_if seat receipt (part.0 == writer) fed (Message part.1)
+
+offered_on : (b : Bool) (seat : Seat) (receipt : Receipt) (reader : ReaderPart) (fed : Fed) (part : ℕ × List ℕ) (parts : List (ℕ × List ℕ)) → (part.0 == reader.writer) ≡ b
+    → ((next : Fed) → fold (offered seat receipt reader.writer) next parts ≡ fold (fed_on seat receipt) next (pieces reader (Messages parts)))
+    → fold (offered seat receipt reader.writer) (offered seat receipt reader.writer fed part) parts ≡ fold (fed_on seat receipt) fed (pieces reader (Messages (part ∷ parts)))
+offered_on true seat receipt reader fed part parts e behind = rw e (behind (fed_on seat receipt fed (Message part.1)))
+offered_on false seat receipt reader fed part parts e behind = rw e (behind fed)
+
+-- the messages that are the reader's, one after another
+pub offered-all : (seat : Seat) (receipt : Receipt) (reader : ReaderPart) (fed : Fed) (parts : List (ℕ × List ℕ))
+    → fold (offered seat receipt reader.writer) fed parts ≡ fold (fed_on seat receipt) fed (pieces reader (Messages parts))
+offered-all seat receipt reader fed [] = refl
+offered-all seat receipt reader fed (part ∷ parts) =
+    offered_on (part.0 == reader.writer) seat receipt reader fed part parts refl (λ next. offered-all seat receipt reader next parts)
+
+pub offered-more : (seat : Seat) (receipt : Receipt) (writer : ℕ) (fed : Fed) (messages : MessagesWords) (index : ℕ) → index < length (listed messages)
+    → fold (offered seat receipt writer) fed (take (index + 1) (listed messages))
+    ≡ offered seat receipt writer (fold (offered seat receipt writer) fed (take index (listed messages))) (listed_at messages index)
+offered-more seat receipt writer fed messages index within = fold_more (offered seat receipt writer) fed (listed messages) index (0, []) within
+
+-- there is an id for each message
+pub listed-length : (messages : MessagesWords) → length messages.ids.now ≡ 2 * length messages.parts.now → length (listed messages) ≡ length messages.parts.now
+listed-length messages count =
+    let ids = ids_of messages.ids.now in
+    let frames = map (frame_at messages.payload.now) messages.parts.now in
+    let long : length frames ≡ length messages.parts.now = length-map messages.parts.now (frame_at messages.payload.now) in
+    omega (arith, length-zip ids frames, ids-count messages.ids.now, count, long)
+
+take_all : {X : Type 0} (xs : List X) (n : ℕ) → n ≡ length xs → take n xs ≡ xs
+take_all xs n is = ap (λ (k : ℕ). take k xs) is ∙ take-length xs
+
+pub offered-end : (seat : Seat) (receipt : Receipt) (reader : ReaderPart) (fed : Fed) (messages : MessagesWords) (index : ℕ) → length messages.ids.now ≡ 2 * length messages.parts.now
+    → index ≡ length messages.parts.now
+    → fold (offered seat receipt reader.writer) fed (take index (listed messages)) ≡ fold (fed_on seat receipt) fed (pieces reader (Messages (listed messages)))
+offered-end seat receipt reader fed messages index count is =
+    ap (fold (offered seat receipt reader.writer) fed) (take_all (listed messages) index (is ∙ sym (listed-length messages count)))
+    ∙ offered-all seat receipt reader fed (listed messages)
+
+-- the id at an index, and the message
+pub listed-id : (messages : MessagesWords) (index id : ℕ) → length messages.ids.now ≡ 2 * length messages.parts.now → index < length messages.parts.now
+    → slice_get (ids_of messages.ids.now) index ≡ Some id → (listed_at messages index).0 ≡ id
+listed-id messages index id count within id_is =
+    let ids = ids_of messages.ids.now in
+    let frames = map (frame_at messages.payload.now) messages.parts.now in
+    let long : length frames ≡ length messages.parts.now = length-map messages.parts.now (frame_at messages.payload.now) in
+    ap (λ (part : ℕ × List ℕ). part.0) (get_or-zip ids frames index (0, []) (slice_get_within ids index id id_is) (omega (arith, long, within))) ∙ get_or_from_slice_get ids index id 0 id_is
+
+pub listed-bytes : (messages : MessagesWords) (index : ℕ) (bytes : List ℕ) → length messages.ids.now ≡ 2 * length messages.parts.now → index < length messages.parts.now
+    → slice_get (map (frame_at messages.payload.now) messages.parts.now) index ≡ Some bytes → (listed_at messages index).1 ≡ bytes
+listed-bytes messages index bytes count within bytes_are =
+    let ids = ids_of messages.ids.now in
+    let frames = map (frame_at messages.payload.now) messages.parts.now in
+    ap (λ (part : ℕ × List ℕ). part.1)
+    (get_or-zip ids frames index (0, []) (omega (arith, ids-count messages.ids.now, count, within)) (slice_get_within frames index bytes bytes_are))
+    ∙ get_or_from_slice_get frames index bytes [] bytes_are
+
+-- ---- one message
+
+other_eqb : (a b : ℕ) → a ≢ b → (a == b) ≡ false
+other_eqb a b other = grind (arith, nat_tests)
+
+same_eqb : (a b : ℕ) → a ≡ b → (a == b) ≡ true
+same_eqb a b same = grind (arith, nat_tests)
+
+-- a message of another writer leaves all
+pub offered-other : (seat : Seat) (receipt : Receipt) (writer id : ℕ) (fed : Fed) (part : ℕ × List ℕ) (member : Member) (tally : Tally) → part.0 ≡ id → id ≢ writer
+    → IsFed seat fed member tally → IsFed seat (fed_if seat receipt (part.0 == writer) fed (Message part.1)) member tally
+offered-other seat receipt writer id fed part member tally is other h =
+    let other_is : (part.0 == writer) ≡ false = ap (λ (n : ℕ). n == writer) is ∙ other_eqb id writer other in
+    subst (λ (b : Bool). IsFed seat (fed_if seat receipt b fed (Message part.1)) member tally) (sym other_is) h
+
+-- a message of the reader's writer is given to it
+pub offered-own : (seat : Seat) (receipt : Receipt) (writer id : ℕ) (fed : Fed) (part : ℕ × List ℕ) (bytes : List ℕ) (member : Member) (old tally : Tally) (is_bad : Bool)
+    → part.0 ≡ id → id ≡ writer → part.1 ≡ bytes → old.matched ≡ fed.matched → old.bad ≡ fed.bad → Follows seat (piece_case seat receipt fed.member (Message bytes)) member is_bad
+    → tally.matched ≡ old.matched + 1 → tally.bad ≡ old.bad + count_if is_bad
+    → IsFed seat (fed_if seat receipt (part.0 == writer) fed (Message part.1)) member tally
+offered-own seat receipt writer id fed part bytes member old tally is_bad is own bytes_are matched bad follows counted counted_bad =
+    let own_is : (part.0 == writer) ≡ true = ap (λ (n : ℕ). n == writer) is ∙ same_eqb id writer own in
+    let here : IsFed seat (fed_on seat receipt fed (Message bytes)) member tally = record {
+      member_is = follows.0;
+      matched = counted ∙ ap (λ (n : ℕ). n + 1) matched;
+      bad = counted_bad ∙ ap (λ (n : ℕ). n + count_if is_bad) bad ∙ ap (λ (b : Bool). fed.bad + count_if b) follows.1;
+    } in
+    subst (λ (b : Bool). IsFed seat (fed_if seat receipt b fed (Message part.1)) member tally) (sym own_is)
+    (subst (λ (l : List ℕ). IsFed seat (fed_on seat receipt fed (Message l)) member tally) (sym bytes_are) here)

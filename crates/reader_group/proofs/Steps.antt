@@ -1,0 +1,146 @@
+-- A datagram that is taken is one step of the group's plain reading.
+use Rattle.std.proofs.Common.{◌≡◌, sym, ap, ◌∙◌, subst, ℕ, Bool, ◌&&◌, List, map, get_or, Option}
+use Rattle.std.specs.Prelude.{Result, Ok, sum_by}
+use Rattle.message_guard.specs.declared.guard.Guard.{Guard}
+use Rattle.message_guard.specs.declared.mode.Mode.{Mode}
+use Rattle.message_guard.specs.Acceptance.{raises}
+use Rattle.message_guard.specs.Guards.{Setup, IsGuardOf, setup_of}
+use Rattle.message_guard.specs.Modes.{is_secured}
+use Rattle.message_guard.specs.Opening.{accepts}
+use Rattle.ps_config.specs.declared.parts.Config.{Config}
+use Rattle.ps_config.specs.declared.parts.ReadGroupPart.{ReadGroupPart}
+use Rattle.reader_group.specs.declared.begun.Begun.{Begun}
+use Rattle.reader_group.specs.declared.group.ReaderGroup.{ReaderGroup}
+use Rattle.reader_group.specs.declared.member.Member.{Member}
+use Rattle.reader_group.specs.declared.opening.Room.{Room}
+use Rattle.reader_group.specs.declared.receipt.Receipt.{Receipt}
+use Rattle.reader_group.specs.declared.refusal.Refusal.{Refusal}
+use Rattle.reader_group.specs.declared.refusal.Taken.{Taken}
+use Rattle.reader_group.specs.declared.tally.Tally.{Tally}
+use Rattle.reader_group.specs.Members.{MemberValue}
+use Rattle.reader_group.specs.Payloads.{Payload, part_count}
+use Rattle.reader_group.specs.Opening.{Opened, mode_of, verdict}
+use Rattle.reader_group.specs.Begun.{payload_held, Opens}
+use Rattle.reader_group.specs.Groups.{AreMembers, AreReaders, IsTallyOf, Stands, IsMadeOf, guard_of, members_of, index_of}
+use Rattle.reader_group.specs.Plain.{Setting, PlainGroup, Fed, Got, all_fed, feds, is_raised, receipt_of, stamp_by, taken_on, answer_on, answer, step, verdict_in}
+use Rattle.reader_group.specs.Settings.{setting_by, setting_of}
+use Rattle.reader_group.proofs.Made.{setup-mode, setting-at}
+
+-- the members of each that was fed
+abbrev members_in : List Fed → List MemberValue
+members_in list = map (λ (fed : Fed). fed.member) list
+
+abbrev taken_with : ℕ → ℕ → ℕ → Result Taken Refusal
+taken_with parts matched bad = Ok (record { parts = parts; matched = matched; bad = bad })
+
+abbrev pub receipt_with : ℕ → Option ℕ → Receipt
+receipt_with moment stamp = record { moment = moment; stamp = stamp }
+
+-- what the group's calls ensured of a datagram that was opened: `guard` and `members` are those before, and `part` is the group's part of the configuration
+pub record IsTaken (config : Config) (part : ReadGroupPart) (plain : PlainGroup) (now : ℕ) (on : List Bool) (datagram bytes : List ℕ) (guard after : Guard) (members new : List Member)
+    (begun : Begun) (room : Room) (raised : Bool) (receipt : Receipt) (payload : Payload) (tally : Tally) : Type 0 where
+  pub opens : Opens part (verdict part (setup_of guard) plain.accepted datagram) (Ok begun) room bytes
+  pub held : payload ≡ payload_held part.layout begun room bytes
+  pub receipt_is : receipt ≡ receipt_with now (stamp_by (mode_of part.security) begun.pass.number)
+  pub setup : setup_of guard ≡ (setting_by config part).setup
+  pub accepts_it : IsGuardOf (accepts (setup_of guard).mode begun.pass plain.accepted) after
+  pub raised_is : raised ≡ (is_secured (setup_of guard).mode && raises plain.accepted begun.pass.token)
+  pub members_are : AreMembers (setting_by config part).seats (members_in (all_fed (setting_by config part).seats plain.members receipt raised on payload)) new
+  pub tally_is : IsTallyOf tally (all_fed (setting_by config part).seats plain.members receipt raised on payload)
+
+abbrev opened_of : ReadGroupPart → Begun → Room → List ℕ → Opened
+opened_of part begun room bytes = record { pass = begun.pass; payload = payload_held part.layout begun room bytes }
+
+-- the reading of a datagram that was opened so
+pub verdict-is : (config : Config) (part : ReadGroupPart) (plain : PlainGroup) (datagram bytes : List ℕ) (guard : Guard) (begun : Begun) (room : Room)
+    → Opens part (verdict part (setup_of guard) plain.accepted datagram) (Ok begun) room bytes → setup_of guard ≡ (setting_by config part).setup
+    → verdict_in (setting_by config part) plain datagram ≡ Ok (opened_of part begun room bytes)
+verdict-is config part plain datagram bytes guard begun room opens setup = ap (λ (s : Setup). verdict part s plain.accepted datagram) (sym setup) ∙ opens
+
+-- all readers with what it brought them
+feds-are : (config : Config) (part : ReadGroupPart) (plain : PlainGroup) (now : ℕ) (on : List Bool) (datagram bytes : List ℕ) (guard after : Guard) (members new : List Member)
+    (begun : Begun) (room : Room) (raised : Bool) (receipt : Receipt) (payload : Payload) (tally : Tally)
+    → IsTaken config part plain now on datagram bytes guard after members new begun room raised receipt payload tally
+    → all_fed (setting_by config part).seats plain.members receipt raised on payload ≡ feds (setting_by config part) plain now on (opened_of part begun room bytes)
+feds-are config part plain now on datagram bytes guard after members new begun room raised receipt payload tally h =
+    let setting = setting_by config part in
+    let opened = opened_of part begun room bytes in
+    let mode : (setup_of guard).mode ≡ setting.setup.mode = ap (λ (s : Setup). s.mode) h.setup in
+    let receipts : receipt ≡ receipt_of setting now opened =
+    h.receipt_is ∙ ap (λ (m : Mode). receipt_with now (stamp_by m begun.pass.number)) (sym (setup-mode config part part.keygroup)) in
+    let raises_it : raised ≡ is_raised setting plain.accepted opened = h.raised_is ∙ ap (λ (m : Mode). is_secured m && raises plain.accepted begun.pass.token) mode in
+    ap (λ (r : Receipt). all_fed setting.seats plain.members r raised on payload) receipts
+    ∙ ap (λ (b : Bool). all_fed setting.seats plain.members (receipt_of setting now opened) b on payload) raises_it
+    ∙ ap (λ (p : Payload). all_fed setting.seats plain.members (receipt_of setting now opened) (is_raised setting plain.accepted opened) on p) h.held
+
+pub taken-step : (config : Config) (part : ReadGroupPart) (plain : PlainGroup) (now : ℕ) (on : List Bool) (datagram bytes : List ℕ) (guard after : Guard) (members new : List Member)
+    (begun : Begun) (room : Room) (raised : Bool) (receipt : Receipt) (payload : Payload) (tally : Tally) (group : ReaderGroup)
+    → IsTaken config part plain now on datagram bytes guard after members new begun room raised receipt payload tally → guard_of group ≡ after → members_of group ≡ new
+    → Stands (setting_by config part) (step (setting_by config part) plain (Got now on datagram)) group
+taken-step config part plain now on datagram bytes guard after members new begun room raised receipt payload tally group h guard_is members_is =
+    let setting = setting_by config part in
+    let opened = opened_of part begun room bytes in
+    let mode : (setup_of guard).mode ≡ setting.setup.mode = ap (λ (s : Setup). s.mode) h.setup in
+    let read = verdict-is config part plain datagram bytes guard begun room h.opens h.setup in
+    let feds_is = feds-are config part plain now on datagram bytes guard after members new begun room raised receipt payload tally h in
+    let stands : Stands setting (taken_on setting plain now on (Ok opened)) group = record {
+      guard = subst (λ (m : Mode). IsGuardOf (accepts m begun.pass plain.accepted) (guard_of group)) mode
+          (subst (IsGuardOf (accepts (setup_of guard).mode begun.pass plain.accepted)) (sym guard_is) h.accepts_it);
+      members = subst (λ (list : List Fed). AreMembers setting.seats (members_in list) (members_of group)) feds_is
+          (subst (AreMembers setting.seats (members_in (all_fed setting.seats plain.members receipt raised on payload))) (sym members_is) h.members_are);
+    } in
+    subst (λ (answer : Result Opened Refusal). Stands setting (taken_on setting plain now on answer) group) (sym read) stands
+
+pub taken-answer : (config : Config) (part : ReadGroupPart) (plain : PlainGroup) (now : ℕ) (on : List Bool) (datagram bytes : List ℕ) (guard after : Guard) (members new : List Member)
+    (begun : Begun) (room : Room) (raised : Bool) (receipt : Receipt) (payload : Payload) (tally : Tally) (taken : Taken)
+    → IsTaken config part plain now on datagram bytes guard after members new begun room raised receipt payload tally
+    → taken.parts ≡ part_count on payload → taken.matched ≡ tally.matched → taken.bad ≡ tally.bad
+    → Ok taken ≡ answer (setting_by config part) plain now on datagram
+taken-answer config part plain now on datagram bytes guard after members new begun room raised receipt payload tally taken h parts matched bad =
+    let setting = setting_by config part in
+    let opened = opened_of part begun room bytes in
+    let read = verdict-is config part plain datagram bytes guard begun room h.opens h.setup in
+    let feds_is = feds-are config part plain now on datagram bytes guard after members new begun room raised receipt payload tally h in
+    let tallies : IsTallyOf tally (feds setting plain now on opened) = subst (IsTallyOf tally) feds_is h.tally_is in
+    ap (λ (n : ℕ). taken_with n taken.matched taken.bad) (parts ∙ ap (part_count on) h.held)
+    ∙ ap (λ (n : ℕ). taken_with (part_count on opened.payload) n taken.bad) (matched ∙ tallies.matched)
+    ∙ ap (λ (n : ℕ). taken_with (part_count on opened.payload) (sum_by (λ (f : Fed). f.matched) (feds setting plain now on opened)) n) (bad ∙ tallies.bad)
+    ∙ ap (answer_on setting plain now on) (sym read)
+
+-- ---- the same, of a group of a configuration
+
+pub at_part : (config : Config) (group : ReaderGroup) (part : ReadGroupPart) → IsMadeOf config group → part ≡ get_or config.readgroup (index_of group) part
+    → setting_of config (index_of group) ≡ setting_by config part
+at_part config group part made is = setting-at config (index_of group) part made.index is
+
+pub made_setup : (config : Config) (group : ReaderGroup) (part : ReadGroupPart) → IsMadeOf config group → part ≡ get_or config.readgroup (index_of group) part
+    → setup_of (guard_of group) ≡ (setting_by config part).setup
+made_setup config group part made is = made.setup ∙ ap (λ (s : Setting). s.setup) (at_part config group part made is)
+
+pub made_readers : (config : Config) (group : ReaderGroup) (part : ReadGroupPart) → IsMadeOf config group → part ≡ get_or config.readgroup (index_of group) part
+    → AreReaders (setting_by config part).seats (members_of group)
+made_readers config group part made is = subst (λ (s : Setting). AreReaders s.seats (members_of group)) (at_part config group part made is) made.readers
+
+pub stands_part : (config : Config) (group : ReaderGroup) (part : ReadGroupPart) (plain : PlainGroup) → IsMadeOf config group → part ≡ get_or config.readgroup (index_of group) part
+    → Stands (setting_of config (index_of group)) plain group → Stands (setting_by config part) plain group
+stands_part config group part plain made is h = subst (λ (s : Setting). Stands s plain group) (at_part config group part made is) h
+
+pub taken_step : (config : Config) (old new : ReaderGroup) (after : Guard) (members : List Member) (part : ReadGroupPart) (plain : PlainGroup) (now : ℕ) (on : List Bool) (datagram bytes : List ℕ)
+    (begun : Begun) (room : Room) (raised : Bool) (receipt : Receipt) (payload : Payload) (tally : Tally)
+    → IsMadeOf config old → part ≡ get_or config.readgroup (index_of old) part
+    → IsTaken config part plain now on datagram bytes (guard_of old) after (members_of old) members begun room raised receipt payload tally
+    → guard_of new ≡ after → members_of new ≡ members
+    → Stands (setting_of config (index_of old)) (step (setting_of config (index_of old)) plain (Got now on datagram)) new
+taken_step config old new after members part plain now on datagram bytes begun room raised receipt payload tally made is taken guard_is members_are =
+    subst (λ (s : Setting). Stands s (step s plain (Got now on datagram)) new) (sym (at_part config old part made is))
+    (taken-step config part plain now on datagram bytes (guard_of old) after (members_of old) members begun room raised receipt payload tally new taken guard_is members_are)
+
+pub taken_answer : (config : Config) (old : ReaderGroup) (after : Guard) (members : List Member) (part : ReadGroupPart) (plain : PlainGroup) (now : ℕ) (on : List Bool) (datagram bytes : List ℕ)
+    (begun : Begun) (room : Room) (raised : Bool) (receipt : Receipt) (payload : Payload) (tally : Tally) (taken : Taken)
+    → IsMadeOf config old → part ≡ get_or config.readgroup (index_of old) part
+    → IsTaken config part plain now on datagram bytes (guard_of old) after (members_of old) members begun room raised receipt payload tally
+    → taken.parts ≡ part_count on payload → taken.matched ≡ tally.matched → taken.bad ≡ tally.bad
+    → Ok taken ≡ answer (setting_of config (index_of old)) plain now on datagram
+taken_answer config old after members part plain now on datagram bytes begun room raised receipt payload tally taken made is h parts matched bad =
+    taken-answer config part plain now on datagram bytes (guard_of old) after (members_of old) members begun room raised receipt payload tally taken h parts matched bad
+    ∙ ap (λ (s : Setting). answer s plain now on datagram) (sym (at_part config old part made is))

@@ -1,0 +1,7 @@
+use Rattle.std.proofs.Common.{refl}
+use Rattle.reader_group.proofs.member.Member.stop.Goals as goal
+
+pub returns-clause-member : goal.returns-clause-member
+returns-clause-member c = λ seat member h.
+    let cut = c.cut.ensures.member seat member h in
+    record { kept = cut.kept; numbering = cut.numbering; joining = cut.joining; timer = cut.timer; late = cut.late; ready = refl }

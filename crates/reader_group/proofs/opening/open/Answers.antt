@@ -1,0 +1,16 @@
+use Rattle.std.proofs.lemmas.Result.{err_from_is_err_and}
+use Rattle.message_guard.specs.Guards.{setup_of}
+use Rattle.reader_group.proofs.Opened.{opens-found, opens-refused}
+use Rattle.reader_group.proofs.opening.open.Goals as goal
+
+pub returns-in_err-find_messages-clause-verdict : goal.returns-in_err-find_messages-clause-verdict
+returns-in_err-find_messages-clause-verdict c = λ accepted is.
+    let p = err_from_is_err_and c.from_residual-in_err-find_messages.result c.from_residual-in_err-find_messages.ensures.1 in
+    rw (p.1, p.2)
+    (opens-refused c.args.group.now (setup_of c.args.guard.now) accepted c.args.bytes.now c.decrypt.new.datagram c.in_ok-begun.begun c.begin.new.room c.find_messages.new.room
+    c.in_err-find_messages.field-0.0 c.in_ok-begun.begun.order (c.in_ok-begun.ensures.verdict accepted is) c.decrypt.ensures c.in_err-find_messages.ensures)
+
+pub returns-clause-verdict : goal.returns-clause-verdict
+returns-clause-verdict c = λ accepted is.
+    opens-found c.args.group.now (setup_of c.args.guard.now) accepted c.args.bytes.now c.decrypt.new.datagram c.in_ok-begun.begun c.begin.new.room c.find_messages.new.room
+    c.in_ok-begun.begun.order (c.in_ok-begun.ensures.verdict accepted is) c.decrypt.ensures c.in_ok-find_messages.ensures

@@ -1,0 +1,17 @@
+pub mod Filter
+pub mod Members
+pub mod SlotFrames
+pub mod Payloads
+pub mod Opening
+pub mod Plain
+pub mod Held
+pub mod MemberWords
+pub mod Begun
+pub mod Settings
+pub mod Groups
+pub mod Traces
+pub mod Complete
+pub mod Arrivals
+pub mod Agreeing
+pub mod BadParts
+pub mod Handing

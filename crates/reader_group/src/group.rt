@@ -1,0 +1,184 @@
+//! Read groups.
+ghost use Rattle.std.specs.Prelude.{◌≡◌, ◌<◌, length, slice_index_or, IfOk};
+ghost use Rattle.ps_config.specs.declared.parts.Config.{Config as AnyConfig};
+ghost use Rattle.ps_config.specs.Sound.{IsSound};
+ghost use Rattle.reader_group.specs.Groups.{AreMembers, AreReaders};
+ghost use Rattle.reader_group.specs.Plain.{opening};
+ghost use Rattle.reader_group.specs.Settings.{setting_by};
+
+use crate::feeding::{expire_all, feed_all, part_count, stop_one};
+use crate::guarding::{guard_of, stamp_of};
+use crate::member::Member;
+use crate::opening::{Room, open, payload_held};
+use crate::receipt::Receipt;
+use crate::refusal::{Refusal, Taken};
+use arrayvec::ArrayVec;
+use dataset_reader::Reader;
+use message_guard::Guard;
+use ps_config::{Config, ReadGroupPart};
+use pubsub_model::Why;
+use std::alloc::Global;
+use ua_base::NoMemory;
+
+/// A read group of a configuration (OPC 10000-14 6.2.8, ReaderGroup): its guard, and its readers with their timers and chunks.
+#[derive(Drop)]
+pub struct ReaderGroup {
+    index: u8,
+    guard: Guard,
+    members: Vec<Member>,
+    // room for what one datagram tells; it says nothing between two
+    room: Room,
+}
+
+impl ReaderGroup {
+    ghost use Rattle.std.specs.Prelude.{◌≡◌, ◌<◌, length, IfOk, OnErr};
+    ghost use Rattle.dataset_reader.specs.Reader.{kept_by, IsReaderOf};
+    ghost use Rattle.reader_group.specs.Members.{seat_at};
+    ghost use Rattle.reader_group.specs.Plain.{Setting, PlainGroup, Got, Expired, Stopped, member_at, step, answer};
+    ghost use Rattle.reader_group.specs.Settings.{setting_of};
+    ghost use Rattle.reader_group.specs.Groups.{Stands, IsMadeOf, index_of, reader_count, guard_of, members_of};
+
+    /// The read group with this index, before anything.
+    pub fn new(alloc: Global, config: &Config, index: u8) -> Result<ReaderGroup, NoMemory>
+        requires sound { IsSound config.now }
+        requires index { index < length config.now.readgroup }
+        ensures made { IfOk result (IsMadeOf config.now) }
+        ensures index { IfOk result (λ group. index_of group ≡ index) }
+        ensures opening { IfOk result (Stands (setting_of config.now index)
+            (opening (setting_of config.now index))) }
+    {
+        let part = part_at(config, index);
+        let guard = guard_of(config, part);
+        let members = new_members(alloc, part)?;
+        Ok(ReaderGroup {
+            index,
+            guard,
+            members,
+            room: Room {
+                ids: ArrayVec::new(),
+                parts: ArrayVec::new(),
+            },
+        })
+    }
+
+    /// A datagram comes at this moment, in milliseconds, where these readers are enabled. It is decrypted in place. A datagram that
+    /// is refused changes nothing that any call shows, but the bytes.
+    pub fn datagram(
+        &mut self,
+        config: &Config,
+        now: u64,
+        on: &[bool],
+        bytes: &mut [u8],
+    ) -> Result<Taken, Refusal>
+        requires made { IsMadeOf config.now self.old }
+        requires on { length on.now ≡ reader_count self.old }
+        ensures step { (plain : PlainGroup)
+            → Stands (setting_of config.now (index_of self.old)) plain self.old
+            → Stands (setting_of config.now (index_of self.old))
+            (step (setting_of config.now (index_of self.old)) plain (Got now on.now bytes.old)) self.new }
+        ensures answer { (plain : PlainGroup)
+            → Stands (setting_of config.now (index_of self.old)) plain self.old
+            → result ≡ answer (setting_of config.now (index_of self.old)) plain now on.now bytes.old }
+        ensures refused_guard { OnErr result (guard_of self.new ≡ guard_of self.old) }
+        ensures refused_members { OnErr result (members_of self.new ≡ members_of self.old) }
+        ensures made { IsMadeOf config.now self.new }
+        ensures index { index_of self.new ≡ index_of self.old }
+    {
+        let part = part_at(config, self.index);
+        let begun = open(part, &self.guard, &mut self.room, bytes)?;
+        let raised = self.guard.accept(begun.pass);
+        let payload = payload_held(part.layout, &begun, &self.room, bytes);
+        let receipt = Receipt {
+            moment: now,
+            stamp: stamp_of(part.security, begun.pass.number),
+        };
+        let tally = feed_all(
+            &mut self.members,
+            config,
+            part,
+            &receipt,
+            raised,
+            on,
+            &payload,
+        );
+        Ok(Taken {
+            parts: part_count(on, &payload),
+            matched: tally.matched,
+            bad: tally.bad,
+        })
+    }
+
+    /// Cuts each reader whose timer has run out at this moment, in milliseconds. Such a reader is late, and isn't ready.
+    pub fn expire(&mut self, now: u64)
+        ensures step { (setting : Setting) (plain : PlainGroup) → Stands setting plain self.old
+            → Stands setting (step setting plain (Expired now)) self.new }
+        ensures made { (config : AnyConfig) → IsMadeOf config self.old → IsMadeOf config self.new }
+        ensures index { index_of self.new ≡ index_of self.old }
+    {
+        expire_all(&mut self.members, now);
+    }
+
+    /// Cuts a reader by hand: it forgets its row and its last number, the chunks, and when its last message came, and it isn't
+    /// ready. It stays late where a timeout made it so.
+    pub fn cut(&mut self, index: u8, why: Why)
+        requires { index < reader_count self.old }
+        ensures step { (setting : Setting) (plain : PlainGroup) → Stands setting plain self.old
+            → Stands setting (step setting plain (Stopped index why)) self.new }
+        ensures made { (config : AnyConfig) → IsMadeOf config self.old → IsMadeOf config self.new }
+        ensures index { index_of self.new ≡ index_of self.old }
+    {
+        stop_one(&mut self.members, usize::from(index), why);
+    }
+
+    /// The reader with this index in the group.
+    pub fn reader(&self, index: u8) -> &Reader
+        requires { index < reader_count self.now }
+        ensures kept { (setting : Setting) (plain : PlainGroup) → Stands setting plain self.now
+            → kept_by (seat_at setting.seats index).meta.fields result.now
+            ≡ (member_at plain.members index).kept }
+        ensures made { (config : AnyConfig) → IsMadeOf config self.now
+            → IsReaderOf (seat_at (setting_of config (index_of self.now)).seats index).meta result.now }
+    {
+        &self.members[usize::from(index)].reader
+    }
+
+    /// Whether a reader timed out, and no record and no keep-alive came since.
+    pub fn is_late(&self, index: u8) -> bool
+        requires { index < reader_count self.now }
+        ensures { (setting : Setting) (plain : PlainGroup) → Stands setting plain self.now
+            → result ≡ (member_at plain.members index).late }
+    {
+        self.members[usize::from(index)].late
+    }
+
+    /// Whether a reader held a row, with neither a timeout nor a call of `cut` since.
+    pub fn is_ready(&self, index: u8) -> bool
+        requires { index < reader_count self.now }
+        ensures { (setting : Setting) (plain : PlainGroup) → Stands setting plain self.now
+            → result ≡ (member_at plain.members index).ready }
+    {
+        self.members[usize::from(index)].ready
+    }
+}
+
+fn part_at(config: &Config, index: u8) -> &ReadGroupPart
+    requires { index < length config.now.readgroup }
+    ensures { result.now ≡ slice_index_or config.now.readgroup index result.now }
+{
+    &config.readgroup.as_slice()[usize::from(index)]
+}
+
+// Its readers, before anything.
+fn new_members(alloc: Global, group: &ReadGroupPart) -> Result<Vec<Member>, NoMemory>
+    ensures members { IfOk result (λ made. (config : AnyConfig)
+        → AreMembers (setting_by config group.now).seats
+        (opening (setting_by config group.now)).members made.items) }
+    ensures readers { IfOk result (λ made. (config : AnyConfig)
+        → AreReaders (setting_by config group.now).seats made.items) }
+{
+    let mut members = Vec::new(alloc);
+    for reader in group.reader.as_slice() {
+        members.push(Member::new(reader))?;
+    }
+    Ok(members)
+}

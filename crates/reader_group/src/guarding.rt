@@ -1,0 +1,89 @@
+//! The guard of a read group, and which number it has from a datagram.
+ghost use Rattle.std.specs.Prelude.{◌≡◌, ◌<◌, [], ◌∷◌, length, map, replicate, slice_index_or, Contains};
+ghost use Rattle.group_keys.specs.Ring.{key_sets};
+ghost use Rattle.message_guard.specs.Guards.{IsGuardOf, setup_of};
+ghost use Rattle.message_guard.specs.Protection.{keys_in};
+ghost use Rattle.ps_config.specs.Sound.{IsSound};
+ghost use Rattle.reader_group.specs.Opening.{mode_of};
+ghost use Rattle.reader_group.specs.Plain.{stamp_by};
+ghost use Rattle.reader_group.specs.Settings.{no_keys, setup_by};
+
+use arrayvec::ArrayVec;
+use group_keys::{KeySet, Ring};
+use message_guard::{Guard, Mode};
+use ps_config::{Config, KeyGroupPart, ReadGroupPart, Security, ring_of};
+
+/// The guard of a read group, by its key group if it has one.
+pub(crate) fn guard_of(config: &Config, group: &ReadGroupPart) -> Guard
+    requires sound { IsSound config.now }
+    requires group { Contains config.now.readgroup group.now }
+    ensures setup { setup_of result ≡ setup_by config.now group.now group.now.keygroup }
+    ensures none_accepted { IsGuardOf [] result }
+{
+    let mode = mode_of(group.security);
+    match group.keygroup {
+        None => Guard::new(unused_ring(), mode, 0),
+        Some(index) => {
+            let keys = keys_at(config, index);
+            Guard::new(ring_of(keys), mode, keys.first_block)
+        }
+    }
+}
+
+/// The number that a sender gave a datagram, where it is secured.
+pub(crate) fn stamp_of(security: Security, number: u32) -> Option<u32>
+    ensures { result ≡ stamp_by (mode_of security) number }
+{
+    match security {
+        Security::None => None,
+        Security::Sign | Security::Encrypt => Some(number),
+    }
+}
+
+fn keys_at(config: &Config, index: u8) -> &KeyGroupPart
+    requires { index < length config.now.keygroup }
+    ensures { result.now ≡ slice_index_or config.now.keygroup index result.now }
+{
+    &config.keygroup.as_slice()[usize::from(index)]
+}
+
+fn mode_of(security: Security) -> Mode
+    ensures { result ≡ mode_of security }
+{
+    match security {
+        Security::None => Mode::None,
+        Security::Sign => Mode::Sign,
+        Security::Encrypt => Mode::Encrypt,
+    }
+}
+
+// A ring for the guard of an unsecured group, which never uses it.
+#[tactic(auto, unfolding(crate::specs::Settings::no_keys))]
+fn unused_ring() -> Ring
+    ensures { map keys_in (key_sets result) ≡ no_keys ∷ [] }
+{
+    let mut keys = ArrayVec::new();
+    keys.push(KeySet {
+        token: 0,
+        from: 0,
+        signing: [0; 32],
+        encrypting: zero_key(),
+        nonce: [0; 4],
+    });
+    match Ring::new(false, keys) {
+        Ok(ring) => ring,
+        Err(_) => unreachable!(),
+    }
+}
+
+// A key of 16 zeros.
+fn zero_key() -> ArrayVec<u8, 32>
+    ensures { result.items ≡ replicate 16 0 }
+{
+    let mut key = ArrayVec::new();
+    match key.try_extend_from_slice(&[0; 16]) {
+        Ok(()) => key,
+        // there is room for 32
+        Err(_) => unreachable!(),
+    }
+}

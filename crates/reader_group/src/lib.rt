@@ -1,0 +1,28 @@
+//! A read group: datagrams become rows (OPC 10000-14 6.2.8, ReaderGroup). It filters them, opens them, and gives each of their
+//! DataSetMessages to the readers of its writer.
+#![tactic(auto)]
+
+mod begun;
+mod feeding;
+mod filter;
+mod group;
+mod guarding;
+mod laws;
+mod member;
+mod opening;
+mod payload;
+mod pieces;
+mod receipt;
+mod refusal;
+mod slot_frame;
+mod tally;
+
+pub use group::ReaderGroup;
+pub use laws::{
+    a_bad_part_leaves_its_reader, a_lone_key_frame_is_held, accepted_pairs_are_told_by_datagrams,
+    near_readers_have_their_records, places_are_near_where_their_numbers_are,
+    refused_datagrams_leave_no_trace, secured_readers_have_their_records,
+    what_is_spelled_is_handed_on,
+};
+pub use receipt::Receipt;
+pub use refusal::{Refusal, Taken};

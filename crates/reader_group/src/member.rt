@@ -1,0 +1,127 @@
+//! What a read group keeps for one of its readers.
+ghost use Rattle.std.specs.Prelude.{◌≡◌};
+ghost use Rattle.reader_group.specs.Members.{numbering_of};
+
+use chunker::Joiner;
+use dataset_reader::{Numbering, Outcome, Reader};
+use ps_config::{NumberingWord, ReaderPart};
+use pubsub_model::Why;
+use receive_timer::Timer;
+
+/// A reader, with the message whose chunks are joined, the timer of its messages, and what the tree of states is told.
+#[derive(Drop)]
+pub(crate) struct Member {
+    pub reader: Reader,
+    pub joiner: Joiner,
+    timer: Timer,
+    /// Whether it timed out, and no message came since.
+    pub late: bool,
+    /// Whether it held a row, with neither a timeout nor a cut by hand since.
+    pub ready: bool,
+}
+
+impl Member {
+    ghost use Rattle.std.specs.Prelude.{◌≡◌};
+    ghost use Rattle.dataset_meta.specs.Metas.{MetaData};
+    ghost use Rattle.dataset_reader.specs.Reader.{IsReaderOf};
+    ghost use Rattle.pubsub_model.specs.declared.reading.Why.TheVariants.{NewToken};
+    ghost use Rattle.reader_group.specs.Members.{Seat, MemberValue, seat_of, new_member, cut_member, stopped, expired, seen, noted};
+    ghost use Rattle.reader_group.specs.Plain.{cut_if};
+    ghost use Rattle.reader_group.specs.MemberWords.{IsMemberOf};
+
+    /// Before anything.
+    pub fn new(part: &ReaderPart) -> Member
+        ensures member { (meta : MetaData) → IsMemberOf (seat_of part.now meta) new_member result }
+        ensures reader { (meta : MetaData) → IsReaderOf meta result.reader }
+    {
+        Member {
+            reader: Reader::new(numbering_of(part.numbering)),
+            joiner: Joiner::new(),
+            timer: Timer::new(part.timeout),
+            late: false,
+            ready: false,
+        }
+    }
+
+    /// Cuts the reader, and forgets the chunks and when the last message came.
+    pub fn cut(&mut self, why: Why)
+        ensures member { (seat : Seat) (member : MemberValue) → IsMemberOf seat member self.old
+            → IsMemberOf seat (cut_member why member) self.new }
+        ensures reader { (meta : MetaData) → IsReaderOf meta self.new.reader }
+    {
+        self.reader.cut(why);
+        self.joiner.clear();
+        self.timer.clear();
+    }
+
+    /// A cut by hand.
+    pub fn stop(&mut self, why: Why)
+        ensures member { (seat : Seat) (member : MemberValue) → IsMemberOf seat member self.old
+            → IsMemberOf seat (stopped why member) self.new }
+        ensures reader { (meta : MetaData) → IsReaderOf meta self.new.reader }
+    {
+        self.cut(why);
+        self.ready = false;
+    }
+
+    /// A cut where the timer has run out.
+    pub fn expire(&mut self, now: u64)
+        ensures member { (seat : Seat) (member : MemberValue) → IsMemberOf seat member self.old
+            → IsMemberOf seat (expired seat.part.timeout now member) self.new }
+        ensures reader { (meta : MetaData) → IsReaderOf meta self.old.reader
+            → IsReaderOf meta self.new.reader }
+    {
+        if self.timer.due(now) {
+            self.cut(Why::Timeout);
+            self.late = true;
+            self.ready = false;
+        }
+    }
+
+    /// A higher token cuts it.
+    pub fn cut_if_raised(&mut self, raised: bool)
+        ensures member { (seat : Seat) (member : MemberValue) → IsMemberOf seat member self.old
+            → IsMemberOf seat (cut_if raised NewToken member) self.new }
+        ensures reader { (meta : MetaData) → IsReaderOf meta self.old.reader
+            → IsReaderOf meta self.new.reader }
+    {
+        if raised {
+            self.cut(Why::NewToken);
+        }
+    }
+
+    /// What the timer and the flags make of the reader's answer to a message that came at this moment.
+    pub fn note(&mut self, now: u64, outcome: Outcome)
+        ensures member { (seat : Seat) (member : MemberValue) → IsMemberOf seat member self.old
+            → IsMemberOf seat (noted now outcome member) self.new }
+        ensures reader { self.new.reader ≡ self.old.reader }
+    {
+        match outcome {
+            Outcome::Held => {
+                self.see(now);
+                self.ready = true;
+            }
+            Outcome::Alive | Outcome::Waiting(_) => self.see(now),
+            Outcome::Older | Outcome::WrongMajor { .. } | Outcome::Unnumbered => {}
+        }
+    }
+
+    // A message came.
+    fn see(&mut self, now: u64)
+        ensures member { (seat : Seat) (member : MemberValue) → IsMemberOf seat member self.old
+            → IsMemberOf seat (seen now member) self.new }
+        ensures reader { self.new.reader ≡ self.old.reader }
+    {
+        self.timer.seen(now);
+        self.late = false;
+    }
+}
+
+fn numbering_of(word: NumberingWord) -> Numbering
+    ensures { result ≡ numbering_of word }
+{
+    match word {
+        NumberingWord::Message => Numbering::Message,
+        NumberingWord::None => Numbering::Unnumbered,
+    }
+}

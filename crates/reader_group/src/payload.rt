@@ -1,0 +1,60 @@
+//! What an opened datagram has for the readers, lent by its bytes.
+ghost use Rattle.std.specs.Prelude.{◌≡◌, ◌≤◌, ◌+◌, ◌*◌, length, take, drop, All};
+ghost use Rattle.std.specs.Int.{w16, from_le_bytes};
+ghost use Rattle.payload_layout.specs.Payloads.{IsWithin};
+
+use payload_layout::Part;
+
+/// The messages of a dynamic datagram: where each stands in the payload, and the id of its writer, two bytes each.
+#[derive(Clone, Copy)]
+pub(crate) struct Messages<'a> {
+    pub ids: &'a [u8],
+    pub parts: &'a [Part],
+    pub payload: &'a [u8],
+    ghost count: { length ids.now ≡ 2 * length parts.now },
+    ghost few: { length parts.now ≤ 255 },
+    ghost within: { All (IsWithin payload.now) parts.now },
+}
+
+/// What an opened datagram has for the readers.
+#[derive(Clone, Copy)]
+pub(crate) enum Payload<'a> {
+    /// In a fixed layout the header and the slots.
+    Slots(&'a [u8]),
+    /// In a dynamic layout a chunk of a message of this writer.
+    Chunk { writer: u16, bytes: &'a [u8] },
+    /// In a dynamic layout messages.
+    Messages(Messages<'a>),
+}
+
+impl<'a> Messages<'a> {
+    ghost use Rattle.std.specs.Prelude.{◌≡◌, ◌<◌, length, map, Some, slice_get};
+    ghost use Rattle.uadp_header.specs.Headers.{ids_of};
+    ghost use Rattle.payload_layout.specs.Payloads.{frame_at};
+
+    /// The id of the writer of the message with this index.
+    pub fn id(&self, index: usize) -> u16
+        requires { index < length self.now.parts.now }
+        ensures { slice_get (ids_of self.now.ids.now) index ≡ Some result }
+    {
+        id_at(self.ids, index)
+    }
+
+    /// The message with this index.
+    pub fn message(&self, index: usize) -> &'a [u8]
+        requires { index < length self.now.parts.now }
+        ensures { slice_get (map (frame_at self.now.payload.now) self.now.parts.now) index
+            ≡ Some result.now }
+    {
+        let part = self.parts[index];
+        &self.payload[part.start..part.end]
+    }
+}
+
+// Two bytes, the lowest first.
+fn id_at(ids: &[u8], index: usize) -> u16
+    requires { 2 * (index + 1) ≤ length ids.now }
+    ensures { result ≡ from_le_bytes w16 (take 2 (drop (2 * index) ids.now)) }
+{
+    u16::from_le_bytes([ids[2 * index], ids[2 * index + 1]])
+}

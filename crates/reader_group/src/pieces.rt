@@ -1,0 +1,262 @@
+//! The parts of a datagram that a reader of a group is given.
+ghost use Rattle.std.specs.Prelude.{◌≡◌, option_map};
+ghost use Rattle.std.specs.Option.{option_copied};
+ghost use Rattle.seq_number.specs.Numbers.{number_of_place};
+ghost use Rattle.chunker.specs.Joining.{Joining, chunk_of, chunk_case};
+ghost use Rattle.chunker.specs.Joins.{numbered};
+ghost use Rattle.chunker.specs.Joiners.{IsJoinerOf, Meets};
+ghost use Rattle.fixed_layout.specs.Datagrams.{slot_of};
+ghost use Rattle.reader_group.specs.Payloads.{reader_slot};
+
+use crate::member::Member;
+use crate::payload::{Messages, Payload};
+use crate::receipt::Receipt;
+use crate::slot_frame::read_slot_frame;
+use crate::tally::Tally;
+use chunker::{Joined, Joiner, read_chunk};
+use dataset_meta::Meta;
+use frame_codec::{Frame, read_frame};
+use ps_config::ReaderPart;
+
+impl Member {
+    ghost use Rattle.std.specs.Prelude.{◌≡◌, ◌≤◌, ◌<◌, ◌+◌, ◌==◌, length, fold};
+    ghost use Rattle.dataset_reader.specs.Reader.{IsReaderOf};
+    ghost use Rattle.frame_codec.specs.Words.{IsFrameOf, frame_in};
+    ghost use Rattle.frame_codec.specs.Reading.{frame_at};
+    ghost use Rattle.chunker.specs.Joining.{joined_bytes};
+    ghost use Rattle.ps_config.specs.declared.parts.ReaderPart.{ReaderPart as AnyPart};
+    ghost use Rattle.reader_group.specs.Members.{MemberValue, seat_of};
+    ghost use Rattle.reader_group.specs.Payloads.{Message, Chunked, pieces, slot_piece};
+    ghost use Rattle.reader_group.specs.Held.{payload_in, messages_in, listed_at};
+    ghost use Rattle.reader_group.specs.Plain.{Fed, given, read_case, piece_case, fed_if, fed_on, unfed, fed_by};
+    ghost use Rattle.reader_group.specs.MemberWords.{IsMemberOf, Follows, IsFed};
+
+    /// What a datagram brings the reader: with a higher token a cut, and where it is enabled its parts.
+    pub fn feed(
+        &mut self,
+        part: &ReaderPart,
+        meta: &Meta,
+        receipt: &Receipt,
+        raised: bool,
+        enabled: bool,
+        payload: &Payload<'_>,
+    ) -> Tally
+        requires { IsReaderOf meta.now self.old.reader }
+        ensures fed { (member : MemberValue) → IsMemberOf (seat_of part.now meta.now) member self.old
+            → IsFed (seat_of part.now meta.now)
+            (fed_by (seat_of part.now meta.now) receipt.now raised enabled (payload_in payload.now) member)
+            self.new result }
+        ensures reader { IsReaderOf meta.now self.new.reader }
+        ensures matched { result.matched ≤ 255 }
+        ensures bad { result.bad ≤ 255 }
+    {
+        self.cut_if_raised(raised);
+        if enabled {
+            self.take(part, meta, receipt, payload)
+        } else {
+            Tally::NONE
+        }
+    }
+
+    // The parts that are the reader's.
+    fn take(
+        &mut self,
+        part: &ReaderPart,
+        meta: &Meta,
+        receipt: &Receipt,
+        payload: &Payload<'_>,
+    ) -> Tally
+        requires { IsReaderOf meta.now self.old.reader }
+        ensures fed { (member : MemberValue) → IsMemberOf (seat_of part.now meta.now) member self.old
+            → IsFed (seat_of part.now meta.now)
+            (fold (fed_on (seat_of part.now meta.now) receipt.now) (unfed member)
+            (pieces part.now (payload_in payload.now))) self.new result }
+        ensures reader { IsReaderOf meta.now self.new.reader }
+        ensures matched { result.matched ≤ 255 }
+        ensures bad { result.bad ≤ 255 }
+    {
+        match payload {
+            Payload::Slots(datagram) => Tally::of_one(self.slot(part, meta, receipt, datagram)),
+            Payload::Chunk { writer, bytes } if *writer == part.writer => {
+                Tally::of_one(self.chunk(meta, receipt, bytes))
+            }
+            Payload::Chunk { .. } => Tally::NONE,
+            Payload::Messages(messages) => self.messages(part, meta, receipt, messages),
+        }
+    }
+
+    // Of the messages those of the reader's writer, in their order.
+    fn messages(
+        &mut self,
+        part: &ReaderPart,
+        meta: &Meta,
+        receipt: &Receipt,
+        messages: &Messages<'_>,
+    ) -> Tally
+        requires { IsReaderOf meta.now self.old.reader }
+        ensures fed { (member : MemberValue) → IsMemberOf (seat_of part.now meta.now) member self.old
+            → IsFed (seat_of part.now meta.now)
+            (fold (fed_on (seat_of part.now meta.now) receipt.now) (unfed member)
+            (pieces part.now (messages_in messages.now))) self.new result }
+        ensures reader { IsReaderOf meta.now self.new.reader }
+        ensures matched { result.matched ≤ 255 }
+        ensures bad { result.bad ≤ 255 }
+    {
+        let mut tally = Tally::NONE;
+        for index in 0..messages.parts.len() {
+            self.offer(part, meta, receipt, messages, index, &mut tally);
+        }
+        tally
+    }
+
+    // One of the messages, which is the reader's where it has its writer's id.
+    fn offer(
+        &mut self,
+        part: &ReaderPart,
+        meta: &Meta,
+        receipt: &Receipt,
+        messages: &Messages<'_>,
+        index: usize,
+        tally: &mut Tally,
+    )
+        requires reader { IsReaderOf meta.now self.old.reader }
+        requires index { index < length messages.now.parts.now }
+        requires matched { tally.old.matched < 255 }
+        requires bad { tally.old.bad < 255 }
+        ensures fed { (fed : Fed) → IsFed (seat_of part.now meta.now) fed self.old tally.old
+            → IsFed (seat_of part.now meta.now)
+            (fed_if (seat_of part.now meta.now) receipt.now
+            ((listed_at messages.now index).0 == part.now.writer) fed
+            (Message (listed_at messages.now index).1)) self.new tally.new }
+        ensures reader { IsReaderOf meta.now self.new.reader }
+        ensures matched { tally.new.matched ≤ tally.old.matched + 1 }
+        ensures bad { tally.new.bad ≤ tally.old.bad + 1 }
+    {
+        if messages.id(index) != part.writer {
+            return;
+        }
+        let is_bad = self.message(meta, receipt, messages.message(index));
+        tally.count(is_bad);
+    }
+
+    // What stands in the reader's slot; it is bad where the datagram ends before the slot does.
+    fn slot(&mut self, part: &ReaderPart, meta: &Meta, receipt: &Receipt, datagram: &[u8]) -> bool
+        requires { IsReaderOf meta.now self.old.reader }
+        ensures case { (member : MemberValue) → IsMemberOf (seat_of part.now meta.now) member self.old
+            → Follows (seat_of part.now meta.now) (piece_case (seat_of part.now meta.now) receipt.now member
+            (slot_piece (slot_of datagram.now (reader_slot part.now)))) self.new result }
+        ensures reader { IsReaderOf meta.now self.new.reader }
+    {
+        let Some(bytes) = slot_of(part, datagram) else {
+            return true;
+        };
+        let Ok(frame) = read_slot_frame(meta, bytes) else {
+            return true;
+        };
+        self.give(meta, receipt, &frame);
+        false
+    }
+
+    // A message; the answer says whether it is bad.
+    fn message(&mut self, meta: &Meta, receipt: &Receipt, bytes: &[u8]) -> bool
+        requires { IsReaderOf meta.now self.old.reader }
+        ensures case { (part : AnyPart) (member : MemberValue)
+            → IsMemberOf (seat_of part meta.now) member self.old
+            → Follows (seat_of part meta.now)
+            (piece_case (seat_of part meta.now) receipt.now member (Message bytes.now)) self.new result }
+        ensures reader { IsReaderOf meta.now self.new.reader }
+    {
+        let Ok(frame) = read_frame(meta, bytes) else {
+            return true;
+        };
+        self.give(meta, receipt, &frame);
+        false
+    }
+
+    // A chunk of a message, and the message where it is whole then.
+    fn chunk(&mut self, meta: &Meta, receipt: &Receipt, bytes: &[u8]) -> bool
+        requires { IsReaderOf meta.now self.old.reader }
+        ensures case { (part : AnyPart) (member : MemberValue)
+            → IsMemberOf (seat_of part meta.now) member self.old
+            → Follows (seat_of part meta.now)
+            (piece_case (seat_of part meta.now) receipt.now member (Chunked bytes.now)) self.new result }
+        ensures reader { IsReaderOf meta.now self.new.reader }
+    {
+        let Ok(chunk) = read_chunk(bytes) else {
+            return true;
+        };
+        match lay(
+            &mut self.joiner,
+            chunk.number,
+            chunk.offset,
+            chunk.total,
+            chunk.data,
+        ) {
+            Joined::Whole(_) => self.joined(meta, receipt),
+            Joined::Part | Joined::Older => false,
+            Joined::TooLong { .. } | Joined::BadRange { .. } | Joined::Differs { .. } => true,
+        }
+    }
+
+    // The message that was joined.
+    fn joined(&mut self, meta: &Meta, receipt: &Receipt) -> bool
+        requires { IsReaderOf meta.now self.old.reader }
+        ensures case { (part : AnyPart) (member : MemberValue)
+            → IsMemberOf (seat_of part meta.now) member self.old
+            → Follows (seat_of part meta.now)
+            (read_case (seat_of part meta.now) receipt.now member
+            (frame_at meta.now (joined_bytes member.joining))) self.new result }
+        ensures reader { IsReaderOf meta.now self.new.reader }
+    {
+        let Ok(frame) = read_frame(meta, self.joiner.bytes()) else {
+            return true;
+        };
+        self.give(meta, receipt, &frame);
+        false
+    }
+
+    // The reader is given a frame.
+    fn give(&mut self, meta: &Meta, receipt: &Receipt, frame: &Frame)
+        requires frame { IsFrameOf meta.now frame.now }
+        requires reader { IsReaderOf meta.now self.old.reader }
+        ensures member { (part : AnyPart) (member : MemberValue)
+            → IsMemberOf (seat_of part meta.now) member self.old
+            → IsMemberOf (seat_of part meta.now)
+            (given (seat_of part meta.now) receipt.now member (frame_in meta.now.fields frame.now)) self.new }
+        ensures reader { IsReaderOf meta.now self.new.reader }
+    {
+        carries_short(frame.number);
+        let took = self.reader.frame(meta, frame, receipt.stamp);
+        self.note(receipt.moment, took.outcome);
+    }
+}
+
+// A number that is carried has 16 bits.
+fn carries_short(number: Option<u16>)
+    ensures { option_map number_of_place number ≡ number }
+{
+    match number {
+        Some(number) => is_short(number),
+        None => {}
+    }
+}
+
+fn is_short(number: u16)
+    ensures { number_of_place number ≡ number }
+{}
+
+// A chunk whose number is carried is laid in.
+fn lay(joiner: &mut Joiner, number: u16, offset: u32, total: u32, part: &[u8]) -> Joined
+    ensures { (kept : Joining) → IsJoinerOf kept joiner.old
+        → Meets (chunk_case kept (numbered (chunk_of number offset total part.now))) joiner.new result }
+{
+    joiner.chunk(number, offset, total, part)
+}
+
+// What stands in a reader's slot, if the datagram has it whole.
+fn slot_of<'a>(part: &ReaderPart, datagram: &'a [u8]) -> Option<&'a [u8]>
+    ensures { option_copied result ≡ slot_of datagram.now (reader_slot part.now) }
+{
+    let end = part.offset as usize + part.size as usize;
+    datagram.get(part.offset as usize..end)
+}
