@@ -10,6 +10,7 @@ pub mod Said
 pub mod Growth
 pub mod Reading
 pub mod Acting
+pub mod Heads
 pub mod Readers
 pub mod KindTexts
 pub mod Below

@@ -13,6 +13,7 @@ pub mod Faults
 pub mod Refusals
 pub mod Acts
 pub mod Scripts
+pub mod Writes
 pub mod Sessions
 pub mod Sound
 pub mod Generated

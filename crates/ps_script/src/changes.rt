@@ -1,5 +1,5 @@
 //! What field words give the fields of a data set.
-ghost use Rattle.std.specs.Prelude.{◌≡◌, ◌<◌, ◌≤◌, [], length, Option, option_map, is_none, IfSome};
+ghost use Rattle.std.specs.Prelude.{◌≡◌, ◌<◌, ◌≤◌, [], length, Option, Some, option_map, is_none, IfSome};
 ghost use Rattle.std.specs.List.{list_any, HoldsAt};
 ghost use Rattle.ua_values.specs.Values.{Fits};
 ghost use Rattle.dataset_meta.specs.DataValues.{IsStatus};
@@ -34,6 +34,8 @@ pub(crate) fn change_of(meta: &Meta, word: &[u8]) -> Option<Change>
     ensures change { (reader : ValueReader) → option_map change_by result
         ≡ change_of reader meta.now.quality meta.now.fields word.now }
     ensures fits { IfSome result (FitsMeta meta.now) }
+    ensures place { IfSome result (λ change.
+        field_named meta.now.fields (field_name word.now) ≡ Some change.index) }
 {
     let index = field_named(meta.fields(), field_name(word))?;
     let field = &meta.fields()[index];

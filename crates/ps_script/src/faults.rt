@@ -20,7 +20,7 @@ use dataset_meta::Meta;
 /// How many lines of a kind a script may have.
 const MOST_TICKS: u32 = 4096;
 
-const MOST_WRITES: u32 = 32_768;
+pub(crate) const MOST_WRITES: u32 = 32_768;
 
 const MOST_FATES: usize = 256;
 

@@ -8,6 +8,7 @@ mod fault;
 mod faults;
 mod generated;
 mod laws;
+mod lines;
 mod names;
 mod numbers;
 mod past;
@@ -18,6 +19,7 @@ mod session;
 mod shapes;
 mod texts;
 mod verbs;
+mod writes;
 
 pub use fault::ScriptFault;
 pub use generated::generate;

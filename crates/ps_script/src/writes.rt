@@ -1,0 +1,97 @@
+//! Lines `write`, judged and read at once. What is amiss with one that isn't read so is told elsewhere.
+ghost use Rattle.std.specs.Prelude.{◌≡◌, ◌<◌, ◌≤◌, length, Bool, IfSome};
+ghost use Rattle.ps_config.specs.declared.parts.Config.{Config as ConfigValue};
+ghost use Rattle.ps_script.specs.Texts.{words_of};
+ghost use Rattle.ps_script.specs.Past.{done_by};
+ghost use Rattle.ps_script.specs.Values.{ValueReader};
+ghost use Rattle.ps_script.specs.Writes.{BeginsWrite, GivesPatch, IsSoundWrite};
+
+use crate::changes::change_of;
+use crate::faults::MOST_WRITES;
+use crate::laws::a_patch_is_the_words_of_what_it_stands_for;
+use crate::names::set_named;
+use crate::numbers::number_within;
+use crate::past::Past;
+use crate::script::Act;
+use crate::shapes::{has_byte, is_bad_text, is_long};
+use crate::texts::first_word;
+use crate::verbs::Verb;
+use dataset_meta::Meta;
+use row_words::Patch;
+
+/// What stands in front of the field words of a line `write`.
+#[derive(Clone, Copy)]
+struct WriteHead<'a> {
+    thread: u8,
+    /// The place of the data set.
+    set: usize,
+    /// The line behind its third word.
+    fields: &'a [u8],
+}
+
+/// What the line does, where it is a line `write` without a fault.
+pub(crate) fn sound_write(past: &Past, line: &[u8]) -> Option<Act>
+    requires { length past.now.metas.items ≤ 8 }
+    ensures sound { (reader : ValueReader) (config : ConfigValue) (plain : Bool)
+        → IfSome result (IsSoundWrite reader config plain (done_by past.now) line.now) }
+    ensures few { IfSome result (λ act. past.now.writes < 32768) }
+{
+    if is_bad_text(line) || is_long(line) || MOST_WRITES <= past.writes {
+        return None;
+    }
+    let head = write_head(&past.metas, line)?;
+    let patch = patch_given(&past.metas[head.set], head.fields)?;
+    Some(Act::Write {
+        thread: head.thread,
+        set: head.set as u8,
+        patch,
+    })
+}
+
+/// The line's head, where it is a line `write` of a thread and a data set that are there.
+#[tactic(auto, using(crate::proofs::Heads::begins))]
+fn write_head<'a>(metas: &[Meta], line: &'a [u8]) -> Option<WriteHead<'a>>
+    ensures { IfSome result (λ head.
+        BeginsWrite metas.now line.now head.thread head.set head.fields.now) }
+{
+    let (verb, behind) = first_word(line)?;
+    if Verb::named(verb) != Some(Verb::Write) {
+        return None;
+    }
+    let (thread, behind) = first_word(behind)?;
+    let (set, fields) = first_word(behind)?;
+    let thread = number_within(thread, 0, 7)?;
+    let set = set_named(metas, set)?;
+    Some(WriteHead {
+        thread: thread as u8,
+        set,
+        fields,
+    })
+}
+
+/// The patch of field words, where there are some, and each gives a field of its own a value and a status.
+fn patch_given(meta: &Meta, fields: &[u8]) -> Option<Patch>
+    ensures { (reader : ValueReader)
+        → IfSome result (GivesPatch reader meta.now (words_of fields.now)) }
+{
+    first_word(fields)?;
+    let mut patch = Patch::empty();
+    let mut taken = [false; 64];
+    prove!(!meta.fields().is_empty());
+    let mut rest = fields;
+    'words: while let Some((word, behind)) = first_word(rest) {
+        if !has_byte(word, b'=') {
+            return None;
+        }
+        let change = change_of(meta, word)?;
+        let index = usize::from(change.index);
+        if taken[index] {
+            return None;
+        }
+        taken[index] = true;
+        patch.put(meta, change.index, &change.value, change.status);
+        rest = behind;
+    }
+    a_patch_is_the_words_of_what_it_stands_for();
+    Some(patch)
+}
