@@ -1,5 +1,7 @@
-// Times the calls of libtext_bench.a on the largest texts and on a tenth of them, and prints the least time of each; scripts
-// and reports beside plain hand-written Rust, in turns.
+// Times the calls of libtext_bench.a on the largest texts and on a tenth of them by turns, and prints the least time of each;
+// scripts and reports beside plain hand-written Rust, by turns too. What is measured is the code: memory that was freed stays
+// with the process, so that all but the first calls find their pages touched. Else the largest blocks alone would be given back
+// to the system by each call, and cleared page by page in the next, while a tenth's stay.
 use std::hint::black_box;
 use std::process::exit;
 use std::time::Instant;
@@ -23,6 +25,7 @@ unsafe extern "C" {
         bytes: *mut u8,
         length: usize,
     ) -> usize;
+    fn mallopt(parameter: i32, value: i32) -> i32;
 }
 
 const WHOLE: usize = 1_048_576;
@@ -49,17 +52,19 @@ fn compare(name: &str, ours: f64, theirs: f64) {
 }
 
 fn config_time(text: &str, end: u32) -> f64 {
-    let mut least = f64::MAX;
-    for _ in 0..ROUNDS {
-        let (each, got) = time(|| unsafe { bench_config(1, black_box(text.as_ptr()), text.len()) });
-        least = least.min(each);
-        assert_eq!(got, end);
-    }
-    least
+    let (each, got) = time(|| unsafe { bench_config(1, black_box(text.as_ptr()), text.len()) });
+    assert_eq!(got, end);
+    each
 }
 
 fn config(name: &str, text: impl Fn(usize) -> String, end: u32) -> bool {
-    is_linear(name, config_time(&text(WHOLE), end), config_time(&text(WHOLE / 10), end))
+    let (whole, tenth) = (text(WHOLE), text(WHOLE / 10));
+    let (mut of_whole, mut of_tenth) = (f64::MAX, f64::MAX);
+    for _ in 0..ROUNDS {
+        of_whole = of_whole.min(config_time(&whole, end));
+        of_tenth = of_tenth.min(config_time(&tenth, end));
+    }
+    is_linear(name, of_whole, of_tenth)
 }
 
 /// So many writes of two fields by eight threads, 32 bytes each: 32,768 of them are 1 MiB.
@@ -92,33 +97,50 @@ fn plain_sum(lines: &[scripts::Line]) -> u64 {
     sum
 }
 
-/// The least times of reading a script, ours and by hand.
-fn script_times(config: &str, text: &str) -> (f64, f64) {
-    let plain = plain_config();
-    let lines = scripts::read(&plain, text.as_bytes()).expect("accepted");
+fn assert_same(config: &str, plain: &scripts::Config, text: &str) {
+    let lines = scripts::read(plain, text.as_bytes()).expect("accepted");
     let sum = unsafe { script_sum(config.as_ptr(), config.len(), text.as_ptr(), text.len()) };
     assert_eq!(sum, plain_sum(&lines), "the scripts differ");
-    drop(lines);
-    let (mut ours, mut theirs) = (f64::MAX, f64::MAX);
-    for _ in 0..ROUNDS {
-        let (each, end) =
-            time(|| unsafe { bench_script(1, config.as_ptr(), config.len(), black_box(text.as_ptr()), text.len()) });
+}
+
+/// The least times of reading a script, ours and by hand, each with what it takes to let its lines go.
+struct Least {
+    ours: f64,
+    theirs: f64,
+}
+
+impl Least {
+    const NONE: Least = Least { ours: f64::MAX, theirs: f64::MAX };
+
+    /// A call reads the configuration too, whose time, `once`, is left out.
+    fn take(&mut self, once: f64, config: &str, plain: &scripts::Config, text: &str) {
+        let (each, end) = read_script(1, config, text);
         assert_eq!(end, 0);
-        ours = ours.min(each);
-        let (each, read) = time(|| scripts::read(black_box(&plain), black_box(text.as_bytes())));
-        assert!(read.is_ok());
-        theirs = theirs.min(each);
+        self.ours = self.ours.min(each - once);
+        let (each, is_read) = time(|| black_box(scripts::read(black_box(plain), black_box(text.as_bytes()))).is_ok());
+        assert!(is_read);
+        self.theirs = self.theirs.min(each);
     }
-    (ours, theirs)
+}
+
+fn read_script(turns: u32, config: &str, text: &str) -> (f64, u32) {
+    time(|| unsafe { bench_script(turns, config.as_ptr(), config.len(), black_box(text.as_ptr()), text.len()) })
 }
 
 fn scripts_are_linear() -> bool {
-    let config = configs::session(4, 1);
-    let whole = script_times(&config, &writes(32_768));
-    let tenth = script_times(&config, &writes(3_276));
-    compare("script, 32,768 writes", whole.0, whole.1);
-    compare("script, 3,276 writes", tenth.0, tenth.1);
-    is_linear("script, 32,768 writes", whole.0, tenth.0)
+    let (config, plain) = (configs::session(4, 1), plain_config());
+    let (whole, tenth) = (writes(32_768), writes(3_276));
+    assert_same(&config, &plain, &whole);
+    assert_same(&config, &plain, &tenth);
+    let once = (0..ROUNDS).map(|_| read_script(0, &config, &tenth).0).fold(f64::MAX, f64::min);
+    let (mut of_whole, mut of_tenth) = (Least::NONE, Least::NONE);
+    for _ in 0..ROUNDS {
+        of_whole.take(once, &config, &plain, &whole);
+        of_tenth.take(once, &config, &plain, &tenth);
+    }
+    compare("script, 32,768 writes", of_whole.ours, of_whole.theirs);
+    compare("script, 3,276 writes", of_tenth.ours, of_tenth.theirs);
+    is_linear("script, 32,768 writes", of_whole.ours, of_tenth.ours)
 }
 
 const WRITERS: usize = 16;
@@ -192,7 +214,17 @@ fn reports_are_linear() -> bool {
     is_linear("report, the largest", whole.0, tenth.0 * whole.2 / tenth.2 / 10.0)
 }
 
+// the parameters of `mallopt`: how much free memory is given back to the system, and how many blocks are mapped alone
+const M_TRIM_THRESHOLD: i32 = -1;
+const M_MMAP_MAX: i32 = -4;
+
+fn keep_freed_memory() {
+    let is_set = unsafe { mallopt(M_TRIM_THRESHOLD, i32::MAX) & mallopt(M_MMAP_MAX, 0) };
+    assert_eq!(is_set, 1);
+}
+
 fn main() {
+    keep_freed_memory();
     let linear = [
         config("configuration of 1 MiB, accepted, mostly comments", configs::accepted, 0),
         config("configuration of 1 MiB, too many data sets", configs::many_tables, 5),

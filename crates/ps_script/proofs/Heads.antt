@@ -86,7 +86,7 @@ few_writes : (writes : ℕ) → writes < 32768 → nat_le 32768 writes ≡ false
 few_writes writes few = grind (arith, nat_tests)
 
 -- a line `write` that is judged and read at once has no fault, and does what was read
-pub sound_write : (reader : ValueReader) (config : Config) (plain : Bool) (done : Done) (line fields : List ℕ) (thread set : ℕ) (meta : MetaData) (patch : Patch) → is_bad_text line ≡ false → is_long line ≡ false → done.writes < 32768 → BeginsWrite done.metas line thread set fields → slice_get done.metas set ≡ Some meta → GivesPatch reader meta (words_of fields) patch → IsSoundWrite reader config plain done line (act.Write thread set patch)
+pub sound_write : (reader : ValueReader) (config : Config) (plain : Bool) (done : Done) (line fields : List ℕ) (thread set : ℕ) (meta : MetaData) (patch : Patch) → is_bad_text line ≡ false → is_long line ≡ false → done.writes < 32768 → BeginsWrite done.metas line thread set fields → slice_get done.metas set ≡ Some meta → GivesPatch reader meta (words_of fields) patch → IsSoundWrite reader config plain done line thread set patch
 unfolding stands
 sound_write reader config plain done line fields thread set meta patch plain_text short few b found g =
     let named : meta_named done.metas (word 2 line) ≡ Some meta = named_meta done.metas (word 2 line) set meta b.of_set found in

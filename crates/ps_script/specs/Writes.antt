@@ -1,12 +1,13 @@
 -- Lines `write` without a fault, and what they do.
 use Rattle.std.specs.Prelude.{◌≡◌, ℕ, ◌<◌, Bool, true, false, List, [], ◌++◌, length, Option, Some, None, is_none, ⊤}
 use Rattle.std.specs.List.{list_any, list_all}
-use Rattle.dataset_meta.specs.Metas.{MetaData}
+use Rattle.dataset_meta.specs.declared.field.Field.{Field}
+use Rattle.dataset_meta.specs.Metas.{IsMeta, MetaData}
 use Rattle.row_words.specs.declared.patch.Patch.{Patch}
-use Rattle.row_words.specs.Patches.{spelled_patch}
+use Rattle.row_words.specs.Patches.{IsPatchOf, patch_in, spelled_patch}
 use Rattle.ps_config.specs.declared.parts.Config.{Config}
 use Rattle.ps_script.specs.declared.fault.ScriptFault.{ScriptFault}
-use Rattle.ps_script.specs.declared.script.Act.{Act}
+use Rattle.ps_script.specs.declared.script.Act.TheVariants as act
 use Rattle.ps_script.specs.declared.script.Line.{Line}
 use Rattle.ps_script.specs.declared.verbs.Verb.TheVariants as verb
 use Rattle.ps_script.specs.Texts.{words_of, word}
@@ -36,11 +37,16 @@ pub record GivesPatch (reader : ValueReader) (meta : MetaData) (words : List (Li
   pub valued : list_any (λ word. is_none (change_of reader meta.quality meta.fields word)) words ≡ false
   pub gives : patch ≡ spelled_patch meta.fields (patch_with reader meta.quality meta.fields [] words)
 
--- a line `write` that has no fault and does this
-pub record IsSoundWrite (reader : ValueReader) (config : Config) (plain : Bool) (done : Done) (line : List ℕ) (act : Act) : Type 0 where
+-- no change, whatever the meta
+pub record IsEmptyPatch (patch : Patch) : Type 0 where
+  pub of : (meta : MetaData) → IsMeta meta.fields → IsPatchOf meta patch
+  pub empty : (fields : List Field) → patch_in fields patch ≡ []
+
+-- a line `write` that has no fault: this thread writes this patch to this data set
+pub record IsSoundWrite (reader : ValueReader) (config : Config) (plain : Bool) (done : Done) (line : List ℕ) (thread set : ℕ) (patch : Patch) : Type 0 where
   pub is_write : verb_of line ≡ Some verb.Write
   pub faultless : fault_of reader config plain done line ≡ None
-  pub acts : act_of reader config done.metas line ≡ Some act
+  pub acts : act_of reader config done.metas line ≡ Some (act.Write thread set patch)
 
 -- a line without a fault is read behind those before it, by these data sets
 abbrev pub Reads : ValueReader → Config → List MetaData → ℕ → List ℕ → List Line → List Line → Option ScriptFault → Type 0

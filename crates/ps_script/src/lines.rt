@@ -11,10 +11,14 @@ use crate::acts::{act_of, add_line};
 use crate::fault::ScriptFault;
 use crate::past::{Given, Past};
 use crate::refusal::step;
-use crate::script::Line;
+use crate::script::{Act, Line};
 use crate::writes::sound_write;
 use ps_config::Config;
+use row_words::Patch;
 use std::alloc::{AllocError, Global};
+
+/// How many lines a script may have that write, tick, append, give fates or watch.
+const MOST_LINES: usize = 32_768 + 4096 + 16 + 256 + 64;
 
 /// What the lines so far have done, and what they mean.
 #[derive(Drop)]
@@ -25,14 +29,14 @@ pub(crate) struct Reading {
 }
 
 impl Reading {
-    /// No line.
-    pub(crate) fn new(alloc: Global, config: &Config) -> Result<Reading, AllocError>
+    /// No line, with room for those of the bytes.
+    pub(crate) fn new(alloc: Global, config: &Config, bytes: &[u8]) -> Result<Reading, AllocError>
         ensures past { IfOk result (λ reading. done_by reading.past ≡ nothing_done config.now) }
         ensures lines { IfOk result (λ reading. reading.lines.items ≡ []) }
     {
         Ok(Reading {
             past: Past::new(alloc, config)?,
-            lines: Vec::new(alloc),
+            lines: Vec::with_capacity(alloc, line_count(bytes).min(MOST_LINES))?,
         })
     }
 
@@ -54,11 +58,40 @@ impl Reading {
             (Reads reader given.now.config.now self.new.past.metas.items number line.now
             self.old.lines.items self.new.lines.items) }
     {
-        if let Some(act) = sound_write(&self.past, line) {
-            self.past.writes += 1;
-            add_line(&mut self.lines, number, Some(act))?;
-            return Ok(None);
-        }
+        let mut patch = Patch::empty();
+        let Some(target) = sound_write(&self.past, line, &mut patch) else {
+            return self.read_slowly(alloc, given, number, line);
+        };
+        self.past.writes += 1;
+        self.lines.push(Line {
+            at: number,
+            act: Act::Write {
+                thread: target.thread,
+                set: target.set,
+                patch,
+            },
+        })?;
+        Ok(None)
+    }
+
+    /// Judges the line by one fault after another, and then reads it.
+    fn read_slowly(
+        &mut self,
+        alloc: Global,
+        given: &Given,
+        number: u32,
+        line: &[u8],
+    ) -> Result<Option<ScriptFault>, AllocError>
+        requires names { HasNames given.now }
+        requires few { length self.old.past.metas.items ≤ 8 }
+        ensures kept { length self.new.past.metas.items ≡ length self.old.past.metas.items }
+        ensures steps { (reader : ValueReader) → IfOk result
+            (Steps reader given.now.config.now given.now.plain (done_by self.old.past)
+            (done_by self.new.past) line.now) }
+        ensures lines { (reader : ValueReader) → IfOk result
+            (Reads reader given.now.config.now self.new.past.metas.items number line.now
+            self.old.lines.items self.new.lines.items) }
+    {
         let fault = step(alloc, given, &mut self.past, line)?;
         if fault.is_none() {
             add_line(
@@ -69,4 +102,8 @@ impl Reading {
         }
         Ok(fault)
     }
+}
+
+fn line_count(bytes: &[u8]) -> usize {
+    bytes.iter().filter(|byte| **byte == b'\n').count()
 }

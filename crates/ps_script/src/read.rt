@@ -122,7 +122,7 @@ fn judged(alloc: Global, given: &Given, bytes: &[u8]) -> Result<Reading, ScriptE
     ensures refused { (reader : ValueReader)
         → IfErr result (IsEndOf (judged reader given.now.config.now given.now.plain bytes.now)) }
 {
-    let mut reading = Reading::new(alloc, given.config)?;
+    let mut reading = Reading::new(alloc, given.config, bytes)?;
     let mut number = 1u32;
     let mut rest = bytes;
     'lines: while !rest.is_empty() {

@@ -5,7 +5,7 @@ use Rattle.ps_script.specs.Texts.{words_of}
 use Rattle.ps_script.specs.Values.{ValueReader}
 use Rattle.ps_script.specs.Fields.{is_field_word, change_of, patch_with}
 use Rattle.ps_script.proofs.Taken.{Leaves}
-use Rattle.ps_script.proofs.writes.patch_given.Given as goal
+use Rattle.ps_script.proofs.writes.fill.Given as goal
 
 -- no word so far is amiss, the patch has what they give, and the marks are of their fields
 abbrev pub invariant-words : goal.invariant-words
