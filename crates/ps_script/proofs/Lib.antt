@@ -13,6 +13,7 @@ pub mod Acting
 pub mod Heads
 pub mod Readers
 pub mod KindTexts
+pub mod Whole
 pub mod Below
 pub mod Writing
 pub mod Fine

@@ -2,6 +2,7 @@ pub mod Texts
 pub mod Verbs
 pub mod FaultNumbers
 pub mod Numbers
+pub mod Whole
 pub mod Names
 pub mod Values
 pub mod Spelled

@@ -13,6 +13,7 @@ ghost use Rattle.ps_script.specs.Acts.{patch_of};
 use crate::laws::a_patch_is_the_words_of_what_it_stands_for;
 use crate::shapes::has_byte;
 use crate::texts::{behind_words, cut, first_word};
+use crate::values::value_said;
 use dataset_meta::{Field, Meta};
 use row_words::Patch;
 use ua_values::{Kind, Value};
@@ -39,7 +40,7 @@ pub(crate) fn change_of(meta: &Meta, word: &[u8]) -> Option<Change>
 {
     let index = field_named(meta.fields(), field_name(word))?;
     let field = &meta.fields()[index];
-    let value = parse_value(field.kind, field.cap, value_text(word))?;
+    let value = value_said(field.kind, field.cap, value_text(word))?;
     let status = status_of(meta.quality(), word)?;
     Some(Change {
         index: index as u8,

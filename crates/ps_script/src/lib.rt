@@ -18,6 +18,7 @@ mod script;
 mod session;
 mod shapes;
 mod texts;
+mod values;
 mod verbs;
 mod writes;
 
