@@ -1,9 +1,11 @@
 // Times the calls of libtext_bench.a on the largest texts and on a tenth of them by turns, and prints the least time of each;
-// scripts and reports beside plain hand-written Rust, by turns too. What is measured is the code: memory that was freed stays
-// with the process, so that all but the first calls find their pages touched. Else the largest blocks alone would be given back
-// to the system by each call, and cleared page by page in the next, while a tenth's stay.
+// scripts and reports beside plain hand-written Rust, by turns too. A whole and its tenth find the same machine: memory that
+// was freed stays with the process, and the caches are filled with other bytes before each call. Else the largest blocks alone
+// would be given back to the system and cleared page by page by the next call, and a tenth alone would stay in the caches: the
+// lines of the longest script take 33 MB.
 use std::hint::black_box;
 use std::process::exit;
+use std::sync::Mutex;
 use std::time::Instant;
 
 mod configs;
@@ -34,8 +36,21 @@ const ROUNDS: u32 = 20;
 /// The largest ratio of the whole text's time to that of a tenth.
 const MOST: f64 = 11.0;
 
+/// More bytes than the caches have.
+static OTHERS: Mutex<Vec<u8>> = Mutex::new(Vec::new());
+
+const OTHER_BYTES: usize = 1 << 27;
+
+fn fill_caches() {
+    let mut others = OTHERS.lock().expect("one thread");
+    others.resize(OTHER_BYTES, 0);
+    others.iter_mut().step_by(64).for_each(|byte| *byte = byte.wrapping_add(1));
+    black_box(&others);
+}
+
 /// The time of a call, in microseconds.
 fn time<T>(call: impl FnOnce() -> T) -> (f64, T) {
+    fill_caches();
     let start = Instant::now();
     let end = black_box(call());
     (start.elapsed().as_secs_f64() * 1e6, end)
