@@ -1,8 +1,9 @@
--- Lines `write` without a fault.
-use Rattle.std.proofs.Common.{◌≡◌, ℕ, ◌+◌, ◌<◌, ◌≤◌, Bool, true, false, ◌&&◌, ◌||◌, not, cond, nat_le, nat_lt, List, [], ◌∷◌, ◌++◌, length, length-drop, le-leb, drop, Option, Some, None, find, is_some, is_none, unwrap_or, option_and_then, slice_get, refl, sym, ap, ◌∙◌, subst, arith}
+-- Lines that are judged and read at once.
+use Rattle.std.proofs.Common.{◌≡◌, ℕ, ◌+◌, ◌<◌, ◌≤◌, Bool, true, false, ◌&&◌, ◌||◌, not, cond, nat_le, nat_lt, List, [], ◌∷◌, ◌++◌, length, length-drop, le-leb, drop, Option, Some, None, find, is_some, is_none, unwrap_or, option_and_then, slice_get, eqb-true, refl, sym, ap, ◌∙◌, subst, arith}
 use Rattle.std.specs.Prelude.{slice_index_or}
 use Rattle.std.specs.List.{list_any, list_all}
 use Rattle.std.specs.Option.{option_map_or}
+use Rattle.std.proofs.lemmas.Bool.{and_parts}
 use Rattle.std.proofs.lemmas.Bool.Decides.{nat_tests}
 use Rattle.dataset_meta.specs.Metas.{MetaData}
 use Rattle.row_words.specs.declared.patch.Patch.{Patch}
@@ -25,7 +26,7 @@ use Rattle.ps_script.specs.Faults.{field_words, count_of, is_bad_text, is_long, 
 use Rattle.ps_script.specs.Refusals.{stands, early_faults, faults, fault_of}
 use Rattle.ps_script.specs.Acts.{patch_of, write_at, act_by, act_of}
 use Rattle.ps_script.proofs.Acting.{wrote, act_write}
-use Rattle.ps_script.specs.Writes.{BeginsWrite, GivesPatch, IsSoundWrite}
+use Rattle.ps_script.specs.Writes.{BeginsWrite, GivesPatch, IsSoundWrite, is_idle_line}
 
 -- three words in front of the others
 three_words : (line first second third : List ℕ) (a b c : List ℕ) → words_of line ≡ a ∷ words_of first → words_of first ≡ b ∷ words_of second → words_of second ≡ c ∷ words_of third → words_of line ≡ a ∷ b ∷ c ∷ words_of third
@@ -113,3 +114,40 @@ sound_write reader config plain done line fields thread set meta patch plain_tex
 pub wrote_one : (config : Config) (done : Done) (line : List ℕ) → verb_of line ≡ Some verb.Write → record done { writes = done.writes + 1 } ≡ after config done line
 unfolding after
 wrote_one config done line is = sym (ap (done_with config done line) is)
+
+-- ---- empty lines and comments
+
+no_verb : (first : List ℕ) → is_idle first ≡ true → verb_named first ≡ None
+no_verb [] idle = refl
+no_verb (byte ∷ bytes) idle = subst (λ (b : ℕ). verb_named (b ∷ bytes) ≡ None) (sym (eqb-true byte 35 idle)) refl
+
+idle_verb : (line : List ℕ) → is_idle_line line ≡ true → verb_of line ≡ None
+unfolding verb_of
+idle_verb line idle = no_verb (word 0 line) (and_parts (is_idle (word 0 line)) (not (is_long line) && not (is_bad_text line)) idle).0
+
+true_not : (b : Bool) → not b ≡ true → b ≡ false
+true_not true e = sym e
+true_not false e = refl
+
+-- such a line has no fault
+pub idle_faultless : (reader : ValueReader) (config : Config) (plain : Bool) (done : Done) (line : List ℕ) → is_idle_line line ≡ true → fault_of reader config plain done line ≡ None
+unfolding stands
+idle_faultless reader config plain done line idle =
+    let none : verb_of line ≡ None = idle_verb line idle in
+    let parts = and_parts (is_idle (word 0 line)) (not (is_long line) && not (is_bad_text line)) idle in
+    let fine = and_parts (not (is_long line)) (not (is_bad_text line)) parts.1 in
+    none_stands (λ f. stands reader f config plain done line) (true_not (is_bad_text line) fine.1) (true_not (is_long line) fine.0)
+    (ap (λ (b : Bool). not b && (is_none (verb_of line) || has_unknown_fate line (verb_of line))) parts.0)
+    (ap (λ (v : Option Verb). not (option_map_or (has_shape line) v true)) none) (ap (λ (v : Option Verb). not (option_map_or (has_numbers line) v true)) none)
+    (ap (λ (v : Option Verb). not (option_map_or (has_name config done line) v true)) none)
+    (ap (is_bad_field done line) none) (ap (is_bad_value reader done line) none) (ap (is_bad_state config done line) none) (ap (is_past_limit done) none)
+    (ap (is_bad_fate plain done line) none) (ap (is_bad_append config done line) none)
+
+-- and has done nothing
+pub idle_after : (config : Config) (done : Done) (line : List ℕ) → is_idle_line line ≡ true → done ≡ after config done line
+unfolding after
+idle_after config done line idle = sym (ap (done_with config done line) (idle_verb line idle))
+
+pub idle_act : (reader : ValueReader) (config : Config) (metas : List MetaData) (line : List ℕ) → is_idle_line line ≡ true → act_of reader config metas line ≡ None
+unfolding act_of
+idle_act reader config metas line idle = ap (act_by reader config metas line) (idle_verb line idle)

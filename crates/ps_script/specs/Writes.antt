@@ -1,5 +1,5 @@
--- Lines `write` without a fault, and what they do.
-use Rattle.std.specs.Prelude.{◌≡◌, ℕ, ◌<◌, Bool, true, false, List, [], ◌++◌, length, Option, Some, None, is_none, ⊤}
+-- Lines that are judged and read at once.
+use Rattle.std.specs.Prelude.{◌≡◌, ℕ, ◌<◌, Bool, true, false, ◌&&◌, not, List, [], ◌++◌, length, Option, Some, None, is_none, ⊤}
 use Rattle.std.specs.List.{list_any, list_all}
 use Rattle.dataset_meta.specs.declared.field.Field.{Field}
 use Rattle.dataset_meta.specs.Metas.{IsMeta, MetaData}
@@ -11,15 +11,19 @@ use Rattle.ps_script.specs.declared.script.Act.TheVariants as act
 use Rattle.ps_script.specs.declared.script.Line.{Line}
 use Rattle.ps_script.specs.declared.verbs.Verb.TheVariants as verb
 use Rattle.ps_script.specs.Texts.{words_of, word}
-use Rattle.ps_script.specs.Verbs.{verb_of}
+use Rattle.ps_script.specs.Verbs.{is_idle, verb_of}
 use Rattle.ps_script.specs.Numbers.{number_within}
 use Rattle.ps_script.specs.Names.{set_named}
 use Rattle.ps_script.specs.Values.{ValueReader}
 use Rattle.ps_script.specs.Fields.{is_field_word, has_bad_field, change_of, patch_with}
 use Rattle.ps_script.specs.Past.{Done}
-use Rattle.ps_script.specs.Faults.{field_words}
+use Rattle.ps_script.specs.Faults.{is_bad_text, is_long, field_words}
 use Rattle.ps_script.specs.Refusals.{fault_of}
 use Rattle.ps_script.specs.Acts.{with_act, act_of}
+
+-- a line without a fault that does nothing
+abbrev pub is_idle_line : List ℕ → Bool
+is_idle_line line = is_idle (word 0 line) && (not (is_long line) && not (is_bad_text line))
 
 -- a line `write` of this thread and this data set; its field words are those of these bytes
 pub record BeginsWrite (metas : List MetaData) (line : List ℕ) (thread set : ℕ) (rest : List ℕ) : Type 0 where

@@ -12,6 +12,7 @@ use crate::fault::ScriptFault;
 use crate::past::{Given, Past};
 use crate::refusal::step;
 use crate::script::{Act, Line};
+use crate::shapes::is_idle_line;
 use crate::writes::sound_write;
 use ps_config::Config;
 use row_words::Patch;
@@ -58,6 +59,9 @@ impl Reading {
             (Reads reader given.now.config.now self.new.past.metas.items number line.now
             self.old.lines.items self.new.lines.items) }
     {
+        if is_idle_line(line) {
+            return Ok(None);
+        }
         let mut patch = Patch::empty();
         let Some(target) = sound_write(&self.past, line, &mut patch) else {
             return self.read_slowly(alloc, given, number, line);
