@@ -6,6 +6,7 @@ use Rattle.row_words.specs.declared.patch.Patch.{Patch}
 use Rattle.ps_config.specs.declared.parts.Config.{Config}
 use Rattle.ps_script.specs.declared.script.Act.{Act}
 use Rattle.ps_script.specs.declared.script.Act.TheVariants as act
+use Rattle.ps_script.specs.declared.verbs.Verb.{Verb}
 use Rattle.ps_script.specs.declared.verbs.Verb.TheVariants as verb
 use Rattle.ps_script.specs.Texts.{word}
 use Rattle.ps_script.specs.Verbs.{verb_of}
@@ -28,7 +29,6 @@ pub act_write : (reader : ValueReader) (config : Config) (metas : List MetaData)
 unfolding act_of
 act_write reader config metas line found is same = same ∙ sym (ap (act_by reader config metas line) is)
 
-pub bad_value_in : (reader : ValueReader) (done : Done) (line : List ℕ) (meta : MetaData) (bad : Bool) → verb_of line ≡ Some verb.Write → meta_named done.metas (word 2 line) ≡ Some meta → bad ≡ has_bad_value_in reader line meta → bad ≡ is_bad_value reader done line (verb_of line)
-bad_value_in reader done line meta bad is named same =
+pub bad_value_in : (reader : ValueReader) (metas : List MetaData) (line : List ℕ) (meta : MetaData) (bad : Bool) → meta_named metas (word 2 line) ≡ Some meta → bad ≡ has_bad_value_in reader line meta → bad ≡ option_map_or (has_bad_value_in reader line) (meta_named metas (word 2 line)) false
+bad_value_in reader metas line meta bad named same =
     same ∙ sym (ap (λ (o : Option MetaData). option_map_or (has_bad_value_in reader line) o false) named)
-    ∙ sym (ap (is_bad_value reader done line) is)

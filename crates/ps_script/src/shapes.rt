@@ -38,10 +38,10 @@ pub(crate) fn is_long(line: &[u8]) -> bool
 }
 
 /// The first word, or the third of a fate, is none that there is.
-pub(crate) fn has_unknown_word(line: &[u8]) -> bool
+pub(crate) fn has_unknown_word(line: &[u8], verb: Option<Verb>) -> bool
+    requires { verb ≡ verb_of line.now }
     ensures { result ≡ has_unknown_word line.now }
 {
-    let verb = Verb::of(line);
     !is_idle(word(line, 0)) && (verb.is_none() || has_unknown_fate(line, verb))
 }
 
@@ -72,10 +72,11 @@ fn has_unknown_fate(line: &[u8], verb: Option<Verb>) -> bool
 }
 
 /// A wrong number of words, or a field word without `=`.
-pub(crate) fn is_bad_shape(line: &[u8]) -> bool
+pub(crate) fn is_bad_shape(line: &[u8], verb: Option<Verb>) -> bool
+    requires { verb ≡ verb_of line.now }
     ensures { result ≡ is_bad_shape line.now }
 {
-    match Verb::of(line) {
+    match verb {
         Some(verb) => !has_shape(line, verb),
         None => false,
     }
@@ -124,10 +125,11 @@ pub(crate) fn has_byte(bytes: &[u8], mark: u8) -> bool
 }
 
 /// A number that isn't one, or out of its range.
-pub(crate) fn has_bad_number(line: &[u8]) -> bool
+pub(crate) fn has_bad_number(line: &[u8], verb: Option<Verb>) -> bool
+    requires { verb ≡ verb_of line.now }
     ensures { result ≡ has_bad_number line.now }
 {
-    match Verb::of(line) {
+    match verb {
         Some(verb) => !has_numbers(line, verb),
         None => false,
     }
