@@ -6,15 +6,13 @@ use Rattle.row_words.specs.declared.patch.Patch.{Patch}
 use Rattle.ps_config.specs.declared.parts.Config.{Config}
 use Rattle.ps_script.specs.declared.script.Act.{Act}
 use Rattle.ps_script.specs.declared.script.Act.TheVariants as act
-use Rattle.ps_script.specs.declared.verbs.Verb.{Verb}
 use Rattle.ps_script.specs.declared.verbs.Verb.TheVariants as verb
 use Rattle.ps_script.specs.Texts.{word}
 use Rattle.ps_script.specs.Verbs.{verb_of}
 use Rattle.ps_script.specs.Numbers.{number_at}
 use Rattle.ps_script.specs.Names.{set_named}
 use Rattle.ps_script.specs.Values.{ValueReader}
-use Rattle.ps_script.specs.Past.{Done}
-use Rattle.ps_script.specs.Faults.{meta_named, has_bad_value_in, is_bad_value}
+use Rattle.ps_script.specs.Faults.{meta_named, has_bad_value_in}
 use Rattle.ps_script.specs.Acts.{patch_of, write_at, act_by, act_of}
 
 write_some : (reader : ValueReader) (metas : List MetaData) (line : List ℕ) (set : ℕ) (meta : MetaData) → slice_get metas set ≡ Some meta → write_at reader metas line set ≡ Some (act.Write (number_at 0 7 (word 1 line)) set (patch_of reader line meta))

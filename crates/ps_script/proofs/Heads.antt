@@ -1,5 +1,5 @@
 -- Lines that are judged and read at once.
-use Rattle.std.proofs.Common.{◌≡◌, ℕ, ◌+◌, ◌<◌, ◌≤◌, Bool, true, false, ◌&&◌, ◌||◌, not, cond, nat_le, nat_lt, List, [], ◌∷◌, ◌++◌, length, length-drop, le-leb, drop, Option, Some, None, find, is_some, is_none, unwrap_or, option_and_then, slice_get, eqb-true, refl, sym, ap, ◌∙◌, subst, arith}
+use Rattle.std.proofs.Common.{◌≡◌, ℕ, ◌+◌, ◌<◌, Bool, true, false, ◌&&◌, ◌||◌, not, cond, nat_le, List, [], ◌∷◌, length, length-drop, le-leb, drop, Option, Some, None, find, is_some, is_none, unwrap_or, option_and_then, slice_get, eqb-true, refl, sym, ap, ◌∙◌, subst, arith}
 use Rattle.std.specs.Prelude.{slice_index_or}
 use Rattle.std.specs.List.{list_any, list_all}
 use Rattle.std.specs.Option.{option_map_or}
@@ -10,21 +10,20 @@ use Rattle.row_words.specs.declared.patch.Patch.{Patch}
 use Rattle.ps_config.specs.declared.parts.Config.{Config}
 use Rattle.ps_script.specs.declared.fault.ScriptFault.{ScriptFault}
 use Rattle.ps_script.specs.declared.fault.ScriptFault.TheVariants as fault
-use Rattle.ps_script.specs.declared.script.Act.{Act}
 use Rattle.ps_script.specs.declared.script.Act.TheVariants as act
 use Rattle.ps_script.specs.declared.verbs.Verb.{Verb}
 use Rattle.ps_script.specs.declared.verbs.Verb.TheVariants as verb
 use Rattle.ps_script.specs.Texts.{words_of, word}
 use Rattle.ps_script.specs.Verbs.{verb_of, verb_named, is_idle}
-use Rattle.ps_script.specs.Numbers.{number_within, number_at, is_number}
+use Rattle.ps_script.specs.Numbers.{number_within}
 use Rattle.ps_script.specs.Names.{set_named}
 use Rattle.ps_script.specs.Values.{ValueReader}
 use Rattle.row_words.specs.Patches.{spelled_patch}
 use Rattle.ps_script.specs.Fields.{is_field_word, has_bad_field, change_of, patch_with}
 use Rattle.ps_script.specs.Past.{Done, done_with, after}
-use Rattle.ps_script.specs.Faults.{field_words, count_of, is_bad_text, is_long, has_unknown_word, has_shape, is_bad_shape, has_numbers, has_bad_number, has_name, has_unknown_name, meta_named, has_bad_field_in, is_bad_field, has_bad_value_in, is_bad_value, is_bad_state, is_past_limit, has_unknown_fate, is_bad_fate, is_bad_append}
+use Rattle.ps_script.specs.Faults.{field_words, count_of, is_bad_text, is_long, has_unknown_word, has_shape, is_bad_shape, has_numbers, has_name, meta_named, has_bad_field_in, is_bad_field, has_bad_value_in, is_bad_value, is_bad_state, is_past_limit, has_unknown_fate, is_bad_fate, is_bad_append}
 use Rattle.ps_script.specs.Refusals.{stands, early_faults, faults, fault_of}
-use Rattle.ps_script.specs.Acts.{patch_of, write_at, act_by, act_of}
+use Rattle.ps_script.specs.Acts.{act_by, act_of}
 use Rattle.ps_script.proofs.Acting.{wrote, act_write}
 use Rattle.ps_script.specs.Writes.{BeginsWrite, GivesPatch, IsSoundWrite, is_idle_line}
 

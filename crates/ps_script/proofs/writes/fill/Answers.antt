@@ -1,7 +1,7 @@
-use Rattle.std.proofs.Common.{◌≡◌, ◌<◌, length, true, Some, [], refl, sym, ap, ◌∙◌, is_none, arith}
+use Rattle.std.proofs.Common.{Some, refl, sym, ap, ◌∙◌, is_none, arith}
 use Rattle.row_words.specs.Patches.{patch_in, spelled_patch}
 use Rattle.ps_script.specs.Texts.{words_of}
-use Rattle.ps_script.specs.Fields.{is_field_word, patch_with}
+use Rattle.ps_script.specs.Fields.{patch_with}
 use Rattle.ps_script.proofs.Said.{value_next, value_end, patch_more, patch_end, shaped_next, shaped_end}
 use Rattle.ps_script.proofs.Taken.{leaves_first, leaves_next, leaves_none}
 use Rattle.ps_script.proofs.writes.fill.Goals as goal
