@@ -29,6 +29,13 @@ const MOST_WATCHES: u32 = 64;
 
 const MOST_APPENDS: u32 = 16;
 
+/// How many lines of all these kinds.
+pub(crate) const MOST_LINES: usize = (MOST_TICKS
+    + MOST_WRITES
+    + MOST_WATCHES
+    + MOST_APPENDS) as usize
+    + MOST_FATES;
+
 /// A data set, a reader or a component that isn't there.
 pub(crate) fn has_unknown_name(given: &Given, past: &Past, line: &[u8], verb: Option<Verb>) -> bool
     requires names { HasNames given.now }

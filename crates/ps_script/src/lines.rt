@@ -9,6 +9,7 @@ ghost use Rattle.ps_script.specs.Writes.{Reads};
 
 use crate::acts::{act_of, add_line};
 use crate::fault::ScriptFault;
+use crate::faults::MOST_LINES;
 use crate::past::{Given, Past};
 use crate::refusal::step;
 use crate::script::{Act, Line};
@@ -18,14 +19,12 @@ use ps_config::Config;
 use row_words::Patch;
 use std::alloc::{AllocError, Global};
 
-/// How many lines a script may have that write, tick, append, give fates or watch.
-const MOST_LINES: usize = 32_768 + 4096 + 16 + 256 + 64;
-
 /// What the lines so far have done, and what they mean.
 #[derive(Drop)]
 pub(crate) struct Reading {
     pub(crate) past: Past,
-    /// The lines that do something, each with its number. A line is read by the fields that its data set has by then.
+    /// The lines that do something, each with its number, as they are read by the fields that their
+    /// data sets have by then.
     pub(crate) lines: Vec<Line>,
 }
 
@@ -41,7 +40,8 @@ impl Reading {
         })
     }
 
-    /// Reads the line with this number, unless it has a fault; then the first of its faults is the answer.
+    /// Reads the line with this number, unless it has a fault; then the first of its faults is the
+    /// answer. Most lines are passed or written at once, and only the others judged fault by fault.
     pub(crate) fn read(
         &mut self,
         alloc: Global,
@@ -64,7 +64,7 @@ impl Reading {
         }
         let mut patch = Patch::empty();
         let Some(target) = sound_write(&self.past, line, &mut patch) else {
-            return self.read_slowly(alloc, given, number, line);
+            return self.judge_and_read(alloc, given, number, line);
         };
         self.past.writes += 1;
         self.lines.push(Line {
@@ -79,7 +79,7 @@ impl Reading {
     }
 
     /// Judges the line by one fault after another, and then reads it.
-    fn read_slowly(
+    fn judge_and_read(
         &mut self,
         alloc: Global,
         given: &Given,

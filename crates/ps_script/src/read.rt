@@ -62,7 +62,8 @@ pub fn read_script(
     read(alloc, config, bytes, plain)
 }
 
-/// The script, or what refuses it: lines are judged and read, and read again where data sets grew meanwhile.
+/// The script, or what refuses it: lines are judged and read, and read again where data sets grew
+/// meanwhile.
 #[tactic(auto, using(crate::proofs::Reading::ended, crate::proofs::Reading::accepted), unfolding(crate::specs::Scripts::script_with))]
 fn read(alloc: Global, config: &Config, bytes: &[u8], plain: bool) -> Result<Script, ScriptEnd>
     requires { IsSound config.now }
@@ -86,8 +87,8 @@ fn read(alloc: Global, config: &Config, bytes: &[u8], plain: bool) -> Result<Scr
     })
 }
 
-/// The lines by data sets with all fields: those that were read, where nothing was appended. A patch has the statuses
-/// behind all values, so one that was read before an append is another one behind it.
+/// The lines by data sets with all fields: those that were read, where nothing was appended. A patch
+/// has the statuses behind all values, so one that was read before an append is another behind it.
 fn whole_lines(
     alloc: Global,
     given: &Given,

@@ -9,8 +9,8 @@ use config_tables::decimal_number;
 use ua_values::{Kind, Value};
 use value_texts::parse_value;
 
-/// What `parse_value` answers. A number without a sign is read by its digits alone, while `parse_value` prints what it
-/// has read, and compares.
+/// What `parse_value` answers. A number without a sign is read by its digits alone, while
+/// `parse_value` prints what it has read, and compares.
 pub(crate) fn value_said(kind: Kind, cap: u16, word: &[u8]) -> Option<Value>
     ensures found { IfSome result (IsTextOf word.now) }
     ensures fits { IfSome result (λ value. Fits value kind cap) }

@@ -1,4 +1,5 @@
-//! Lines `write`, judged and read at once. What is amiss with one that isn't read so is told elsewhere.
+//! Lines `write`, judged and read at once. What is amiss with one that isn't read so is told
+//! elsewhere.
 ghost use Rattle.std.specs.Prelude.{◌≡◌, ◌<◌, ◌≤◌, true, length, Bool, IfSome};
 ghost use Rattle.ps_config.specs.declared.parts.Config.{Config as ConfigValue};
 ghost use Rattle.ps_script.specs.Texts.{words_of};
@@ -35,7 +36,8 @@ struct WriteHead<'a> {
     fields: &'a [u8],
 }
 
-/// Whose write the line is, where it is a line `write` without a fault. The empty patch becomes what it writes then.
+/// Whose write the line is, where it is a line `write` without a fault. The empty patch becomes what
+/// it writes then, and nothing is said of it otherwise.
 pub(crate) fn sound_write(past: &Past, line: &[u8], patch: &mut Patch) -> Option<Target>
     requires few { length past.now.metas.items ≤ 8 }
     requires empty { IsEmptyPatch patch.old }
@@ -78,8 +80,8 @@ fn write_head<'a>(metas: &[Meta], line: &'a [u8]) -> Option<WriteHead<'a>>
     })
 }
 
-/// Fills the empty patch with what field words give. The answer is whether there are some, and each gives a field of its
-/// own a value and a status.
+/// Fills the empty patch with what field words give. The answer is whether there are some, and each
+/// gives a field of its own a value and a status.
 fn fill(patch: &mut Patch, meta: &Meta, fields: &[u8]) -> bool
     requires { IsEmptyPatch patch.old }
     ensures { (reader : ValueReader) → result ≡ true
