@@ -1,8 +1,12 @@
-// Times the calls of libtext_bench.a on the largest texts and on a tenth of them, and prints the least time of each; scripts
-// and reports beside plain hand-written Rust, in turns.
+// Times the calls of libtext_bench.a on the largest texts and on a tenth of them by turns, and prints the least time of each;
+// scripts and reports beside plain hand-written Rust, by turns too. A whole and its tenth find the same machine: memory that
+// was freed stays with the process, and the caches are filled with other bytes before each call. Else the largest blocks alone
+// would be given back to the system and cleared page by page by the next call, and a tenth alone would stay in the caches: the
+// lines of the longest script take 33 MB. With words CALL PART TURNS it makes a call on a part of the largest text so often,
+// for a tool that counts its instructions, and prints how many bytes the text has.
+use std::env::args;
 use std::hint::black_box;
-use std::process::exit;
-use std::time::Instant;
+use std::sync::Mutex;
 
 mod configs;
 mod reports;
@@ -23,25 +27,53 @@ unsafe extern "C" {
         bytes: *mut u8,
         length: usize,
     ) -> usize;
+    fn mallopt(parameter: i32, value: i32) -> i32;
+    fn clock_gettime(clock: i32, time: *mut Timespec) -> i32;
 }
 
 const WHOLE: usize = 1_048_576;
 const ROUNDS: u32 = 20;
 
-/// The largest ratio of the whole text's time to that of a tenth.
-const MOST: f64 = 11.0;
+/// More bytes than the caches have.
+static OTHERS: Mutex<Vec<u8>> = Mutex::new(Vec::new());
+
+const OTHER_BYTES: usize = 1 << 27;
+
+fn fill_caches() {
+    let mut others = OTHERS.lock().expect("one thread");
+    others.resize(OTHER_BYTES, 0);
+    others.iter_mut().step_by(64).for_each(|byte| *byte = byte.wrapping_add(1));
+    black_box(&others);
+}
+
+#[repr(C)]
+struct Timespec {
+    seconds: i64,
+    nanoseconds: i64,
+}
+
+/// Linux's clock of the thread's own time on a processor.
+const CLOCK_THREAD_CPUTIME_ID: i32 = 3;
+
+/// The time that this thread has had a processor, in microseconds: a long call is put off by other programs more often than a
+/// short one.
+fn moment() -> f64 {
+    let mut time = Timespec { seconds: 0, nanoseconds: 0 };
+    let end = unsafe { clock_gettime(CLOCK_THREAD_CPUTIME_ID, &mut time) };
+    assert_eq!(end, 0);
+    time.seconds as f64 * 1e6 + time.nanoseconds as f64 / 1e3
+}
 
 /// The time of a call, in microseconds.
 fn time<T>(call: impl FnOnce() -> T) -> (f64, T) {
-    let start = Instant::now();
+    fill_caches();
+    let start = moment();
     let end = black_box(call());
-    (start.elapsed().as_secs_f64() * 1e6, end)
+    (moment() - start, end)
 }
 
-/// Prints a row, and says whether the time is linear.
-fn is_linear(name: &str, whole: f64, tenth: f64) -> bool {
-    println!("{name}: whole {whole:.0} us, a tenth {tenth:.0} us, ratio {:.1}", whole / tenth);
-    whole / tenth <= MOST
+fn print_row(name: &str, whole: f64, tenth: f64) {
+    println!("{name}: whole {whole:.0} us, a tenth {tenth:.0} us");
 }
 
 fn compare(name: &str, ours: f64, theirs: f64) {
@@ -49,17 +81,19 @@ fn compare(name: &str, ours: f64, theirs: f64) {
 }
 
 fn config_time(text: &str, end: u32) -> f64 {
-    let mut least = f64::MAX;
-    for _ in 0..ROUNDS {
-        let (each, got) = time(|| unsafe { bench_config(1, black_box(text.as_ptr()), text.len()) });
-        least = least.min(each);
-        assert_eq!(got, end);
-    }
-    least
+    let (each, got) = time(|| unsafe { bench_config(1, black_box(text.as_ptr()), text.len()) });
+    assert_eq!(got, end);
+    each
 }
 
-fn config(name: &str, text: impl Fn(usize) -> String, end: u32) -> bool {
-    is_linear(name, config_time(&text(WHOLE), end), config_time(&text(WHOLE / 10), end))
+fn config(name: &str, text: impl Fn(usize) -> String, end: u32) {
+    let (whole, tenth) = (text(WHOLE), text(WHOLE / 10));
+    let (mut of_whole, mut of_tenth) = (f64::MAX, f64::MAX);
+    for _ in 0..ROUNDS {
+        of_whole = of_whole.min(config_time(&whole, end));
+        of_tenth = of_tenth.min(config_time(&tenth, end));
+    }
+    print_row(name, of_whole, of_tenth);
 }
 
 /// So many writes of two fields by eight threads, 32 bytes each: 32,768 of them are 1 MiB.
@@ -92,33 +126,49 @@ fn plain_sum(lines: &[scripts::Line]) -> u64 {
     sum
 }
 
-/// The least times of reading a script, ours and by hand.
-fn script_times(config: &str, text: &str) -> (f64, f64) {
-    let plain = plain_config();
-    let lines = scripts::read(&plain, text.as_bytes()).expect("accepted");
+fn assert_same(config: &str, plain: &scripts::Config, text: &str) {
+    let lines = scripts::read(plain, text.as_bytes()).expect("accepted");
     let sum = unsafe { script_sum(config.as_ptr(), config.len(), text.as_ptr(), text.len()) };
     assert_eq!(sum, plain_sum(&lines), "the scripts differ");
-    drop(lines);
-    let (mut ours, mut theirs) = (f64::MAX, f64::MAX);
-    for _ in 0..ROUNDS {
-        let (each, end) =
-            time(|| unsafe { bench_script(1, config.as_ptr(), config.len(), black_box(text.as_ptr()), text.len()) });
-        assert_eq!(end, 0);
-        ours = ours.min(each);
-        let (each, read) = time(|| scripts::read(black_box(&plain), black_box(text.as_bytes())));
-        assert!(read.is_ok());
-        theirs = theirs.min(each);
-    }
-    (ours, theirs)
 }
 
-fn scripts_are_linear() -> bool {
-    let config = configs::session(4, 1);
-    let whole = script_times(&config, &writes(32_768));
-    let tenth = script_times(&config, &writes(3_276));
-    compare("script, 32,768 writes", whole.0, whole.1);
-    compare("script, 3,276 writes", tenth.0, tenth.1);
-    is_linear("script, 32,768 writes", whole.0, tenth.0)
+/// The least times of reading a script, ours and by hand, each with what it takes to let its lines go.
+struct Least {
+    ours: f64,
+    theirs: f64,
+}
+
+impl Least {
+    const NONE: Least = Least { ours: f64::MAX, theirs: f64::MAX };
+
+    /// A call reads the configuration too, whose time, `once`, is left out.
+    fn take(&mut self, once: f64, config: &str, plain: &scripts::Config, text: &str) {
+        let (each, end) = read_script(1, config, text);
+        assert_eq!(end, 0);
+        self.ours = self.ours.min(each - once);
+        let (each, is_read) = time(|| black_box(scripts::read(black_box(plain), black_box(text.as_bytes()))).is_ok());
+        assert!(is_read);
+        self.theirs = self.theirs.min(each);
+    }
+}
+
+fn read_script(turns: u32, config: &str, text: &str) -> (f64, u32) {
+    time(|| unsafe { bench_script(turns, config.as_ptr(), config.len(), black_box(text.as_ptr()), text.len()) })
+}
+
+fn compare_scripts() {
+    let (config, plain) = (configs::session(4, 1), plain_config());
+    let (whole, tenth) = (writes(32_768), writes(3_276));
+    assert_same(&config, &plain, &whole);
+    assert_same(&config, &plain, &tenth);
+    let once = (0..ROUNDS).map(|_| read_script(0, &config, &tenth).0).fold(f64::MAX, f64::min);
+    let (mut of_whole, mut of_tenth) = (Least::NONE, Least::NONE);
+    for _ in 0..ROUNDS {
+        of_whole.take(once, &config, &plain, &whole);
+        of_tenth.take(once, &config, &plain, &tenth);
+    }
+    compare("script, 32,768 writes", of_whole.ours, of_whole.theirs);
+    compare("script, 3,276 writes", of_tenth.ours, of_tenth.theirs);
 }
 
 const WRITERS: usize = 16;
@@ -182,25 +232,73 @@ fn report_times(config: &str, versions: u32, entries: u32, looks: u32) -> (f64, 
     ((often - once) / f64::from(TURNS), theirs, end as f64)
 }
 
-fn reports_are_linear() -> bool {
+fn compare_reports() {
     let config = configs::session(FIELDS, WRITERS);
     let whole = report_times(&config, 32_768, 4097, 1000);
     let tenth = report_times(&config, 3_276, 409, 100);
     compare("report, the largest", whole.0, whole.1);
     compare("report, entries a tenth of it", tenth.0, tenth.1);
-    // its numbers have more digits: what counts is a tenth of its bytes
-    is_linear("report, the largest", whole.0, tenth.0 * whole.2 / tenth.2 / 10.0)
+}
+
+// the parameters of `mallopt`: how much free memory is given back to the system, and how many blocks are mapped alone
+const M_TRIM_THRESHOLD: i32 = -1;
+const M_MMAP_MAX: i32 = -4;
+
+fn keep_freed_memory() {
+    let is_set = unsafe { mallopt(M_TRIM_THRESHOLD, i32::MAX) & mallopt(M_MMAP_MAX, 0) };
+    assert_eq!(is_set, 1);
+}
+
+fn compare_all() {
+    config("configuration of 1 MiB, accepted, mostly comments", configs::accepted, 0);
+    config("configuration of 1 MiB, too many data sets", configs::many_tables, 5);
+    config("configuration of 1 MiB, unknown keys", configs::many_keys, 2);
+    compare_scripts();
+    compare_reports();
+}
+
+/// Reads a configuration so often; its bytes.
+fn read_configs(turns: u32, text: String) -> usize {
+    unsafe { bench_config(turns, text.as_ptr(), text.len()) };
+    text.len()
+}
+
+/// Reads a script so often; its bytes.
+fn read_scripts(turns: u32, text: String) -> usize {
+    read_script(turns, &configs::session(4, 1), &text);
+    text.len()
+}
+
+/// Writes a report so often, and once more; its bytes.
+fn write_reports(turns: u32, part: u32) -> usize {
+    let config = configs::session(FIELDS, WRITERS);
+    let mut text = vec![0; 2 * WHOLE];
+    let (versions, entries, looks) = (32_768 / part, 4097 / part, 1000 / part);
+    let (pointer, length) = (text.as_mut_ptr(), text.len());
+    unsafe { bench_report(turns, config.as_ptr(), config.len(), versions, entries, looks, pointer, length) }
+}
+
+fn call_often(call: &str, part: u32, turns: u32) -> usize {
+    let bytes = WHOLE / part as usize;
+    match call {
+        "comments" => read_configs(turns, configs::accepted(bytes)),
+        "tables" => read_configs(turns, configs::many_tables(bytes)),
+        "keys" => read_configs(turns, configs::many_keys(bytes)),
+        "script" => read_scripts(turns, writes(bytes / 32)),
+        "report" => write_reports(turns, part),
+        _ => panic!("no call {call}"),
+    }
 }
 
 fn main() {
-    let linear = [
-        config("configuration of 1 MiB, accepted, mostly comments", configs::accepted, 0),
-        config("configuration of 1 MiB, too many data sets", configs::many_tables, 5),
-        config("configuration of 1 MiB, unknown keys", configs::many_keys, 2),
-        scripts_are_linear(),
-        reports_are_linear(),
-    ];
-    if !linear.iter().all(|linear| *linear) {
-        exit(1);
+    keep_freed_memory();
+    let words: Vec<String> = args().skip(1).collect();
+    match &words[..] {
+        [] => compare_all(),
+        [call, part, turns] => {
+            let (part, turns) = (part.parse().expect("a number"), turns.parse().expect("a number"));
+            println!("{}", call_often(call, part, turns));
+        }
+        _ => panic!("CALL PART TURNS, or nothing"),
     }
 }

@@ -67,9 +67,13 @@ struct Past {
     watches: usize,
 }
 
+/// How many lines a script may have that write, tick, give fates or watch.
+const MOST_LINES: usize = 32_768 + 4096 + 256 + 64;
+
 #[inline(never)]
 pub fn read(config: &Config, bytes: &[u8]) -> Result<Vec<Line>, Refused> {
-    let mut lines = Vec::new();
+    let count = bytes.iter().filter(|byte| **byte == b'\n').count();
+    let mut lines = Vec::with_capacity(count.min(MOST_LINES));
     let mut past = Past { enabled: vec![true; config.components.len()], fated: Vec::new(), ticks: 0, writes: 0, watches: 0 };
     let mut words = Vec::new();
     for (index, line) in bytes.split(|byte| *byte == b'\n').enumerate() {

@@ -12,8 +12,7 @@ use Rattle.ps_script.specs.Verbs.{verb_of}
 use Rattle.ps_script.specs.Numbers.{number_at}
 use Rattle.ps_script.specs.Names.{set_named}
 use Rattle.ps_script.specs.Values.{ValueReader}
-use Rattle.ps_script.specs.Past.{Done}
-use Rattle.ps_script.specs.Faults.{meta_named, has_bad_value_in, is_bad_value}
+use Rattle.ps_script.specs.Faults.{meta_named, has_bad_value_in}
 use Rattle.ps_script.specs.Acts.{patch_of, write_at, act_by, act_of}
 
 write_some : (reader : ValueReader) (metas : List MetaData) (line : List ℕ) (set : ℕ) (meta : MetaData) → slice_get metas set ≡ Some meta → write_at reader metas line set ≡ Some (act.Write (number_at 0 7 (word 1 line)) set (patch_of reader line meta))
@@ -28,7 +27,6 @@ pub act_write : (reader : ValueReader) (config : Config) (metas : List MetaData)
 unfolding act_of
 act_write reader config metas line found is same = same ∙ sym (ap (act_by reader config metas line) is)
 
-pub bad_value_in : (reader : ValueReader) (done : Done) (line : List ℕ) (meta : MetaData) (bad : Bool) → verb_of line ≡ Some verb.Write → meta_named done.metas (word 2 line) ≡ Some meta → bad ≡ has_bad_value_in reader line meta → bad ≡ is_bad_value reader done line (verb_of line)
-bad_value_in reader done line meta bad is named same =
+pub bad_value_in : (reader : ValueReader) (metas : List MetaData) (line : List ℕ) (meta : MetaData) (bad : Bool) → meta_named metas (word 2 line) ≡ Some meta → bad ≡ has_bad_value_in reader line meta → bad ≡ option_map_or (has_bad_value_in reader line) (meta_named metas (word 2 line)) false
+bad_value_in reader metas line meta bad named same =
     same ∙ sym (ap (λ (o : Option MetaData). option_map_or (has_bad_value_in reader line) o false) named)
-    ∙ sym (ap (is_bad_value reader done line) is)

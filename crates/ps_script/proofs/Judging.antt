@@ -1,5 +1,5 @@
 -- One line after another.
-use Rattle.std.proofs.Common.{◌≡◌, ℕ, ◌<◌, Bool, List, [], ◌∷◌, ◌++◌, length, Option, Some, None, Result, Ok, Err, refl, sym, ap, ◌∙◌, append_assoc}
+use Rattle.std.proofs.Common.{◌≡◌, ℕ, ◌<◌, Bool, List, [], ◌∷◌, ◌++◌, length, Option, Some, None, Result, Ok, Err, refl, sym, ap, ◌∙◌, append_assoc, subst, arith}
 use Rattle.dataset_meta.specs.Metas.{MetaData}
 use Rattle.ps_config.specs.declared.parts.Config.{Config}
 use Rattle.ps_script.specs.declared.fault.ScriptFault.{ScriptFault}
@@ -7,7 +7,10 @@ use Rattle.ps_script.specs.declared.script.Line.{Line}
 use Rattle.ps_script.specs.declared.script.Act.{Act}
 use Rattle.ps_script.specs.Texts.{until, behind, lines_of}
 use Rattle.ps_script.specs.Values.{ValueReader}
-use Rattle.ps_script.specs.Past.{Done, after}
+use Rattle.ps_script.specs.declared.verbs.Verb.{Verb}
+use Rattle.ps_script.specs.declared.verbs.Verb.TheVariants as verb
+use Rattle.ps_script.specs.Verbs.{verb_of}
+use Rattle.ps_script.specs.Past.{Done, done_with, after}
 use Rattle.ps_script.specs.Refusals.{fault_of}
 use Rattle.ps_script.specs.Acts.{next_number, with_act, act_of, acts_from}
 use Rattle.ps_script.specs.Scripts.{judged_from, refused_or}
@@ -60,3 +63,31 @@ acts_step reader config metas number more rest front back before new all found s
     ∙ ap (λ (o : Option Act). with_act number o (acts_from reader config metas more (lines_of back))) is_found
     ∙ sym (acts_cut reader config metas number more rest front back some is_front is_back is_more))
     ∙ so_far
+
+-- ---- lines that append nothing
+
+unappended : (config : Config) (done : Done) (line : List ℕ) (v : Option Verb) → (done_with config done line v).appends ≡ 0 → (done.appends ≡ 0) × ((done_with config done line v).metas ≡ done.metas)
+unappended config done line None none = (none, refl)
+unappended config done line (Some verb.Write) none = (none, refl)
+unappended config done line (Some verb.Tick) none = (none, refl)
+unappended config done line (Some verb.Enable) none = (none, refl)
+unappended config done line (Some verb.Disable) none = (none, refl)
+unappended config done line (Some verb.Append) none = absurd (omega arith)
+unappended config done line (Some verb.Fate) none = (none, refl)
+unappended config done line (Some verb.Watch) none = (none, refl)
+
+-- where nothing is appended behind a line, nothing was before it, and the data sets are the same
+pub none_appended : (config : Config) (done next : Done) (line : List ℕ) → next ≡ after config done line → next.appends ≡ 0 → (done.appends ≡ 0) × (next.metas ≡ done.metas)
+unfolding after
+none_appended config done next line is none =
+    let n : (after config done line).appends ≡ 0 = subst (λ (d : Done). d.appends ≡ 0) is none in
+    let u = unappended config done line (verb_of line) n in
+    (u.0, ap (λ (d : Done). d.metas) is ∙ u.1)
+
+-- a line that appends nothing, read by the data sets that there are behind it
+pub read_step : (reader : ValueReader) (config : Config) (done next : Done) (sets : List MetaData) (number more : ℕ) (rest front back : List ℕ) (before new all : List Line) → next ≡ after config done front → next.appends ≡ 0 → (done.appends ≡ 0 → done.metas ≡ sets) → (done.appends ≡ 0 → before ++ acts_from reader config sets number (lines_of rest) ≡ all) → 0 < length rest → front ≡ until 10 rest → back ≡ behind 10 rest → more ≡ next_number number → new ≡ before ++ with_act number (act_of reader config next.metas front) [] → new ++ acts_from reader config sets more (lines_of back) ≡ all
+read_step reader config done next sets number more rest front back before new all is none same so_far some is_front is_back is_more is_new =
+    let u = none_appended config done next front is none in
+    let metas : next.metas ≡ sets = u.1 ∙ same u.0 in
+    acts_step reader config sets number more rest front back before new all (act_of reader config next.metas front) (so_far u.0) some is_front is_back is_more
+    (ap (λ (ms : List MetaData). act_of reader config ms front) metas) is_new

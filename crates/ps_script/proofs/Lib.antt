@@ -10,8 +10,10 @@ pub mod Said
 pub mod Growth
 pub mod Reading
 pub mod Acting
+pub mod Heads
 pub mod Readers
 pub mod KindTexts
+pub mod Whole
 pub mod Below
 pub mod Writing
 pub mod Fine

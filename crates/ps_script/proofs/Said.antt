@@ -1,11 +1,11 @@
 -- Field words one after another.
-use Rattle.std.proofs.Common.{◌≡◌, ℕ, Bool, true, false, ◌||◌, List, [], ◌∷◌, Option, Some, None, is_none, option_map, refl, sym, ap, ◌∙◌}
-use Rattle.std.specs.List.{list_any}
+use Rattle.std.proofs.Common.{◌≡◌, ℕ, ◌<◌, Bool, ◌&&◌, length, arith, true, false, ◌||◌, List, [], ◌∷◌, Option, Some, None, is_none, option_map, refl, sym, ap, ◌∙◌}
+use Rattle.std.specs.List.{list_any, list_all}
 use Rattle.dataset_meta.specs.declared.field.Field.{Field}
 use Rattle.dataset_meta.specs.DataValues.{DataValue}
 use Rattle.ps_script.specs.declared.changes.Change.{Change}
 use Rattle.ps_script.specs.Values.{ValueReader}
-use Rattle.ps_script.specs.Fields.{change_of, with_change, patch_with}
+use Rattle.ps_script.specs.Fields.{is_field_word, change_of, with_change, patch_with}
 use Rattle.ps_script.specs.Changes.{change_by}
 
 abbrev pub is_bad : ValueReader → Bool → List Field → List ℕ → Bool
@@ -42,3 +42,14 @@ patch_more reader quality fields old new all left rest word found so_far is same
 
 pub patch_end : (reader : ValueReader) (quality : Bool) (fields : List Field) (old all : List (ℕ × DataValue)) (left : List (List ℕ)) → patch_with reader quality fields old left ≡ all → left ≡ [] → old ≡ all
 patch_end reader quality fields old all left so_far is = sym (ap (patch_with reader quality fields old) is) ∙ so_far
+
+-- behind a field word
+pub shaped_next : (left rest : List (List ℕ)) (word : List ℕ) (all : Bool) → list_all is_field_word left ≡ all → left ≡ word ∷ rest → is_field_word word ≡ true → list_all is_field_word rest ≡ all
+shaped_next left rest word all so_far is shaped =
+    sym (ap (λ b. b && list_all is_field_word rest) shaped) ∙ sym (ap (list_all is_field_word) is) ∙ so_far
+
+pub shaped_end : (left : List (List ℕ)) (all : Bool) → list_all is_field_word left ≡ all → left ≡ [] → all ≡ true
+shaped_end left all so_far is = sym so_far ∙ ap (list_all is_field_word) is
+
+pub some_words : (words rest : List (List ℕ)) (word : List ℕ) → words ≡ word ∷ rest → 0 < length words
+some_words words rest word is = omega (arith, ap length is)

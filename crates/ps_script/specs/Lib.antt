@@ -2,6 +2,7 @@ pub mod Texts
 pub mod Verbs
 pub mod FaultNumbers
 pub mod Numbers
+pub mod Whole
 pub mod Names
 pub mod Values
 pub mod Spelled
@@ -13,6 +14,7 @@ pub mod Faults
 pub mod Refusals
 pub mod Acts
 pub mod Scripts
+pub mod Writes
 pub mod Sessions
 pub mod Sound
 pub mod Generated

@@ -59,7 +59,7 @@ pub(crate) fn add_line(lines: &mut Vec<Line>, at: u32, act: Option<Act>) -> Resu
 
 /// What a line does; nothing where it is empty or a comment.
 #[tactic(auto, unfolding(crate::specs::Acts::act_of))]
-fn act_of(given: &Given, metas: &[Meta], line: &[u8]) -> Option<Act>
+pub(crate) fn act_of(given: &Given, metas: &[Meta], line: &[u8]) -> Option<Act>
     requires names { HasNames given.now }
     requires few { length metas.now ≤ 8 }
     ensures { (reader : ValueReader) → result ≡ act_of reader given.now.config.now metas.now line.now }

@@ -1,5 +1,5 @@
 //! What field words give the fields of a data set.
-ghost use Rattle.std.specs.Prelude.{◌≡◌, ◌<◌, ◌≤◌, [], length, Option, option_map, is_none, IfSome};
+ghost use Rattle.std.specs.Prelude.{◌≡◌, ◌<◌, ◌≤◌, [], length, Option, Some, option_map, is_none, IfSome};
 ghost use Rattle.std.specs.List.{list_any, HoldsAt};
 ghost use Rattle.ua_values.specs.Values.{Fits};
 ghost use Rattle.dataset_meta.specs.DataValues.{IsStatus};
@@ -13,6 +13,7 @@ ghost use Rattle.ps_script.specs.Acts.{patch_of};
 use crate::laws::a_patch_is_the_words_of_what_it_stands_for;
 use crate::shapes::has_byte;
 use crate::texts::{behind_words, cut, first_word};
+use crate::values::value_said;
 use dataset_meta::{Field, Meta};
 use row_words::Patch;
 use ua_values::{Kind, Value};
@@ -34,10 +35,12 @@ pub(crate) fn change_of(meta: &Meta, word: &[u8]) -> Option<Change>
     ensures change { (reader : ValueReader) → option_map change_by result
         ≡ change_of reader meta.now.quality meta.now.fields word.now }
     ensures fits { IfSome result (FitsMeta meta.now) }
+    ensures place { IfSome result (λ change.
+        field_named meta.now.fields (field_name word.now) ≡ Some change.index) }
 {
     let index = field_named(meta.fields(), field_name(word))?;
     let field = &meta.fields()[index];
-    let value = parse_value(field.kind, field.cap, value_text(word))?;
+    let value = value_said(field.kind, field.cap, value_text(word))?;
     let status = status_of(meta.quality(), word)?;
     Some(Change {
         index: index as u8,

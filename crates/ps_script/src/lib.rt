@@ -8,6 +8,7 @@ mod fault;
 mod faults;
 mod generated;
 mod laws;
+mod lines;
 mod names;
 mod numbers;
 mod past;
@@ -17,7 +18,9 @@ mod script;
 mod session;
 mod shapes;
 mod texts;
+mod values;
 mod verbs;
+mod writes;
 
 pub use fault::ScriptFault;
 pub use generated::generate;

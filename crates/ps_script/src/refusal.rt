@@ -48,14 +48,15 @@ pub(crate) fn step(
         (Steps reader given.now.config.now given.now.plain (done_by past.old) (done_by past.new)
         line.now) }
 {
-    match early_fault(given, past, line) {
+    let verb = Verb::of(line);
+    match early_fault(given, past, line, verb) {
         Some(fault) => Ok(Some(fault)),
         None => {
             // It was judged, as one of the early faults: this is for the count alone.
-            if is_past_limit(past, line) {
+            if is_past_limit(past, verb) {
                 return Ok(Some(ScriptFault::TooMany));
             }
-            pass(alloc, given, past, line)
+            pass(alloc, given, past, line, verb)
         }
     }
 }
@@ -67,14 +68,16 @@ fn pass(
     given: &Given,
     past: &mut Past,
     line: &[u8],
+    verb: Option<Verb>,
 ) -> Result<Option<ScriptFault>, AllocError>
     requires names { HasNames given.now }
-    requires few { is_past_limit (done_by past.old) (verb_of line.now) ≡ false }
+    requires verb { verb ≡ verb_of line.now }
+    requires few { is_past_limit (done_by past.old) verb ≡ false }
     ensures kept { length past.new.metas.items ≡ length past.old.metas.items }
     ensures passes { IfOk result
         (Passes given.now.config.now (done_by past.old) (done_by past.new) line.now) }
 {
-    match Verb::of(line) {
+    match verb {
         Some(Verb::Append) => {
             if append(alloc, given.config, past, line)? {
                 Ok(Some(ScriptFault::BadAppend))
@@ -91,14 +94,15 @@ fn pass(
 
 /// The first of the faults that stands at the line, but for the last.
 #[tactic(auto, using(crate::proofs::Finding::first_next, crate::proofs::Finding::first_here))]
-fn early_fault(given: &Given, past: &Past, line: &[u8]) -> Option<ScriptFault>
-    requires { HasNames given.now }
+fn early_fault(given: &Given, past: &Past, line: &[u8], verb: Option<Verb>) -> Option<ScriptFault>
+    requires names { HasNames given.now }
+    requires verb { verb ≡ verb_of line.now }
     ensures { (reader : ValueReader)
         → result ≡ first_of reader early_faults given.now.config.now given.now.plain
         (done_by past.now) line.now }
 {
     for fault in early_faults() {
-        if stands(*fault, given, past, line) {
+        if stands(*fault, given, past, line, verb) {
             return Some(*fault);
         }
     }
@@ -114,8 +118,9 @@ fn early_faults() -> &'static [ScriptFault]
 
 /// The fault stands at the line.
 #[tactic(auto, unfolding(crate::specs::Refusals::stands))]
-fn stands(fault: ScriptFault, given: &Given, past: &Past, line: &[u8]) -> bool
+fn stands(fault: ScriptFault, given: &Given, past: &Past, line: &[u8], verb: Option<Verb>) -> bool
     requires names { HasNames given.now }
+    requires verb { verb ≡ verb_of line.now }
     requires early { fault ≢ BadAppend }
     ensures { (reader : ValueReader)
         → result ≡ stands reader fault given.now.config.now given.now.plain (done_by past.now)
@@ -124,15 +129,15 @@ fn stands(fault: ScriptFault, given: &Given, past: &Past, line: &[u8]) -> bool
     match fault {
         ScriptFault::BadText => is_bad_text(line),
         ScriptFault::LongLine => is_long(line),
-        ScriptFault::UnknownWord => has_unknown_word(line),
-        ScriptFault::BadShape => is_bad_shape(line),
-        ScriptFault::BadNumber => has_bad_number(line),
-        ScriptFault::UnknownName => has_unknown_name(given, past, line),
-        ScriptFault::BadField => is_bad_field(past, line),
-        ScriptFault::BadValue => is_bad_value(past, line),
-        ScriptFault::BadState => is_bad_state(given, past, line),
-        ScriptFault::TooMany => is_past_limit(past, line),
-        ScriptFault::BadFate => is_bad_fate(given, past, line),
+        ScriptFault::UnknownWord => has_unknown_word(line, verb),
+        ScriptFault::BadShape => is_bad_shape(line, verb),
+        ScriptFault::BadNumber => has_bad_number(line, verb),
+        ScriptFault::UnknownName => has_unknown_name(given, past, line, verb),
+        ScriptFault::BadField => is_bad_field(past, line, verb),
+        ScriptFault::BadValue => is_bad_value(past, line, verb),
+        ScriptFault::BadState => is_bad_state(given, past, line, verb),
+        ScriptFault::TooMany => is_past_limit(past, verb),
+        ScriptFault::BadFate => is_bad_fate(given, past, line, verb),
         ScriptFault::BadAppend => unreachable!(),
     }
 }

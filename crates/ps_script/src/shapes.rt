@@ -4,6 +4,7 @@ ghost use Rattle.std.specs.List.{list_all};
 ghost use Rattle.ps_script.specs.Texts.{words_of};
 ghost use Rattle.ps_script.specs.Verbs.{verb_of, is_idle};
 ghost use Rattle.ps_script.specs.Fields.{is_field_word, has_byte};
+ghost use Rattle.ps_script.specs.Writes.{is_idle_line};
 ghost use Rattle.ps_script.specs.Faults.{is_bad_byte, is_bad_text, is_long, has_unknown_fate, has_unknown_word, field_words, has_fate_count, has_shape, is_bad_shape, has_fate_number, has_numbers, has_bad_number};
 
 use crate::numbers::is_number;
@@ -37,11 +38,18 @@ pub(crate) fn is_long(line: &[u8]) -> bool
 }
 
 /// The first word, or the third of a fate, is none that there is.
-pub(crate) fn has_unknown_word(line: &[u8]) -> bool
+pub(crate) fn has_unknown_word(line: &[u8], verb: Option<Verb>) -> bool
+    requires { verb ≡ verb_of line.now }
     ensures { result ≡ has_unknown_word line.now }
 {
-    let verb = Verb::of(line);
     !is_idle(word(line, 0)) && (verb.is_none() || has_unknown_fate(line, verb))
+}
+
+/// A line without a fault that does nothing: an empty one, or a comment.
+pub(crate) fn is_idle_line(line: &[u8]) -> bool
+    ensures { result ≡ is_idle_line line.now }
+{
+    is_idle(word(line, 0)) && !is_long(line) && !is_bad_text(line)
 }
 
 /// An empty line, or a comment.
@@ -64,10 +72,11 @@ fn has_unknown_fate(line: &[u8], verb: Option<Verb>) -> bool
 }
 
 /// A wrong number of words, or a field word without `=`.
-pub(crate) fn is_bad_shape(line: &[u8]) -> bool
+pub(crate) fn is_bad_shape(line: &[u8], verb: Option<Verb>) -> bool
+    requires { verb ≡ verb_of line.now }
     ensures { result ≡ is_bad_shape line.now }
 {
-    match Verb::of(line) {
+    match verb {
         Some(verb) => !has_shape(line, verb),
         None => false,
     }
@@ -116,10 +125,11 @@ pub(crate) fn has_byte(bytes: &[u8], mark: u8) -> bool
 }
 
 /// A number that isn't one, or out of its range.
-pub(crate) fn has_bad_number(line: &[u8]) -> bool
+pub(crate) fn has_bad_number(line: &[u8], verb: Option<Verb>) -> bool
+    requires { verb ≡ verb_of line.now }
     ensures { result ≡ has_bad_number line.now }
 {
-    match Verb::of(line) {
+    match verb {
         Some(verb) => !has_numbers(line, verb),
         None => false,
     }

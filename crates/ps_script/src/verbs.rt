@@ -35,7 +35,7 @@ impl Verb {
         Verb::named(word(line, 0))
     }
 
-    fn named(first: &[u8]) -> Option<Verb>
+    pub(crate) fn named(first: &[u8]) -> Option<Verb>
         ensures { result ≡ verb_named first.now }
     {
         if first == b"write".as_slice() {
