@@ -1,0 +1,5 @@
+use Rattle.writer_group.proofs.Posts.{open-as}
+use Rattle.writer_group.proofs.posting.open_datagram.Goals as goal
+
+pub lay_out-laid-requires-clause-secured : goal.lay_out-laid-requires-clause-secured
+lay_out-laid-requires-clause-secured c = open-as c.args.parts.now.settings c.requires.unsecured

@@ -1,0 +1,112 @@
+-- What the parts of a turn in memory stand for.
+use Rattle.std.specs.Prelude.{◌≡◌, ℕ, ◌+◌, ◌*◌, ◌≤◌, List, [], length, map, take, drop, All, Option, Some, None, slice_range, slice_index_or}
+use Rattle.std.specs.Int.{w16, to_le_bytes}
+use Rattle.std.specs.List.{flat_map}
+use Rattle.dataset_meta.specs.Metas.{MetaData}
+use Rattle.uadp_header.specs.Headers.{PublisherValue, SecurityValue, NoIds, publisher_in}
+use Rattle.uadp_header.specs.Spelling.{publisher_len, IsPublisher, IsShortText}
+use Rattle.frame_codec.specs.declared.frame.Frame.{Frame as FrameWords}
+use Rattle.frame_codec.specs.Words.{frame_in}
+use Rattle.chunker.specs.Chunks.{cut_at}
+use Rattle.fixed_layout.specs.declared.slot.Slot.{Slot}
+use Rattle.fixed_layout.specs.Datagrams.{fixed_payload}
+use Rattle.config_tables.specs.declared.words.Layout.{Layout}
+use Rattle.ps_config.specs.declared.parts.WriterPart.{WriterPart}
+use Rattle.writer_group.specs.declared.header_parts.HeaderParts.{HeaderParts}
+use Rattle.writer_group.specs.declared.spelled.SpelledFrame.{SpelledFrame}
+use Rattle.writer_group.specs.declared.spelled.Frames.{Frames}
+use Rattle.writer_group.specs.declared.laying.Cargo.{Cargo}
+use Rattle.writer_group.specs.declared.load.Load.{Load}
+use Rattle.writer_group.specs.declared.load.Load.TheVariants as loads
+use Rattle.writer_group.specs.Envelopes.{Numbering}
+use Rattle.writer_group.specs.Sealing.{Payload, Envelope}
+use Rattle.writer_group.specs.Payloads.{Spelled, size_of, laid_frame, frames_payload, chunk_payload, in_slots}
+
+-- ---- headers
+
+abbrev pub envelope_in : HeaderParts → Envelope
+envelope_in parts = record { publisher = publisher_in parts.publisher; settings = parts.settings; made = parts.made }
+
+abbrev pub numbering_of : Envelope → ℕ → Option SecurityValue → Numbering
+numbering_of envelope index security = record { sequence = envelope.made + index; message = index + 1; security = security }
+
+-- a publisher's id that can be written
+pub record CanBeWritten (publisher : PublisherValue) : Type 0 where
+  pub known : IsPublisher publisher
+  pub short : IsShortText publisher
+  pub len : publisher_len publisher ≤ 260
+
+-- ---- spelled frames
+
+abbrev pub spelled_at : List ℕ → SpelledFrame → Spelled
+spelled_at bytes frame = record {
+  writer = frame.writer;
+  id = frame.id;
+  number = frame.number;
+  bytes = slice_range bytes frame.start frame.end;
+}
+
+abbrev pub frames_at : List ℕ → Frames → List Spelled
+frames_at bytes frames = map (spelled_at bytes) frames.list.items
+
+pub record IsWithin (end : ℕ) (frame : SpelledFrame) : Type 0 where
+  pub rising : frame.start ≤ frame.end
+  pub within : frame.end ≤ end
+
+abbrev pub id_bytes : List Spelled → List ℕ
+id_bytes frames = flat_map (to_le_bytes w16) (map (λ frame. frame.id) frames)
+
+-- their sizes and ids are those of what is spelled, and each has at most 2,048 bytes
+pub record AreSpelledIn (bytes : List ℕ) (frames : Frames) : Type 0 where
+  pub sizes : frames.sizes.items ≡ map size_of (frames_at bytes frames)
+  pub ids : frames.ids.items ≡ id_bytes (frames_at bytes frames)
+  pub within : All (IsWithin frames.end) frames.list.items
+  pub short : frames.end ≤ 2048 * length frames.list.items
+  pub end_within : frames.end ≤ length bytes
+
+abbrev pub number_or_zero : Option ℕ → ℕ
+number_or_zero None = 0
+number_or_zero (Some number) = number
+
+-- a frame in words, as a writer with this index spells it
+abbrev pub spelled_words : Layout → ℕ → WriterPart → MetaData → FrameWords → Spelled
+spelled_words layout writer part meta frame = record {
+  writer = writer;
+  id = part.id;
+  number = number_or_zero frame.number;
+  bytes = laid_frame layout meta (frame_in meta.fields frame);
+}
+
+-- ---- loads
+
+abbrev pub no_frame : Spelled
+no_frame = record { writer = 0; id = 0; number = 0; bytes = [] }
+
+-- what the datagrams of a turn carry: the frames, the bytes of a frame that one chunk carries, the length of a fixed datagram's header, and its slots
+pub record CargoValue : Type 0 where
+  pub frames : List Spelled
+  pub room : ℕ
+  pub start : ℕ
+  pub slots : List Slot
+
+abbrev pub cargo_in : Cargo → CargoValue
+cargo_in cargo = record {
+  frames = frames_at cargo.bytes.now cargo.frames.now;
+  room = cargo.room;
+  start = cargo.slots.now.start;
+  slots = cargo.slots.now.slots;
+}
+
+abbrev pub frame_at : CargoValue → ℕ → Spelled
+frame_at cargo index = slice_index_or cargo.frames index no_frame
+
+abbrev pub chunk_load : ℕ → Spelled → ℕ → Payload
+chunk_load room frame index = chunk_payload frame (cut_at room frame.number frame.bytes index)
+
+abbrev pub slots_payload : CargoValue → Payload
+slots_payload cargo = (NoIds, fixed_payload cargo.start cargo.slots (in_slots cargo.frames))
+
+abbrev pub payload_in : CargoValue → Load → Payload
+payload_in cargo (loads.Frames first count) = frames_payload (take count (drop first cargo.frames))
+payload_in cargo (loads.Chunk frame index) = chunk_load cargo.room (frame_at cargo frame) index
+payload_in cargo loads.Slots = slots_payload cargo

@@ -1,0 +1,17 @@
+pub mod Envelopes
+pub mod Sealing
+pub mod Payloads
+pub mod Turns
+pub mod Holding
+pub mod Loading
+pub mod Planning
+pub mod Slotting
+pub mod Posting
+pub mod Lending
+pub mod Numbers
+pub mod Standing
+pub mod Setup
+pub mod Answering
+pub mod Making
+pub mod Sharing
+pub mod Limits

@@ -1,0 +1,132 @@
+-- Where a group stands after what it lived through, and the conditions of its turns.
+use Rattle.std.specs.Prelude.{◌≡◌, ◌≢◌, ℕ, ◌+◌, ◌-◌, ◌<◌, ◌≤◌, Bool, true, false, List, ◌∷◌, length, map, slice_range, All, Option, is_some, IfSome, vec_len, vec_capacity}
+use Rattle.std.specs.List.{HoldsAt, AllZip}
+use Rattle.seq_number.specs.Numbers.{number_of_place}
+use Rattle.dataset_meta.specs.Metas.{MetaData}
+use Rattle.row_words.specs.Belonging.{Belongs}
+use Rattle.dataset_writer.specs.Standing.{IsWriter, HoldsRowOf}
+use Rattle.message_guard.specs.Senders.{SenderState, IsSender, numbers_left}
+use Rattle.ps_config.specs.declared.parts.Config.{Config}
+use Rattle.ps_config.specs.declared.parts.GroupPart.{GroupPart}
+use Rattle.ps_config.specs.Headers.{is_secured, signature_len}
+use Rattle.ps_config.specs.Rooms.{is_fixed, lacks_room}
+use Rattle.ps_config.specs.Sound.{IsSound}
+use Rattle.ps_config.specs.FixedSound.{IsFixedSound}
+use Rattle.fixed_layout.specs.Slots.{layout_of}
+use Rattle.writer_group.specs.declared.datagrams.Datagrams.{Datagrams}
+use Rattle.writer_group.specs.declared.group.Group.{Group}
+use Rattle.writer_group.specs.declared.posting.Range.{Range}
+use Rattle.writer_group.specs.declared.sampled.Sampled.{Sampled}
+use Rattle.writer_group.specs.Answering.{HasLived}
+use Rattle.writer_group.specs.Payloads.{meta_at, writer_at, fixed_header, payloads_of, slots_of, IsReadable}
+use Rattle.writer_group.specs.Sealing.{AreWritten}
+use Rattle.writer_group.specs.Turns.{GroupDeed, HadGroupTurn, told_of, writer_past, settings_of, made_in, last_moment, TurnInput, envelope_of, frames_in, turn_datagrams, turned}
+use Rattle.writer_group.specs.Limits.{frames_bytes, most_datagrams, buffer_bytes}
+
+-- ---- the datagrams in the buffer, of which the first 32,768 bytes are for the frames
+
+abbrev pub datagram_in : List ℕ → Range → List ℕ
+datagram_in bytes range = slice_range bytes (frames_bytes + range.start) (frames_bytes + range.end)
+
+-- the datagrams of the last turn, in order
+abbrev pub datagrams_in : Datagrams → List (List ℕ)
+datagrams_in out = map (datagram_in out.bytes.items) out.ranges.items
+
+-- ---- a group
+
+-- its index in the configuration, and how many writers it has
+abbrev pub index_of : Group → ℕ
+index_of group = group.index
+
+abbrev pub writer_count : Group → ℕ
+writer_count group = vec_len group.writers
+
+-- it was made for this group of the configuration
+pub record IsMadeFor (config : Config) (part : GroupPart) (group : Group) : Type 0 where
+  pub interval : group.interval ≡ part.interval
+  pub start : group.slots.start ≡ fixed_header config.publisher.id part
+  pub writers : vec_len group.writers ≡ length part.writer
+  pub slots : is_fixed part.layout ≡ true → group.slots
+      ≡ layout_of (fixed_header config.publisher.id part) (part.max_size - signature_len part.security) (slots_of config part)
+
+-- where these deeds leave it; `metas` has for the index of each writer the meta of its turns since its last refresh
+pub record IsGroup (metas : ℕ → MetaData) (part : GroupPart) (past : List GroupDeed) (group : Group) : Type 0 where
+  pub writers : (writer : ℕ) → writer < length part.writer
+      → HoldsAt (IsWriter (metas writer) (settings_of (writer_at part writer)) (writer_past writer past)) group.writers.items writer
+  pub made : group.made ≡ number_of_place (made_in past)
+  pub moment : group.turned_at ≡ last_moment past
+
+-- each writer may have so many turns more, the row that it keeps is of its meta, and some deeds leave it as it is: `IsGroup` with any past has that, so a
+-- turn is allowed also where the past isn't told
+pub record MayGoOn (metas : ℕ → MetaData) (part : GroupPart) (turns : ℕ) (group : Group) : Type 0 where
+  pub left : All (λ writer. turns ≤ writer.left) group.writers.items
+  pub holds : (writer : ℕ) → writer < vec_len group.writers → HoldsAt (HoldsRowOf (metas writer)) group.writers.items writer
+  pub lived : (writer : ℕ) → writer < vec_len group.writers
+      → HoldsAt (HasLived (metas writer) (settings_of (writer_at part writer))) group.writers.items writer
+
+-- but for this writer, the first writers have the same metas
+abbrev pub AreSameBut : ℕ → ℕ → (ℕ → MetaData) → (ℕ → MetaData) → Type 0
+AreSameBut index count metas others = (writer : ℕ) → writer < count → writer ≢ index → others writer ≡ metas writer
+
+-- ---- the conditions of a turn
+
+pub record IsGood (config : Config) : Type 0 where
+  pub sound : IsSound config
+  pub fixed : IsFixedSound config
+
+-- the metas of the moment: as many as the configuration's; those of a fixed group's writers are the configuration's; and else such that its turns need no
+-- more than 1,024 datagrams
+pub record AreMetas (config : Config) (part : GroupPart) (metas : List MetaData) : Type 0 where
+  pub count : length metas ≡ length config.dataset
+  pub fixed : is_fixed part.layout ≡ true → (writer : ℕ) → writer < length part.writer → meta_at part metas writer ≡ meta_at part config.dataset writer
+  pub room : lacks_room config.publisher.id metas part ≡ false
+
+-- a row of each data set's meta, and a truth value for each writer
+pub record AreSampled (part : GroupPart) (metas : List MetaData) (rows : List Sampled) (on : List Bool) : Type 0 where
+  pub rows_are : AllZip (λ meta sampled. Belongs meta sampled.row.words) metas rows
+  pub on_are : length on ≡ length part.writer
+
+-- the sender is there exactly where the group is secured, and isn't spent
+pub record IsSenderFor (part : GroupPart) (sender : Option SenderState) : Type 0 where
+  pub there : is_some sender ≡ is_secured part.security
+  pub sender_is : IfSome sender IsSender
+  pub unspent : IfSome sender (λ s. most_datagrams ≤ numbers_left s)
+
+-- as `new` reserves it
+pub record IsWithinBuffer (range : Range) : Type 0 where
+  pub rising : range.start ≤ range.end
+  pub within : frames_bytes + range.end ≤ buffer_bytes
+
+pub record IsReserved (out : Datagrams) : Type 0 where
+  pub bytes : vec_len out.bytes ≡ buffer_bytes
+  pub loads : most_datagrams ≤ vec_capacity out.loads
+  pub ranges : most_datagrams ≤ vec_capacity out.ranges
+  pub within : All IsWithinBuffer out.ranges.items
+
+-- ---- a turn
+
+-- what a turn is given
+abbrev pub input_of : ℕ → Bool → List MetaData → List Sampled → List Bool → Option SenderState → TurnInput
+input_of now closing metas rows on sender = record { told = told_of now closing metas rows; on = on; sender = sender }
+
+-- the metas of the writers
+abbrev pub metas_for : GroupPart → List MetaData → ℕ → MetaData
+metas_for part metas writer = meta_at part metas writer
+
+-- the conditions of a turn of the group with this part of the configuration
+pub record MayTick (config : Config) (metas : List MetaData) (rows : List Sampled) (on : List Bool) (sender : Option SenderState) (group : Group)
+    (part : GroupPart) : Type 0 where
+  pub made : IsMadeFor config part group
+  pub metas_are : AreMetas config part metas
+  pub sampled : AreSampled part metas rows on
+  pub goes_on : MayGoOn (metas_for part metas) part 1 group
+  pub sender_is : IsSenderFor part sender
+
+-- a turn behind these deeds: the datagrams, that none is longer than the group's largest, that their headers and their frames can be read, and where it
+-- leaves the group
+pub record HasTicked (config : Config) (part : GroupPart) (past : List GroupDeed) (input : TurnInput) (after : Group) (out : Datagrams) : Type 0 where
+  pub datagrams : datagrams_in out ≡ turn_datagrams config part past input
+  pub written : AreWritten (envelope_of config part past) input.sender 0 (payloads_of config part (frames_in part past input))
+  pub short : All (λ datagram. length datagram ≤ part.max_size) (turn_datagrams config part past input)
+  pub readable : All (IsReadable part input.told.metas) (frames_in part past input)
+  pub stands : IsGroup (metas_for part input.told.metas) part (HadGroupTurn (turned config part past input) ∷ past) after

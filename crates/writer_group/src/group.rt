@@ -1,0 +1,223 @@
+//! Groups of writers.
+ghost use Rattle.std.specs.Prelude.{◌≡◌, ◌≢◌, ◌<◌, ◌≤◌, ◌+◌, ◌∷◌, [], ℕ, List, IfOk, IfSome, length, option_map, slice_index_or};
+ghost use Rattle.std.specs.List.{HoldsAt};
+ghost use Rattle.dataset_meta.specs.Metas.{MetaData};
+ghost use Rattle.message_guard.specs.Senders.{IsSender};
+ghost use Rattle.ps_config.specs.declared.parts.Config.{Config as ConfigValue};
+ghost use Rattle.ps_config.specs.declared.parts.GroupPart.{GroupPart as PartValue};
+ghost use Rattle.dataset_writer.specs.Standing.{IsWriter};
+ghost use Rattle.writer_group.specs.Limits.{most_datagrams};
+ghost use Rattle.writer_group.specs.Envelopes.{mode_of};
+ghost use Rattle.writer_group.specs.Payloads.{writer_at};
+ghost use Rattle.writer_group.specs.Lending.{lent_in, left_in};
+ghost use Rattle.writer_group.specs.Sealing.{advanced_by};
+ghost use Rattle.writer_group.specs.Answering.{HaveAnswered, MayAnswer, MayGo};
+ghost use Rattle.writer_group.specs.Making.{AreSpelled, passed, spelled_in};
+ghost use Rattle.writer_group.specs.Standing.{datagrams_in, index_of, writer_count, AreSameBut, IsMadeFor, IsGroup, MayGoOn, MayTick, HasTicked, IsGood, IsReserved, input_of, metas_for};
+ghost use Rattle.writer_group.specs.Turns.{GroupDeed, RefreshedWriter, is_due, settings_of, told_of, writer_past};
+
+use crate::answering::answer_all;
+use crate::datagrams::Datagrams;
+use crate::planning::plan_loads;
+use crate::sampled::Sampled;
+use crate::settings::a_class_id_is_whole;
+use crate::setup::{slots_of, writers_of};
+use dataset_meta::Meta;
+use dataset_writer::Writer;
+use fixed_layout::Slots;
+use message_guard::Sender;
+use ps_config::{Config, GroupPart};
+use std::alloc::Global;
+use ua_base::NoMemory;
+
+/// A group of writers, between its turns.
+#[derive(Drop)]
+pub struct Group {
+    index: u8,
+    interval: u32,
+    writers: Vec<Writer>,
+    pub(crate) slots: Slots,
+    // How many datagrams were made, modulo 65536.
+    pub(crate) made: u16,
+    // The moment of the last turn that wasn't the closing one, at first 0.
+    turned_at: u64,
+}
+
+impl Group {
+    /// The group with this index in the configuration, before its first turn, with room for what so many turns log.
+    pub fn new(alloc: Global, config: &Config, index: u8, turns: u32) -> Result<Group, NoMemory>
+        requires good { IsGood config.now }
+        requires index { index < length config.now.group }
+        ensures index { IfOk result (λ group. index_of group ≡ index) }
+        ensures made { IfOk result (λ group. HoldsAt (λ part. IsMadeFor config.now part group)
+            config.now.group index) }
+        ensures stands { IfOk result (λ group. HoldsAt (λ part. (metas : ℕ → MetaData)
+            → IsGroup metas part [] group) config.now.group index) }
+        ensures goes_on { IfOk result (λ group. HoldsAt (λ part. (metas : ℕ → MetaData)
+            → MayGoOn metas part turns group) config.now.group index) }
+    {
+        let group = part_of(config, index);
+        let writers = writers_of(alloc, group, turns)?;
+        Ok(Group {
+            index,
+            interval: group.interval,
+            writers,
+            slots: slots_of(config, group),
+            made: 0,
+            turned_at: 0,
+        })
+    }
+
+    /// The writer with this index in the group.
+    pub fn writer(&self, index: u8) -> &Writer
+        requires { index < writer_count self.now }
+        ensures { (metas : ℕ → MetaData) (part : PartValue) (past : List GroupDeed)
+            → index < length part.writer → IsGroup metas part past self.now
+            → IsWriter (metas index) (settings_of (writer_at part index)) (writer_past index past) result.now }
+    {
+        &self.writers[usize::from(index)]
+    }
+
+    /// Makes the writer fresh: its next turn sends a key frame, and its data set may have grown.
+    pub fn refresh(&mut self, index: u8)
+        requires { index < writer_count self.old }
+        ensures index { index_of self.new ≡ index_of self.old }
+        ensures made { (config : ConfigValue) (part : PartValue)
+            → IsMadeFor config part self.old → IsMadeFor config part self.new }
+        ensures stands { (metas others : ℕ → MetaData) (part : PartValue) (past : List GroupDeed)
+            → AreSameBut index (length part.writer) metas others
+            → IsGroup metas part past self.old
+            → IsGroup others part (RefreshedWriter index ∷ past) self.new }
+        ensures goes_on { (metas others : ℕ → MetaData) (part : PartValue) (turns : ℕ)
+            → AreSameBut index (writer_count self.old) metas others
+            → MayGoOn metas part turns self.old → MayGoOn others part turns self.new }
+    {
+        self.writers[usize::from(index)].refresh();
+    }
+
+    /// Whether the publishing interval has passed since the last turn that wasn't the closing one, or since moment 0.
+    pub fn due(&self, now: u64) -> bool
+        ensures { (config : ConfigValue) (part : PartValue) (metas : ℕ → MetaData)
+            (past : List GroupDeed) → IsMadeFor config part self.now
+            → IsGroup metas part past self.now → result ≡ is_due part past now }
+    {
+        u64::from(self.interval) <= now.saturating_sub(self.turned_at)
+    }
+
+    /// A turn at the moment `now` (OPC 10000-14 6.2.6): the writers that are `on` answer with the rows sampled for their data sets,
+    /// whose metas now are `metas`, and their frames become datagrams in `out`, in place of those of the turn before. The sender,
+    /// where the group is secured, was turned to `now` and isn't spent; the metas of an accepted script leave room for the frames.
+    /// The answer is how many datagrams there are. `closing` where no other turn comes: each writer then sends a key frame, and
+    /// the turn doesn't count for `due`.
+    pub fn tick(
+        &mut self,
+        config: &Config,
+        metas: &[Meta],
+        now: u64,
+        rows: &[Sampled],
+        on: &[bool],
+        sender: Option<&mut Sender>,
+        closing: bool,
+        out: &mut Datagrams,
+    ) -> u32
+        requires good { IsGood config.now }
+        requires index { index_of self.old < length config.now.group }
+        requires turn { HoldsAt (MayTick config.now metas.now rows.now on.now (lent_in sender) self.old)
+            config.now.group (index_of self.old) }
+        requires reserved { IsReserved out.old }
+        ensures stands { HoldsAt (λ part. (past : List GroupDeed)
+            → IsGroup (metas_for part metas.now) part past self.old
+            → HasTicked config.now part past (input_of now closing metas.now rows.now on.now
+            (lent_in sender.entry)) self.new out.new) config.now.group (index_of self.old) }
+        ensures goes_on { HoldsAt (λ part. (turns : ℕ)
+            → MayGoOn (metas_for part metas.now) part (turns + 1) self.old
+            → MayGoOn (metas_for part metas.now) part turns self.new) config.now.group (index_of self.old) }
+        ensures made { HoldsAt (λ part. IsMadeFor config.now part self.new)
+            config.now.group (index_of self.old) }
+        ensures index { index_of self.new ≡ index_of self.old }
+        ensures count { result ≡ length (datagrams_in out.new) }
+        ensures few { result ≤ most_datagrams }
+        ensures sender_stays { IfSome (left_in sender.exit) IsSender }
+        ensures sender { HoldsAt (λ part. left_in sender.exit
+            ≡ option_map (λ s. advanced_by (mode_of part.security) s result) (lent_in sender.entry))
+            config.now.group (index_of self.old) }
+        ensures reserved { IsReserved out.new }
+    {
+        let group = part_of(config, self.index);
+        a_class_id_is_whole(group);
+        self.answer(group, metas, now, rows, on, closing, out);
+        plan_loads(&config.publisher.id, group, &out.frames, &mut out.loads);
+        match sender {
+            None => {
+                self.post(config, group, out);
+                self.finish(now, closing, out)
+            }
+            Some(sender) => {
+                self.post_sealed(config, group, sender, out);
+                self.finish(now, closing, out)
+            }
+        }
+    }
+
+    /// Forgets the last turn, has those of the writers that are on, and spells their frames.
+    fn answer(
+        &mut self,
+        group: &GroupPart,
+        metas: &[Meta],
+        now: u64,
+        rows: &[Sampled],
+        on: &[bool],
+        closing: bool,
+        out: &mut Datagrams,
+    )
+        requires may { MayAnswer group.now metas.now rows.now on.now self.old.writers.items }
+        requires reserved { IsReserved out.old }
+        ensures answered { (past : List GroupDeed)
+            → HaveAnswered group.now (told_of now closing metas.now rows.now) on.now past
+            self.old.writers.items self.new.writers.items (spelled_in out.new) }
+        ensures goes_on { MayGo group.now metas.now self.old.writers.items self.new.writers.items }
+        ensures rest { self.new ≡ record self.old { writers = self.new.writers } }
+        ensures spelled { AreSpelled group.now metas.now out.new }
+    {
+        out.clear();
+        answer_all(
+            &mut self.writers,
+            group,
+            metas,
+            now,
+            rows,
+            on,
+            closing,
+            &mut out.bytes,
+            &mut out.frames,
+        );
+    }
+
+    /// Counts the datagrams that were made, and tells how many.
+    fn finish(&mut self, now: u64, closing: bool, out: &Datagrams) -> u32
+        requires few { length (datagrams_in out.now) ≤ most_datagrams }
+        ensures passed { self.new ≡ passed now closing result self.old }
+        ensures count { result ≡ length (datagrams_in out.now) }
+    {
+        let made = out.ranges.len() as u16;
+        self.pass(now, closing, made);
+        u32::from(made)
+    }
+
+    /// Counts the datagrams of a turn, and keeps its moment where it isn't the closing one.
+    fn pass(&mut self, now: u64, closing: bool, count: u16)
+        ensures { self.new ≡ passed now closing count self.old }
+    {
+        self.made = self.made.wrapping_add(count);
+        if !closing {
+            self.turned_at = now;
+        }
+    }
+}
+
+fn part_of(config: &Config, index: u8) -> &GroupPart
+    requires { index < length config.now.group }
+    ensures { result.now ≡ slice_index_or config.now.group index result.now }
+{
+    &config.group.as_slice()[usize::from(index)]
+}

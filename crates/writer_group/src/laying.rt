@@ -1,0 +1,211 @@
+//! Laying out one datagram without its signature.
+ghost use Rattle.std.specs.Prelude.{◌≡◌, ◌<◌, ◌≤◌, ◌+◌, ◌-◌, ◌*◌, ◌++◌, ℕ, List, All, length, take, drop};
+ghost use Rattle.std.specs.List.{flat_map};
+ghost use Rattle.ua_binary.specs.Writing.{laid, Puts};
+ghost use Rattle.uadp_header.specs.Headers.{ChunkOf, header_in, ids_in};
+ghost use Rattle.uadp_header.specs.Spelling.{AreIds, IsIds, IsSenders, header_bytes};
+ghost use Rattle.payload_layout.specs.Payloads.{sizes_bytes};
+ghost use Rattle.chunker.specs.Spelling.{chunk_bytes, chunk_in};
+ghost use Rattle.writer_group.specs.Holding.{AreSpelledIn, frames_at, spelled_at, IsWithin, cargo_in, frame_at, chunk_load, payload_in};
+ghost use Rattle.writer_group.specs.Payloads.{frames_payload};
+ghost use Rattle.writer_group.specs.Loading.{IsCargo, IsLoad, HasHeaderOf};
+
+use crate::load::Load;
+use crate::slotting::put_slots;
+use crate::spelled::{Frames, SpelledFrame};
+use chunker::{ChunkPayload, cut, write_chunk};
+use fixed_layout::Slots;
+use payload_layout::write_sizes;
+use ua_binary::Pen;
+use uadp_header::{Header, Ids, write_header};
+
+/// What the datagrams of a turn carry, and how.
+#[derive(Clone, Copy)]
+pub(crate) struct Cargo<'a> {
+    /// The bytes in which the frames are spelled.
+    pub bytes: &'a [u8],
+    pub frames: &'a Frames,
+    /// The bytes of a frame that one chunk carries.
+    pub room: u32,
+    /// The slots of a fixed group.
+    pub slots: &'a Slots,
+}
+
+impl<'a> Cargo<'a> {
+    /// The ids in the header of the datagram with this load.
+    pub fn ids(&self, load: Load) -> Ids<'a>
+        requires cargo { IsCargo self.now }
+        requires load { IsLoad (cargo_in self.now) load }
+        ensures ids { ids_in result ≡ (payload_in (cargo_in self.now) load).0 }
+        ensures are_ids { AreIds (ids_in result) }
+        ensures is_ids { IsIds (ids_in result) }
+    {
+        match load {
+            Load::Frames { first, count } => {
+                let first = 2 * usize::from(first);
+                Ids::List(&self.frames.ids.as_slice()[first..first + 2 * usize::from(count)])
+            }
+            Load::Chunk { frame, .. } => chunk_ids(self.frame(frame).id),
+            Load::Slots => Ids::None,
+        }
+    }
+
+    fn frame(&self, index: u8) -> &SpelledFrame
+        requires cargo { IsCargo self.now }
+        requires within { index < length self.now.frames.now.list.items }
+        ensures frame { spelled_at self.now.bytes.now result.now ≡ frame_at (cargo_in self.now) index }
+        ensures within { IsWithin (length self.now.bytes.now) result.now }
+    {
+        &self.frames.list.as_slice()[usize::from(index)]
+    }
+
+    /// Lays header and payload at a place of the free bytes. Tells where the payload begins, and where it ends.
+    pub fn lay(&self, free: &mut [u8], at: usize, header: &Header<'_>, load: Load) -> (usize, usize)
+        requires cargo { IsCargo self.now }
+        requires load { IsLoad (cargo_in self.now) load }
+        requires senders { IsSenders (header_in header.now) }
+        requires header { HasHeaderOf (cargo_in self.now) load (header_bytes (header_in header.now)) }
+        requires room { at + length (header_bytes (header_in header.now))
+            + length (payload_in (cargo_in self.now) load).1 ≤ length free.old }
+        ensures laid { free.new ≡ laid free.old at (header_bytes (header_in header.now)
+            ++ (payload_in (cargo_in self.now) load).1) }
+        ensures payload { result.0 ≡ at + length (header_bytes (header_in header.now)) }
+        ensures end { result.1 ≡ result.0 + length (payload_in (cargo_in self.now) load).1 }
+    {
+        let mut pen = Pen { bytes: free, at };
+        let payload = self.put_datagram(&mut pen, header, load);
+        (payload, pen.at)
+    }
+
+    /// Writes header and payload, and tells where the payload begins.
+    fn put_datagram(&self, pen: &mut Pen<'_>, header: &Header<'_>, load: Load) -> usize
+        requires cargo { IsCargo self.now }
+        requires load { IsLoad (cargo_in self.now) load }
+        requires senders { IsSenders (header_in header.now) }
+        requires header { HasHeaderOf (cargo_in self.now) load (header_bytes (header_in header.now)) }
+        requires room { pen.old.at + length (header_bytes (header_in header.now))
+            + length (payload_in (cargo_in self.now) load).1 ≤ length pen.old.bytes.now }
+        ensures puts { Puts pen.old pen.new (header_bytes (header_in header.now)
+            ++ (payload_in (cargo_in self.now) load).1) }
+        ensures payload { result ≡ pen.old.at + length (header_bytes (header_in header.now)) }
+    {
+        let start = pen.at;
+        put_header(pen, header);
+        let payload = pen.at;
+        self.put(pen, start, load);
+        payload
+    }
+
+    /// Writes the payload of a datagram that begins at `start`.
+    fn put(&self, pen: &mut Pen<'_>, start: usize, load: Load)
+        requires cargo { IsCargo self.now }
+        requires load { IsLoad (cargo_in self.now) load }
+        requires header { HasHeaderOf (cargo_in self.now) load (take (pen.old.at - start) (drop start pen.old.bytes.now)) }
+        requires start { start ≤ pen.old.at }
+        requires room { pen.old.at + length (payload_in (cargo_in self.now) load).1
+            ≤ length pen.old.bytes.now }
+        ensures { Puts pen.old pen.new (payload_in (cargo_in self.now) load).1 }
+    {
+        match load {
+            Load::Frames { first, count } => self.put_frames(pen, first, count),
+            Load::Chunk { frame, index } => self.put_chunk(pen, frame, index),
+            Load::Slots => put_slots(pen, start, self.slots, self.bytes, self.frames),
+        }
+    }
+
+    /// Writes the payload of frames that share a datagram.
+    fn put_frames(&self, pen: &mut Pen<'_>, first: u8, count: u8)
+        requires cargo { IsCargo self.now }
+        requires within { first + count ≤ length self.now.frames.now.list.items }
+        requires few { count ≤ 16 }
+        requires room { pen.old.at
+            + length (frames_payload (take count (drop first (cargo_in self.now).frames))).1
+            ≤ length pen.old.bytes.now }
+        ensures { Puts pen.old pen.new
+            (frames_payload (take count (drop first (cargo_in self.now).frames))).1 }
+    {
+        let first = usize::from(first);
+        let end = first + usize::from(count);
+        put_sizes(pen, &self.frames.sizes.as_slice()[first..end]);
+        put_all(pen, self.bytes, &self.frames.list.as_slice()[first..end]);
+    }
+
+    /// Writes the payload of a chunk.
+    fn put_chunk(&self, pen: &mut Pen<'_>, frame: u8, index: u32)
+        requires cargo { IsCargo self.now }
+        requires frame { frame < length self.now.frames.now.list.items }
+        requires some { 1 ≤ self.now.room }
+        requires index { index * self.now.room < length (frame_at (cargo_in self.now) frame).bytes }
+        requires room { pen.old.at
+            + length (chunk_load self.now.room (frame_at (cargo_in self.now) frame) index).1
+            ≤ length pen.old.bytes.now }
+        ensures { Puts pen.old pen.new
+            (chunk_load self.now.room (frame_at (cargo_in self.now) frame) index).1 }
+    {
+        let frame = self.frame(frame);
+        let message = &self.bytes[frame.start..frame.end];
+        let (offset, len) = cut(message.len() as u32, self.room, index);
+        let chunk = ChunkPayload {
+            number: frame.number,
+            offset,
+            total: message.len() as u32,
+            data: &message[offset as usize..(offset + len) as usize],
+        };
+        put_chunk_payload(pen, &chunk);
+    }
+}
+
+/// The id in the header of a chunk.
+fn chunk_ids<'a>(id: u16) -> Ids<'a>
+    ensures ids { ids_in result ≡ ChunkOf id }
+    ensures is_ids { IsIds (ids_in result) }
+{
+    Ids::Chunk(id)
+}
+
+fn put_header(pen: &mut Pen<'_>, header: &Header<'_>)
+    requires senders { IsSenders (header_in header.now) }
+    requires room { pen.old.at + length (header_bytes (header_in header.now))
+        ≤ length pen.old.bytes.now }
+    ensures { Puts pen.old pen.new (header_bytes (header_in header.now)) }
+{
+    match write_header(pen, header) {
+        Ok(()) => {}
+        Err(_) => unreachable!(),
+    }
+}
+
+fn put_sizes(pen: &mut Pen<'_>, sizes: &[u16])
+    requires few { length sizes.now ≤ 255 }
+    requires room { pen.old.at + length (sizes_bytes sizes.now) ≤ length pen.old.bytes.now }
+    ensures { Puts pen.old pen.new (sizes_bytes sizes.now) }
+{
+    match write_sizes(pen, sizes) {
+        Ok(()) => {}
+        Err(_) => unreachable!(),
+    }
+}
+
+fn put_chunk_payload(pen: &mut Pen<'_>, chunk: &ChunkPayload<'_>)
+    requires short { length chunk.now.data.now < 2147483648 }
+    requires room { pen.old.at + length (chunk_bytes (chunk_in chunk.now)) ≤ length pen.old.bytes.now }
+    ensures { Puts pen.old pen.new (chunk_bytes (chunk_in chunk.now)) }
+{
+    match write_chunk(pen, chunk) {
+        Ok(()) => {}
+        Err(_) => unreachable!(),
+    }
+}
+
+/// Writes frames one behind another.
+fn put_all(pen: &mut Pen<'_>, bytes: &[u8], frames: &[SpelledFrame])
+    requires within { All (IsWithin (length bytes.now)) frames.now }
+    requires room { pen.old.at + length (flat_map (λ frame. (spelled_at bytes.now frame).bytes) frames.now)
+        ≤ length pen.old.bytes.now }
+    ensures { Puts pen.old pen.new
+        (flat_map (λ frame. (spelled_at bytes.now frame).bytes) frames.now) }
+{
+    for frame in frames {
+        pen.put_bytes(&bytes[frame.start..frame.end]);
+    }
+}

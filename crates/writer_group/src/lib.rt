@@ -1,0 +1,27 @@
+//! Groups of writers (OPC 10000-14 6.2.6, WriterGroup): what each turn's frames become, datagrams in one buffer.
+#![tactic(auto)]
+
+mod answering;
+mod datagrams;
+mod front;
+mod group;
+mod header_parts;
+mod laws;
+mod laying;
+mod load;
+mod making;
+mod planning;
+mod posting;
+mod sampled;
+mod settings;
+mod setup;
+mod slotting;
+mod spelled;
+
+pub use datagrams::Datagrams;
+pub use group::Group;
+pub use laws::{
+    a_refreshed_writer_sends_a_key_frame, a_turn_with_a_frame_makes_a_datagram,
+    no_datagram_is_longer_than_max_size, no_token_and_number_come_twice_in_groups,
+};
+pub use sampled::Sampled;

@@ -1,0 +1,118 @@
+//! Making the datagrams of a turn that was planned.
+ghost use Rattle.std.specs.Prelude.{◌≡◌, ◌≤◌, [], length, vec_capacity, None, Some};
+ghost use Rattle.writer_group.specs.Envelopes.{mode_of};
+ghost use Rattle.writer_group.specs.Making.{IsFilled, IsPosted, MayFill, MayMake};
+ghost use Rattle.writer_group.specs.Sealing.{advanced_by};
+
+use crate::datagrams::Datagrams;
+use crate::group::Group;
+use crate::header_parts::HeaderParts;
+use crate::laying::Cargo;
+use crate::load::Load;
+use crate::posting::{Range, post_open, post_secured};
+use crate::settings::mode_of;
+use crate::spelled::{FRAMES_BYTES, Frames};
+use message_guard::Sender;
+use ps_config::{Config, GroupPart, chunk_room};
+
+impl Group {
+    /// Makes the datagrams that were planned, behind the frames, without security.
+    pub(crate) fn post(&self, config: &Config, group: &GroupPart, out: &mut Datagrams)
+        requires { MayMake config.now group.now None self.now out.old }
+        ensures { IsPosted config.now group.now None self.now out.old out.new }
+    {
+        self.make(
+            config,
+            group,
+            &mut out.bytes,
+            &out.frames,
+            &out.loads,
+            &mut out.ranges,
+        );
+    }
+
+    /// Makes the datagrams that were planned, behind the frames, each protected under the sender's next number.
+    pub(crate) fn post_sealed(
+        &self,
+        config: &Config,
+        group: &GroupPart,
+        sender: &mut Sender,
+        out: &mut Datagrams,
+    )
+        requires { MayMake config.now group.now (Some sender.old) self.now out.old }
+        ensures posted { IsPosted config.now group.now (Some sender.old) self.now out.old out.new }
+        ensures sender { sender.new
+            ≡ advanced_by (mode_of group.now.security) sender.old (length out.old.loads.items) }
+    {
+        self.make_sealed(
+            config,
+            group,
+            sender,
+            &mut out.bytes,
+            &out.frames,
+            &out.loads,
+            &mut out.ranges,
+        );
+    }
+
+    /// Makes the datagrams of these loads behind the frames that stand in the buffer.
+    fn make(
+        &self,
+        config: &Config,
+        group: &GroupPart,
+        buffer: &mut [u8],
+        frames: &Frames,
+        loads: &[Load],
+        ranges: &mut Vec<Range>,
+    )
+        requires may { MayFill config.now group.now None self.now buffer.old frames.now loads.now }
+        requires empty { ranges.old.items ≡ [] }
+        requires left { length loads.now ≤ vec_capacity ranges.old }
+        ensures filled { IsFilled config.now group.now None self.now buffer.old frames.now loads.now
+            buffer.new ranges.new.items }
+        ensures capacity { vec_capacity ranges.old ≤ vec_capacity ranges.new }
+    {
+        let parts = HeaderParts::new(&config.publisher.id, group.header_settings(), self.made);
+        let (bytes, free) = buffer.split_at_mut(FRAMES_BYTES);
+        let cargo = Cargo {
+            bytes,
+            frames,
+            room: chunk_room(&config.publisher.id, group),
+            slots: &self.slots,
+        };
+        post_open(&parts, &cargo, loads, free, ranges);
+    }
+
+    /// Makes the datagrams of these loads behind the frames that stand in the buffer, each protected by the sender.
+    fn make_sealed(
+        &self,
+        config: &Config,
+        group: &GroupPart,
+        sender: &mut Sender,
+        buffer: &mut [u8],
+        frames: &Frames,
+        loads: &[Load],
+        ranges: &mut Vec<Range>,
+    )
+        requires may { MayFill config.now group.now (Some sender.old) self.now buffer.old frames.now
+            loads.now }
+        requires empty { ranges.old.items ≡ [] }
+        requires left { length loads.now ≤ vec_capacity ranges.old }
+        ensures filled { IsFilled config.now group.now (Some sender.old) self.now buffer.old frames.now
+            loads.now buffer.new ranges.new.items }
+        ensures capacity { vec_capacity ranges.old ≤ vec_capacity ranges.new }
+        ensures sender { sender.new
+            ≡ advanced_by (mode_of group.now.security) sender.old (length loads.now) }
+    {
+        let parts = HeaderParts::new(&config.publisher.id, group.header_settings(), self.made);
+        let (bytes, free) = buffer.split_at_mut(FRAMES_BYTES);
+        let cargo = Cargo {
+            bytes,
+            frames,
+            room: chunk_room(&config.publisher.id, group),
+            slots: &self.slots,
+        };
+        let mode = mode_of(group.security);
+        post_secured(&parts, &cargo, loads, mode, sender, free, ranges);
+    }
+}
