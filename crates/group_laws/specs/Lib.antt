@@ -1,0 +1,5 @@
+pub mod Matching
+pub mod TurnOpened
+pub mod TurnPieces
+pub mod TurnReading
+pub mod TurnDelivered

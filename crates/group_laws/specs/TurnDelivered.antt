@@ -1,0 +1,119 @@
+-- The datagrams of a turn, delivered to a read group in order.
+use Rattle.std.specs.Prelude.{◌≡◌, ℕ, ◌<◌, ◌≤◌, Bool, true, false, List, [], ◌∷◌, All, length, map, fold, slice_index_or, Option, Some, None, option_map, ⊤}
+use Rattle.pubsub_model.specs.declared.reading.Why.TheVariants.{NewToken}
+use Rattle.message_guard.specs.Acceptance.{Accepted, highest, numbers_of}
+use Rattle.message_guard.specs.Senders.{SenderState}
+use Rattle.frame_codec.specs.Frames.{Frame}
+use Rattle.ps_config.specs.declared.parts.Config.{Config}
+use Rattle.ps_config.specs.declared.parts.GroupPart.{GroupPart}
+use Rattle.ps_config.specs.declared.parts.ReadGroupPart.{ReadGroupPart}
+use Rattle.writer_group.specs.Envelopes.{mode_of}
+use Rattle.writer_group.specs.Sealing.{advanced_by}
+use Rattle.writer_group.specs.Turns.{GroupDeed, TurnInput, turn_datagrams}
+use Rattle.reader_group.specs.Members.{Seat, MemberValue, seat_at}
+use Rattle.reader_group.specs.Opening.{Opened}
+use Rattle.reader_group.specs.Plain.{Event, Got, Fed, PlainGroup, Setting, cut_if, is_raised, member_at, receipt_of, step, unfed}
+use Rattle.reader_group.specs.Settings.{setting_by}
+use Rattle.group_laws.specs.Matching.{IsGroupTurn, IsMatched}
+use Rattle.group_laws.specs.TurnOpened.{turn_opened}
+use Rattle.group_laws.specs.TurnReading.{Received, IsReadAs, IsReadInSlot}
+
+-- when a datagram comes, and which readers are enabled then
+pub record Delivery : Type 0 where
+  pub moment : ℕ
+  pub on : List Bool
+
+-- the datagrams come, each by one of the deliveries
+abbrev pub delivered : List Delivery → List (List ℕ) → List Event
+delivered [] datagrams = []
+delivered (delivery ∷ deliveries) [] = []
+delivered (delivery ∷ deliveries) (datagram ∷ datagrams) = Got delivery.moment delivery.on datagram ∷ delivered deliveries datagrams
+
+-- and what is opened of them, with their receipts
+abbrev pub received : Setting → List Delivery → List Opened → List Received
+received setting [] opened = []
+received setting (delivery ∷ deliveries) [] = []
+received setting (delivery ∷ deliveries) (first ∷ opened) =
+    record { receipt = receipt_of setting delivery.moment first; opened = first } ∷ received setting deliveries opened
+
+-- the first of them raises the token
+abbrev pub is_first_raised : Setting → Accepted → List Opened → Bool
+is_first_raised setting accepted [] = false
+is_first_raised setting accepted (first ∷ opened) = is_raised setting accepted first
+
+-- the reader with this index is enabled at each delivery
+abbrev pub AreEnabled : ℕ → List Delivery → Type 0
+AreEnabled reader deliveries = All (λ delivery. slice_index_or delivery.on reader false ≡ true) deliveries
+
+-- no higher token than the sender's was accepted, and under it no number above its last one
+pub record IsSenderAhead (accepted : Accepted) (s : SenderState) : Type 0 where
+  pub token : highest accepted ≤ s.keys.token
+  pub numbers : All (λ number. number ≤ s.used) (numbers_of accepted s.keys.token)
+
+abbrev pub IsSenderAheadIf : Accepted → Option SenderState → Type 0
+IsSenderAheadIf accepted None = ⊤
+IsSenderAheadIf accepted (Some s) = IsSenderAhead accepted s
+
+-- ---- a turn and a reader
+
+-- a turn of a group behind some deeds, and a reader of a read group, with what that went through before and when the turn's datagrams come to it
+pub record Course : Type 0 where
+  pub config : Config
+  pub group : GroupPart
+  pub past : List GroupDeed
+  pub input : TurnInput
+  pub readers : ReadGroupPart
+  pub before : PlainGroup
+  pub reader : ℕ
+  pub deliveries : List Delivery
+
+abbrev pub its_setting : Course → Setting
+its_setting c = setting_by c.config c.readers
+
+abbrev pub its_seat : Course → Seat
+its_seat c = seat_at (its_setting c).seats c.reader
+
+abbrev pub its_datagrams : Course → List (List ℕ)
+its_datagrams c = turn_datagrams c.config c.group c.past c.input
+
+abbrev pub its_opened : Course → List Opened
+its_opened c = turn_opened c.config c.group c.past c.input
+
+abbrev pub all_received : Course → List Received
+all_received c = received (its_setting c) c.deliveries (its_opened c)
+
+-- the reader as it is given the first datagram: cut, where that raises the token
+abbrev pub member_before : Course → MemberValue
+member_before c = cut_if (is_first_raised (its_setting c) c.before.accepted (its_opened c)) NewToken (member_at c.before.members c.reader)
+
+-- the read group after all of them, in order, and the reader then
+abbrev pub group_after : Course → PlainGroup
+group_after c = fold (step (its_setting c)) c.before (delivered c.deliveries (its_datagrams c))
+
+abbrev pub member_after : Course → MemberValue
+member_after c = member_at (group_after c).members c.reader
+
+-- the sender after the turn
+abbrev pub sender_after : Course → Option SenderState
+sender_after c = option_map (λ s. advanced_by (mode_of c.group.security) s (length (its_datagrams c))) c.input.sender
+
+-- a matched read group gets each datagram of the turn once, in order, its reader enabled, and accepted nothing that the sender is still to send
+pub record IsInOrder (c : Course) : Type 0 where
+  pub turn : IsGroupTurn c.config c.group c.past c.input
+  pub matched : IsMatched c.config c.group c.readers
+  pub within : c.reader < length (its_setting c).seats
+  pub enabled : AreEnabled c.reader c.deliveries
+  pub each : length c.deliveries ≡ length (its_datagrams c)
+  pub ahead : IsSenderAheadIf c.before.accepted c.input.sender
+
+-- what the reader was given is this frame, or nothing
+pub record IsDelivered (c : Course) (frame : Option Frame) : Type 0 where
+  pub fed : Fed
+  pub member : fed.member ≡ member_after c
+  pub read : IsReadAs (its_seat c) (map (λ r. r.receipt) (all_received c)) (unfed (member_before c)) frame fed
+
+-- the same, out of a slot
+pub record IsDeliveredInSlot (c : Course) (frame : Option Frame) : Type 0 where
+  pub fed : Fed
+  pub member : fed.member ≡ member_after c
+  pub read : IsReadInSlot (its_seat c) (map (λ r. r.receipt) (all_received c)) (unfed (member_before c)) frame fed

@@ -1,0 +1,88 @@
+-- What a matched read group makes of the datagrams of a turn.
+use Rattle.std.specs.Prelude.{◌≡◌, ℕ, suc, ◌+◌, Bool, true, false, not, ◌||◌, List, [], ◌∷◌, ◌++◌, length, Option, Some, None, Result, Ok, Err}
+use Rattle.uadp_header.specs.Spelling.{header_bytes}
+use Rattle.message_guard.specs.declared.open_fault.OpenFault.{OpenFault}
+use Rattle.message_guard.specs.declared.open_fault.OpenFault.TheVariants as faults
+use Rattle.message_guard.specs.declared.pass.Pass1.{Pass1}
+use Rattle.message_guard.specs.Acceptance.{Accepted, is_acceptable}
+use Rattle.message_guard.specs.Guards.{Setup}
+use Rattle.message_guard.specs.Modes.{is_secured}
+use Rattle.message_guard.specs.Opened.{sent_pass}
+use Rattle.message_guard.specs.Opening.{open_pass}
+use Rattle.message_guard.specs.Senders.{SenderState}
+use Rattle.config_tables.specs.declared.words.Layout.{Layout}
+use Rattle.ps_config.specs.declared.parts.Config.{Config}
+use Rattle.ps_config.specs.declared.parts.GroupPart.{GroupPart}
+use Rattle.writer_group.specs.Envelopes.{mode_of}
+use Rattle.writer_group.specs.Payloads.{payloads_of}
+use Rattle.writer_group.specs.Sealing.{Payload, Envelope, advanced_by, header_at, open_datagram}
+use Rattle.writer_group.specs.Turns.{GroupDeed, TurnInput, envelope_of, frames_in}
+use Rattle.reader_group.specs.declared.refusal.Refusal.{Refusal}
+use Rattle.reader_group.specs.declared.refusal.Refusal.TheVariants as refusals
+use Rattle.reader_group.specs.Opening.{Opened}
+use Rattle.reader_group.specs.Payloads.{payload_of}
+
+-- ---- what there is to be opened
+
+-- the sender once it gave the front of the turn's datagram with this index, from 0
+abbrev pub sender_at : Envelope → SenderState → ℕ → SenderState
+sender_at e sender index = advanced_by (mode_of e.settings.security) sender (suc index)
+
+-- what a guard finds of it
+abbrev pub guard_pass_at : Envelope → Option SenderState → ℕ → Payload → Pass1
+guard_pass_at e None index payload = open_pass (open_datagram e index payload)
+guard_pass_at e (Some sender) index payload =
+    sent_pass (sender_at e sender index) (header_bytes (header_at e (Some sender) index payload.0)) payload.1
+
+-- what a read group opens of it: just what its group had for it
+abbrev pub opened_at : Layout → Envelope → Option SenderState → ℕ → Payload → Opened
+opened_at layout e sender index payload =
+    let header = header_bytes (header_at e sender index payload.0) in
+    record { pass = guard_pass_at e sender index payload; payload = payload_of layout payload.0 (length header) (header ++ payload.1) }
+
+-- those from this index on
+abbrev pub opened_from : Layout → Envelope → Option SenderState → ℕ → List Payload → List Opened
+opened_from layout e sender index [] = []
+opened_from layout e sender index (payload ∷ payloads) =
+    opened_at layout e sender index payload ∷ opened_from layout e sender (index + 1) payloads
+
+-- of all datagrams of a turn, in order
+abbrev pub turn_opened : Config → GroupPart → List GroupDeed → TurnInput → List Opened
+turn_opened config group past input =
+    opened_from group.layout (envelope_of config group past) input.sender 0 (payloads_of config group (frames_in group past input))
+
+-- ---- whether it is taken
+
+-- a guard accepts the token and the number, or the group isn't secured
+abbrev pub is_accepted : Setup → Accepted → Pass1 → Bool
+is_accepted setup accepted pass = not (is_secured setup.mode) || is_acceptable setup.keys accepted pass.token pass.number
+
+-- refusals of a token that is lower than one that was accepted, and of a number that was accepted or is too old
+abbrev pub is_number_fault : OpenFault → Bool
+is_number_fault faults.ModeDiffers = false
+is_number_fault faults.FooterOut = false
+is_number_fault faults.KeyResetOut = false
+is_number_fault (faults.BadNonceLength got) = false
+is_number_fault faults.Short = false
+is_number_fault (faults.UnknownToken got) = false
+is_number_fault (faults.OldToken got high) = true
+is_number_fault faults.BadSignature = false
+is_number_fault faults.Repeated = true
+is_number_fault (faults.TooOld high) = true
+
+abbrev pub is_number_refusal : Refusal → Bool
+is_number_refusal (refusals.Header fault) = false
+is_number_refusal refusals.NotOurs = false
+is_number_refusal refusals.NoIds = false
+is_number_refusal (refusals.Guard fault) = is_number_fault fault
+is_number_refusal refusals.BadSizes = false
+
+-- it is refused for its token or its number
+abbrev pub IsNumberRefusal : Result Opened Refusal → Type 0
+IsNumberRefusal (Ok opened) = ⊥
+IsNumberRefusal (Err refusal) = is_number_refusal refusal ≡ true
+
+-- it is opened to just this where it is accepted, and else refused for its token or number
+pub record IsTakenAs (acceptable : Bool) (opened : Opened) (answer : Result Opened Refusal) : Type 0 where
+  pub taken : acceptable ≡ true → answer ≡ Ok opened
+  pub refused : acceptable ≡ false → IsNumberRefusal answer

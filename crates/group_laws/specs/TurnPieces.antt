@@ -1,0 +1,51 @@
+-- What the datagrams of a turn have for the reader of a writer.
+use Rattle.std.specs.Prelude.{ℕ, List, [], ◌∷◌, map, replicate, nat_le, slice_index_or, Option, Some, None, if◌then◌else◌}
+use Rattle.pubsub_model.specs.Cadence.{WriterTurn}
+use Rattle.chunker.specs.Chunks.{cuts}
+use Rattle.chunker.specs.Spelling.{chunk_bytes}
+use Rattle.fixed_layout.specs.Datagrams.{filled}
+use Rattle.config_tables.specs.declared.publisher.Publisher.{Publisher}
+use Rattle.config_tables.specs.declared.words.Layout.{Layout}
+use Rattle.config_tables.specs.declared.words.Layout.TheVariants as layouts
+use Rattle.ps_config.specs.declared.parts.Config.{Config}
+use Rattle.ps_config.specs.declared.parts.GroupPart.{GroupPart}
+use Rattle.ps_config.specs.FixedSound.{writer_slot}
+use Rattle.ps_config.specs.Rooms.{chunk_room}
+use Rattle.writer_group.specs.Envelopes.{frame_room}
+use Rattle.writer_group.specs.Payloads.{Spelled, size_of, writer_at}
+use Rattle.writer_group.specs.Turns.{GroupDeed, TurnInput, turns_from, frame_of_writer}
+use Rattle.reader_group.specs.Payloads.{Piece, Message, Chunked, Slotted}
+
+-- a frame as it stands in a dynamic layout: whole where it fits into a datagram, and else its chunks, in order
+abbrev pub frame_pieces : ℕ → ℕ → Spelled → List Piece
+frame_pieces frame_room room frame =
+    if nat_le (size_of frame) frame_room
+    then Message frame.bytes ∷ []
+    else map (λ chunk. Chunked (chunk_bytes chunk)) (cuts room frame.number frame.bytes)
+
+abbrev pub dynamic_pieces : Publisher → GroupPart → Option Spelled → List Piece
+dynamic_pieces publisher group None = []
+dynamic_pieces publisher group (Some frame) = frame_pieces (frame_room publisher group) (chunk_room publisher group) frame
+
+-- what stands in the writer's slot: its frame with zeros behind it, or zeros
+abbrev pub fixed_pieces : Config → GroupPart → ℕ → Option Spelled → List Piece
+fixed_pieces config group writer None = Slotted (replicate (writer_slot config (writer_at group writer)).size 0) ∷ []
+fixed_pieces config group writer (Some frame) = Slotted (filled (writer_slot config (writer_at group writer)) frame.bytes) ∷ []
+
+-- by the layout, where the writer answers with this frame or none
+abbrev pub writer_pieces : Layout → Config → GroupPart → ℕ → Option Spelled → List Piece
+writer_pieces layouts.Dynamic config group writer frame = dynamic_pieces config.publisher.id group frame
+writer_pieces layouts.Fixed config group writer frame = fixed_pieces config group writer frame
+
+-- the turn that a writer has, if it is Operational
+abbrev pub turn_by : GroupPart → TurnInput → ℕ → Option WriterTurn
+turn_by group input writer = slice_index_or (turns_from group input.told 0 input.on) writer None
+
+-- the frame that it answers with, as it is spelled
+abbrev pub frame_by : GroupPart → List GroupDeed → TurnInput → ℕ → Option Spelled
+frame_by group past input writer = frame_of_writer group input.told.metas past writer (turn_by group input writer)
+
+-- what a turn has for the reader of a writer
+abbrev pub turn_pieces : Config → GroupPart → List GroupDeed → TurnInput → ℕ → List Piece
+turn_pieces config group past input writer =
+    writer_pieces group.layout config group writer (frame_by group past input writer)

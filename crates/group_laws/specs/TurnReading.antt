@@ -1,0 +1,132 @@
+-- What a reader is given of a turn.
+use Rattle.std.specs.Prelude.{◌≡◌, ◌⊎◌, ℕ, ◌+◌, ◌<◌, ◌^◌, List, ◌∷◌, length, fold, Contains, true, false, Option, Some, None, option_map, Ok, IsErr, ⊤}
+use Rattle.dataset_meta.specs.Metas.{IsMeta}
+use Rattle.pubsub_model.specs.Frames.{PlacedFrame, carried}
+use Rattle.pubsub_model.specs.Cadence.{WriterTurn, HadTurn, HasRowsOf}
+use Rattle.frame_codec.specs.Frames.{Frame}
+use Rattle.frame_codec.specs.Reading.{frame_at}
+use Rattle.chunker.specs.Chunks.{Chunk}
+use Rattle.chunker.specs.Joining.{Joining}
+use Rattle.chunker.specs.Joins.{IsCutOf, IsNewFor}
+use Rattle.chunker.specs.Spelling.{chunk_at, without_rest}
+use Rattle.ps_config.specs.declared.parts.Config.{Config}
+use Rattle.ps_config.specs.declared.parts.GroupPart.{GroupPart}
+use Rattle.ps_config.specs.FixedSound.{IsFixedSound}
+use Rattle.writer_group.specs.Payloads.{writer_at, meta_at, carried_frame}
+use Rattle.writer_group.specs.Turns.{GroupDeed, TurnInput, answer_of, writer_past}
+use Rattle.reader_group.specs.declared.receipt.Receipt.{Receipt}
+use Rattle.reader_group.specs.Members.{Seat, MemberValue}
+use Rattle.reader_group.specs.Opening.{Opened}
+use Rattle.reader_group.specs.Payloads.{Piece, Message, Chunked, Slotted, Missing, pieces}
+use Rattle.reader_group.specs.Plain.{Fed, fed_on, fed_by, given}
+use Rattle.reader_group.specs.SlotFrames.{slot_frame_at}
+use Rattle.group_laws.specs.TurnPieces.{turn_by}
+
+-- ---- what a writer answers
+
+abbrev pub answer_to : GroupPart → List GroupDeed → ℕ → Option WriterTurn → Option PlacedFrame
+answer_to group past writer None = None
+answer_to group past writer (Some turn) = answer_of group past writer turn
+
+-- what it answers, where it is Operational and answers at all
+abbrev pub answer_by : GroupPart → List GroupDeed → TurnInput → ℕ → Option PlacedFrame
+answer_by group past input writer = answer_to group past writer (turn_by group input writer)
+
+-- as a frame of its data set
+abbrev pub frame_answered : GroupPart → List GroupDeed → TurnInput → ℕ → Option Frame
+frame_answered group past input writer =
+    option_map (carried_frame (writer_at group writer) (meta_at group input.told.metas writer)) (answer_by group past input writer)
+
+abbrev pub HasRows : GroupPart → List GroupDeed → TurnInput → ℕ → Option WriterTurn → Type 0
+HasRows group past input writer None = ⊤
+HasRows group past input writer (Some turn) = HasRowsOf (meta_at group input.told.metas writer) (HadTurn turn ∷ writer_past writer past)
+
+-- the writer's data set is one, and the rows of its turns are rows of it, with the version of each part a UInt32
+pub record IsSampled (group : GroupPart) (past : List GroupDeed) (input : TurnInput) (writer : ℕ) : Type 0 where
+  pub meta : IsMeta (meta_at group input.told.metas writer).fields
+  pub major : (meta_at group input.told.metas writer).major < 2 ^ 32
+  pub minor : (meta_at group input.told.metas writer).minor < 2 ^ 32
+  pub rows : HasRows group past input writer (turn_by group input writer)
+
+-- ---- what comes to the reader
+
+-- an opened datagram with its receipt
+pub record Received : Type 0 where
+  pub receipt : Receipt
+  pub opened : Opened
+
+-- the reader is given the parts of a datagram that raises no token
+abbrev pub fed_more : Seat → Fed → Received → Fed
+fed_more seat fed received = fold (fed_on seat received.receipt) fed (pieces seat.part received.opened.payload)
+
+-- what a read group makes of an enabled reader with it
+abbrev pub given_by : Seat → MemberValue → Received → MemberValue
+given_by seat member received = (fed_by seat received.receipt false true received.opened.payload member).member
+
+-- of all of them, in order
+abbrev pub fed_all : Seat → Fed → List Received → Fed
+fed_all seat fed received = fold (fed_more seat) fed received
+
+-- the chunks that are joined aren't of this message or a newer one
+abbrev pub IsBehind : Joining → Option PlacedFrame → Type 0
+IsBehind joining None = ⊤
+IsBehind joining (Some placed) = IsNewFor joining.current (carried placed)
+
+-- the reader was given just this frame, with the receipt of one of the datagrams; the chunks that are joined then are as before, or of this message
+pub record IsGiven (seat : Seat) (receipts : List Receipt) (fed : Fed) (frame : Frame) (after : Fed) : Type 0 where
+  pub receipt : Receipt
+  pub one_of : Contains receipts receipt
+  pub joining : Joining
+  pub member : after.member ≡ record (given seat receipt fed.member frame) { joining = joining }
+  pub joins : (joining ≡ fed.member.joining) ⊎ (option_map (λ (now : ℕ × ℕ). now.0) joining.current ≡ frame.number)
+  pub good : after.bad ≡ fed.bad
+
+-- the reader was given what the writer sent, if it sent something, and else is as it was
+abbrev pub IsReadAs : Seat → List Receipt → Fed → Option Frame → Fed → Type 0
+IsReadAs seat receipts fed None after = (after.member ≡ fed.member) × (after.bad ≡ fed.bad)
+IsReadAs seat receipts fed (Some frame) after = IsGiven seat receipts fed frame after
+
+-- in a fixed layout the slot of a writer that sent nothing holds zeros, which are a bad part
+abbrev pub IsReadInSlot : Seat → List Receipt → Fed → Option Frame → Fed → Type 0
+IsReadInSlot seat receipts fed None after = (after.member ≡ fed.member) × (after.bad ≡ fed.bad + 1)
+IsReadInSlot seat receipts fed (Some frame) after = IsGiven seat receipts fed frame after
+
+-- a turn of a fixed group of a sound configuration: its writers have the metas of the configuration
+pub record IsFixedTurn (config : Config) (group : GroupPart) (past : List GroupDeed) (input : TurnInput) : Type 0 where
+  pub fixed : IsFixedSound config
+  pub metas : (writer : ℕ) → writer < length group.writer → meta_at group input.told.metas writer ≡ meta_at group config.dataset writer
+  pub sampled : (writer : ℕ) → writer < length group.writer → IsSampled group past input writer
+
+-- ---- one part alone, whatever else comes
+
+-- bytes that are read as a chunk of a message with this number, which is read as this frame
+pub record IsReadAsChunk (seat : Seat) (frame : Frame) (number : ℕ) (bytes : List ℕ) : Type 0 where
+  pub message : List ℕ
+  pub chunk : Chunk
+  pub message_read : frame_at seat.meta message ≡ Ok frame
+  pub chunk_read : without_rest (chunk_at bytes) ≡ Ok chunk
+  pub number_is : chunk.place ≡ number
+  pub cut : IsCutOf message chunk
+
+-- a part is read as the frame, or as a chunk of it
+abbrev pub IsPartOf : Seat → ℕ → Frame → Piece → Type 0
+IsPartOf seat number frame (Message bytes) = frame_at seat.meta bytes ≡ Ok frame
+IsPartOf seat number frame (Chunked bytes) = IsReadAsChunk seat frame number bytes
+IsPartOf seat number frame (Slotted bytes) = slot_frame_at seat.meta bytes ≡ Ok frame
+IsPartOf seat number frame Missing = ⊥
+
+-- a slot that is read as no frame
+abbrev pub IsEmptyPart : Seat → Piece → Type 0
+IsEmptyPart seat (Message bytes) = ⊥
+IsEmptyPart seat (Chunked bytes) = ⊥
+IsEmptyPart seat (Slotted bytes) = IsErr (slot_frame_at seat.meta bytes)
+IsEmptyPart seat Missing = ⊥
+
+abbrev pub IsPartIf : Seat → (PlacedFrame → Frame) → Option PlacedFrame → Piece → Type 0
+IsPartIf seat frame None piece = IsEmptyPart seat piece
+IsPartIf seat frame (Some placed) piece = IsPartOf seat (carried placed) (frame placed) piece
+
+-- a part for the reader of a writer is of what that writer answered at this turn
+abbrev pub IsPartBy : GroupPart → List GroupDeed → TurnInput → ℕ → Seat → Piece → Type 0
+IsPartBy group past input writer seat piece =
+    IsPartIf seat (carried_frame (writer_at group writer) (meta_at group input.told.metas writer)) (answer_by group past input writer) piece
