@@ -1,0 +1,4 @@
+mod Kept
+mod Longer
+mod Rows
+mod Turns

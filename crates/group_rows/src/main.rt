@@ -1,0 +1,92 @@
+//! Cases of groups of writers and of readers, one a line: a call and its arguments. A line that begins with `with ` gives the
+//! configuration of the lines behind it, whose groups begin anew there. Each line is printed again, with what the call answers
+//! behind ` -> `. Lines that begin with `#`, and empty ones, are printed as they are.
+#![tactic(auto)]
+
+mod bench;
+mod damage;
+mod growth;
+mod publishing;
+mod runs;
+mod sets;
+mod shown;
+mod takers;
+mod turners;
+
+ghost use Rattle.std.specs.Prelude.{IfOk};
+ghost use Rattle.writer_group.specs.Standing.{IsGood};
+
+use crate::bench::Bench;
+use case_lines::{Line, LineFault};
+use line_texts::unescaped;
+use ps_config::{Config, read_config};
+use std::alloc::Global;
+use std::fmt::Write;
+use std::io;
+
+fn main(rt: HostRuntime) -> io::Result<()> {
+    let mut cases = String::new(rt.alloc());
+    for line in rt.lines(rt.alloc()) {
+        cases.push_str(line?.as_str())?;
+        cases.push('\n')?;
+    }
+    match told(rt.alloc(), cases.as_str()) {
+        Ok(text) => print!(rt; "{text}"),
+        Err(fault) => print!(rt; "no cases: {fault:?}"),
+    }
+}
+
+/// All cases and their answers.
+fn told(alloc: Global, cases: &str) -> Result<String, LineFault> {
+    let mut text = String::new(alloc);
+    let mut is_first = true;
+    for section in cases.split("\nwith ") {
+        if is_first {
+            text.push_str(section)?;
+            is_first = false;
+        } else {
+            text.push_str("\nwith ")?;
+            push_section(alloc, &mut text, section)?;
+        }
+    }
+    Ok(text)
+}
+
+/// A configuration, and the cases behind it.
+fn push_section(alloc: Global, text: &mut String, section: &str) -> Result<(), LineFault> {
+    let (document, cases) = match section.split_once('\n') {
+        Some(halves) => halves,
+        None => (section, ""),
+    };
+    text.push_str(document)?;
+    let Ok(config) = config_of(alloc, document) else {
+        text.push_str(" -> no configuration")?;
+        return Ok(());
+    };
+    let mut bench = Bench::new(alloc, &config)?;
+    for line in cases.split('\n') {
+        text.push('\n')?;
+        text.push_str(line)?;
+        if line.is_empty() || line.starts_with('#') {
+            continue;
+        }
+        match bench.answer(&mut Line::new(line)) {
+            Ok(answer) => write!(text, " -> {answer}")?,
+            Err(fault) => write!(text, " -> not a case: {fault:?}")?,
+        }
+    }
+    Ok(())
+}
+
+/// The configuration that a document tells.
+fn config_of(alloc: Global, document: &str) -> Result<Config, LineFault>
+    ensures { IfOk result IsGood }
+{
+    let Some(bytes) = unescaped(alloc, document)? else {
+        return Err(LineFault::Condition);
+    };
+    match read_config(alloc, &bytes) {
+        Ok(config) => Ok(config),
+        Err(_) => Err(LineFault::Condition),
+    }
+}

@@ -1,0 +1,155 @@
+//! The rows of the data sets.
+ghost use Rattle.std.specs.Prelude.{◌≡◌, ◌<◌, IfOk, length, slice_index_or};
+ghost use Rattle.row_words.specs.Belonging.{Belongs};
+ghost use Rattle.group_rows.specs.Kept.{AreRows};
+
+use case_lines::{Line, LineFault};
+use dataset_meta::{Field, Meta};
+use row_words::Row;
+use std::alloc::Global;
+use value_texts::{parse_status, parse_value};
+use writer_group::Sampled;
+
+/// The same data sets.
+pub fn copies(alloc: Global, sets: &[Meta]) -> Result<Vec<Meta>, LineFault>
+    ensures { IfOk result (λ copies. copies.items ≡ sets.now) }
+{
+    let mut copies = Vec::new(alloc);
+    for set in sets {
+        copies.push(copy_of(alloc, set)?)?;
+    }
+    Ok(copies)
+}
+
+fn copy_of(alloc: Global, set: &Meta) -> Result<Meta, LineFault>
+    ensures { IfOk result (λ copy. copy ≡ set.now) }
+{
+    let fields = copied_fields(alloc, set.fields())?;
+    let made = Meta::new(*set.name(), fields, set.major(), set.minor(), set.quality());
+    match made {
+        Ok(copy) => Ok(copy),
+        Err(_) => Err(LineFault::Condition),
+    }
+}
+
+pub fn copied_fields(alloc: Global, fields: &[Field]) -> Result<Vec<Field>, LineFault>
+    ensures { IfOk result (λ copies. copies.items ≡ fields.now) }
+{
+    let mut copies = Vec::new(alloc);
+    for field in fields {
+        copies.push(*field)?;
+    }
+    Ok(copies)
+}
+
+/// The opening row of each data set.
+pub fn opening_rows(alloc: Global, sets: &[Meta]) -> Result<Vec<Sampled>, LineFault>
+    ensures { IfOk result (λ rows. AreRows sets.now rows.items) }
+{
+    let mut rows = Vec::new(alloc);
+    for set in sets {
+        rows.push(opening(set))?;
+    }
+    Ok(rows)
+}
+
+pub fn opening(meta: &Meta) -> Sampled
+    ensures { Belongs meta.now result.row.words }
+{
+    // it lends its fields, which are a meta's
+    let _fields = meta.fields();
+    Sampled {
+        row: Row::opening(),
+        version: 0,
+    }
+}
+
+/// `SET INDEX:X ..`: fields of a data set get values; tells the row's version
+pub fn write(sets: &[Meta], rows: &mut Vec<Sampled>, line: &mut Line) -> Result<u64, LineFault>
+    requires { AreRows sets.now rows.old.items }
+    ensures { AreRows sets.now rows.new.items }
+{
+    let set = usize::from(line.u8()?);
+    if set >= sets.len() || set >= rows.len() {
+        return Err(LineFault::Condition);
+    }
+    let old = sampled_at(rows, set);
+    let row = written(meta_at(sets, set), &old.row, line)?;
+    let version = old.version.wrapping_add(1);
+    rows[set] = Sampled { row, version };
+    Ok(version)
+}
+
+pub fn meta_at(sets: &[Meta], index: usize) -> &Meta
+    requires { index < length sets.now }
+    ensures { result.now ≡ slice_index_or sets.now index result.now }
+{
+    &sets[index]
+}
+
+pub fn sampled_at(rows: &Vec<Sampled>, index: usize) -> Sampled
+    requires { index < length rows.now.items }
+    ensures { result ≡ slice_index_or rows.now.items index result }
+{
+    rows[index]
+}
+
+/// The row with the values of the words.
+fn written(meta: &Meta, row: &Row, line: &Line) -> Result<Row, LineFault>
+    requires { Belongs meta.now row.now.words }
+    ensures { IfOk result (λ row. Belongs meta.now row.words) }
+{
+    let mut row = *row;
+    for word in line.words() {
+        set(meta, &mut row, word)?;
+    }
+    Ok(row)
+}
+
+/// Sets the field that `INDEX:X` or `INDEX:!S=X` names.
+fn set(meta: &Meta, row: &mut Row, word: &str) -> Result<(), LineFault>
+    requires { Belongs meta.now row.old.words }
+    ensures { Belongs meta.now row.new.words }
+{
+    let Some((index, text)) = word.split_once(':') else {
+        return Err(LineFault::Missing);
+    };
+    let Ok(index) = index.parse::<u8>() else {
+        return Err(LineFault::Number);
+    };
+    if usize::from(index) >= meta.fields().len() {
+        return Err(LineFault::Condition);
+    }
+    set_field(meta, row, index, text)
+}
+
+fn set_field(meta: &Meta, row: &mut Row, index: u8, text: &str) -> Result<(), LineFault>
+    requires belongs { Belongs meta.now row.old.words }
+    requires index { index < length meta.now.fields }
+    ensures { Belongs meta.now row.new.words }
+{
+    let (status, text) = status_and_value(text)?;
+    if status != 0 && !meta.quality() {
+        return Err(LineFault::Condition);
+    }
+    let field = meta.fields()[usize::from(index)];
+    match parse_value(field.kind, field.cap, text.as_bytes()) {
+        Some(value) => row.set_with_status(meta, index, &value, status),
+        None => return Err(LineFault::Condition),
+    }
+    Ok(())
+}
+
+/// The status, 0 where none is spelled, and the value's text.
+fn status_and_value(text: &str) -> Result<(u32, &str), LineFault> {
+    let Some(behind) = text.strip_prefix('!') else {
+        return Ok((0, text));
+    };
+    let Some((status, value)) = behind.split_once('=') else {
+        return Err(LineFault::Missing);
+    };
+    match parse_status(status.as_bytes()) {
+        Some(status) => Ok((status, value)),
+        None => Err(LineFault::Number),
+    }
+}
