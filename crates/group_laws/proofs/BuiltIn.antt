@@ -1,21 +1,27 @@
 -- The built-in configuration meets what the laws ask for.
-use Rattle.std.proofs.Common.{◌≡◌, refl, sym, subst, arith, ◌<◌, ◌≤◌, Contains, length, List, Option, None}
+use Rattle.std.proofs.Common.{◌≡◌, refl, sym, subst, arith, inl, ◌<◌, ◌≤◌, Contains, length, List, Option, None}
 use Rattle.message_guard.specs.Senders.{SenderState}
 use Rattle.ps_config.specs.BuiltIn.{built_in_config, built_in_group, built_in_read_group, built_in_reader, built_in_writer}
 use Rattle.ps_config.proofs.BuiltIn.{built_in_sound}
 use Rattle.writer_group.specs.Payloads.{payloads_of}
-use Rattle.writer_group.specs.Turns.{GroupDeed, TurnInput, frames_in}
-use Rattle.reader_group.specs.Members.{seat_at}
-use Rattle.reader_group.specs.Settings.{setting_by}
-use Rattle.group_laws.specs.Matching.{HasItsTypes, IsMatched, ReadsWriter, IsGroupTurn, MaySend}
+use Rattle.writer_group.specs.Sealing.{AreWritten}
+use Rattle.writer_group.specs.Turns.{GroupDeed, TurnInput, envelope_of, frames_in, made_in}
+use Rattle.group_laws.specs.Matching.{IsMatched, IsMatchedTo, IsGroupTurn, MaySend}
+use Rattle.group_laws.proofs.Headers.{HasItsTypes, headers-written}
+use Rattle.group_laws.proofs.TurnLaws.{payloads-good, turn-small}
+use Rattle.group_laws.proofs.Writers.{group-sound}
 
-pub built-in-matched : IsMatched built_in_config built_in_group built_in_read_group
+built-in-groups : IsMatched built_in_config built_in_group built_in_read_group
 unfolding built_in_config built_in_group built_in_read_group
-built-in-matched = record { ours = refl; layout = refl; security = refl; keygroup = refl }
+built-in-groups = record { publisher = refl; group_id = inl refl; version = inl refl; class_id = inl refl; layout = refl; security = refl; keygroup = refl }
 
-pub built-in-reader : ReadsWriter built_in_group built_in_config.dataset 0 (seat_at (setting_by built_in_config built_in_read_group).seats 0)
+pub built-in-matched : IsMatchedTo built_in_config built_in_read_group 0 built_in_group 0
 unfolding built_in_config built_in_group built_in_read_group built_in_reader built_in_writer
-built-in-reader = record { within = omega arith; id = refl; meta = refl; offset = λ fixed. refl; size = λ fixed. refl }
+built-in-matched = record {
+  groups = built-in-groups;
+  within = omega arith;
+  reads = record { within = omega arith; id = refl; dataset = refl; offset = λ fixed. refl; size = λ fixed. refl };
+}
 
 built-in-types : HasItsTypes built_in_config built_in_group
 unfolding built_in_config built_in_group
@@ -37,8 +43,12 @@ pub built-in-turn : (past : List GroupDeed) (input : TurnInput) → length input
 built-in-turn past input few none = record {
   sound = built_in_sound;
   group_is = built-in-there;
-  types = built-in-types;
   on = let one = one-writer in omega (arith, few, one);
   sender = let count = length (payloads_of built_in_config built_in_group (frames_in built_in_group past input)) in
       subst (λ (s : Option SenderState). MaySend built_in_config built_in_group count s) (sym none) (built-in-sends count);
+  written = let is = group-sound built_in_config built_in_group built_in_sound built-in-there in
+      let payloads = payloads_of built_in_config built_in_group (frames_in built_in_group past input) in
+      subst (λ (s : Option SenderState). AreWritten (envelope_of built_in_config built_in_group past) s 0 payloads) (sym none)
+      (headers-written built_in_config built_in_group (made_in past) 0 payloads built_in_sound.publisher is built-in-types
+      (payloads-good built_in_group.layout built_in_config built_in_group (frames_in built_in_group past input) is (turn-small built_in_config built_in_group past input is)));
 }

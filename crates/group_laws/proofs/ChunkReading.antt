@@ -5,7 +5,7 @@ use Rattle.std.proofs.lemmas.Bool.{eq-eqb, eqb-true}
 use Rattle.std.proofs.lemmas.Bool.Decides.{nat_tests}
 use Rattle.std.proofs.lemmas.List.Elements.{All-cons, All-head, All-tail, All-nil, All-contains}
 use Rattle.seq_number.specs.Numbers.{newer}
-use Rattle.frame_codec.specs.Frames.{Frame}
+use Rattle.frame_codec.specs.Frames.{Alive, Frame}
 use Rattle.frame_codec.specs.Reading.{frame_at}
 use Rattle.chunker.specs.Chunks.{Chunk, cuts, cover, message_of, longest_message}
 use Rattle.chunker.specs.Joining.{Joining, chunk_case, current_case, laid, empty, joined_bytes}
@@ -31,13 +31,14 @@ pub record Came : Type 0 where
 abbrev pub chunk_on : Seat → Fed → Came → Fed
 chunk_on seat fed came = fed_on seat came.receipt fed (Chunked (chunk_bytes came.chunk))
 
--- a message of this number, cut with this room, that is read as this frame
+-- a message of this number, cut with this room, that is read as this data frame
 pub record IsMessage (seat : Seat) (room number : ℕ) (message : List ℕ) (frame : Frame) : Type 0 where
   pub has_room : 1 ≤ room
   pub is_number : number < 65536
   pub some : 1 ≤ length message
   pub short : length message ≤ 4096
   pub frame_number : frame.number ≡ Some number
+  pub not_alive : ¬ (frame.content ≡ Alive)
   pub read : frame_at seat.meta message ≡ Ok frame
 
 module _ (seat : Seat) (room number : ℕ) (message : List ℕ) (frame : Frame) (is : IsMessage seat room number message frame) where
@@ -214,7 +215,7 @@ module _ (seat : Seat) (room number : ℕ) (message : List ℕ) (frame : Frame) 
           let member_is : (chunk_on seat fed c).member ≡ read = ap (λ (p : MemberValue × Bool). p.0) after ∙ ap (λ (m : MemberValue). with_joining m (state chunks)) (given-joining seat c.receipt member frame joining) in
           let bad_is : (chunk_on seat fed c).bad ≡ fed.bad = ap (λ (p : MemberValue × Bool). fed.bad + count_if p.1) after ∙ omega arith in
           let later = past-whole chunks came (chunk_on seat fed c) all_later e (ap (λ (m : MemberValue). m.joining) member_is) in
-          inl (record { receipt = c.receipt; one_of = (0, omega arith, refl); joining = state chunks; member = later.0 ∙ member_is; joins = inr (sym is.frame_number); good = later.1 ∙ bad_is })
+          inl (record { receipt = c.receipt; one_of = (0, omega arith, refl); joining = state chunks; member = later.0 ∙ member_is; joins = inr (sym is.frame_number, is.not_alive); good = later.1 ∙ bad_is })
       on rest false e =
           let chunks = c.chunk ∷ base in
           let answer : laid_on base c.chunk ≡ (state chunks, joins.Part) = ap (λ (t : Bool). (state chunks, if t then joins.Whole total else joins.Part)) e in

@@ -1,24 +1,26 @@
 -- What a turn sends is what a reader of a matched read group is given, where its datagrams come in order.
-use Rattle.std.proofs.Common.{◌≡◌, refl, sym, ap, ◌∙◌, subst, arith, ℕ, suc, ◌+◌, ◌≤◌, List, [], ◌∷◌, length, map, fold, All, Option, Some, None, option_map}
+use Rattle.std.proofs.Common.{◌≡◌, refl, sym, ap, ◌∙◌, subst, arith, ℕ, suc, ◌+◌, ◌<◌, ◌≤◌, List, [], ◌∷◌, length, map, fold, All, Option, Some, None, option_map}
 use Rattle.message_guard.specs.declared.keys.TokenKeys.{TokenKeys}
 use Rattle.message_guard.specs.Acceptance.{Accepted, highest, numbers_of}
 use Rattle.message_guard.specs.declared.mode.Mode.{Mode}
 use Rattle.message_guard.specs.Senders.{SenderState}
 use Rattle.config_tables.specs.declared.words.Layout.TheVariants as layouts
 use Rattle.writer_group.specs.Envelopes.{mode_of}
-use Rattle.writer_group.specs.Payloads.{payloads_of}
+use Rattle.writer_group.specs.Payloads.{meta_at, payloads_of}
 use Rattle.writer_group.specs.Sealing.{Payload, Envelope, advanced_by, datagrams_from}
 use Rattle.writer_group.specs.Turns.{frames_in, made_in}
 use Rattle.reader_group.specs.Opening.{Opened}
 use Rattle.reader_group.specs.Plain.{Setting, unfed}
-use Rattle.group_laws.specs.Matching.{ReadsWriter}
-use Rattle.group_laws.specs.TurnDelivered.{Course, Delivery, IsDelivered, IsDeliveredInSlot, IsInOrder, IsSenderAheadIf, all_received, group_after, its_datagrams, its_opened, its_seat, its_setting, member_after, member_before, received, sender_after}
-use Rattle.group_laws.specs.TurnReading.{Received, answer_by, fed_all, given_by, frame_answered, IsBehind, IsFixedTurn, IsSampled}
-use Rattle.group_laws.proofs.Delivering.{Before, EndsWith, all-fed}
+use Rattle.group_laws.specs.Matching.{ReadsFrames, ReadsWriter}
+use Rattle.group_laws.specs.TurnDelivered.{AreDisabled, AreEnabled, Course, Delivery, IsDelivered, IsDeliveredInSlot, IsSenderAheadIf, IsTakenInOrder, all_fed, all_received, group_after, its_datagrams, its_opened, its_seat, its_setting, member_after, member_before, received, sender_after}
+use Rattle.group_laws.specs.TurnPieces.{frame_by}
+use Rattle.group_laws.specs.TurnReading.{Received, frame_answered, IsBehind, IsFixedTurn, IsSampled}
+use Rattle.group_laws.proofs.Delivering.{Before, ahead-after, all-fed, all-left, before-all}
 use Rattle.group_laws.proofs.DynamicReading.{dynamic-read}
 use Rattle.group_laws.proofs.FixedReading.{fixed-read}
 use Rattle.group_laws.proofs.PartsReading.{one-by-one}
-use Rattle.group_laws.proofs.TurnLaws.{payloads-good, turn-many, turn-small}
+use Rattle.group_laws.proofs.PayloadsGood.{IsGood}
+use Rattle.group_laws.proofs.TurnLaws.{AreOne, payloads-good, turn-many, turn-small}
 use Rattle.group_laws.proofs.TurnTaken.{advanced-keys, advanced-used}
 use Rattle.group_laws.proofs.Writers.{group-sound}
 
@@ -44,42 +46,54 @@ ahead-next mode (Some s) accepted count before =
           (subst (λ (most : ℕ). All (λ (n : ℕ). n ≤ most) (numbers_of accepted s.keys.token)) used before.numbers);
     }
 
-module _ (c : Course) (order : IsInOrder c) where
+module _ (c : Course) (taken : IsTakenInOrder c) where
   abbrev payloads : List Payload
   payloads = payloads_of c.config c.group (frames_in c.group c.past c.input)
 
-  ends : EndsWith c.input.sender c.reader (group_after c) (length payloads) (fold (given_by (its_seat c)) (member_before c) (all_received c))
-  ends =
-      let turn = order.turn in
-      let is = group-sound c.config c.group turn.sound turn.group_is in
-      all-fed c.config c.group c.readers (made_in c.past) (length payloads) c.input.sender c.reader
-      (record { one = λ payload good. record { sound = turn.sound; is = is; types = turn.types; matched = order.matched; good = good }; may = turn.sender }) order.within
-      c.before c.deliveries payloads order.enabled (order.each ∙ many _ c.input.sender 0 payloads) (omega arith)
-      (payloads-good c.group.layout c.config c.group (frames_in c.group c.past c.input) is (turn-small c.config c.group c.past c.input is)) order.ahead
+  are : AreOne c.config c.group c.readers (length payloads) c.input.sender
+  are = record {
+    one = λ payload good. record { sound = taken.turn.sound; is = group-sound c.config c.group taken.turn.sound taken.turn.group_is; matched = taken.matched; good = good };
+    may = taken.turn.sender;
+  }
+
+  all-good : All (IsGood c.group.layout) payloads
+  all-good =
+      let is = group-sound c.config c.group taken.turn.sound taken.turn.group_is in
+      payloads-good c.group.layout c.config c.group (frames_in c.group c.past c.input) is (turn-small c.config c.group c.past c.input is)
+
+  each-payload : length c.deliveries ≡ length payloads
+  each-payload = taken.each ∙ many _ c.input.sender 0 payloads
 
   opened-are : map (λ (r : Received). r.opened) (all_received c) ≡ its_opened c
-  opened-are = received-opened (its_setting c) c.deliveries (its_opened c) (order.each ∙ sym (turn-many c.config c.group c.past c.input))
-
-  member-is : (fed_all (its_seat c) (unfed (member_before c)) (all_received c)).member ≡ member_after c
-  member-is = sym (one-by-one (its_seat c) (unfed (member_before c)) (all_received c)) ∙ sym ends.member_is
+  opened-are = received-opened (its_setting c) c.deliveries (its_opened c) (taken.each ∙ sym (turn-many c.config c.group c.past c.input))
 
   pub next-ahead : IsSenderAheadIf (group_after c).accepted (sender_after c)
   next-ahead =
       let long = many _ c.input.sender 0 payloads in
-      ahead-next (mode_of c.group.security) c.input.sender (group_after c).accepted (length (its_datagrams c)) (subst (λ (n : ℕ). Before c.input.sender (group_after c).accepted n) (sym long) ends.before_next)
+      let before : Before c.input.sender (group_after c).accepted (length payloads) = subst (λ (n : ℕ). Before c.input.sender (group_after c).accepted n) (omega arith)
+      (ahead-after c.config c.group c.readers (made_in c.past) (length payloads) c.input.sender are c.before c.deliveries 0 payloads each-payload (omega arith) all-good taken.turn.written (before-all c.input.sender c.before.accepted taken.ahead)) in
+      ahead-next (mode_of c.group.security) c.input.sender (group_after c).accepted (length (its_datagrams c)) (subst (λ (n : ℕ). Before c.input.sender (group_after c).accepted n) (sym long) before)
 
-  pub dynamic-delivered : (writer : ℕ) → c.group.layout ≡ layouts.Dynamic → ReadsWriter c.group c.input.told.metas writer (its_seat c) → IsSampled c.group c.past c.input writer
-      → IsBehind (member_before c).joining (answer_by c.group c.past c.input writer) → IsDelivered c (frame_answered c.group c.past c.input writer)
-  dynamic-delivered writer is reads sampled behind = record {
-    fed = fed_all (its_seat c) (unfed (member_before c)) (all_received c);
-    member = member-is;
-    read = dynamic-read c.config c.group c.past c.input writer (its_seat c) (unfed (member_before c)) (all_received c) is order.turn reads sampled opened-are behind;
-  }
+  pub left-alone : c.reader < length (its_setting c).seats → AreDisabled c.reader c.deliveries → member_after c ≡ member_before c
+  left-alone within disabled =
+      all-left c.config c.group c.readers (made_in c.past) (length payloads) c.input.sender are c.reader within c.before c.deliveries payloads disabled each-payload (omega arith) all-good taken.turn.written taken.ahead
 
-  pub fixed-delivered : (writer : ℕ) → c.group.layout ≡ layouts.Fixed → IsFixedTurn c.config c.group c.past c.input → ReadsWriter c.group c.input.told.metas writer (its_seat c)
-      → IsDeliveredInSlot c (frame_answered c.group c.past c.input writer)
-  fixed-delivered writer is fixed reads = record {
-    fed = fed_all (its_seat c) (unfed (member_before c)) (all_received c);
-    member = member-is;
-    read = fixed-read c.config c.group c.past c.input writer (its_seat c) (unfed (member_before c)) (all_received c) is order.turn fixed reads opened-are;
-  }
+  module _ (within : c.reader < length (its_setting c).seats) (enabled : AreEnabled c.reader c.deliveries) where
+    member-is : (all_fed c).member ≡ member_after c
+    member-is =
+        sym (one-by-one (its_seat c) (unfed (member_before c)) (all_received c))
+        ∙ sym (all-fed c.config c.group c.readers (made_in c.past) (length payloads) c.input.sender are c.reader within c.before c.deliveries payloads enabled each-payload (omega arith) all-good taken.turn.written taken.ahead)
+
+    pub dynamic-delivered : (writer : ℕ) → c.group.layout ≡ layouts.Dynamic → ReadsWriter c.group writer (its_seat c).part → ReadsFrames c.group c.input.told.metas writer (its_seat c).meta → IsSampled c.group c.past c.input writer
+        → IsBehind c.config.publisher.id c.group (member_before c).joining (frame_by c.group c.past c.input writer) → IsDelivered c (frame_answered c.group c.past c.input writer (its_seat c))
+    dynamic-delivered writer is reads metas sampled behind = record {
+      member = member-is;
+      read = dynamic-read c.config c.group c.past c.input writer (its_seat c) (unfed (member_before c)) (all_received c) is taken.turn reads metas sampled opened-are behind;
+    }
+
+    pub fixed-delivered : (writer : ℕ) → c.group.layout ≡ layouts.Fixed → IsFixedTurn c.config c.group c.past c.input → ReadsWriter c.group writer (its_seat c).part → (its_seat c).meta ≡ meta_at c.group c.config.dataset writer
+        → IsDeliveredInSlot c (frame_answered c.group c.past c.input writer (its_seat c))
+    fixed-delivered writer is fixed reads same = record {
+      member = member-is;
+      read = fixed-read c.config c.group c.past c.input writer (its_seat c) (unfed (member_before c)) (all_received c) is taken.turn fixed reads same opened-are;
+    }

@@ -5,8 +5,8 @@ use Rattle.std.specs.List.{flat_map}
 use Rattle.std.proofs.lemmas.Bool.{lt-ltb}
 use Rattle.std.proofs.lemmas.List.{length-map}
 use Rattle.std.proofs.lemmas.List.Elements.{All-contains, All-map}
-use Rattle.uadp_header.specs.Headers.{NoIds, SecurityValue}
-use Rattle.uadp_header.specs.Spelling.{header_bytes, len_if, security_len}
+use Rattle.uadp_header.specs.Headers.{IdsValue, NoIds, SecurityValue}
+use Rattle.uadp_header.specs.Spelling.{IsWritten, header_bytes, len_if, security_len}
 use Rattle.ua_binary.specs.Wire.{flag}
 use Rattle.uadp_header.proofs.Lengths.{length-header}
 use Rattle.message_guard.specs.Senders.{SenderState, IsSender, front_value}
@@ -27,14 +27,14 @@ use Rattle.ps_config.specs.Headers.{is_secured, publisher_value, security_value}
 use Rattle.ps_config.specs.Rooms.{header_settings, is_fixed}
 use Rattle.writer_group.specs.Envelopes.{Numbering, IsSecuredAs, mode_of, numbered_header}
 use Rattle.writer_group.specs.Payloads.{Spelled, fixed_header, fixed_payloads, payloads_by, slots_of, writer_at, meta_at}
-use Rattle.writer_group.specs.Sealing.{envelope_with, Payload, header_at}
+use Rattle.writer_group.specs.Sealing.{AreWritten, envelope_with, Payload, header_at}
 use Rattle.writer_group.specs.Turns.{GroupDeed, TurnInput, envelope_of, frame_of_writer, frames_in, frames_from, made_in, turns_from}
 use Rattle.writer_group.proofs.HeaderLengths.{numbered-len}
 use Rattle.reader_group.specs.Members.{Seat}
 use Rattle.reader_group.specs.Opening.{Opened}
 use Rattle.reader_group.specs.Payloads.{slot_piece, reader_slot, pieces}
 use Rattle.reader_group.specs.Settings.{keygroup_at}
-use Rattle.group_laws.specs.Matching.{HasItsTypes, ReadsWriter, IsSenderOf, IsGroupTurn, MaySend}
+use Rattle.group_laws.specs.Matching.{ReadsWriter, IsSenderOf, IsGroupTurn, MaySend}
 use Rattle.group_laws.specs.TurnOpened.{sender_at, opened_from, turn_opened}
 use Rattle.group_laws.specs.TurnPieces.{frame_by, fixed_pieces, turn_pieces, writer_pieces}
 use Rattle.group_laws.specs.TurnReading.{IsFixedTurn, HasRows}
@@ -48,10 +48,14 @@ class-len : (class_id : Option (List ℕ)) → IfSome class_id (λ guid. length 
 class-len None is = refl
 class-len (Some guid) is = is
 
-numbered-long : (config : Config) (group : GroupPart) (n : Numbering) → HasItsTypes config group → IsSecuredAs (header_settings group) n.security
+class-of : (config : Config) (group : GroupPart) (made index : ℕ) (sender : Option SenderState) (ids : IdsValue) → IsWritten (header_at (envelope_with config group made) sender index ids) → IfSome group.class_id (λ guid. length guid ≡ 16)
+class-of config group made index None ids is = is.header.class_id
+class-of config group made index (Some s) ids is = is.header.class_id
+
+numbered-long : (config : Config) (group : GroupPart) (n : Numbering) → IfSome group.class_id (λ guid. length guid ≡ 16) → IsSecuredAs (header_settings group) n.security
     → length (header_bytes (numbered_header (publisher_value config.publisher.id) (header_settings group) n NoIds)) ≡ fixed_header config.publisher.id group
-numbered-long config group n types secured =
-    length-header (numbered_header (publisher_value config.publisher.id) (header_settings group) n NoIds) (class-len group.class_id types.class_id)
+numbered-long config group n guid secured =
+    length-header (numbered_header (publisher_value config.publisher.id) (header_settings group) n NoIds) (class-len group.class_id guid)
     ∙ numbered-len config.publisher.id (header_settings group) n NoIds NoIds secured refl refl
 
 secured-none : (settings : HeaderSettings) (s : Security) → settings.security ≡ s → is_secured s ≡ false → IsSecuredAs settings None
@@ -77,15 +81,15 @@ sender-there : (config : Config) (s : SenderState) (keygroup : Option ℕ) → i
 sender-there config s None there is = absurd (let wrong : Path Bool false true = there in cc)
 sender-there config s (Some index) there is = is.sender_is
 
-pub header-long : (config : Config) (group : GroupPart) (made index count : ℕ) (sender : Option SenderState) → HasItsTypes config group → is_secured group.security ≡ is_some group.keygroup → MaySend config group count sender
+pub header-long : (config : Config) (group : GroupPart) (made index count : ℕ) (sender : Option SenderState) → IfSome group.class_id (λ guid. length guid ≡ 16) → is_secured group.security ≡ is_some group.keygroup → MaySend config group count sender
     → length (header_bytes (header_at (envelope_with config group made) sender index NoIds)) ≡ fixed_header config.publisher.id group
-header-long config group made index count None types keyed may =
-    numbered-long config group (record { sequence = made + index; message = index + 1; security = None }) types (secured-none (header_settings group) group.security refl may)
-header-long config group made index count (Some s) types keyed may =
+header-long config group made index count None guid keyed may =
+    numbered-long config group (record { sequence = made + index; message = index + 1; security = None }) guid (secured-none (header_settings group) group.security refl may)
+header-long config group made index count (Some s) guid keyed may =
     let now = sender_at (envelope_with config group made) s index in
     let sender_is = sender-there config s group.keygroup (sym keyed ∙ may.0) may.2 in
     let eight : length (front_value (mode_of group.security) now).nonce ≡ 8 = length-nonce now.random now.used (ap length (advanced-random (mode_of group.security) s (suc index)) ∙ sender_is.random) in
-    numbered-long config group (record { sequence = made + index; message = index + 1; security = Some (front_value (mode_of group.security) now) }) types
+    numbered-long config group (record { sequence = made + index; message = index + 1; security = Some (front_value (mode_of group.security) now) }) guid
     (secured-some (header_settings group) group.security (front_value (mode_of group.security) now) refl may.0 eight)
 
 -- ---- what stands in a slot
@@ -96,7 +100,7 @@ same-slot datagram one other offset size =
     ∙ ap (λ (z : ℕ). slot_of datagram (record { offset = other.offset; size = z; need = other.need })) size
 
 module _ (config : Config) (group : GroupPart) (past : List GroupDeed) (input : TurnInput) (writer : ℕ) (seat : Seat) (is : group.layout ≡ layouts.Fixed) (turn : IsGroupTurn config group past input)
-    (fixed : IsFixedTurn config group past input) (reader : ReadsWriter group input.told.metas writer seat) where
+    (fixed : IsFixedTurn config group past input) (reader : ReadsWriter group writer seat.part) where
   abbrev frames : List Spelled
   frames = frames_in group past input
 
@@ -126,8 +130,22 @@ module _ (config : Config) (group : GroupPart) (past : List GroupDeed) (input : 
   abbrev header : List ℕ
   header = header_bytes (header_at (envelope_of config group past) input.sender 0 NoIds)
 
+  abbrev payload : Payload
+  payload = (NoIds, fixed_payload (fixed_header config.publisher.id group) slots (map in_slot frames))
+
+  some : nat_lt 0 (length group.writer) ≡ true
+  some = lt-ltb 0 (length group.writer) (let below = reader.within in omega (arith, below))
+
+  written : AreWritten (envelope_of config group past) input.sender 0 (payload ∷ [])
+  written =
+      subst (λ (b : Bool). AreWritten (envelope_of config group past) input.sender 0 (if b then payload ∷ [] else [])) some
+      (subst (λ (l : Layout). AreWritten (envelope_of config group past) input.sender 0 (payloads_by l config group frames)) is turn.written)
+
+  guid : IfSome group.class_id (λ guid. length guid ≡ 16)
+  guid = class-of config group (made_in past) 0 input.sender NoIds written.0
+
   long : length header ≡ fixed_header config.publisher.id group
-  long = header-long config group (made_in past) 0 _ input.sender turn.types (group-sound config group turn.sound turn.group_is).keys.keyed turn.sender
+  long = header-long config group (made_in past) 0 _ input.sender guid (group-sound config group turn.sound turn.group_is).keys.keyed turn.sender
 
   apart : AreApart (length header) slots
   apart = subst (λ (n : ℕ). AreApart n slots) (sym long) group_fixed.slots.apart
@@ -182,8 +200,6 @@ module _ (config : Config) (group : GroupPart) (past : List GroupDeed) (input : 
 
   pub fixed-turn : flat_map (λ opened. pieces seat.part opened.payload) (turn_opened config group past input) ≡ turn_pieces config group past input writer
   fixed-turn =
-      let some : nat_lt 0 (length group.writer) ≡ true = lt-ltb 0 (length group.writer) (let below = reader.within in omega (arith, below)) in
-      let payload : Payload = (NoIds, fixed_payload (fixed_header config.publisher.id group) slots (map in_slot frames)) in
       let e = envelope_of config group past in
       ap (λ (l : Layout). flat_map (λ (opened : Opened). pieces seat.part opened.payload) (opened_from l e input.sender 0 (payloads_by l config group frames))) is
       ∙ ap (λ (b : Bool). flat_map (λ (opened : Opened). pieces seat.part opened.payload) (opened_from layouts.Fixed e input.sender 0 (if b then payload ∷ [] else []))) some

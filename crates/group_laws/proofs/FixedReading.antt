@@ -8,7 +8,8 @@ use Rattle.std.proofs.lemmas.Option.{slice_get-get_or}
 use Rattle.dataset_meta.specs.Metas.{MetaData}
 use Rattle.pubsub_model.specs.Frames.{PlacedFrame, Whole}
 use Rattle.pubsub_model.specs.Cadence.{WriterTurn, cadence, next_place}
-use Rattle.frame_codec.specs.Frames.{Frame}
+use Rattle.frame_codec.specs.Frames.{Frame, frame_cut}
+use Rattle.frame_codec.proofs.WrittenLaws.{cut-whole}
 use Rattle.fixed_layout.specs.Datagrams.{filled}
 use Rattle.config_tables.specs.declared.words.Layout.{Layout}
 use Rattle.config_tables.specs.declared.words.Layout.TheVariants as layouts
@@ -28,7 +29,7 @@ use Rattle.reader_group.specs.SlotFrames.{slot_frame_at}
 use Rattle.group_laws.specs.Matching.{ReadsWriter, IsGroupTurn}
 use Rattle.group_laws.specs.TurnOpened.{turn_opened}
 use Rattle.group_laws.specs.TurnPieces.{frame_by, fixed_pieces, turn_pieces, writer_pieces, turn_by}
-use Rattle.group_laws.specs.TurnReading.{Received, fed_all, answer_to, answer_by, frame_answered, IsSampled, IsGiven, IsReadInSlot, IsFixedTurn}
+use Rattle.group_laws.specs.TurnReading.{Received, fed_all, answer_to, answer_by, frame_answered, frame_read, IsSampled, IsGiven, IsReadInSlot, IsFixedTurn}
 use Rattle.group_laws.proofs.DynamicReading.{answer-frame, frame-by-is, more-receipts}
 use Rattle.group_laws.proofs.FixedFrames.{turn-whole}
 use Rattle.group_laws.proofs.FixedPieces.{fixed-turn}
@@ -64,7 +65,7 @@ slot-empty seat fed parts zeros e =
     (ap (λ (p : MemberValue × Bool). p.0) after, ap (λ (p : MemberValue × Bool). fed.bad + count_if p.1) after)
 
 module _ (config : Config) (group : GroupPart) (past : List GroupDeed) (input : TurnInput) (writer : ℕ) (seat : Seat)
-    (is : group.layout ≡ layouts.Fixed) (turn : IsGroupTurn config group past input) (fixed : IsFixedTurn config group past input) (reader : ReadsWriter group input.told.metas writer seat) where
+    (is : group.layout ≡ layouts.Fixed) (turn : IsGroupTurn config group past input) (fixed : IsFixedTurn config group past input) (reader : ReadsWriter group writer seat.part) (same : seat.meta ≡ meta_at group config.dataset writer) where
   abbrev meta : MetaData
   meta = meta_at group input.told.metas writer
 
@@ -82,6 +83,9 @@ module _ (config : Config) (group : GroupPart) (past : List GroupDeed) (input : 
 
   sampled : IsSampled group past input writer
   sampled = fixed.sampled writer reader.within
+
+  now_is : seat.meta ≡ meta
+  now_is = same ∙ sym (fixed.metas writer reader.within)
 
   -- the data set of a fixed writer has no statuses
   no-quality : meta.quality ≡ false
@@ -101,7 +105,7 @@ module _ (config : Config) (group : GroupPart) (past : List GroupDeed) (input : 
 
   pub slot-is : (took : WriterTurn) (place : ℕ) → answer_by group past input writer ≡ Some (Whole place took.row)
       → slot_frame_at seat.meta (filled (writer_slot config (writer_at group writer)) (spelled_by group input.told.metas writer (Whole place took.row)).bytes)
-      ≡ Ok (carried_frame (writer_at group writer) meta (Whole place took.row))
+      ≡ Ok (frame_read group input writer seat (Whole place took.row))
   slot-is took place e =
       let placed = Whole place took.row in
       let frame = carried_frame (writer_at group writer) meta placed in
@@ -110,12 +114,13 @@ module _ (config : Config) (group : GroupPart) (past : List GroupDeed) (input : 
       let frame_is = answer-frame group past input writer placed sampled e in
       let bytes_are : spelled.bytes ≡ raw_frame meta.fields frame = ap (λ (l : Layout). laid_frame l meta frame) is in
       let good = good-row meta.quality meta.fields took.row no-quality frame_is.content in
-      ap (λ (m : MetaData). slot_frame_at m (filled slot spelled.bytes)) reader.meta
+      ap (λ (m : MetaData). slot_frame_at m (filled slot spelled.bytes)) now_is
       ∙ ap (λ (bytes : List ℕ). slot_frame_at meta (bytes ++ replicate (slot.size - length spelled.bytes) 0)) bytes_are
       ∙ raw-read meta frame took.row (slot.size - length spelled.bytes) refl sampled.meta frame_is frame_is.content good
+      ∙ ap (λ (f : Frame). Ok f) (sym (ap (λ (m : MetaData). frame_cut m frame) now_is ∙ cut-whole meta frame frame_is))
 
 module _ (config : Config) (group : GroupPart) (past : List GroupDeed) (input : TurnInput) (writer : ℕ) (seat : Seat) (fed : Fed) (received : List Received)
-    (is : group.layout ≡ layouts.Fixed) (turn : IsGroupTurn config group past input) (fixed : IsFixedTurn config group past input) (reader : ReadsWriter group input.told.metas writer seat)
+    (is : group.layout ≡ layouts.Fixed) (turn : IsGroupTurn config group past input) (fixed : IsFixedTurn config group past input) (reader : ReadsWriter group writer seat.part) (same : seat.meta ≡ meta_at group config.dataset writer)
     (opened_are : map (λ (a : Received). a.opened) received ≡ turn_opened config group past input) where
   abbrev its_meta : MetaData
   its_meta = meta_at group input.told.metas writer
@@ -127,28 +132,28 @@ module _ (config : Config) (group : GroupPart) (past : List GroupDeed) (input : 
   parts-are answer e =
       pieces-of seat received ∙ ap (flat_map (λ (o : Opened). pieces seat.part o.payload)) opened_are
       ∙ fixed-turn config group past input writer seat is turn fixed reader
-      ∙ turn-is config group past input writer seat is turn fixed reader answer e
+      ∙ turn-is config group past input writer seat is turn fixed reader same answer e
 
   whole-read : (took : WriterTurn) (place : ℕ) → answer_by group past input writer ≡ Some (Whole place took.row)
-      → IsGiven seat (map (λ (p : Part). p.receipt) parts) fed (carried_frame (writer_at group writer) its_meta (Whole place took.row)) (fold (part_on seat) fed parts)
+      → IsGiven seat (map (λ (p : Part). p.receipt) parts) fed (frame_read group input writer seat (Whole place took.row)) (fold (part_on seat) fed parts)
   whole-read took place e =
       let spelled = spelled_by group input.told.metas writer (Whole place took.row) in
-      slot-given seat fed parts (filled (writer_slot config (writer_at group writer)) spelled.bytes) (carried_frame (writer_at group writer) its_meta (Whole place took.row))
-      (slot-is config group past input writer seat is turn fixed reader took place e) (parts-are (Some (Whole place took.row)) e)
+      slot-given seat fed parts (filled (writer_slot config (writer_at group writer)) spelled.bytes) (frame_read group input writer seat (Whole place took.row))
+      (slot-is config group past input writer seat is turn fixed reader same took place e) (parts-are (Some (Whole place took.row)) e)
 
   on-turn : (took : Option WriterTurn) → turn_by group input writer ≡ took
-      → IsReadInSlot seat (map (λ (a : Received). a.receipt) received) fed (option_map (carried_frame (writer_at group writer) its_meta) (answer_to group past writer took)) (fold (part_on seat) fed parts)
+      → IsReadInSlot seat (map (λ (a : Received). a.receipt) received) fed (option_map (frame_read group input writer seat) (answer_to group past writer took)) (fold (part_on seat) fed parts)
   on-turn None had =
       slot-empty seat fed parts (writer_slot config (writer_at group writer)).size (parts-are None (ap (answer_to group past writer) had))
   on-turn (Some took) had =
-      let place = place_now config group past input writer seat is turn fixed reader in
-      let answer : answer_of group past writer took ≡ Some (Whole place took.row) = answer-is config group past input writer seat is turn fixed reader took in
-      let frame = carried_frame (writer_at group writer) its_meta (Whole place took.row) in
-      subst (λ (o : Option PlacedFrame). IsReadInSlot seat (map (λ (a : Received). a.receipt) received) fed (option_map (carried_frame (writer_at group writer) its_meta) o) (fold (part_on seat) fed parts)) (sym answer)
+      let place = place_now config group past input writer seat is turn fixed reader same in
+      let answer : answer_of group past writer took ≡ Some (Whole place took.row) = answer-is config group past input writer seat is turn fixed reader same took in
+      let frame = frame_read group input writer seat (Whole place took.row) in
+      subst (λ (o : Option PlacedFrame). IsReadInSlot seat (map (λ (a : Received). a.receipt) received) fed (option_map (frame_read group input writer seat) o) (fold (part_on seat) fed parts)) (sym answer)
       (more-receipts seat (map (λ (p : Part). p.receipt) parts) (map (λ (a : Received). a.receipt) received) fed frame (fold (part_on seat) fed parts) (receipts-of seat received)
       (whole-read took place (ap (answer_to group past writer) had ∙ answer)))
 
-  pub fixed-read : IsReadInSlot seat (map (λ (a : Received). a.receipt) received) fed (frame_answered group past input writer) (fed_all seat fed received)
+  pub fixed-read : IsReadInSlot seat (map (λ (a : Received). a.receipt) received) fed (frame_answered group past input writer seat) (fed_all seat fed received)
   fixed-read =
-      subst (λ (after : Fed). IsReadInSlot seat (map (λ (a : Received). a.receipt) received) fed (frame_answered group past input writer) after) (sym (fed-parts seat fed received))
+      subst (λ (after : Fed). IsReadInSlot seat (map (λ (a : Received). a.receipt) received) fed (frame_answered group past input writer seat) after) (sym (fed-parts seat fed received))
       (on-turn (turn_by group input writer) refl)

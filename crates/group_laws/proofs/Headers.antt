@@ -1,18 +1,19 @@
--- The headers of a group's datagrams can be written.
-use Rattle.std.proofs.Common.{◌≡◌, ◌≢◌, refl, arith, ℕ, ◌<◌, ◌^◌, Bool, true, false, Option, Some, None, IfSome, mod-lt}
+-- The headers of the datagrams of a group that isn't secured can be written.
+use Rattle.std.proofs.Common.{◌≡◌, ◌≢◌, refl, arith, ℕ, ◌+◌, ◌<◌, ◌^◌, Bool, true, false, List, [], ◌∷◌, length, All, Option, Some, None, IfSome, mod-lt}
 use Rattle.std.specs.Prelude.{◌==◌, if◌then◌else◌}
 use Rattle.std.proofs.lemmas.Bool.Decides.{nat_tests}
-use Rattle.uadp_header.specs.Headers.{IdsValue, SecurityValue}
-use Rattle.uadp_header.specs.Spelling.{IsSendersSecurity, IsShortText, IsWritten, AreIds, IsIds}
+use Rattle.std.proofs.lemmas.List.Elements.{All-head, All-tail}
+use Rattle.uadp_header.specs.Headers.{IdsValue}
+use Rattle.uadp_header.specs.Spelling.{IsPublisher, IsShortText, IsWritten, AreIds, IsIds}
 use Rattle.config_tables.specs.declared.publisher.Publisher.{Publisher}
 use Rattle.config_tables.specs.declared.publisher.Publisher.TheVariants as publishers
 use Rattle.ps_config.specs.declared.parts.Config.{Config}
 use Rattle.ps_config.specs.declared.parts.GroupPart.{GroupPart}
 use Rattle.ps_config.specs.Headers.{IsShortId, publisher_value, version_value}
-use Rattle.ps_config.specs.Rooms.{header_settings}
 use Rattle.ps_config.specs.Sound.{IsGroup}
-use Rattle.writer_group.specs.Envelopes.{Numbering, number_if, numbered_header}
-use Rattle.group_laws.specs.Matching.{HasItsTypes}
+use Rattle.writer_group.specs.Envelopes.{number_if}
+use Rattle.writer_group.specs.Sealing.{AreWritten, envelope_with, header_at, Payload}
+use Rattle.group_laws.proofs.PayloadsGood.{IsGood}
 
 short-text : (publisher : Publisher) → IsShortId publisher → IsShortText (publisher_value publisher)
 short-text (publishers.U8 id) short = tt
@@ -42,38 +43,39 @@ number-fits : (holds : Bool) (number : ℕ) → IfSome (number_if holds number) 
 number-fits true number = mod-lt number {m = 65536} (omega arith)
 number-fits false number = tt
 
--- what a security header has to be
-pub record IsFront (security : SecurityValue) : Type 0 where
-  pub senders : IsSendersSecurity security
-  pub token : security.token < 2 ^ 32
+-- what a group of a program's configuration has by its types
+pub record HasItsTypes (config : Config) (group : GroupPart) : Type 0 where
+  pub publisher : IsPublisher (publisher_value config.publisher.id)
+  pub version : group.version < 2 ^ 32
+  pub class_id : IfSome group.class_id (λ guid. length guid ≡ 16)
 
-senders-if : (security : Option SecurityValue) → IfSome security IsFront → IfSome security IsSendersSecurity
-senders-if None is = tt
-senders-if (Some security) is = is.senders
-
-token-if : (security : Option SecurityValue) → IfSome security IsFront → IfSome security (λ security. security.token < 2 ^ 32)
-token-if None is = tt
-token-if (Some security) is = is.token
-
-pub header-written : (config : Config) (group : GroupPart) (numbering : Numbering) (ids : IdsValue) → IsShortId config.publisher.id → IsGroup config group → HasItsTypes config group → IfSome numbering.security IsFront
-    → AreIds ids → IsIds ids → IsWritten (numbered_header (publisher_value config.publisher.id) (header_settings group) numbering ids)
-header-written config group numbering ids short is types front are fit = record {
+header-written : (config : Config) (group : GroupPart) (made index : ℕ) (ids : IdsValue) → IsShortId config.publisher.id → IsGroup config group → HasItsTypes config group
+    → AreIds ids → IsIds ids → IsWritten (header_at (envelope_with config group made) None index ids)
+header-written config group made index ids short is types are fit = record {
   senders = record {
     publisher = refl;
     text = short-text config.publisher.id short;
     group = refl;
     version = version-some group.version;
     ids = are;
-    security = senders-if numbering.security front;
+    security = tt;
   };
   header = record {
     publisher = types.publisher;
     class_id = types.class_id;
     group = omega (arith, is.id.1);
     version = version-fits group.version types.version;
-    message_number = number-fits group.message_number numbering.message;
-    sequence = number-fits group.sequence numbering.sequence;
+    message_number = number-fits group.message_number (index + 1);
+    sequence = number-fits group.sequence (made + index);
     ids = fit;
-    security = token-if numbering.security front;
+    security = tt;
   };
 }
+
+-- those of all datagrams of a turn that isn't secured
+pub headers-written : (config : Config) (group : GroupPart) (made index : ℕ) (payloads : List Payload) → IsShortId config.publisher.id → IsGroup config group → HasItsTypes config group
+    → All (IsGood group.layout) payloads → AreWritten (envelope_with config group made) None index payloads
+headers-written config group made index [] short is types good = tt
+headers-written config group made index (payload ∷ payloads) short is types good =
+    let here = All-head (IsGood group.layout) payload payloads good in
+    (header-written config group made index payload.0 short is types here.ids here.numbers, headers-written config group made (index + 1) payloads short is types (All-tail (IsGood group.layout) payload payloads good))

@@ -8,6 +8,7 @@ pub mod Writers
 pub mod TurnFrames
 pub mod TurnTaken
 pub mod TurnLaws
+pub mod Matched
 pub mod Members
 pub mod ChunkReading
 pub mod Answers
@@ -23,4 +24,5 @@ pub mod Delivering
 pub mod Delivered
 pub mod RingSenders
 pub mod OtherReaders
+pub mod OtherGroups
 pub mod BuiltIn

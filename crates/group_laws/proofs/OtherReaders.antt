@@ -32,7 +32,7 @@ none-own id frame_room room (frame ∷ frames) all =
     ap (λ (b : Bool). (if b then frame_pieces frame_room room frame else []) ++ flat_map (own id frame_room room) frames) other
     ∙ none-own id frame_room room frames (All-tail (λ (f : Spelled). f.id ≢ id) frame frames all)
 
-no-writer-has : (group : GroupPart) (id writer : ℕ) → 1 ≤ id → All (λ writer. writer.id ≢ id) group.writer → id_at group writer ≢ id
+pub no-writer-has : (group : GroupPart) (id writer : ℕ) → 1 ≤ id → All (λ writer. writer.id ≢ id) group.writer → id_at group writer ≢ id
 no-writer-has group id writer some all = on (cases_lt writer (length group.writer))
   where
     on : (writer < length group.writer) ⊎ (length group.writer ≤ writer) → id_at group writer ≢ id

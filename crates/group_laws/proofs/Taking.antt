@@ -32,7 +32,7 @@ use Rattle.group_laws.proofs.PayloadsGood.{IsGood}
 
 -- ---- a written header is read, and behind it the tests are looked at
 
-abbrev tests : ReadGroupPart → Setup → Accepted → List ℕ → HeaderValue → ℕ → Result Opened Refusal
+abbrev pub tests : ReadGroupPart → Setup → Accepted → List ℕ → HeaderValue → ℕ → Result Opened Refusal
 tests group setup accepted datagram header at = judged (list_of group setup accepted datagram header at) (opened_as group setup datagram header at)
 
 payload-at : (front rest : List ℕ) → length (front ++ rest) - length rest ≡ length front
@@ -44,7 +44,7 @@ verdict-written group setup accepted header rest is =
     ap (verdict_of group setup accepted (header_bytes header ++ rest)) (header_again header rest is)
     ∙ ap (tests group setup accepted (header_bytes header ++ rest) header) (payload-at (header_bytes header) rest)
 
-abbrev behind : ReadGroupPart → Setup → Accepted → List ℕ → HeaderValue → ℕ → Refusals
+abbrev pub behind : ReadGroupPart → Setup → Accepted → List ℕ → HeaderValue → ℕ → Refusals
 behind group setup accepted datagram header at =
     guard_refusals (guards.refusals setup.mode setup.keys accepted header.security datagram at)
     ++ payload_refusals group.layout header.ids (drop at (decrypted setup (pass_of setup.mode header.security datagram) at datagram))
@@ -129,10 +129,10 @@ pub record IsSecured (setup : Setup) (mode : Mode) (s : SenderState) : Type 0 wh
   pub known : keys_with setup.keys s.keys.token ≡ Some s.keys
   pub first_block : setup.first_block ≡ s.first_block
 
-abbrev rest_of : Mode → SenderState → List ℕ → List ℕ → List ℕ
+abbrev pub rest_of : Mode → SenderState → List ℕ → List ℕ → List ℕ
 rest_of mode s front payload = drop (length front) (sent mode s front payload)
 
-sent-split : (mode : Mode) (s : SenderState) (front payload : List ℕ) → sent mode s front payload ≡ front ++ rest_of mode s front payload
+pub sent-split : (mode : Mode) (s : SenderState) (front payload : List ℕ) → sent mode s front payload ≡ front ++ rest_of mode s front payload
 sent-split mode s front payload = split front _ _
   where
     split : (front a b : List ℕ) → (front ++ a) ++ b ≡ front ++ drop (length front) ((front ++ a) ++ b)

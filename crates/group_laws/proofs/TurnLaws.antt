@@ -4,7 +4,7 @@ use Rattle.std.specs.Prelude.{slice_get, nat_lt, if◌then◌else◌}
 use Rattle.std.specs.List.{flat_map}
 use Rattle.std.proofs.lemmas.List.{drop_at}
 use Rattle.std.proofs.lemmas.List.Elements.{All-cons, All-head, All-tail, All-nil}
-use Rattle.uadp_header.specs.Spelling.{header_bytes}
+use Rattle.uadp_header.specs.Spelling.{IsWritten, header_bytes}
 use Rattle.message_guard.specs.declared.mode.Mode.{Mode}
 use Rattle.message_guard.specs.declared.mode.Mode.TheVariants as modes
 use Rattle.message_guard.specs.Acceptance.{Accepted, is_acceptable}
@@ -21,7 +21,7 @@ use Rattle.ps_config.specs.Rooms.{chunk_room}
 use Rattle.ps_config.specs.Sound.{IsGroup}
 use Rattle.writer_group.specs.Envelopes.{frame_room}
 use Rattle.writer_group.specs.Payloads.{Spelled, payloads_by, payloads_of}
-use Rattle.writer_group.specs.Sealing.{envelope_with, Payload, Envelope, header_at, datagram_at, datagrams_from}
+use Rattle.writer_group.specs.Sealing.{AreWritten, envelope_with, Payload, Envelope, header_at, datagram_at, datagrams_from}
 use Rattle.writer_group.specs.Turns.{GroupDeed, TurnInput, made_in, envelope_of, frames_in, turns_from, turn_datagrams}
 use Rattle.reader_group.specs.declared.refusal.Refusal.{Refusal}
 use Rattle.reader_group.specs.Members.{Seat}
@@ -49,13 +49,13 @@ secured-test : (mode : Mode) (b : Bool) → guard_modes.is_secured mode ≡ true
 secured-test mode b secured = ap (λ (t : Bool). not t || b) secured
 
 pub one-taken : (config : Config) (group : GroupPart) (reads : ReadGroupPart) (accepted : Accepted) (made index count : ℕ) (payload : Payload) (sender : Option SenderState) → IsOne config group reads payload → MaySend config group count sender
-    → index < count
+    → IsWritten (header_at (envelope_with config group made) sender index payload.0) → index < count
     → (let e = envelope_with config group made in let setup = setup_by config reads reads.keygroup in let opened = opened_at group.layout e sender index payload in
     IsTakenAs (is_accepted setup accepted opened.pass) opened (verdict reads setup accepted (datagram_at e sender index payload)))
-one-taken config group reads accepted made index count payload None one may within =
+one-taken config group reads accepted made index count payload None one may written within =
     taken-if-open (setup_by config reads reads.keygroup) accepted (opened_at group.layout (envelope_with config group made) None index payload) _ (setup-open config group reads payload one may)
-    (open-one config group reads accepted made index payload one may)
-one-taken config group reads accepted made index count payload (Some s) one may within =
+    (open-one config group reads accepted made index payload one written may)
+one-taken config group reads accepted made index count payload (Some s) one may written within =
     let fits : s.used + suc index < 2 ^ 32 = let most = may.1 in omega (arith, most, within) in
     let setup = setup_by config reads reads.keygroup in
     let now = sender_at (envelope_with config group made) s index in
@@ -63,8 +63,8 @@ one-taken config group reads accepted made index count payload (Some s) one may 
     let secured : guard_modes.is_secured setup.mode ≡ true = ap guard_modes.is_secured guard.mode_is ∙ guard.secured in
     let test = secured-test setup.mode (is_acceptable setup.keys accepted now.keys.token now.used) secured in
     record {
-      taken = λ e. secured-one config group reads accepted made index payload s one may.0 fits may.2 (sym test ∙ e);
-      refused = λ e. late-one config group reads accepted made index payload s one may.0 fits may.2 (sym test ∙ e);
+      taken = λ e. secured-one config group reads accepted made index payload s one written may.0 fits may.2 (sym test ∙ e);
+      refused = λ e. late-one config group reads accepted made index payload s one written may.0 fits may.2 (sym test ∙ e);
     }
 
 -- ---- each of a turn
@@ -77,20 +77,20 @@ pub record AreOne (config : Config) (group : GroupPart) (reads : ReadGroupPart) 
   pub may : MaySend config group count sender
 
 each-taken : (config : Config) (group : GroupPart) (reads : ReadGroupPart) (accepted : Accepted) (made from count k : ℕ) (sender : Option SenderState) (payloads : List Payload) (datagram : List ℕ) (opened : Opened)
-    → AreOne config group reads count sender → from + length payloads ≤ count → All (IsGood group.layout) payloads
+    → AreOne config group reads count sender → AreWritten (envelope_with config group made) sender from payloads → from + length payloads ≤ count → All (IsGood group.layout) payloads
     → slice_get (datagrams_from (envelope_with config group made) sender from payloads) k ≡ Some datagram → slice_get (opened_from group.layout (envelope_with config group made) sender from payloads) k ≡ Some opened
     → (let setup = setup_by config reads reads.keygroup in IsTakenAs (is_accepted setup accepted opened.pass) opened (verdict reads setup accepted datagram))
-each-taken config group reads accepted made from count k sender [] datagram opened are fit good datagram_is opened_is = absurd (none_some datagram_is)
+each-taken config group reads accepted made from count k sender [] datagram opened are written fit good datagram_is opened_is = absurd (none_some datagram_is)
   where
     none_some : {X : Type 0} {x : X} → Path (Option X) None (Some x) → ⊥
     none_some e = cc
-each-taken config group reads accepted made from count zero sender (payload ∷ payloads) datagram opened are fit good datagram_is opened_is =
-    let here = one-taken config group reads accepted made from count payload sender (are.one payload (All-head (IsGood group.layout) payload payloads good)) are.may (omega (arith, fit)) in
+each-taken config group reads accepted made from count zero sender (payload ∷ payloads) datagram opened are written fit good datagram_is opened_is =
+    let here = one-taken config group reads accepted made from count payload sender (are.one payload (All-head (IsGood group.layout) payload payloads good)) are.may written.0 (omega (arith, fit)) in
     let setup = setup_by config reads reads.keygroup in
     subst (λ (o : Opened). IsTakenAs (is_accepted setup accepted o.pass) o (verdict reads setup accepted datagram)) (some-same opened_is)
     (subst (λ (d : List ℕ). IsTakenAs (is_accepted setup accepted (opened_at group.layout (envelope_with config group made) sender from payload).pass) (opened_at group.layout (envelope_with config group made) sender from payload) (verdict reads setup accepted d)) (some-same datagram_is) here)
-each-taken config group reads accepted made from count (suc k) sender (payload ∷ payloads) datagram opened are fit good datagram_is opened_is =
-    each-taken config group reads accepted made (from + 1) count k sender payloads datagram opened are (omega (arith, fit)) (All-tail (IsGood group.layout) payload payloads good) datagram_is opened_is
+each-taken config group reads accepted made from count (suc k) sender (payload ∷ payloads) datagram opened are written fit good datagram_is opened_is =
+    each-taken config group reads accepted made (from + 1) count k sender payloads datagram opened are written.1 (omega (arith, fit)) (All-tail (IsGood group.layout) payload payloads good) datagram_is opened_is
 
 -- ---- the payloads of a turn
 
@@ -118,7 +118,7 @@ turn-taken config group reads past input accepted index datagram opened turn mat
     let is = group-sound config group turn.sound turn.group_is in
     let payloads = payloads_of config group (frames_in group past input) in
     each-taken config group reads accepted (made_in past) 0 (length payloads) index input.sender payloads datagram opened
-    (record { one = λ payload good. record { sound = turn.sound; is = is; types = turn.types; matched = matched; good = good }; may = turn.sender })
+    (record { one = λ payload good. record { sound = turn.sound; is = is; matched = matched; good = good }; may = turn.sender }) turn.written
     (omega arith) (payloads-good group.layout config group (frames_in group past input) is (turn-small config group past input is)) datagram_is opened_is
 
 -- as many are opened as there are datagrams
@@ -145,7 +145,7 @@ same-pieces config group None = refl
 same-pieces config group (Some frame) = refl
 
 pub dynamic-turn : (config : Config) (group : GroupPart) (past : List GroupDeed) (input : TurnInput) (writer : ℕ) (seat : Seat) (layout : Layout) → layout ≡ layouts.Dynamic → group.layout ≡ layout
-    → IsGroupTurn config group past input → ReadsWriter group input.told.metas writer seat
+    → IsGroupTurn config group past input → ReadsWriter group writer seat.part
     → flat_map (λ opened. pieces seat.part opened.payload) (turn_opened config group past input) ≡ turn_pieces config group past input writer
 dynamic-turn config group past input writer seat layouts.Fixed dynamic is turn reader = absurd (let wrong : Path Layout layouts.Fixed layouts.Dynamic = dynamic in cc)
 dynamic-turn config group past input writer seat layouts.Dynamic dynamic is turn reader =

@@ -9,7 +9,6 @@ use Rattle.message_guard.specs.Acceptance.{Accepted, is_acceptable}
 use Rattle.message_guard.specs.Modes as modes_of
 use Rattle.message_guard.specs.Protection.{keys_with}
 use Rattle.message_guard.specs.Senders.{SenderState, IsSender, front_value}
-use Rattle.message_guard.proofs.Carrying.{front_is_senders}
 use Rattle.config_tables.specs.declared.words.Layout.{Layout}
 use Rattle.config_tables.specs.declared.words.Security.{Security}
 use Rattle.config_tables.specs.declared.words.Security.TheVariants as security
@@ -25,9 +24,9 @@ use Rattle.reader_group.specs.Filter.{is_ours}
 use Rattle.reader_group.specs.Opening as readers
 use Rattle.reader_group.specs.Opening.{Opened, verdict}
 use Rattle.reader_group.specs.Settings.{setup_by, keygroup_at}
-use Rattle.group_laws.specs.Matching.{HasItsTypes, IsMatched, IsSenderOf}
+use Rattle.group_laws.specs.Matching.{IsMatched, IsSenderOf}
 use Rattle.group_laws.specs.TurnOpened.{sender_at, opened_at, IsNumberRefusal}
-use Rattle.group_laws.proofs.Headers.{IsFront, header-written}
+use Rattle.group_laws.proofs.Matched.{matched-ours}
 use Rattle.group_laws.proofs.PayloadsGood.{IsGood}
 use Rattle.group_laws.proofs.Taking.{IsSecured, taken-open, taken-secured, late-secured}
 
@@ -76,19 +75,12 @@ setup-mode : (config : Config) (group : ReadGroupPart) (keygroup : Option ℕ) �
 setup-mode config group None = refl
 setup-mode config group (Some index) = refl
 
--- ---- the filter asks for what each header of the group tells
-
-ours-all : (config : Config) (group : GroupPart) (reads : ReadGroupPart) (numbering : Numbering) (ids : IdsValue) → IsMatched config group reads
-    → is_ours reads (numbered_header (publisher_value config.publisher.id) (header_settings group) numbering ids) ≡ true
-ours-all config group reads numbering ids matched = matched.ours
-
 -- ---- one datagram
 
 -- what is asked of a payload and of the group beside it
 pub record IsOne (config : Config) (group : GroupPart) (reads : ReadGroupPart) (payload : Payload) : Type 0 where
   pub sound : IsSound config
   pub is : IsGroup config group
-  pub types : HasItsTypes config group
   pub matched : IsMatched config group reads
   pub good : IsGood group.layout payload
 
@@ -99,23 +91,23 @@ pub setup-open : (config : Config) (group : GroupPart) (reads : ReadGroupPart) (
 setup-open config group reads payload one unsecured =
     setup-mode config reads reads.keygroup ∙ ap readers.mode_of one.matched.security ∙ mode-same group.security ∙ mode-open group.security unsecured
 
-pub open-one : (config : Config) (group : GroupPart) (reads : ReadGroupPart) (accepted : Accepted) (made index : ℕ) (payload : Payload) → IsOne config group reads payload → is_secured group.security ≡ false
+pub open-one : (config : Config) (group : GroupPart) (reads : ReadGroupPart) (accepted : Accepted) (made index : ℕ) (payload : Payload) → IsOne config group reads payload
+    → IsWritten (header_at (envelope_with config group made) None index payload.0) → is_secured group.security ≡ false
     → (let e = envelope_with config group made in
     verdict reads (setup_by config reads reads.keygroup) accepted (datagram_at e None index payload) ≡ Ok (opened_at group.layout e None index payload))
-open-one config group reads accepted made index payload one unsecured =
+open-one config group reads accepted made index payload one written unsecured =
     let e = envelope_with config group made in
     let setup = setup_by config reads reads.keygroup in
     let header = header_at e None index payload.0 in
     let mode_is : setup.mode ≡ modes.None = setup-open config group reads payload one unsecured in
     let numbering : Numbering = record { sequence = made + index; message = index + 1; security = None } in
-    let written : IsWritten header = header-written config group numbering payload.0 one.sound.publisher one.is one.types tt one.good.ids one.good.numbers in
-    taken-open reads setup accepted header payload.1 mode_is refl written (ours-all config group reads numbering payload.0 one.matched) (good-there reads group.layout payload one.matched.layout one.good)
+    taken-open reads setup accepted header payload.1 mode_is refl written (matched-ours config group reads numbering payload.0 one.matched) (good-there reads group.layout payload one.matched.layout one.good)
     ∙ ap (λ (l : Layout). Ok (opened_at l e None index payload)) one.matched.layout
 
 -- the guard of a matched read group has the sender's keys
 guard-of : (config : Config) (group : GroupPart) (reads : ReadGroupPart) (s : SenderState) (count : ℕ) (keygroup : Option ℕ) → is_secured group.security ≡ true → is_some keygroup ≡ true → group.keygroup ≡ keygroup
     → reads.keygroup ≡ keygroup → reads.security ≡ group.security → s.used + count < 2 ^ 32 → IfSome keygroup (λ index. IsSenderOf (keygroup_at config index) s)
-    → IsSecured (setup_by config reads reads.keygroup) (mode_of group.security) (advanced_by (mode_of group.security) s count) × (s.keys.token < 2 ^ 32)
+    → IsSecured (setup_by config reads reads.keygroup) (mode_of group.security) (advanced_by (mode_of group.security) s count)
 guard-of config group reads s count None secured there has reads_has same fits is = absurd (let wrong : Path Bool false true = there in cc)
 guard-of config group reads s count (Some index) secured there has reads_has same fits is =
     let mode = mode_of group.security in
@@ -127,15 +119,15 @@ guard-of config group reads s count (Some index) secured there has reads_has sam
       known = ap (λ (k : TokenKeys). keys_with setup.keys k.token) (advanced-keys mode s count) ∙ is.keys ∙ ap Some (sym (advanced-keys mode s count));
       first_block = sym is.first_block ∙ sym (advanced-block mode s count);
     } in
-    (subst (λ (k : Option ℕ). IsSecured (setup_by config reads k) mode (advanced_by mode s count)) (sym reads_has) here, is.token)
+    subst (λ (k : Option ℕ). IsSecured (setup_by config reads k) mode (advanced_by mode s count)) (sym reads_has) here
 
 pub guard-is : (config : Config) (group : GroupPart) (reads : ReadGroupPart) (payload : Payload) (index : ℕ) (s : SenderState) → IsOne config group reads payload → is_secured group.security ≡ true → s.used + suc index < 2 ^ 32
     → IfSome group.keygroup (λ index. IsSenderOf (keygroup_at config index) s) → IsSecured (setup_by config reads reads.keygroup) (mode_of group.security) (advanced_by (mode_of group.security) s (suc index))
 guard-is config group reads payload index s one secured fits is =
-    (guard-of config group reads s (suc index) group.keygroup secured (sym one.is.keys.keyed ∙ secured) refl one.matched.keygroup one.matched.security fits is).0
+    guard-of config group reads s (suc index) group.keygroup secured (sym one.is.keys.keyed ∙ secured) refl one.matched.keygroup one.matched.security fits is
 
 module _ (config : Config) (group : GroupPart) (reads : ReadGroupPart) (accepted : Accepted) (made index : ℕ) (payload : Payload) (s : SenderState) (one : IsOne config group reads payload)
-    (secured : is_secured group.security ≡ true) (fits : s.used + suc index < 2 ^ 32) (is : IfSome group.keygroup (λ index. IsSenderOf (keygroup_at config index) s)) where
+    (written : IsWritten (header_at (envelope_with config group made) (Some s) index payload.0)) (secured : is_secured group.security ≡ true) (fits : s.used + suc index < 2 ^ 32) (is : IfSome group.keygroup (λ index. IsSenderOf (keygroup_at config index) s)) where
   abbrev e : Envelope
   e = envelope_with config group made
 
@@ -145,31 +137,19 @@ module _ (config : Config) (group : GroupPart) (reads : ReadGroupPart) (accepted
   abbrev now : SenderState
   now = sender_at e s index
 
-  guard : IsSecured (setup_by config reads reads.keygroup) mode now × (s.keys.token < 2 ^ 32)
-  guard = guard-of config group reads s (suc index) group.keygroup secured (sym one.is.keys.keyed ∙ secured) refl one.matched.keygroup one.matched.security fits is
-
-  numbering : Numbering
-  numbering = record { sequence = made + index; message = index + 1; security = Some (front_value mode now) }
-
-  front : IsFront (front_value mode now)
-  front = record {
-    senders = front_is_senders mode now guard.0.sender;
-    token = let same = ap (λ (k : TokenKeys). k.token) (advanced-keys mode s (suc index)) in omega (arith, same, guard.1);
-  }
-
-  written : IsWritten (header_at e (Some s) index payload.0)
-  written = header-written config group (record { sequence = made + index; message = index + 1; security = Some (front_value mode now) }) payload.0 one.sound.publisher one.is one.types front one.good.ids one.good.numbers
+  guard : IsSecured (setup_by config reads reads.keygroup) mode now
+  guard = guard-is config group reads payload index s one secured fits is
 
   ours : is_ours reads (header_at e (Some s) index payload.0) ≡ true
-  ours = one.matched.ours
+  ours = matched-ours config group reads (record { sequence = made + index; message = index + 1; security = Some (front_value mode now) }) payload.0 one.matched
 
   pub secured-one : is_acceptable (setup_by config reads reads.keygroup).keys accepted now.keys.token now.used ≡ true
       → verdict reads (setup_by config reads reads.keygroup) accepted (datagram_at e (Some s) index payload) ≡ Ok (opened_at group.layout e (Some s) index payload)
   secured-one acceptable =
-      taken-secured reads (setup_by config reads reads.keygroup) accepted (header_at e (Some s) index payload.0) mode now payload.1 guard.0 refl written ours (good-there reads group.layout payload one.matched.layout one.good) acceptable
+      taken-secured reads (setup_by config reads reads.keygroup) accepted (header_at e (Some s) index payload.0) mode now payload.1 guard refl written ours (good-there reads group.layout payload one.matched.layout one.good) acceptable
       ∙ ap (λ (l : Layout). Ok (opened_at l e (Some s) index payload)) one.matched.layout
 
   pub late-one : is_acceptable (setup_by config reads reads.keygroup).keys accepted now.keys.token now.used ≡ false
       → IsNumberRefusal (verdict reads (setup_by config reads reads.keygroup) accepted (datagram_at e (Some s) index payload))
   late-one not_acceptable =
-      late-secured reads (setup_by config reads reads.keygroup) accepted (header_at e (Some s) index payload.0) mode now payload.1 guard.0 refl written ours not_acceptable
+      late-secured reads (setup_by config reads reads.keygroup) accepted (header_at e (Some s) index payload.0) mode now payload.1 guard refl written ours not_acceptable

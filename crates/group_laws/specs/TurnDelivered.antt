@@ -16,7 +16,7 @@ use Rattle.reader_group.specs.Plain.{Event, Got, Fed, PlainGroup, Setting, cut_i
 use Rattle.reader_group.specs.Settings.{setting_by}
 use Rattle.group_laws.specs.Matching.{IsGroupTurn, IsMatched}
 use Rattle.group_laws.specs.TurnOpened.{turn_opened}
-use Rattle.group_laws.specs.TurnReading.{Received, IsReadAs, IsReadInSlot}
+use Rattle.group_laws.specs.TurnReading.{Received, fed_all, IsReadAs, IsReadInSlot}
 
 -- when a datagram comes, and which readers are enabled then
 pub record Delivery : Type 0 where
@@ -44,6 +44,10 @@ is_first_raised setting accepted (first ∷ opened) = is_raised setting accepted
 -- the reader with this index is enabled at each delivery
 abbrev pub AreEnabled : ℕ → List Delivery → Type 0
 AreEnabled reader deliveries = All (λ delivery. slice_index_or delivery.on reader false ≡ true) deliveries
+
+-- it is enabled at none
+abbrev pub AreDisabled : ℕ → List Delivery → Type 0
+AreDisabled reader deliveries = All (λ delivery. slice_index_or delivery.on reader false ≡ false) deliveries
 
 -- no higher token than the sender's was accepted, and under it no number above its last one
 pub record IsSenderAhead (accepted : Accepted) (s : SenderState) : Type 0 where
@@ -97,23 +101,29 @@ member_after c = member_at (group_after c).members c.reader
 abbrev pub sender_after : Course → Option SenderState
 sender_after c = option_map (λ s. advanced_by (mode_of c.group.security) s (length (its_datagrams c))) c.input.sender
 
--- a matched read group gets each datagram of the turn once, in order, its reader enabled, and accepted nothing that the sender is still to send
-pub record IsInOrder (c : Course) : Type 0 where
+-- a matched read group gets each datagram of the turn once, in order, and accepted nothing that the sender is still to send
+pub record IsTakenInOrder (c : Course) : Type 0 where
   pub turn : IsGroupTurn c.config c.group c.past c.input
   pub matched : IsMatched c.config c.group c.readers
-  pub within : c.reader < length (its_setting c).seats
-  pub enabled : AreEnabled c.reader c.deliveries
   pub each : length c.deliveries ≡ length (its_datagrams c)
   pub ahead : IsSenderAheadIf c.before.accepted c.input.sender
 
--- what the reader was given is this frame, or nothing
+-- and its reader is enabled meanwhile
+pub record IsInOrder (c : Course) : Type 0 where
+  pub taken : IsTakenInOrder c
+  pub within : c.reader < length (its_setting c).seats
+  pub enabled : AreEnabled c.reader c.deliveries
+
+-- what the reader is given of all datagrams
+abbrev pub all_fed : Course → Fed
+all_fed c = fed_all (its_seat c) (unfed (member_before c)) (all_received c)
+
+-- it is this frame, or nothing
 pub record IsDelivered (c : Course) (frame : Option Frame) : Type 0 where
-  pub fed : Fed
-  pub member : fed.member ≡ member_after c
-  pub read : IsReadAs (its_seat c) (map (λ r. r.receipt) (all_received c)) (unfed (member_before c)) frame fed
+  pub member : (all_fed c).member ≡ member_after c
+  pub read : IsReadAs (its_seat c) (map (λ r. r.receipt) (all_received c)) (unfed (member_before c)) frame (all_fed c)
 
 -- the same, out of a slot
 pub record IsDeliveredInSlot (c : Course) (frame : Option Frame) : Type 0 where
-  pub fed : Fed
-  pub member : fed.member ≡ member_after c
-  pub read : IsReadInSlot (its_seat c) (map (λ r. r.receipt) (all_received c)) (unfed (member_before c)) frame fed
+  pub member : (all_fed c).member ≡ member_after c
+  pub read : IsReadInSlot (its_seat c) (map (λ r. r.receipt) (all_received c)) (unfed (member_before c)) frame (all_fed c)

@@ -1,18 +1,20 @@
 -- What a reader is given of a turn.
-use Rattle.std.specs.Prelude.{◌≡◌, ◌⊎◌, ℕ, ◌+◌, ◌<◌, ◌^◌, List, ◌∷◌, length, fold, Contains, true, false, Option, Some, None, option_map, Ok, IsErr, ⊤}
+use Rattle.std.specs.Prelude.{◌≡◌, ◌⊎◌, ℕ, ◌+◌, ◌<◌, ◌^◌, List, ◌∷◌, length, fold, Contains, true, false, nat_le, Option, Some, None, option_map, Ok, IsErr, ⊤}
 use Rattle.dataset_meta.specs.Metas.{IsMeta}
-use Rattle.pubsub_model.specs.Frames.{PlacedFrame, carried}
+use Rattle.pubsub_model.specs.Frames.{PlacedFrame}
 use Rattle.pubsub_model.specs.Cadence.{WriterTurn, HadTurn, HasRowsOf}
-use Rattle.frame_codec.specs.Frames.{Frame}
+use Rattle.frame_codec.specs.Frames.{Alive, Frame, frame_cut}
 use Rattle.frame_codec.specs.Reading.{frame_at}
 use Rattle.chunker.specs.Chunks.{Chunk}
 use Rattle.chunker.specs.Joining.{Joining}
 use Rattle.chunker.specs.Joins.{IsCutOf, IsNewFor}
 use Rattle.chunker.specs.Spelling.{chunk_at, without_rest}
+use Rattle.config_tables.specs.declared.publisher.Publisher.{Publisher}
 use Rattle.ps_config.specs.declared.parts.Config.{Config}
 use Rattle.ps_config.specs.declared.parts.GroupPart.{GroupPart}
 use Rattle.ps_config.specs.FixedSound.{IsFixedSound}
-use Rattle.writer_group.specs.Payloads.{writer_at, meta_at, carried_frame}
+use Rattle.writer_group.specs.Envelopes.{frame_room}
+use Rattle.writer_group.specs.Payloads.{Spelled, size_of, spelled_by, writer_at, meta_at, carried_frame}
 use Rattle.writer_group.specs.Turns.{GroupDeed, TurnInput, answer_of, writer_past}
 use Rattle.reader_group.specs.declared.receipt.Receipt.{Receipt}
 use Rattle.reader_group.specs.Members.{Seat, MemberValue}
@@ -32,10 +34,14 @@ answer_to group past writer (Some turn) = answer_of group past writer turn
 abbrev pub answer_by : GroupPart → List GroupDeed → TurnInput → ℕ → Option PlacedFrame
 answer_by group past input writer = answer_to group past writer (turn_by group input writer)
 
--- as a frame of its data set
-abbrev pub frame_answered : GroupPart → List GroupDeed → TurnInput → ℕ → Option Frame
-frame_answered group past input writer =
-    option_map (carried_frame (writer_at group writer) (meta_at group input.told.metas writer)) (answer_by group past input writer)
+-- a frame of the writer's data set, cut to the fields of a reader's meta
+abbrev pub frame_read : GroupPart → TurnInput → ℕ → Seat → PlacedFrame → Frame
+frame_read group input writer seat placed =
+    frame_cut seat.meta (carried_frame (writer_at group writer) (meta_at group input.told.metas writer) placed)
+
+-- what the writer answers, as that
+abbrev pub frame_answered : GroupPart → List GroupDeed → TurnInput → ℕ → Seat → Option Frame
+frame_answered group past input writer seat = option_map (frame_read group input writer seat) (answer_by group past input writer)
 
 abbrev pub HasRows : GroupPart → List GroupDeed → TurnInput → ℕ → Option WriterTurn → Type 0
 HasRows group past input writer None = ⊤
@@ -67,18 +73,20 @@ given_by seat member received = (fed_by seat received.receipt false true receive
 abbrev pub fed_all : Seat → Fed → List Received → Fed
 fed_all seat fed received = fold (fed_more seat) fed received
 
--- the chunks that are joined aren't of this message or a newer one
-abbrev pub IsBehind : Joining → Option PlacedFrame → Type 0
-IsBehind joining None = ⊤
-IsBehind joining (Some placed) = IsNewFor joining.current (carried placed)
+-- where the group's frame is cut, the chunks that are joined aren't of this message or a newer one
+abbrev pub IsBehind : Publisher → GroupPart → Joining → Option Spelled → Type 0
+IsBehind publisher group joining None = ⊤
+IsBehind publisher group joining (Some frame) =
+    nat_le (size_of frame) (frame_room publisher group) ≡ false → IsNewFor joining.current frame.number
 
--- the reader was given just this frame, with the receipt of one of the datagrams; the chunks that are joined then are as before, or of this message
+-- the reader was given just this frame, with the receipt of the only datagram that it came in, or of the one whose chunk made it whole; the chunks that
+-- are joined then are as before, or of this message, which is a data frame
 pub record IsGiven (seat : Seat) (receipts : List Receipt) (fed : Fed) (frame : Frame) (after : Fed) : Type 0 where
   pub receipt : Receipt
   pub one_of : Contains receipts receipt
   pub joining : Joining
   pub member : after.member ≡ record (given seat receipt fed.member frame) { joining = joining }
-  pub joins : (joining ≡ fed.member.joining) ⊎ (option_map (λ (now : ℕ × ℕ). now.0) joining.current ≡ frame.number)
+  pub joins : (joining ≡ fed.member.joining) ⊎ ((option_map (λ (now : ℕ × ℕ). now.0) joining.current ≡ frame.number) × (¬ (frame.content ≡ Alive)))
   pub good : after.bad ≡ fed.bad
 
 -- the reader was given what the writer sent, if it sent something, and else is as it was
@@ -99,21 +107,20 @@ pub record IsFixedTurn (config : Config) (group : GroupPart) (past : List GroupD
 
 -- ---- one part alone, whatever else comes
 
--- bytes that are read as a chunk of a message with this number, which is read as this frame
-pub record IsReadAsChunk (seat : Seat) (frame : Frame) (number : ℕ) (bytes : List ℕ) : Type 0 where
-  pub message : List ℕ
+-- bytes that are read as a chunk of this message, under this number
+pub record IsReadAsChunk (message : List ℕ) (number : ℕ) (bytes : List ℕ) : Type 0 where
   pub chunk : Chunk
-  pub message_read : frame_at seat.meta message ≡ Ok frame
   pub chunk_read : without_rest (chunk_at bytes) ≡ Ok chunk
   pub number_is : chunk.place ≡ number
   pub cut : IsCutOf message chunk
 
--- a part is read as the frame, or as a chunk of it
-abbrev pub IsPartOf : Seat → ℕ → Frame → Piece → Type 0
-IsPartOf seat number frame (Message bytes) = frame_at seat.meta bytes ≡ Ok frame
-IsPartOf seat number frame (Chunked bytes) = IsReadAsChunk seat frame number bytes
-IsPartOf seat number frame (Slotted bytes) = slot_frame_at seat.meta bytes ≡ Ok frame
-IsPartOf seat number frame Missing = ⊥
+-- a part is read as the frame, or, but for an Alive, as a chunk of its one spelling, which is read as the frame
+abbrev pub IsPartOf : Seat → Spelled → Frame → Piece → Type 0
+IsPartOf seat spelled frame (Message bytes) = frame_at seat.meta bytes ≡ Ok frame
+IsPartOf seat spelled frame (Chunked bytes) =
+    (frame_at seat.meta spelled.bytes ≡ Ok frame) × IsReadAsChunk spelled.bytes spelled.number bytes × (¬ (frame.content ≡ Alive))
+IsPartOf seat spelled frame (Slotted bytes) = slot_frame_at seat.meta bytes ≡ Ok frame
+IsPartOf seat spelled frame Missing = ⊥
 
 -- a slot that is read as no frame
 abbrev pub IsEmptyPart : Seat → Piece → Type 0
@@ -122,11 +129,11 @@ IsEmptyPart seat (Chunked bytes) = ⊥
 IsEmptyPart seat (Slotted bytes) = IsErr (slot_frame_at seat.meta bytes)
 IsEmptyPart seat Missing = ⊥
 
-abbrev pub IsPartIf : Seat → (PlacedFrame → Frame) → Option PlacedFrame → Piece → Type 0
-IsPartIf seat frame None piece = IsEmptyPart seat piece
-IsPartIf seat frame (Some placed) piece = IsPartOf seat (carried placed) (frame placed) piece
+abbrev pub IsPartIf : Seat → (PlacedFrame → Spelled) → (PlacedFrame → Frame) → Option PlacedFrame → Piece → Type 0
+IsPartIf seat spelled frame None piece = IsEmptyPart seat piece
+IsPartIf seat spelled frame (Some placed) piece = IsPartOf seat (spelled placed) (frame placed) piece
 
 -- a part for the reader of a writer is of what that writer answered at this turn
 abbrev pub IsPartBy : GroupPart → List GroupDeed → TurnInput → ℕ → Seat → Piece → Type 0
 IsPartBy group past input writer seat piece =
-    IsPartIf seat (carried_frame (writer_at group writer) (meta_at group input.told.metas writer)) (answer_by group past input writer) piece
+    IsPartIf seat (spelled_by group input.told.metas writer) (frame_read group input writer seat) (answer_by group past input writer) piece

@@ -4,10 +4,11 @@
 mod laws;
 
 pub use laws::{
-    a_dynamic_turn_has_its_writers_frames, a_dynamic_turn_has_nothing_for_other_readers,
+    a_datagram_has_nothing_for_readers_of_other_groups, a_dynamic_turn_has_its_writers_frames,
+    a_dynamic_turn_has_nothing_for_readers_of_other_writers,
     a_dynamic_turn_is_read_as_it_was_answered, a_fixed_turn_has_its_writers_slot,
-    a_fixed_turn_is_read_as_it_was_answered, a_ring_makes_senders_of_its_key_group,
-    datagrams_are_given_one_by_one, each_datagram_is_taken_as_it_was_sent,
+    a_fixed_turn_is_read_as_it_was_answered, a_matched_reader_reads_its_writer,
+    a_ring_makes_senders_of_its_key_group, each_datagram_is_taken_as_it_was_sent,
     each_part_is_of_what_was_answered, the_built_in_groups_are_matched,
     what_a_turn_sends_is_what_a_reader_is_given,
 };
