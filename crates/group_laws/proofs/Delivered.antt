@@ -1,5 +1,6 @@
 -- What a turn sends is what a reader of a matched read group is given, where its datagrams come in order.
-use Rattle.std.proofs.Common.{◌≡◌, refl, sym, ap, ◌∙◌, subst, arith, ℕ, suc, ◌+◌, ◌<◌, ◌≤◌, List, [], ◌∷◌, length, map, fold, All, Option, Some, None, option_map}
+use Rattle.std.proofs.Common.{◌≡◌, ◌≢◌, refl, sym, ap, ◌∙◌, subst, arith, ℕ, suc, ◌+◌, ◌<◌, ◌≤◌, List, [], ◌∷◌, length, map, fold, All, Option, Some, None, option_map}
+use Rattle.std.specs.List.{flat_map}
 use Rattle.message_guard.specs.declared.keys.TokenKeys.{TokenKeys}
 use Rattle.message_guard.specs.Acceptance.{Accepted, highest, numbers_of}
 use Rattle.message_guard.specs.declared.mode.Mode.{Mode}
@@ -10,7 +11,8 @@ use Rattle.writer_group.specs.Payloads.{meta_at, payloads_of}
 use Rattle.writer_group.specs.Sealing.{Payload, Envelope, advanced_by, datagrams_from}
 use Rattle.writer_group.specs.Turns.{frames_in, made_in}
 use Rattle.reader_group.specs.Opening.{Opened}
-use Rattle.reader_group.specs.Plain.{Setting, unfed}
+use Rattle.reader_group.specs.Payloads.{pieces}
+use Rattle.reader_group.specs.Plain.{Fed, Setting, unfed}
 use Rattle.group_laws.specs.Matching.{ReadsFrames, ReadsWriter}
 use Rattle.group_laws.specs.TurnDelivered.{AreDisabled, AreEnabled, Course, Delivery, IsDelivered, IsDeliveredInSlot, IsSenderAheadIf, IsTakenInOrder, all_fed, all_received, group_after, its_datagrams, its_opened, its_seat, its_setting, member_after, member_before, received, sender_after}
 use Rattle.group_laws.specs.TurnPieces.{frame_by}
@@ -18,7 +20,8 @@ use Rattle.group_laws.specs.TurnReading.{Received, frame_answered, IsBehind, IsF
 use Rattle.group_laws.proofs.Delivering.{Before, ahead-after, all-fed, all-left, before-all}
 use Rattle.group_laws.proofs.DynamicReading.{dynamic-read}
 use Rattle.group_laws.proofs.FixedReading.{fixed-read}
-use Rattle.group_laws.proofs.PartsReading.{one-by-one}
+use Rattle.group_laws.proofs.OtherReaders.{others-none}
+use Rattle.group_laws.proofs.PartsReading.{Part, fed-parts, none-read, one-by-one, parts_for, pieces-of}
 use Rattle.group_laws.proofs.PayloadsGood.{IsGood}
 use Rattle.group_laws.proofs.TurnLaws.{AreOne, payloads-good, turn-many, turn-small}
 use Rattle.group_laws.proofs.TurnTaken.{advanced-keys, advanced-used}
@@ -97,3 +100,13 @@ module _ (c : Course) (taken : IsTakenInOrder c) where
       member = member-is;
       read = fixed-read c.config c.group c.past c.input writer (its_seat c) (unfed (member_before c)) (all_received c) is taken.turn fixed reads same opened-are;
     }
+
+    -- a reader of a writer that isn't of the group
+    pub others-left : c.group.layout ≡ layouts.Dynamic → 1 ≤ (its_seat c).part.writer → All (λ writer. writer.id ≢ (its_seat c).part.writer) c.group.writer → member_after c ≡ member_before c
+    others-left is some all =
+        let seat = its_seat c in
+        let fed = unfed (member_before c) in
+        let parts = parts_for seat (all_received c) in
+        let none : map (λ (p : Part). p.piece) parts ≡ [] =
+        pieces-of seat (all_received c) ∙ ap (flat_map (λ (o : Opened). pieces seat.part o.payload)) opened-are ∙ others-none c.config c.group c.past c.input seat is taken.turn some all in
+        sym member-is ∙ ap (λ (f : Fed). f.member) (fed-parts seat fed (all_received c) ∙ none-read seat fed parts none)

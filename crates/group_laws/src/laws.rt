@@ -30,7 +30,7 @@ ghost use Rattle.group_laws.specs.TurnReading.{Received, frame_answered, fed_all
 /// of the group what this writer answered, once: a token that is raised cuts the reader first; then it is given the frame, whole,
 /// joined of its chunks or out of its slot, cut to the reader's fields if fields were appended to the writer's data set since.
 /// Where the writer answered nothing the reader is left as it was, and in a fixed layout the zeros in its slot are a bad part.
-/// A disabled reader is cut at most. It is so in each layout and security mode, whatever the read group went through before, if
+/// A reader of a writer of another group, and a disabled one, are cut at most. It is so in each layout and security mode, whatever the read group went through before, if
 /// it accepted nothing that the sender is still to send, and if the reader joins no chunks of a message that isn't older, where
 /// the frame comes in chunks. Then it has accepted nothing that the sender is to send after the turn. Nothing is said here where
 /// a datagram is lost: `each_part_is_of_what_was_answered` is for that.
@@ -46,6 +46,8 @@ pub fn what_a_turn_sends_is_what_a_reader_is_given()
         → (its_seat c).meta ≡ meta_at c.group c.config.dataset writer
         → IsFixedTurn c.config c.group c.past c.input
         → IsDeliveredInSlot c (frame_answered c.group c.past c.input writer (its_seat c)) }
+    ensures others { (c : Course) → IsInOrder c → c.group.layout ≡ layouts.Dynamic → 1 ≤ (its_seat c).part.writer
+        → All (λ writer. writer.id ≢ (its_seat c).part.writer) c.group.writer → member_after c ≡ member_before c }
     ensures disabled { (c : Course) → IsTakenInOrder c → c.reader < length (its_setting c).seats
         → AreDisabled c.reader c.deliveries → member_after c ≡ member_before c }
     ensures ahead { (c : Course) → IsTakenInOrder c → IsSenderAheadIf (group_after c).accepted (sender_after c) }

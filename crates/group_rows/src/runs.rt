@@ -116,7 +116,11 @@ impl fmt::Display for Tally {
 /// `taken` where no part was bad, `bad` where one was, else the refusal without what it tells and without its last bracket.
 fn name_of(answer: &str) -> &str {
     if answer.starts_with("taken") {
-        return if answer.ends_with(" 0") { "taken" } else { "bad" };
+        return if answer.ends_with(" 0") {
+            "taken"
+        } else {
+            "bad"
+        };
     }
     let word = match answer.split_once(' ') {
         Some((word, _)) => word,

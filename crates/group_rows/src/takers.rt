@@ -97,9 +97,7 @@ impl<'c> Taker<'c> {
     }
 
     fn given(&mut self, alloc: Global, now: u64, mut bytes: Vec<u8>) -> Result<String, LineFault> {
-        let receipt = self
-            .group
-            .datagram(self.config, now, &self.on, &mut bytes);
+        let receipt = self.group.datagram(self.config, now, &self.on, &mut bytes);
         receipt_text(alloc, &receipt)
     }
 

@@ -12,9 +12,8 @@ grown-requires-clause-turner c =
 pub loop-turner-preserved : goal.loop-turner-preserved
 loop-turner-preserved c =
     let old = IsTurner c.args.config.now c.args.old.now in
-    let new = IsTurner c.args.config.now c.args.new.now in
-    (
+    let new = IsTurner c.args.config.now c.args.new.now in (
       subst (AreTurners c.args.config.now c.args.new.now) (sym c.in_ok-push.ensures.items)
-      (All-push new c.loop-turner.done.items c.in_ok-grown.field-0 c.loop-turner.invariant.0 c.in_ok-grown.ensures),
-      all-rest old c.in-Some.turner _ (subst (AreTurners c.args.config.now c.args.old.now) c.in-Some.ensures.steps.0 c.loop-turner.invariant.1)
+          (All-push new c.loop-turner.done.items c.in_ok-grown.field-0 c.loop-turner.invariant.0 c.in_ok-grown.ensures),
+      all-rest old c.in-Some.turner _ (subst (AreTurners c.args.config.now c.args.old.now) c.in-Some.ensures.steps.0 c.loop-turner.invariant.1),
     )
