@@ -1,14 +1,18 @@
 -- A sender that is ahead of what was accepted is accepted in order.
-use Rattle.std.proofs.Common.{◌≡◌, refl, sym, ap, ◌∙◌, subst, arith, ℕ, ◌<◌, ◌≤◌, max, Bool, true, false, not, ◌&&◌, ◌||◌, cond, List, [], ◌∷◌, map, All, Option, Some}
-use Rattle.std.specs.Prelude.{◌==◌, nat_lt, filter, is_some}
+use Rattle.std.proofs.Common.{◌≡◌, refl, sym, ap, ◌∙◌, subst, arith, ℕ, ◌<◌, ◌≤◌, max, Bool, true, false, not, ◌&&◌, ◌||◌, cond, List, [], ◌∷◌, map, All, Option, Some, None}
+use Rattle.std.specs.Prelude.{◌==◌, nat_lt, filter, is_some, if◌then◌else◌}
 use Rattle.std.specs.List.{list_any}
 use Rattle.std.proofs.lemmas.Bool.{eq-eqb}
 use Rattle.std.proofs.lemmas.Bool.Decides.{nat_tests}
-use Rattle.std.proofs.lemmas.List.Elements.{All-cons, All-head, All-tail, All-weaker}
+use Rattle.std.proofs.lemmas.List.Elements.{All-cons, All-head, All-nil, All-tail, All-weaker}
 use Rattle.replay_window.specs.Taken.{greatest, is_taken, is_too_old}
 use Rattle.message_guard.specs.declared.keys.TokenKeys.{TokenKeys}
 use Rattle.message_guard.specs.Acceptance.{Accepted, highest, numbers_of, is_acceptable, raises}
-use Rattle.message_guard.specs.Protection.{keys_with}
+use Rattle.message_guard.specs.Protection.{keys_in, keys_with}
+use Rattle.message_guard.specs.Senders.{SenderState, turned, turned_by}
+use Rattle.group_keys.specs.declared.key_set.KeySet.{KeySet}
+use Rattle.group_keys.specs.KeySets.{current}
+use Rattle.group_laws.specs.TurnDelivered.{IsSenderAhead}
 
 -- so many numbers after the sender's last one were accepted, and none above them
 pub record IsAheadBy (accepted : Accepted) (token most : ℕ) : Type 0 where
@@ -57,3 +61,31 @@ not-raised accepted token number = not_above token (highest accepted)
   where
     not_above : (token high : ℕ) → nat_lt (max token high) token ≡ false
     not_above token high = grind (arith, nat_tests)
+
+-- under a token above all others nothing was accepted
+pub none-above : (accepted : Accepted) (token : ℕ) → highest accepted < token → numbers_of accepted token ≡ []
+none-above [] token above = refl
+none-above (pair ∷ accepted) token above =
+    let here : pair.0 < token = omega (arith, above) in
+    let later : highest accepted < token = omega (arith, above) in
+    let differs : (pair.0 == token) ≡ false = grind (arith, nat_tests) in
+    ap (λ (b : Bool). map (λ (p : ℕ × ℕ). p.1) (cond b (pair ∷ filter (λ (p : ℕ × ℕ). p.0 == token) accepted) (filter (λ (p : ℕ × ℕ). p.0 == token) accepted))) differs
+    ∙ none-above accepted token later
+
+-- a sender that goes over to a moment's keys stays ahead
+pub turned-ahead : (accepted : Accepted) (now : ℕ) (s : SenderState) → IsSenderAhead accepted s → IsSenderAhead accepted (turned s now)
+turned-ahead accepted now s ahead = on (current s.sets now)
+  where
+    on : (set : Option KeySet) → IsSenderAhead accepted (turned_by s set)
+    on None = ahead
+    on (Some set) = by (nat_lt s.keys.token set.token) refl
+      where
+        by : (b : Bool) → nat_lt s.keys.token set.token ≡ b → IsSenderAhead accepted (if b then record s { keys = keys_in set; used = 0; fronted = None } else s)
+        by false e = ahead
+        by true e =
+            let less : s.keys.token < set.token = grind (arith, nat_tests) in
+            let low = ahead.token in
+            record {
+              token = omega (arith, low, less);
+              numbers = subst (λ (l : List ℕ). All (λ (n : ℕ). n ≤ 0) l) (sym (none-above accepted set.token (omega (arith, low, less)))) (All-nil (λ (n : ℕ). n ≤ 0));
+            }

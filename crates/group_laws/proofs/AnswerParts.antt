@@ -1,9 +1,9 @@
 -- Each part of a datagram that is for the reader of a writer is of what that writer answered at the turn.
-use Rattle.std.proofs.Common.{◌≡◌, refl, sym, ap, ◌∙◌, subst, arith, ℕ, zero, suc, Bool, true, false, List, [], ◌∷◌, ◌++◌, map, replicate, All, Contains, Option, Some, None, Ok, is_err}
+use Rattle.std.proofs.Common.{◌≡◌, refl, sym, ap, ◌∙◌, subst, arith, ℕ, zero, suc, Bool, true, false, List, [], ◌∷◌, map, replicate, All, Contains, Option, Some, None, Ok, is_err}
 use Rattle.std.specs.Prelude.{option_map, nat_le, slice_index_or, if◌then◌else◌}
 use Rattle.std.specs.List.{flat_map}
 use Rattle.std.proofs.lemmas.List.{get_or_default}
-use Rattle.std.proofs.lemmas.List.Elements.{All-cons, All-nil, All-tail, All-map}
+use Rattle.std.proofs.lemmas.List.Elements.{All-cons, All-nil, All-map}
 use Rattle.pubsub_model.specs.Frames.{PlacedFrame, Whole}
 use Rattle.pubsub_model.specs.Cadence.{WriterTurn}
 use Rattle.frame_codec.specs.Frames.{Frame}
@@ -18,14 +18,14 @@ use Rattle.ps_config.specs.FixedSound.{writer_slot}
 use Rattle.ps_config.specs.Rooms.{chunk_room}
 use Rattle.writer_group.specs.Envelopes.{frame_room}
 use Rattle.writer_group.specs.Payloads.{Spelled, size_of, spelled_by, writer_at, meta_at}
-use Rattle.writer_group.specs.Turns.{GroupDeed, TurnInput}
+use Rattle.writer_group.specs.Turns.{GroupDeed, TurnInput, turn_by, answer_to, answer_by}
 use Rattle.reader_group.specs.Members.{Seat}
 use Rattle.reader_group.specs.Opening.{Opened}
 use Rattle.reader_group.specs.Payloads.{Piece, Message, Chunked, Slotted, pieces}
 use Rattle.group_laws.specs.Matching.{ReadsFrames, ReadsWriter, IsGroupTurn}
 use Rattle.group_laws.specs.TurnOpened.{turn_opened}
-use Rattle.group_laws.specs.TurnPieces.{frame_pieces, dynamic_pieces, fixed_pieces, turn_pieces, turn_by}
-use Rattle.group_laws.specs.TurnReading.{answer_to, answer_by, frame_read, IsReadAsChunk, IsEmptyPart, IsFixedTurn, IsPartBy, IsPartIf, IsPartOf, IsSampled}
+use Rattle.group_laws.specs.TurnPieces.{frame_pieces, dynamic_pieces, fixed_pieces, turn_pieces}
+use Rattle.group_laws.specs.TurnReading.{frame_read, IsReadAsChunk, IsEmptyPart, IsFixedTurn, IsPartBy, IsPartIf, IsPartOf, IsSampled}
 use Rattle.group_laws.proofs.ChunkReading.{IsMessage, chunk-read}
 use Rattle.group_laws.proofs.DynamicReading as dynamic
 use Rattle.group_laws.proofs.FixedPieces.{fixed-turn}

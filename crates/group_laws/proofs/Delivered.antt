@@ -1,6 +1,7 @@
 -- What a turn sends is what a reader of a matched read group is given, where its datagrams come in order.
-use Rattle.std.proofs.Common.{◌≡◌, ◌≢◌, refl, sym, ap, ◌∙◌, subst, arith, ℕ, suc, ◌+◌, ◌<◌, ◌≤◌, List, [], ◌∷◌, length, map, fold, All, Option, Some, None, option_map}
+use Rattle.std.proofs.Common.{◌≡◌, ◌≢◌, refl, sym, ap, ◌∙◌, subst, arith, ℕ, suc, ◌+◌, ◌<◌, ◌≤◌, List, [], ◌∷◌, length, map, All, Option, Some, None, option_map}
 use Rattle.std.specs.List.{flat_map}
+use Rattle.std.proofs.lemmas.List.Elements.{All-nil, All-weaker}
 use Rattle.message_guard.specs.declared.keys.TokenKeys.{TokenKeys}
 use Rattle.message_guard.specs.Acceptance.{Accepted, highest, numbers_of}
 use Rattle.message_guard.specs.declared.mode.Mode.{Mode}
@@ -9,13 +10,12 @@ use Rattle.config_tables.specs.declared.words.Layout.TheVariants as layouts
 use Rattle.writer_group.specs.Envelopes.{mode_of}
 use Rattle.writer_group.specs.Payloads.{meta_at, payloads_of}
 use Rattle.writer_group.specs.Sealing.{Payload, Envelope, advanced_by, datagrams_from}
-use Rattle.writer_group.specs.Turns.{frames_in, made_in}
+use Rattle.writer_group.specs.Turns.{frames_in, made_in, frame_by}
 use Rattle.reader_group.specs.Opening.{Opened}
 use Rattle.reader_group.specs.Payloads.{pieces}
 use Rattle.reader_group.specs.Plain.{Fed, Setting, unfed}
 use Rattle.group_laws.specs.Matching.{ReadsFrames, ReadsWriter}
-use Rattle.group_laws.specs.TurnDelivered.{AreDisabled, AreEnabled, Course, Delivery, IsDelivered, IsDeliveredInSlot, IsSenderAheadIf, IsTakenInOrder, all_fed, all_received, group_after, its_datagrams, its_opened, its_seat, its_setting, member_after, member_before, received, sender_after}
-use Rattle.group_laws.specs.TurnPieces.{frame_by}
+use Rattle.group_laws.specs.TurnDelivered.{AreDisabled, AreEnabled, Course, Delivery, IsDelivered, IsDeliveredInSlot, IsSenderAhead, IsSenderAheadIf, IsTakenInOrder, all_fed, all_received, group_after, its_opened, its_seat, its_setting, member_after, member_before, received, sender_after}
 use Rattle.group_laws.specs.TurnReading.{Received, frame_answered, IsBehind, IsFixedTurn, IsSampled}
 use Rattle.group_laws.proofs.Delivering.{Before, ahead-after, all-fed, all-left, before-all}
 use Rattle.group_laws.proofs.DynamicReading.{dynamic-read}
@@ -49,6 +49,18 @@ ahead-next mode (Some s) accepted count before =
           (subst (λ (most : ℕ). All (λ (n : ℕ). n ≤ most) (numbers_of accepted s.keys.token)) used before.numbers);
     }
 
+-- where nothing was accepted each sender is ahead
+pub opening-ahead : (s : SenderState) → IsSenderAhead [] s
+opening-ahead s = record { token = omega arith; numbers = All-nil (λ (n : ℕ). n ≤ s.used) }
+
+-- a sender that others share stays ahead where it gives them fronts
+pub shared-ahead : (accepted : Accepted) (mode : Mode) (s : SenderState) (count : ℕ) → IsSenderAhead accepted s → IsSenderAhead accepted (advanced_by mode s count)
+shared-ahead accepted mode s count ahead =
+    ahead-next mode (Some s) accepted count (record {
+      not_above = ahead.token;
+      numbers = All-weaker (λ (n : ℕ). n ≤ s.used) (λ (n : ℕ). n ≤ s.used + count) (λ n le. omega (arith, le)) (numbers_of accepted s.keys.token) ahead.numbers;
+    })
+
 module _ (c : Course) (taken : IsTakenInOrder c) where
   abbrev payloads : List Payload
   payloads = payloads_of c.config c.group (frames_in c.group c.past c.input)
@@ -72,10 +84,9 @@ module _ (c : Course) (taken : IsTakenInOrder c) where
 
   pub next-ahead : IsSenderAheadIf (group_after c).accepted (sender_after c)
   next-ahead =
-      let long = many _ c.input.sender 0 payloads in
       let before : Before c.input.sender (group_after c).accepted (length payloads) = subst (λ (n : ℕ). Before c.input.sender (group_after c).accepted n) (omega arith)
       (ahead-after c.config c.group c.readers (made_in c.past) (length payloads) c.input.sender are c.before c.deliveries 0 payloads each-payload (omega arith) all-good taken.turn.written (before-all c.input.sender c.before.accepted taken.ahead)) in
-      ahead-next (mode_of c.group.security) c.input.sender (group_after c).accepted (length (its_datagrams c)) (subst (λ (n : ℕ). Before c.input.sender (group_after c).accepted n) (sym long) before)
+      ahead-next (mode_of c.group.security) c.input.sender (group_after c).accepted (length payloads) before
 
   pub left-alone : c.reader < length (its_setting c).seats → AreDisabled c.reader c.deliveries → member_after c ≡ member_before c
   left-alone within disabled =

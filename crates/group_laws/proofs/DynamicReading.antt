@@ -1,14 +1,14 @@
 -- A reader is given what its writer answered at a turn of a dynamic group.
-use Rattle.std.proofs.Common.{◌≡◌, refl, sym, ap, ◌∙◌, subst, arith, ℕ, ◌≤◌, length, ◌⊎◌, inl, inr, Bool, true, false, List, [], ◌∷◌, map, fold, append-nil, Contains, Option, Some, None, Ok}
+use Rattle.std.proofs.Common.{◌≡◌, refl, sym, ap, ◌∙◌, subst, arith, ℕ, ◌<◌, ◌≤◌, mod-lt, length, ◌⊎◌, inl, inr, Bool, true, false, List, [], ◌∷◌, map, fold, append-nil, Contains, Option, Some, None, Ok}
 use Rattle.std.specs.Prelude.{option_map, nat_le, if◌then◌else◌}
 use Rattle.std.specs.List.{flat_map}
 use Rattle.std.proofs.lemmas.Bool.Decides.{nat_tests}
 use Rattle.dataset_meta.specs.Metas.{IsMeta, MetaData}
 use Rattle.pubsub_model.specs.Frames.{PlacedFrame, carried}
+use Rattle.pubsub_model.specs.Frames as model
 use Rattle.pubsub_model.specs.Cadence.{WriterTurn}
-use Rattle.dataset_writer.specs.Turns.{model_settings}
-use Rattle.frame_codec.specs.Carrying.{content_of, version_if}
-use Rattle.frame_codec.specs.Frames.{Alive, Change, Content, Frame, IsContent, IsFrame, Whole, content_cut, frame_cut}
+use Rattle.frame_codec.specs.Carrying.{version_if}
+use Rattle.frame_codec.specs.Frames.{Alive, Change, Content, Frame, IsFrame, Whole, content_cut, frame_cut}
 use Rattle.frame_codec.specs.Reading.{frame_at}
 use Rattle.frame_codec.specs.Spelling.{frame_bytes}
 use Rattle.frame_codec.proofs.Lengths.{alive_short, frame_some, frame_short}
@@ -25,8 +25,8 @@ use Rattle.ps_config.specs.declared.parts.WriterPart.{WriterPart}
 use Rattle.ps_config.specs.Rooms.{IsRoomy, chunk_room, is_fixed}
 use Rattle.ps_config.proofs.Roomy.{chunk_roomy, frame_roomy}
 use Rattle.writer_group.specs.Envelopes.{frame_room}
-use Rattle.writer_group.specs.Payloads.{Spelled, size_of, spelled_by, carried_frame, laid_frame, writer_at, meta_at}
-use Rattle.writer_group.specs.Turns.{GroupDeed, TurnInput, answer_of, frame_of_writer, settings_of, writer_past}
+use Rattle.writer_group.specs.Payloads.{IsFrameIf, Spelled, size_of, spelled_by, carried_frame, laid_frame, writer_at, meta_at}
+use Rattle.writer_group.specs.Turns.{GroupDeed, TurnInput, frame_of_writer, frame_by, turn_by, answer_to, answer_by}
 use Rattle.reader_group.specs.declared.receipt.Receipt.{Receipt}
 use Rattle.reader_group.specs.Members.{Seat}
 use Rattle.reader_group.specs.Opening.{Opened}
@@ -34,9 +34,8 @@ use Rattle.reader_group.specs.Payloads.{Message, Chunked, pieces}
 use Rattle.reader_group.specs.Plain.{Fed}
 use Rattle.group_laws.specs.Matching.{HasGrownSince, ReadsFrames, ReadsWriter, IsGroupTurn}
 use Rattle.group_laws.specs.TurnOpened.{turn_opened}
-use Rattle.group_laws.specs.TurnPieces.{frame_by, frame_pieces, dynamic_pieces, turn_pieces, writer_pieces, turn_by}
-use Rattle.group_laws.specs.TurnReading.{Received, fed_all, answer_to, answer_by, frame_answered, frame_read, HasRows, IsSampled, IsBehind, IsGiven, IsReadAs}
-use Rattle.group_laws.proofs.Answers.{answer-fits, content-fits, frame-is, carried-small}
+use Rattle.group_laws.specs.TurnPieces.{frame_pieces, dynamic_pieces, turn_pieces, writer_pieces}
+use Rattle.group_laws.specs.TurnReading.{Received, fed_all, frame_answered, frame_read, IsSampled, IsBehind, IsGiven, IsReadAs}
 use Rattle.group_laws.proofs.ChunkReading.{IsMessage, cut-given}
 use Rattle.group_laws.proofs.PartsReading.{Part, part_on, parts_for, fed-parts, pieces-of, receipts-of, none-read, message-given, as-chunks}
 use Rattle.group_laws.proofs.TurnLaws.{dynamic-turn}
@@ -52,17 +51,14 @@ frame-of-took group metas past writer (Some turn) = refl
 pub frame-by-is : (group : GroupPart) (past : List GroupDeed) (input : TurnInput) (writer : ℕ) → frame_by group past input writer ≡ option_map (spelled_by group input.told.metas writer) (answer_by group past input writer)
 frame-by-is group past input writer = frame-of-took group input.told.metas past writer (turn_by group input writer)
 
-answer-content : (group : GroupPart) (past : List GroupDeed) (input : TurnInput) (writer : ℕ) (took : Option WriterTurn) (placed : PlacedFrame) → HasRows group past input writer took → answer_to group past writer took ≡ Some placed
-    → IsContent (meta_at group input.told.metas writer) (content_of placed)
-answer-content group past input writer None placed rows e = absurd (let wrong : Path (Option PlacedFrame) None (Some placed) = e in cc)
-answer-content group past input writer (Some turn) placed rows e =
-    let meta = meta_at group input.told.metas writer in
-    content-fits meta (answer_of group past writer turn) placed (answer-fits meta (model_settings (settings_of (writer_at group writer))) turn (writer_past writer past) rows) e
-
 pub answer-frame : (group : GroupPart) (past : List GroupDeed) (input : TurnInput) (writer : ℕ) (placed : PlacedFrame) → IsSampled group past input writer → answer_by group past input writer ≡ Some placed
     → IsFrame (meta_at group input.told.metas writer) (carried_frame (writer_at group writer) (meta_at group input.told.metas writer) placed)
-answer-frame group past input writer placed sampled e =
-    frame-is (writer_at group writer) (meta_at group input.told.metas writer) placed sampled.major sampled.minor (answer-content group past input writer (turn_by group input writer) placed sampled.rows e)
+answer-frame group past input writer placed sampled e = subst (IsFrameIf (writer_at group writer) (meta_at group input.told.metas writer)) e sampled.frame
+
+carried-small : (placed : PlacedFrame) → carried placed < 65536
+carried-small (model.Whole place row) = mod-lt place {m = 65536} (omega arith)
+carried-small (model.Change place patch) = mod-lt place {m = 65536} (omega arith)
+carried-small (model.Alive next) = mod-lt next {m = 65536} (omega arith)
 
 -- ---- how it is read
 

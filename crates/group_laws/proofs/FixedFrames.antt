@@ -23,6 +23,7 @@ use Rattle.fixed_layout.specs.declared.slot.Slot.{Slot}
 use Rattle.fixed_layout.specs.Datagrams.{AreFrames, slot_at}
 use Rattle.fixed_layout.specs.Spelling.{raw_row, raw_size}
 use Rattle.fixed_layout.proofs.Sizes.{length-raw_row}
+use Rattle.frame_codec.specs.Frames.{IsFrame}
 use Rattle.config_tables.specs.declared.words.Layout.{Layout}
 use Rattle.config_tables.specs.declared.words.Layout.TheVariants as layouts
 use Rattle.ps_config.specs.declared.parts.Config.{Config}
@@ -30,9 +31,8 @@ use Rattle.ps_config.specs.declared.parts.GroupPart.{GroupPart}
 use Rattle.ps_config.specs.declared.parts.WriterPart.{WriterPart}
 use Rattle.ps_config.specs.FixedSound.{IsFixedGroup, front_size, raw_size_of, writer_slot}
 use Rattle.ps_config.specs.Sound.{IsGroup}
-use Rattle.writer_group.specs.Payloads.{Spelled, size_of, spelled_by, carried_frame, laid_frame, raw_frame, writer_at, meta_at, no_meta, no_writer, slots_of}
-use Rattle.writer_group.specs.Turns.{GroupDeed, TurnInput, answer_of, frame_of_writer, frames_from, list_of, settings_of, writer_past}
-use Rattle.group_laws.specs.TurnReading.{HasRows}
+use Rattle.writer_group.specs.Payloads.{IsFrameIf, Spelled, size_of, spelled_by, carried_frame, laid_frame, raw_frame, writer_at, meta_at, no_meta, no_writer, slots_of}
+use Rattle.writer_group.specs.Turns.{GroupDeed, TurnInput, answer_of, frame_of_writer, frames_from, list_of, settings_of, writer_past, answer_to}
 
 -- ---- a key frame at each turn
 
@@ -75,8 +75,12 @@ pub record IsSlotted (config : Config) (group : GroupPart) (frame : Spelled) : T
   pub within : frame.writer < length group.writer
   pub fits : size_of frame ≤ (slot_at (slots_of config group) frame.writer).size
 
-row-there : (group : GroupPart) (past : List GroupDeed) (input : TurnInput) (writer : ℕ) (turn : WriterTurn) → HasRows group past input writer (Some turn) → IsRow (meta_at group input.told.metas writer) turn.row
-row-there group past input writer turn rows = rows.0
+-- what the writer answers with its turn is a frame of its data set
+abbrev pub IsAnswered : GroupPart → List GroupDeed → TurnInput → ℕ → Option WriterTurn → Type 0
+IsAnswered group past input writer took = IsFrameIf (writer_at group writer) (meta_at group input.told.metas writer) (answer_to group past writer took)
+
+row-of : (writer : WriterPart) (meta : MetaData) (answer : Option PlacedFrame) (place : ℕ) (row : List DataValue) → answer ≡ Some (Whole place row) → IsFrameIf writer meta answer → IsRow meta row
+row-of writer meta answer place row e is = let frame : IsFrame meta (carried_frame writer meta (Whole place row)) = subst (IsFrameIf writer meta) e is in frame.content
 
 module _ (config : Config) (group : GroupPart) (past : List GroupDeed) (input : TurnInput) (layout : group.layout ≡ layouts.Fixed) (fixed : IsFixedGroup config group) (is : IsGroup config group)
     (same : (writer : ℕ) → writer < length group.writer → meta_at group input.told.metas writer ≡ meta_at group config.dataset writer) where
@@ -114,20 +118,20 @@ module _ (config : Config) (group : GroupPart) (past : List GroupDeed) (input : 
       subst (λ (o : Option PlacedFrame). All (IsSlotted config group) (list_of (option_map (spelled_by group told_metas writer) o))) (sym e)
       (All-cons (IsSlotted config group) (spelled_by group told_metas writer (Whole place turn.row)) [] (whole-fits writer place turn.row within row) (All-nil (IsSlotted config group)))
 
-  took-slotted : (writer : ℕ) (took : Option WriterTurn) → writer < length group.writer → HasRows group past input writer took → All (IsSlotted config group) (list_of (frame_of_writer group told_metas past writer took))
+  took-slotted : (writer : ℕ) (took : Option WriterTurn) → writer < length group.writer → IsAnswered group past input writer took → All (IsSlotted config group) (list_of (frame_of_writer group told_metas past writer took))
   took-slotted writer None within rows = All-nil (IsSlotted config group)
-  took-slotted writer (Some turn) within rows = answer-slotted writer turn (answer_of group past writer turn) _ within rows.0 (turn-whole writer turn within)
+  took-slotted writer (Some turn) within rows = answer-slotted writer turn (answer_of group past writer turn) _ within (row-of (writer_at group writer) (meta_at group told_metas writer) (answer_of group past writer turn) _ turn.row (turn-whole writer turn within) rows) (turn-whole writer turn within)
 
   pub frames-slotted : (from : ℕ) (tooks : List (Option WriterTurn)) → from + length tooks ≤ length group.writer
-      → ((k : ℕ) → k < length tooks → HasRows group past input (from + k) (slice_index_or tooks k None)) → All (IsSlotted config group) (frames_from group told_metas past from tooks)
+      → ((k : ℕ) → k < length tooks → IsAnswered group past input (from + k) (slice_index_or tooks k None)) → All (IsSlotted config group) (frames_from group told_metas past from tooks)
   frames-slotted from [] fit rows = All-nil (IsSlotted config group)
   frames-slotted from (took ∷ tooks) fit rows =
       let here : from + 0 ≡ from = omega arith in
       All-append (IsSlotted config group) (list_of (frame_of_writer group told_metas past from took)) (frames_from group told_metas past (from + 1) tooks)
-      (took-slotted from took (omega (arith, fit)) (subst (λ (w : ℕ). HasRows group past input w took) here (rows 0 (omega arith))))
+      (took-slotted from took (omega (arith, fit)) (subst (λ (w : ℕ). IsAnswered group past input w took) here (rows 0 (omega arith))))
       (frames-slotted (from + 1) tooks (omega (arith, fit)) (λ k below.
       let there : from + suc k ≡ from + 1 + k = omega arith in
-      subst (λ (w : ℕ). HasRows group past input w (slice_index_or tooks k None)) there (rows (suc k) (omega (arith, below)))))
+      subst (λ (w : ℕ). IsAnswered group past input w (slice_index_or tooks k None)) there (rows (suc k) (omega (arith, below)))))
 
 -- ---- of a writer one at most
 

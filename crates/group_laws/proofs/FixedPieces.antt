@@ -28,7 +28,7 @@ use Rattle.ps_config.specs.Rooms.{header_settings, is_fixed}
 use Rattle.writer_group.specs.Envelopes.{Numbering, IsSecuredAs, mode_of, numbered_header}
 use Rattle.writer_group.specs.Payloads.{Spelled, fixed_header, fixed_payloads, payloads_by, slots_of, writer_at, meta_at}
 use Rattle.writer_group.specs.Sealing.{AreWritten, envelope_with, Payload, header_at}
-use Rattle.writer_group.specs.Turns.{GroupDeed, TurnInput, envelope_of, frame_of_writer, frames_in, frames_from, made_in, turns_from}
+use Rattle.writer_group.specs.Turns.{GroupDeed, TurnInput, envelope_of, frame_of_writer, frames_in, frames_from, made_in, turns_from, frame_by}
 use Rattle.writer_group.proofs.HeaderLengths.{numbered-len}
 use Rattle.reader_group.specs.Members.{Seat}
 use Rattle.reader_group.specs.Opening.{Opened}
@@ -36,9 +36,9 @@ use Rattle.reader_group.specs.Payloads.{slot_piece, reader_slot, pieces}
 use Rattle.reader_group.specs.Settings.{keygroup_at}
 use Rattle.group_laws.specs.Matching.{ReadsWriter, IsSenderOf, IsGroupTurn, MaySend}
 use Rattle.group_laws.specs.TurnOpened.{sender_at, opened_from, turn_opened}
-use Rattle.group_laws.specs.TurnPieces.{frame_by, fixed_pieces, turn_pieces, writer_pieces}
-use Rattle.group_laws.specs.TurnReading.{IsFixedTurn, HasRows}
-use Rattle.group_laws.proofs.FixedFrames.{IsSlotted, are-frames, frames-rise, frames-slotted, has-frame, has-none, in_slot, own-slot}
+use Rattle.group_laws.specs.TurnPieces.{fixed_pieces, turn_pieces, writer_pieces}
+use Rattle.group_laws.specs.TurnReading.{IsFixedTurn}
+use Rattle.group_laws.proofs.FixedFrames.{IsAnswered, IsSlotted, are-frames, frames-rise, frames-slotted, has-frame, has-none, in_slot, own-slot}
 use Rattle.group_laws.proofs.TurnTaken.{advanced-random}
 use Rattle.group_laws.proofs.Writers.{group-sound}
 
@@ -121,8 +121,8 @@ module _ (config : Config) (group : GroupPart) (past : List GroupDeed) (input : 
   slotted =
       let few = turn.on in
       let long = many 0 input.on in
-      frames-slotted config group past input is group_fixed (group-sound config group turn.sound turn.group_is) fixed.metas 0 tooks (omega (arith, few, long))
-      (λ k below. let here : 0 + k ≡ k = omega arith in subst (λ (w : ℕ). HasRows group past input w (slice_index_or tooks k None)) (sym here) (fixed.sampled k (omega (arith, below, few, long))).rows)
+      frames-slotted config group past input is group_fixed (group-sound config group turn.sound turn.group_is) (fixed.metas.fixed (ap is_fixed is)) 0 tooks (omega (arith, few, long))
+      (λ k below. let here : 0 + k ≡ k = omega arith in subst (λ (w : ℕ). IsAnswered group past input w (slice_index_or tooks k None)) (sym here) (fixed.sampled k (omega (arith, below, few, long))).frame)
 
   are : AreFrames slots (map in_slot frames)
   are = are-frames config group frames slotted (frames-rise group input.told.metas past 0 tooks)

@@ -20,7 +20,7 @@ use Rattle.ps_config.specs.Rooms.{is_fixed}
 use Rattle.ps_config.specs.Sound.{IsGroup}
 use Rattle.dataset_writer.specs.Turns.{model_settings}
 use Rattle.writer_group.specs.Payloads.{spelled_by, carried_frame, laid_frame, raw_frame, writer_at, meta_at, no_meta, no_writer}
-use Rattle.writer_group.specs.Turns.{GroupDeed, TurnInput, answer_of, settings_of, writer_past}
+use Rattle.writer_group.specs.Turns.{GroupDeed, TurnInput, answer_of, settings_of, writer_past, frame_by, turn_by, answer_to, answer_by}
 use Rattle.reader_group.specs.Members.{Seat, MemberValue}
 use Rattle.reader_group.specs.Opening.{Opened}
 use Rattle.reader_group.specs.Payloads.{Slotted, pieces}
@@ -28,8 +28,8 @@ use Rattle.reader_group.specs.Plain.{Fed, count_if, given, read_case, piece_case
 use Rattle.reader_group.specs.SlotFrames.{slot_frame_at}
 use Rattle.group_laws.specs.Matching.{ReadsWriter, IsGroupTurn}
 use Rattle.group_laws.specs.TurnOpened.{turn_opened}
-use Rattle.group_laws.specs.TurnPieces.{frame_by, fixed_pieces, turn_pieces, writer_pieces, turn_by}
-use Rattle.group_laws.specs.TurnReading.{Received, fed_all, answer_to, answer_by, frame_answered, frame_read, IsSampled, IsGiven, IsReadInSlot, IsFixedTurn}
+use Rattle.group_laws.specs.TurnPieces.{fixed_pieces, turn_pieces, writer_pieces}
+use Rattle.group_laws.specs.TurnReading.{Received, fed_all, frame_answered, frame_read, IsSampled, IsGiven, IsReadInSlot, IsFixedTurn}
 use Rattle.group_laws.proofs.DynamicReading.{answer-frame, frame-by-is, more-receipts}
 use Rattle.group_laws.proofs.FixedFrames.{turn-whole}
 use Rattle.group_laws.proofs.FixedPieces.{fixed-turn}
@@ -85,14 +85,14 @@ module _ (config : Config) (group : GroupPart) (past : List GroupDeed) (input : 
   sampled = fixed.sampled writer reader.within
 
   now_is : seat.meta ≡ meta
-  now_is = same ∙ sym (fixed.metas writer reader.within)
+  now_is = same ∙ sym (fixed.metas.fixed (ap is_fixed is) writer reader.within)
 
   -- the data set of a fixed writer has no statuses
   no-quality : meta.quality ≡ false
   no-quality =
       let part_is = writer_at group writer in
       let known = (sound.writers writer no_writer reader.within).dataset in
-      ap (λ (m : MetaData). m.quality) (fixed.metas writer reader.within)
+      ap (λ (m : MetaData). m.quality) (fixed.metas.fixed (ap is_fixed is) writer reader.within)
       ∙ sym (ap (λ (o : Option MetaData). option_map_or (λ (m : MetaData). m.quality) o false) (slice_get-get_or config.dataset part_is.dataset no_meta known))
       ∙ (group_fixed.writers writer no_writer reader.within).no_quality
 
@@ -101,7 +101,7 @@ module _ (config : Config) (group : GroupPart) (past : List GroupDeed) (input : 
   place_now = next_place (model_settings (settings_of (writer_at group writer))) (cadence (model_settings (settings_of (writer_at group writer))) (writer_past writer past))
 
   pub answer-is : (took : WriterTurn) → answer_of group past writer took ≡ Some (Whole place_now took.row)
-  answer-is took = turn-whole config group past input is group_fixed sound fixed.metas writer took reader.within
+  answer-is took = turn-whole config group past input is group_fixed sound (fixed.metas.fixed (ap is_fixed is)) writer took reader.within
 
   pub slot-is : (took : WriterTurn) (place : ℕ) → answer_by group past input writer ≡ Some (Whole place took.row)
       → slot_frame_at seat.meta (filled (writer_slot config (writer_at group writer)) (spelled_by group input.told.metas writer (Whole place took.row)).bytes)

@@ -1,5 +1,5 @@
 -- What a guard of the sender's ring answers to its datagrams: it refuses them only for their token and number.
-use Rattle.std.proofs.Common.{◌≡◌, refl, sym, ap, ◌∙◌, subst, arith, ℕ, ◌+◌, Bool, true, false, not, ◌&&◌, List, [], ◌∷◌, length, Option, Some, Result, Ok, Err}
+use Rattle.std.proofs.Common.{◌≡◌, ◌⊎◌, inl, inr, refl, sym, ap, ◌∙◌, subst, arith, ℕ, ◌+◌, Bool, true, false, not, ◌&&◌, List, [], ◌∷◌, length, Option, Some, Result, Ok, Err}
 use Rattle.std.specs.Prelude.{nat_lt, nat_le, ◌==◌, is_none, is_some}
 use Rattle.std.proofs.lemmas.Bool.Decides.{nat_tests}
 use Rattle.uadp_header.specs.Headers.{SecurityValue}
@@ -7,6 +7,7 @@ use Rattle.message_guard.specs.declared.keys.TokenKeys.{TokenKeys}
 use Rattle.message_guard.specs.declared.mode.Mode.{Mode}
 use Rattle.message_guard.specs.declared.mode.Mode.TheVariants as modes
 use Rattle.message_guard.specs.declared.open_fault.OpenFault.{OpenFault}
+use Rattle.message_guard.specs.declared.open_fault.OpenFault.TheVariants as faults
 use Rattle.message_guard.specs.declared.pass.Pass1.{Pass1}
 use Rattle.message_guard.specs.Acceptance.{Accepted, is_acceptable}
 use Rattle.message_guard.specs.Modes.{is_secured}
@@ -17,7 +18,32 @@ use Rattle.message_guard.specs.Senders.{SenderState, IsSender, front_value, sent
 use Rattle.message_guard.proofs.Judging.{verdict_secured}
 use Rattle.message_guard.proofs.Restoring.{sent_is_passed, sent_is_found}
 use Rattle.message_guard.proofs.Telling.{passed_acceptable}
-use Rattle.group_laws.specs.TurnOpened.{is_number_fault}
+use Rattle.group_laws.specs.TurnOpened.{IsOldToken, IsTooOld}
+
+-- the refusals for a token or a number
+abbrev is_number_fault : OpenFault → Bool
+is_number_fault faults.ModeDiffers = false
+is_number_fault faults.FooterOut = false
+is_number_fault faults.KeyResetOut = false
+is_number_fault (faults.BadNonceLength got) = false
+is_number_fault faults.Short = false
+is_number_fault (faults.UnknownToken got) = false
+is_number_fault (faults.OldToken got high) = true
+is_number_fault faults.BadSignature = false
+is_number_fault faults.Repeated = true
+is_number_fault (faults.TooOld high) = true
+
+of-number : (fault : OpenFault) → is_number_fault fault ≡ true → IsOldToken fault ⊎ (fault ≡ faults.Repeated) ⊎ IsTooOld fault
+of-number faults.ModeDiffers is = absurd (let wrong : Path Bool false true = is in cc)
+of-number faults.FooterOut is = absurd (let wrong : Path Bool false true = is in cc)
+of-number faults.KeyResetOut is = absurd (let wrong : Path Bool false true = is in cc)
+of-number (faults.BadNonceLength got) is = absurd (let wrong : Path Bool false true = is in cc)
+of-number faults.Short is = absurd (let wrong : Path Bool false true = is in cc)
+of-number (faults.UnknownToken got) is = absurd (let wrong : Path Bool false true = is in cc)
+of-number (faults.OldToken got high) is = inl (record { got = got; high = high; is = refl })
+of-number faults.BadSignature is = absurd (let wrong : Path Bool false true = is in cc)
+of-number faults.Repeated is = inr (inl refl)
+of-number (faults.TooOld high) is = inr (inr (record { high = high; is = refl }))
 
 -- no test holds but for the number
 abbrev AreRight : Refusals → Type 0
@@ -84,15 +110,16 @@ fresh-acceptable keys token number k known =
 
 -- a refusal of what a sender of the ring protected is for its token or its number
 pub sent-late : (mode : Mode) (s : SenderState) (keys : List TokenKeys) (accepted : Accepted) (header payload : List ℕ) (fault : OpenFault) → is_secured mode ≡ true → IsSender s → keys_with keys s.keys.token ≡ Some s.keys
-    → verdict mode keys accepted (Some (front_value mode s)) (sent mode s header payload) (length header) ≡ Err fault → is_number_fault fault ≡ true
+    → verdict mode keys accepted (Some (front_value mode s)) (sent mode s header payload) (length header) ≡ Err fault → IsOldToken fault ⊎ (fault ≡ faults.Repeated) ⊎ IsTooOld fault
 sent-late mode s keys accepted header payload fault secured is known refused =
     let part = front_value mode s in
     let datagram = sent mode s header payload in
     let may : MayOpen mode s keys [] = record { secured = secured; random = is.random; number = is.used; known = known; acceptable = fresh-acceptable keys s.keys.token s.used s.keys known } in
     let clean = sym (verdict_secured mode keys [] part datagram (length header) secured (mode-fits mode s secured)) ∙ sent_is_passed mode s keys [] header payload may in
     let front = front-right keys [] part datagram (length header) (signed_pass part datagram) (sent_pass s header payload) clean in
-    late-fault (secured_refusals keys accepted part datagram (length header)) (signed_pass part datagram) fault (all-right keys accepted part datagram (length header) front)
-    (sym (verdict_secured mode keys accepted part datagram (length header) secured (mode-fits mode s secured)) ∙ refused)
+    of-number fault
+    (late-fault (secured_refusals keys accepted part datagram (length header)) (signed_pass part datagram) fault (all-right keys accepted part datagram (length header) front)
+    (sym (verdict_secured mode keys accepted part datagram (length header) secured (mode-fits mode s secured)) ∙ refused))
 
 -- and it isn't passed where they aren't acceptable
 pub not-passed : (mode : Mode) (s : SenderState) (keys : List TokenKeys) (accepted : Accepted) (header payload : List ℕ) (pass : Pass1) → is_secured mode ≡ true → IsSender s

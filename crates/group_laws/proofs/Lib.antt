@@ -11,7 +11,6 @@ pub mod TurnLaws
 pub mod Matched
 pub mod Members
 pub mod ChunkReading
-pub mod Answers
 pub mod PartsReading
 pub mod DynamicReading
 pub mod FixedFrames
@@ -20,6 +19,7 @@ pub mod SlotReading
 pub mod FixedReading
 pub mod AnswerParts
 pub mod Ahead
+pub mod Items
 pub mod Delivering
 pub mod Delivered
 pub mod RingSenders

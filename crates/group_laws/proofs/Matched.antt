@@ -5,13 +5,11 @@ use Rattle.std.proofs.lemmas.Bool.{eq-eqb}
 use Rattle.std.proofs.lemmas.List.{get_or-map}
 use Rattle.std.proofs.lemmas.Slice.Eq.{bytes_eq-Decides}
 use Rattle.uadp_header.specs.Headers.{IdsValue}
-use Rattle.dataset_meta.specs.Metas.{MetaData}
 use Rattle.config_tables.specs.declared.publisher.Publisher.{Publisher}
 use Rattle.config_tables.specs.declared.publisher.Publisher.TheVariants as publishers
 use Rattle.ps_config.specs.declared.parts.Config.{Config}
 use Rattle.ps_config.specs.declared.parts.GroupPart.{GroupPart}
 use Rattle.ps_config.specs.declared.parts.ReadGroupPart.{ReadGroupPart}
-use Rattle.ps_config.specs.declared.parts.ReaderPart.{ReaderPart}
 use Rattle.ps_config.specs.Headers.{publisher_value, version_value}
 use Rattle.ps_config.specs.Rooms.{header_settings}
 use Rattle.writer_group.specs.Envelopes.{Numbering, numbered_header}

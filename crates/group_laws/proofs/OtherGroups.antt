@@ -1,5 +1,5 @@
 -- What a read group makes of datagrams of groups that aren't matched.
-use Rattle.std.proofs.Common.{◌≡◌, ◌≢◌, refl, sym, ap, ◌∙◌, subst, arith, ℕ, zero, suc, ◌+◌, ◌<◌, ◌≤◌, ◌^◌, Bool, true, false, not, ◌&&◌, ◌||◌, List, [], ◌∷◌, ◌++◌, length, map, All, Contains, Option, Some, None, Result, Ok, Err}
+use Rattle.std.proofs.Common.{◌≡◌, ◌≢◌, refl, sym, ap, ◌∙◌, subst, arith, ℕ, zero, suc, ◌+◌, ◌<◌, ◌≤◌, ◌^◌, Bool, true, false, not, ◌&&◌, List, [], ◌∷◌, ◌++◌, length, map, All, Contains, Option, Some, None, Result, Ok, Err}
 use Rattle.std.specs.Prelude.{◌==◌, IsErr, drop, filter, nat_lt, slice_index_or, if◌then◌else◌}
 use Rattle.std.specs.Int.{w16, to_le_bytes}
 use Rattle.std.specs.List.{flat_map}
@@ -22,11 +22,11 @@ use Rattle.ps_config.specs.declared.parts.Config.{Config}
 use Rattle.ps_config.specs.declared.parts.GroupPart.{GroupPart}
 use Rattle.ps_config.specs.declared.parts.ReadGroupPart.{ReadGroupPart}
 use Rattle.ps_config.specs.declared.parts.ReaderPart.{ReaderPart}
-use Rattle.ps_config.specs.Rooms.{chunk_room, is_fixed}
+use Rattle.ps_config.specs.Rooms.{chunk_room}
 use Rattle.writer_group.specs.Envelopes.{frame_room, mode_of}
 use Rattle.writer_group.specs.Payloads.{Spelled, size_of, chunk_payload, chunk_payloads, frames_payload, pack_payloads, payloads_by, payloads_of}
 use Rattle.writer_group.specs.Sealing.{AreWritten, Payload, advanced_by, datagram_at, datagrams_from, envelope_with, header_at}
-use Rattle.writer_group.specs.Turns.{GroupDeed, TurnInput, envelope_of, frames_in, made_in, turn_datagrams, turns_from}
+use Rattle.writer_group.specs.Turns.{GroupDeed, TurnInput, frames_in, made_in, turn_datagrams, turns_from}
 use Rattle.reader_group.specs.declared.refusal.Refusal.{Refusal}
 use Rattle.reader_group.specs.declared.refusal.Refusal.TheVariants as refusals
 use Rattle.reader_group.specs.Filter.{is_any_or, is_ours}
@@ -35,7 +35,6 @@ use Rattle.reader_group.specs.Payloads as readers
 use Rattle.reader_group.specs.Payloads.{Piece, Message, Chunked, payload_of, pieces}
 use Rattle.reader_group.proofs.Judged.{judged-value}
 use Rattle.group_laws.specs.Matching.{IsGroupTurn}
-use Rattle.group_laws.proofs.DynamicPieces.{IsSmall}
 use Rattle.group_laws.proofs.Lists.{All-left, All-right}
 use Rattle.group_laws.proofs.OtherReaders.{no-writer-has}
 use Rattle.group_laws.proofs.Taking.{behind, rest_of, sent-split, tests, verdict-written}

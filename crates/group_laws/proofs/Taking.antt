@@ -192,4 +192,4 @@ late-secured group setup accepted header mode s payload by front_is is ours not_
         ap (verdict group setup accepted) whole
         ∙ refused-as group setup accepted header (rest_of mode s front payload) fault is ours
         (subst (λ (d : List ℕ). guards.verdict setup.mode setup.keys accepted header.security d (length front) ≡ Err fault) whole refused) in
-        subst IsNumberRefusal (sym answer) (sent-late mode s setup.keys accepted front payload fault by.secured by.sender by.known e)
+        record { fault = fault; answer_is = answer; of_number = sent-late mode s setup.keys accepted front payload fault by.secured by.sender by.known e }

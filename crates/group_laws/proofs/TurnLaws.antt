@@ -22,7 +22,7 @@ use Rattle.ps_config.specs.Sound.{IsGroup}
 use Rattle.writer_group.specs.Envelopes.{frame_room}
 use Rattle.writer_group.specs.Payloads.{Spelled, payloads_by, payloads_of}
 use Rattle.writer_group.specs.Sealing.{AreWritten, envelope_with, Payload, Envelope, header_at, datagram_at, datagrams_from}
-use Rattle.writer_group.specs.Turns.{GroupDeed, TurnInput, made_in, envelope_of, frames_in, turns_from, turn_datagrams}
+use Rattle.writer_group.specs.Turns.{GroupDeed, TurnInput, made_in, envelope_of, frames_in, turns_from, turn_datagrams, frame_by}
 use Rattle.reader_group.specs.declared.refusal.Refusal.{Refusal}
 use Rattle.reader_group.specs.Members.{Seat}
 use Rattle.reader_group.specs.Opening.{Opened, verdict}
@@ -30,7 +30,7 @@ use Rattle.reader_group.specs.Payloads.{Piece, pieces}
 use Rattle.reader_group.specs.Settings.{setup_by}
 use Rattle.group_laws.specs.Matching.{IsMatched, ReadsWriter, IsGroupTurn, MaySend}
 use Rattle.group_laws.specs.TurnOpened.{sender_at, opened_at, opened_from, turn_opened, is_accepted, IsTakenAs}
-use Rattle.group_laws.specs.TurnPieces.{frame_by, dynamic_pieces, turn_pieces}
+use Rattle.group_laws.specs.TurnPieces.{dynamic_pieces, turn_pieces}
 use Rattle.group_laws.proofs.DynamicPieces.{brought, brought-all, IsSmall}
 use Rattle.group_laws.proofs.PayloadsGood.{IsGood, dynamic-good}
 use Rattle.group_laws.proofs.TurnFrames.{frames-by, frames-small, own-frames, pieces_if}

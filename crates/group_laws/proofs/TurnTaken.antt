@@ -1,6 +1,5 @@
 -- Each datagram of a turn is taken as what its group had for it.
 use Rattle.std.proofs.Common.{◌≡◌, refl, sym, ap, ◌∙◌, subst, arith, ℕ, zero, suc, ◌+◌, ◌<◌, ◌^◌, Bool, true, false, length, Option, Some, None, Ok, IfSome, is_some}
-use Rattle.uadp_header.specs.Headers.{IdsValue}
 use Rattle.uadp_header.specs.Spelling.{IsWritten}
 use Rattle.message_guard.specs.declared.keys.TokenKeys.{TokenKeys}
 use Rattle.message_guard.specs.declared.mode.Mode.{Mode}
@@ -15,10 +14,9 @@ use Rattle.config_tables.specs.declared.words.Security.TheVariants as security
 use Rattle.ps_config.specs.declared.parts.Config.{Config}
 use Rattle.ps_config.specs.declared.parts.GroupPart.{GroupPart}
 use Rattle.ps_config.specs.declared.parts.ReadGroupPart.{ReadGroupPart}
-use Rattle.ps_config.specs.Headers.{is_secured, publisher_value}
-use Rattle.ps_config.specs.Rooms.{header_settings}
+use Rattle.ps_config.specs.Headers.{is_secured}
 use Rattle.ps_config.specs.Sound.{IsSound, IsGroup}
-use Rattle.writer_group.specs.Envelopes.{mode_of, Numbering, numbered_header}
+use Rattle.writer_group.specs.Envelopes.{mode_of, Numbering}
 use Rattle.writer_group.specs.Sealing.{Payload, Envelope, envelope_with, advanced_by, header_at, datagram_at}
 use Rattle.reader_group.specs.Filter.{is_ours}
 use Rattle.reader_group.specs.Opening as readers

@@ -2,4 +2,5 @@ pub mod Matching
 pub mod TurnOpened
 pub mod TurnPieces
 pub mod TurnReading
+pub mod TurnItems
 pub mod TurnDelivered

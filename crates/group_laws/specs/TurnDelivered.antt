@@ -7,9 +7,9 @@ use Rattle.frame_codec.specs.Frames.{Frame}
 use Rattle.ps_config.specs.declared.parts.Config.{Config}
 use Rattle.ps_config.specs.declared.parts.GroupPart.{GroupPart}
 use Rattle.ps_config.specs.declared.parts.ReadGroupPart.{ReadGroupPart}
-use Rattle.writer_group.specs.Envelopes.{mode_of}
-use Rattle.writer_group.specs.Sealing.{advanced_by}
-use Rattle.writer_group.specs.Turns.{GroupDeed, TurnInput, turn_datagrams}
+use Rattle.writer_group.specs.Payloads.{payloads_of}
+use Rattle.writer_group.specs.Sharing.{after_turn}
+use Rattle.writer_group.specs.Turns.{GroupDeed, TurnInput, envelope_of, frames_in, turn_datagrams}
 use Rattle.reader_group.specs.Members.{Seat, MemberValue, seat_at}
 use Rattle.reader_group.specs.Opening.{Opened}
 use Rattle.reader_group.specs.Plain.{Event, Got, Fed, PlainGroup, Setting, cut_if, is_raised, member_at, receipt_of, step, unfed}
@@ -60,7 +60,7 @@ IsSenderAheadIf accepted (Some s) = IsSenderAhead accepted s
 
 -- ---- a turn and a reader
 
--- a turn of a group behind some deeds, and a reader of a read group, with what that went through before and when the turn's datagrams come to it
+-- a turn of a group behind some deeds, and a reader of a read group, with what the read group went through before and when the turn's datagrams come to it
 pub record Course : Type 0 where
   pub config : Config
   pub group : GroupPart
@@ -99,7 +99,8 @@ member_after c = member_at (group_after c).members c.reader
 
 -- the sender after the turn
 abbrev pub sender_after : Course → Option SenderState
-sender_after c = option_map (λ s. advanced_by (mode_of c.group.security) s (length (its_datagrams c))) c.input.sender
+sender_after c =
+    option_map (λ s. after_turn s (envelope_of c.config c.group c.past) (payloads_of c.config c.group (frames_in c.group c.past c.input))) c.input.sender
 
 -- a matched read group gets each datagram of the turn once, in order, and accepted nothing that the sender is still to send
 pub record IsTakenInOrder (c : Course) : Type 0 where

@@ -1,5 +1,5 @@
 -- What a matched read group makes of the datagrams of a turn.
-use Rattle.std.specs.Prelude.{◌≡◌, ℕ, suc, ◌+◌, Bool, true, false, not, ◌||◌, List, [], ◌∷◌, ◌++◌, length, Option, Some, None, Result, Ok, Err}
+use Rattle.std.specs.Prelude.{◌≡◌, ◌⊎◌, ℕ, suc, ◌+◌, Bool, true, false, not, ◌||◌, List, [], ◌∷◌, ◌++◌, length, Option, Some, None, Result, Ok, Err}
 use Rattle.uadp_header.specs.Spelling.{header_bytes}
 use Rattle.message_guard.specs.declared.open_fault.OpenFault.{OpenFault}
 use Rattle.message_guard.specs.declared.open_fault.OpenFault.TheVariants as faults
@@ -28,13 +28,13 @@ use Rattle.reader_group.specs.Payloads.{payload_of}
 abbrev pub sender_at : Envelope → SenderState → ℕ → SenderState
 sender_at e sender index = advanced_by (mode_of e.settings.security) sender (suc index)
 
--- what a guard finds of it
+-- what a guard finds of a datagram
 abbrev pub guard_pass_at : Envelope → Option SenderState → ℕ → Payload → Pass1
 guard_pass_at e None index payload = open_pass (open_datagram e index payload)
 guard_pass_at e (Some sender) index payload =
     sent_pass (sender_at e sender index) (header_bytes (header_at e (Some sender) index payload.0)) payload.1
 
--- what a read group opens of it: just what its group had for it
+-- what a read group opens of the datagram: just what its group had for it
 abbrev pub opened_at : Layout → Envelope → Option SenderState → ℕ → Payload → Opened
 opened_at layout e sender index payload =
     let header = header_bytes (header_at e sender index payload.0) in
@@ -57,30 +57,22 @@ turn_opened config group past input =
 abbrev pub is_accepted : Setup → Accepted → Pass1 → Bool
 is_accepted setup accepted pass = not (is_secured setup.mode) || is_acceptable setup.keys accepted pass.token pass.number
 
--- refusals of a token that is lower than one that was accepted, and of a number that was accepted or is too old
-abbrev pub is_number_fault : OpenFault → Bool
-is_number_fault faults.ModeDiffers = false
-is_number_fault faults.FooterOut = false
-is_number_fault faults.KeyResetOut = false
-is_number_fault (faults.BadNonceLength got) = false
-is_number_fault faults.Short = false
-is_number_fault (faults.UnknownToken got) = false
-is_number_fault (faults.OldToken got high) = true
-is_number_fault faults.BadSignature = false
-is_number_fault faults.Repeated = true
-is_number_fault (faults.TooOld high) = true
+-- a higher token was accepted before
+pub record IsOldToken (fault : OpenFault) : Type 0 where
+  pub got : ℕ
+  pub high : ℕ
+  pub is : fault ≡ faults.OldToken got high
 
-abbrev pub is_number_refusal : Refusal → Bool
-is_number_refusal (refusals.Header fault) = false
-is_number_refusal refusals.NotOurs = false
-is_number_refusal refusals.NoIds = false
-is_number_refusal (refusals.Guard fault) = is_number_fault fault
-is_number_refusal refusals.BadSizes = false
+-- the number is too far below the greatest that was accepted under its token
+pub record IsTooOld (fault : OpenFault) : Type 0 where
+  pub high : ℕ
+  pub is : fault ≡ faults.TooOld high
 
--- it is refused for its token or its number
-abbrev pub IsNumberRefusal : Result Opened Refusal → Type 0
-IsNumberRefusal (Ok opened) = ⊥
-IsNumberRefusal (Err refusal) = is_number_refusal refusal ≡ true
+-- it is refused for its token, or for its number, which was accepted before or is too old
+pub record IsNumberRefusal (answer : Result Opened Refusal) : Type 0 where
+  pub fault : OpenFault
+  pub answer_is : answer ≡ Err (refusals.Guard fault)
+  pub of_number : IsOldToken fault ⊎ (fault ≡ faults.Repeated) ⊎ IsTooOld fault
 
 -- it is opened to just this where it is accepted, and else refused for its token or number
 pub record IsTakenAs (acceptable : Bool) (opened : Opened) (answer : Result Opened Refusal) : Type 0 where

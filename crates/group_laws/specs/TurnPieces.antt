@@ -1,6 +1,5 @@
 -- What the datagrams of a turn have for the reader of a writer.
-use Rattle.std.specs.Prelude.{ℕ, List, [], ◌∷◌, map, replicate, nat_le, slice_index_or, Option, Some, None, if◌then◌else◌}
-use Rattle.pubsub_model.specs.Cadence.{WriterTurn}
+use Rattle.std.specs.Prelude.{ℕ, List, [], ◌∷◌, map, replicate, nat_le, Option, Some, None, if◌then◌else◌}
 use Rattle.chunker.specs.Chunks.{cuts}
 use Rattle.chunker.specs.Spelling.{chunk_bytes}
 use Rattle.fixed_layout.specs.Datagrams.{filled}
@@ -13,7 +12,7 @@ use Rattle.ps_config.specs.FixedSound.{writer_slot}
 use Rattle.ps_config.specs.Rooms.{chunk_room}
 use Rattle.writer_group.specs.Envelopes.{frame_room}
 use Rattle.writer_group.specs.Payloads.{Spelled, size_of, writer_at}
-use Rattle.writer_group.specs.Turns.{GroupDeed, TurnInput, turns_from, frame_of_writer}
+use Rattle.writer_group.specs.Turns.{GroupDeed, TurnInput, frame_by}
 use Rattle.reader_group.specs.Payloads.{Piece, Message, Chunked, Slotted}
 
 -- a frame as it stands in a dynamic layout: whole where it fits into a datagram, and else its chunks, in order
@@ -36,14 +35,6 @@ fixed_pieces config group writer (Some frame) = Slotted (filled (writer_slot con
 abbrev pub writer_pieces : Layout → Config → GroupPart → ℕ → Option Spelled → List Piece
 writer_pieces layouts.Dynamic config group writer frame = dynamic_pieces config.publisher.id group frame
 writer_pieces layouts.Fixed config group writer frame = fixed_pieces config group writer frame
-
--- the turn that a writer has, if it is Operational
-abbrev pub turn_by : GroupPart → TurnInput → ℕ → Option WriterTurn
-turn_by group input writer = slice_index_or (turns_from group input.told 0 input.on) writer None
-
--- the frame that it answers with, as it is spelled
-abbrev pub frame_by : GroupPart → List GroupDeed → TurnInput → ℕ → Option Spelled
-frame_by group past input writer = frame_of_writer group input.told.metas past writer (turn_by group input writer)
 
 -- what a turn has for the reader of a writer
 abbrev pub turn_pieces : Config → GroupPart → List GroupDeed → TurnInput → ℕ → List Piece

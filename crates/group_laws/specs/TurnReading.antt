@@ -1,8 +1,7 @@
 -- What a reader is given of a turn.
-use Rattle.std.specs.Prelude.{◌≡◌, ◌⊎◌, ℕ, ◌+◌, ◌<◌, ◌^◌, List, ◌∷◌, length, fold, Contains, true, false, nat_le, Option, Some, None, option_map, Ok, IsErr, ⊤}
+use Rattle.std.specs.Prelude.{◌≡◌, ◌⊎◌, ℕ, ◌+◌, ◌<◌, List, length, fold, Contains, true, false, nat_le, Option, Some, None, option_map, Ok, IsErr, ⊤}
 use Rattle.dataset_meta.specs.Metas.{IsMeta}
 use Rattle.pubsub_model.specs.Frames.{PlacedFrame}
-use Rattle.pubsub_model.specs.Cadence.{WriterTurn, HadTurn, HasRowsOf}
 use Rattle.frame_codec.specs.Frames.{Alive, Frame, frame_cut}
 use Rattle.frame_codec.specs.Reading.{frame_at}
 use Rattle.chunker.specs.Chunks.{Chunk}
@@ -14,25 +13,17 @@ use Rattle.ps_config.specs.declared.parts.Config.{Config}
 use Rattle.ps_config.specs.declared.parts.GroupPart.{GroupPart}
 use Rattle.ps_config.specs.FixedSound.{IsFixedSound}
 use Rattle.writer_group.specs.Envelopes.{frame_room}
-use Rattle.writer_group.specs.Payloads.{Spelled, size_of, spelled_by, writer_at, meta_at, carried_frame}
-use Rattle.writer_group.specs.Turns.{GroupDeed, TurnInput, answer_of, writer_past}
+use Rattle.writer_group.specs.Payloads.{IsFrameIf, Spelled, size_of, spelled_by, writer_at, meta_at, carried_frame}
+use Rattle.writer_group.specs.Standing.{AreMetas}
+use Rattle.writer_group.specs.Turns.{GroupDeed, TurnInput, answer_by}
 use Rattle.reader_group.specs.declared.receipt.Receipt.{Receipt}
 use Rattle.reader_group.specs.Members.{Seat, MemberValue}
 use Rattle.reader_group.specs.Opening.{Opened}
 use Rattle.reader_group.specs.Payloads.{Piece, Message, Chunked, Slotted, Missing, pieces}
 use Rattle.reader_group.specs.Plain.{Fed, fed_on, fed_by, given}
 use Rattle.reader_group.specs.SlotFrames.{slot_frame_at}
-use Rattle.group_laws.specs.TurnPieces.{turn_by}
 
 -- ---- what a writer answers
-
-abbrev pub answer_to : GroupPart → List GroupDeed → ℕ → Option WriterTurn → Option PlacedFrame
-answer_to group past writer None = None
-answer_to group past writer (Some turn) = answer_of group past writer turn
-
--- what it answers, where it is Operational and answers at all
-abbrev pub answer_by : GroupPart → List GroupDeed → TurnInput → ℕ → Option PlacedFrame
-answer_by group past input writer = answer_to group past writer (turn_by group input writer)
 
 -- a frame of the writer's data set, cut to the fields of a reader's meta
 abbrev pub frame_read : GroupPart → TurnInput → ℕ → Seat → PlacedFrame → Frame
@@ -43,16 +34,10 @@ frame_read group input writer seat placed =
 abbrev pub frame_answered : GroupPart → List GroupDeed → TurnInput → ℕ → Seat → Option Frame
 frame_answered group past input writer seat = option_map (frame_read group input writer seat) (answer_by group past input writer)
 
-abbrev pub HasRows : GroupPart → List GroupDeed → TurnInput → ℕ → Option WriterTurn → Type 0
-HasRows group past input writer None = ⊤
-HasRows group past input writer (Some turn) = HasRowsOf (meta_at group input.told.metas writer) (HadTurn turn ∷ writer_past writer past)
-
--- the writer's data set is one, and the rows of its turns are rows of it, with the version of each part a UInt32
+-- the writer's data set is one, and what it answers is a frame of it
 pub record IsSampled (group : GroupPart) (past : List GroupDeed) (input : TurnInput) (writer : ℕ) : Type 0 where
   pub meta : IsMeta (meta_at group input.told.metas writer).fields
-  pub major : (meta_at group input.told.metas writer).major < 2 ^ 32
-  pub minor : (meta_at group input.told.metas writer).minor < 2 ^ 32
-  pub rows : HasRows group past input writer (turn_by group input writer)
+  pub frame : IsFrameIf (writer_at group writer) (meta_at group input.told.metas writer) (answer_by group past input writer)
 
 -- ---- what comes to the reader
 
@@ -99,10 +84,10 @@ abbrev pub IsReadInSlot : Seat → List Receipt → Fed → Option Frame → Fed
 IsReadInSlot seat receipts fed None after = (after.member ≡ fed.member) × (after.bad ≡ fed.bad + 1)
 IsReadInSlot seat receipts fed (Some frame) after = IsGiven seat receipts fed frame after
 
--- a turn of a fixed group of a sound configuration: its writers have the metas of the configuration
+-- a turn of a fixed group of a sound configuration
 pub record IsFixedTurn (config : Config) (group : GroupPart) (past : List GroupDeed) (input : TurnInput) : Type 0 where
   pub fixed : IsFixedSound config
-  pub metas : (writer : ℕ) → writer < length group.writer → meta_at group input.told.metas writer ≡ meta_at group config.dataset writer
+  pub metas : AreMetas config group input.told.metas
   pub sampled : (writer : ℕ) → writer < length group.writer → IsSampled group past input writer
 
 -- ---- one part alone, whatever else comes

@@ -1,9 +1,10 @@
 //! Laws of both groups, each the contract of a function that does nothing.
-ghost use Rattle.std.specs.Prelude.{◌≡◌, ◌≢◌, ◌<◌, ◌≤◌, ℕ, List, [], length, map, slice_get, Some, None, Ok, Err, IsErr};
+ghost use Rattle.std.specs.Prelude.{◌≡◌, ◌≢◌, ◌<◌, ◌≤◌, ℕ, List, [], length, map, slice_get, Option, Some, None, Ok, Err, IsErr};
 ghost use Rattle.std.specs.List.{flat_map, All, Contains};
 ghost use Rattle.message_guard.specs.Acceptance.{Accepted};
 ghost use Rattle.message_guard.specs.Guards.{Setup};
-ghost use Rattle.message_guard.specs.Senders.{SenderState};
+ghost use Rattle.message_guard.specs.declared.mode.Mode.{Mode};
+ghost use Rattle.message_guard.specs.Senders.{SenderState, turned};
 ghost use Rattle.config_tables.specs.declared.words.Layout.TheVariants as layouts;
 ghost use Rattle.ps_config.specs.declared.parts.Config.{Config};
 ghost use Rattle.ps_config.specs.declared.parts.GroupPart.{GroupPart};
@@ -13,27 +14,31 @@ ghost use Rattle.ps_config.specs.declared.parts.ReaderPart.{ReaderPart};
 ghost use Rattle.ps_config.specs.BuiltIn.{built_in_config, built_in_group, built_in_read_group};
 ghost use Rattle.ps_config.specs.Sound.{IsKeyGroup};
 ghost use Rattle.writer_group.specs.Payloads.{meta_at};
-ghost use Rattle.writer_group.specs.Turns.{GroupDeed, TurnInput, turn_datagrams};
+ghost use Rattle.writer_group.specs.Sealing.{advanced_by};
+ghost use Rattle.writer_group.specs.Turns.{GroupDeed, TurnInput, turn_datagrams, frame_by};
 ghost use Rattle.reader_group.specs.declared.refusal.Refusal.TheVariants as refusals;
 ghost use Rattle.reader_group.specs.Members.{Seat, seat_at};
 ghost use Rattle.reader_group.specs.Opening.{Opened, verdict};
-ghost use Rattle.reader_group.specs.Payloads.{pieces};
+ghost use Rattle.reader_group.specs.Arrivals.{Mark, Way, comes, item_of, piece_on};
+ghost use Rattle.reader_group.specs.Payloads.{Piece, pieces};
+ghost use Rattle.pubsub_model.specs.Frames.{PlacedFrame};
+ghost use Rattle.group_laws.specs.TurnItems.{ComesWhole, placed_cut};
 ghost use Rattle.reader_group.specs.Plain.{Fed};
 ghost use Rattle.reader_group.specs.Settings.{setting_by, setup_by};
 ghost use Rattle.group_laws.specs.Matching.{IsMatched, IsMatchedTo, ReadsFrames, ReadsWriter, IsRingSender, IsSenderOf, IsGroupTurn};
-ghost use Rattle.group_laws.specs.TurnDelivered.{AreDisabled, Course, IsDelivered, IsDeliveredInSlot, IsInOrder, IsSenderAheadIf, IsTakenInOrder, group_after, its_seat, its_setting, member_after, member_before, sender_after};
+ghost use Rattle.group_laws.specs.TurnDelivered.{AreDisabled, Course, IsDelivered, IsDeliveredInSlot, IsInOrder, IsSenderAhead, IsSenderAheadIf, IsTakenInOrder, group_after, its_seat, its_setting, member_after, member_before, sender_after};
 ghost use Rattle.group_laws.specs.TurnOpened.{turn_opened, is_accepted, IsTakenAs};
-ghost use Rattle.group_laws.specs.TurnPieces.{frame_by, turn_pieces};
+ghost use Rattle.group_laws.specs.TurnPieces.{turn_pieces};
 ghost use Rattle.group_laws.specs.TurnReading.{Received, frame_answered, fed_all, IsBehind, IsFixedTurn, IsPartBy, IsReadAs, IsReadInSlot, IsSampled};
 
 /// What a group of a configuration sends in a turn, taken in order by a matched read group, gives an enabled reader of a writer
 /// of the group what this writer answered, once: a token that is raised cuts the reader first; then it is given the frame, whole,
 /// joined of its chunks or out of its slot, cut to the reader's fields if fields were appended to the writer's data set since.
 /// Where the writer answered nothing the reader is left as it was, and in a fixed layout the zeros in its slot are a bad part.
-/// A reader of a writer of another group, and a disabled one, are cut at most. It is so in each layout and security mode, whatever the read group went through before, if
-/// it accepted nothing that the sender is still to send, and if the reader joins no chunks of a message that isn't older, where
-/// the frame comes in chunks. Then it has accepted nothing that the sender is to send after the turn. Nothing is said here where
-/// a datagram is lost: `each_part_is_of_what_was_answered` is for that.
+/// A reader of a writer of another group, and a disabled one, are cut at most. It is so in each layout and security mode, whatever
+/// the read group went through before, if it accepted nothing that the sender is still to send, and if the reader joins no chunks
+/// of a message that isn't older, where the frame comes in chunks. Then it has accepted nothing that the sender is to send after
+/// the turn. Nothing is said here where a datagram is lost: `each_part_is_of_what_was_answered` is for that.
 pub fn what_a_turn_sends_is_what_a_reader_is_given()
     ensures dynamic { (c : Course) (writer : ℕ) → IsInOrder c → c.group.layout ≡ layouts.Dynamic
         → ReadsWriter c.group writer (its_seat c).part
@@ -51,6 +56,16 @@ pub fn what_a_turn_sends_is_what_a_reader_is_given()
     ensures disabled { (c : Course) → IsTakenInOrder c → c.reader < length (its_setting c).seats
         → AreDisabled c.reader c.deliveries → member_after c ≡ member_before c }
     ensures ahead { (c : Course) → IsTakenInOrder c → IsSenderAheadIf (group_after c).accepted (sender_after c) }
+{}
+
+/// A sender is ahead of a read group that accepted nothing, and stays ahead of one where it goes over to the keys of a moment,
+/// and where other groups that share it send with it.
+pub fn a_sender_stays_ahead()
+    ensures opening { (s : SenderState) → IsSenderAhead [] s }
+    ensures turned { (accepted : Accepted) (now : ℕ) (s : SenderState) → IsSenderAhead accepted s
+        → IsSenderAhead accepted (turned s now) }
+    ensures shared { (accepted : Accepted) (mode : Mode) (s : SenderState) (count : ℕ) → IsSenderAhead accepted s
+        → IsSenderAhead accepted (advanced_by mode s count) }
 {}
 
 /// Whatever it accepted before, a matched read group opens each datagram of a turn to just what its group had for it, where
@@ -137,6 +152,16 @@ pub fn a_dynamic_turn_has_nothing_for_readers_of_other_writers()
         → group.layout ≡ layouts.Dynamic → IsGroupTurn config group past input → 1 ≤ seat.part.writer
         → All (λ writer. writer.id ≢ seat.part.writer) group.writer
         → flat_map (λ opened. pieces seat.part opened.payload) (turn_opened config group past input) ≡ [] }
+{}
+
+/// A part of what a writer answered at a turn, if it isn't a chunk, adds one item to the list of a reader that goes by numbers and
+/// takes this number for its place: the frame that was answered, at its place, cut to the reader's fields. A jump may cut before it.
+pub fn a_whole_part_is_the_item_of_its_answer()
+    ensures { (group : GroupPart) (past : List GroupDeed) (input : TurnInput) (writer : ℕ) (way : Way) (place : ℕ → ℕ)
+        (placed : PlacedFrame) (piece : Piece) (moment : ℕ) (stamp : Option ℕ) (before : List Mark)
+        → ComesWhole group past input writer way place placed piece
+        → piece_on way place moment stamp before piece
+        ≡ comes way before (item_of moment stamp (placed_cut way.seat.meta placed)) }
 {}
 
 /// Whichever read group gets a datagram of a turn, and whichever keys it has: a read group that asks for another group by its id

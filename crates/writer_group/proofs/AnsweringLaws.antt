@@ -16,10 +16,10 @@ use Rattle.dataset_writer.specs.Turns.{model_settings, latest_answer}
 use Rattle.config_tables.specs.declared.words.Layout.{Layout}
 use Rattle.ps_config.specs.declared.parts.GroupPart.{GroupPart}
 use Rattle.ps_config.specs.declared.parts.WriterPart.{WriterPart}
-use Rattle.writer_group.specs.Answering.{HasAnswered, HaveAnswered, StandAfter, deeds_with, frame_if}
+use Rattle.writer_group.specs.Answering.{HasAnswered, HaveAnswered, StandAfter, answer_if, deeds_with, frame_if}
 use Rattle.writer_group.specs.Holding.{number_or_zero, spelled_words}
-use Rattle.writer_group.specs.Payloads.{Spelled, carried_frame, laid_frame, meta_at, writer_at, spelled_as}
-use Rattle.writer_group.specs.Turns.{GroupDeed, Told, frame_of_writer, frames_from, list_of, settings_of, turn_if, turns_from, writer_past}
+use Rattle.writer_group.specs.Payloads.{IsFrameIf, Spelled, carried_frame, laid_frame, meta_at, writer_at, spelled_as}
+use Rattle.writer_group.specs.Turns.{GroupDeed, Told, answer_to, frame_of_writer, frames_from, list_of, settings_of, turn_if, turns_from, writer_past}
 
 -- ---- one writer
 
@@ -44,18 +44,15 @@ answered-none : (part : WriterPart) (index : ℕ) (layout : Layout) (meta : Meta
 answered-none part index layout meta None same = refl
 answered-none part index layout meta (Some placed) same = cc
 
-abbrev answer_to : WriterPart → WriterTurn → List WriterDeed → Option PlacedFrame
-answer_to part turn deeds = latest_answer (cadence (model_settings (settings_of part)) (HadTurn turn ∷ deeds))
-
 pub sent-frame : (part : WriterPart) (index : ℕ) (layout : Layout) (meta : MetaData) (frame : FrameWords) (turn : WriterTurn) (deeds : List WriterDeed)
-    → Path (Option Frame) (Some (frame_in meta.fields frame)) (option_map (carried_frame part meta) (answer_to part turn deeds))
+    → Path (Option Frame) (Some (frame_in meta.fields frame)) (option_map (carried_frame part meta) (answer_if part (Some turn) deeds))
     → spelled_words layout index part meta frame ∷ [] ≡ frame_if part index layout meta (Some turn) deeds
-sent-frame part index layout meta frame turn deeds same = answered-some part index layout meta frame (answer_to part turn deeds) same
+sent-frame part index layout meta frame turn deeds same = answered-some part index layout meta frame (answer_if part (Some turn) deeds) same
 
 pub no-frame : (part : WriterPart) (index : ℕ) (layout : Layout) (meta : MetaData) (turn : WriterTurn) (deeds : List WriterDeed)
-    → Path (Option Frame) None (option_map (carried_frame part meta) (answer_to part turn deeds))
+    → Path (Option Frame) None (option_map (carried_frame part meta) (answer_if part (Some turn) deeds))
     → frame_if part index layout meta (Some turn) deeds ≡ []
-no-frame part index layout meta turn deeds same = answered-none part index layout meta (answer_to part turn deeds) same
+no-frame part index layout meta turn deeds same = answered-none part index layout meta (answer_if part (Some turn) deeds) same
 
 -- ---- all writers
 
@@ -97,14 +94,24 @@ own-frame : (part : GroupPart) (metas : List MetaData) (past : List GroupDeed) (
 own-frame part metas past writer None = refl
 own-frame part metas past writer (Some turn) = refl
 
+-- what the writer answers with its turn is a frame of its data set
+abbrev pub IsFrameAt : GroupPart → List MetaData → List GroupDeed → ℕ → Option WriterTurn → Type 0
+IsFrameAt part metas past writer took = IsFrameIf (writer_at part writer) (meta_at part metas writer) (answer_to part past writer took)
+
+own-answer : (part : GroupPart) (metas : List MetaData) (past : List GroupDeed) (writer : ℕ) (took : Option WriterTurn)
+    → IsFrameIf (writer_at part writer) (meta_at part metas writer) (answer_if (writer_at part writer) took (writer_past writer past)) → IsFrameAt part metas past writer took
+own-answer part metas past writer None is = tt
+own-answer part metas past writer (Some turn) is = is
+
 -- the first writers had their turns
 pub record HaveSoFar (part : GroupPart) (metas : List MetaData) (past : List GroupDeed) (turns : List (Option WriterTurn)) (old now : List Writer) (index : ℕ) (frames : List Spelled) : Type 0 where
   pub stands : StandAfter part metas past [] old → StandAfter part metas past (take index turns) now
   pub frames_are : StandAfter part metas past [] old → frames ≡ frames_from part metas past 0 (take index turns)
+  pub are_frames : StandAfter part metas past [] old → (writer : ℕ) → IsFrameAt part metas past writer (get_or (take index turns) writer None)
 
 pub none-so-far : (part : GroupPart) (metas : List MetaData) (past : List GroupDeed) (turns : List (Option WriterTurn)) (old : List Writer) (frames : List Spelled) → frames ≡ []
     → HaveSoFar part metas past turns old old 0 frames
-none-so-far part metas past turns old frames none = record { stands = λ s. s; frames_are = λ s. none }
+none-so-far part metas past turns old frames none = record { stands = λ s. s; frames_are = λ s. none; are_frames = λ s writer. tt }
 
 -- the next writer, which has this turn, had it
 pub record IsNext (turns : List (Option WriterTurn)) (now after : List Writer) (index : ℕ) (writer new : Writer) : Type 0 where
@@ -184,6 +191,17 @@ frames-next part metas past turns index frames after below so_far added =
     ∙ sym (frames-push part metas past 0 (take index turns) turn)
     ∙ ap (frames_from part metas past 0) (sym (take_more turns index None below))
 
+is-frame-next : (part : GroupPart) (metas : List MetaData) (past : List GroupDeed) (turns : List (Option WriterTurn)) (index writer : ℕ) → index < length turns
+    → IsFrameAt part metas past index (get_or turns index None) → IsFrameAt part metas past writer (get_or (take index turns) writer None)
+    → IsFrameAt part metas past writer (get_or (take (index + 1) turns) writer None)
+is-frame-next part metas past turns index writer below own before = by_writer (cases_eq writer index)
+  where
+    by_writer : (writer ≡ index) ⊎ (writer ≡ index → ⊥) → IsFrameAt part metas past writer (get_or (take (index + 1) turns) writer None)
+    by_writer (inl same) =
+        subst (λ (w : ℕ). IsFrameAt part metas past w (get_or (take (index + 1) turns) w None)) (sym same)
+        (subst (IsFrameAt part metas past index) (sym (took-now turns index below)) own)
+    by_writer (inr differs) = subst (IsFrameAt part metas past writer) (sym (took-other turns index writer below differs)) before
+
 pub next-so-far : (part : GroupPart) (metas : List MetaData) (past : List GroupDeed) (turns : List (Option WriterTurn)) (old now after : List Writer) (index : ℕ) (writer new : Writer) (frames spelled : List Spelled)
     → IsNext turns now after index writer new → index < length part.writer
     → HasAnswered (writer_at part index) index part.layout (meta_at part metas index) (get_or turns index None) (writer_past index past) writer new frames spelled
@@ -194,6 +212,10 @@ next-so-far part metas past turns old now after index writer new frames spelled 
       frames_are = λ stand.
           frames-next part metas past turns index frames spelled next.below (so_far.frames_are stand)
           (answered.frames (before-none part metas past turns now after index writer new next within (so_far.stands stand)));
+      are_frames = λ stand other.
+          is-frame-next part metas past turns index other next.below
+          (own-answer part metas past index (get_or turns index None) (answered.is_frame (before-none part metas past turns now after index writer new next within (so_far.stands stand))))
+          (so_far.are_frames stand other);
     }
 
 -- at the end all had them
@@ -205,4 +227,5 @@ all-so-far part told on past old new frames index all so_far =
     record {
       stands = λ stand. subst (λ (t : List (Option WriterTurn)). StandAfter part told.metas past t new) whole (so_far.stands stand);
       frames_are = λ stand. so_far.frames_are stand ∙ ap (frames_from part told.metas past 0) whole;
+      are_frames = λ stand writer. subst (λ (t : List (Option WriterTurn)). IsFrameAt part told.metas past writer (get_or t writer None)) whole (so_far.are_frames stand writer);
     }

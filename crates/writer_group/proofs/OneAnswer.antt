@@ -16,9 +16,9 @@ use Rattle.dataset_writer.specs.Turns.{latest_answer, model_settings}
 use Rattle.config_tables.specs.declared.words.Layout.{Layout}
 use Rattle.config_tables.specs.declared.words.Layout.TheVariants as layout
 use Rattle.ps_config.specs.declared.parts.WriterPart.{WriterPart}
-use Rattle.writer_group.specs.Answering.{AddsFrame, HasAnswered, HasLived, IsFrameBy, HasNarrowNumbers}
+use Rattle.writer_group.specs.Answering.{AddsFrame, HasAnswered, HasLived, IsFrameBy, HasNarrowNumbers, answer_if}
 use Rattle.writer_group.specs.Holding.{spelled_words}
-use Rattle.writer_group.specs.Payloads.{Spelled, carried_frame, laid_frame}
+use Rattle.writer_group.specs.Payloads.{IsFrameIf, Spelled, carried_frame, laid_frame}
 use Rattle.writer_group.specs.Turns.{settings_of}
 use Rattle.writer_group.proofs.AnsweringLaws.{no-frame, sent-frame, spelled-answer}
 use Rattle.writer_group.proofs.LargestFrame.{frame-largest}
@@ -31,10 +31,22 @@ pub off-answered : (part : WriterPart) (index : ℕ) (l : Layout) (meta : MetaDa
     → HasAnswered part index l meta took deeds writer writer frames frames
 off-answered part index l meta took deeds writer frames none =
     subst (λ (o : Option WriterTurn). HasAnswered part index l meta o deeds writer writer frames frames) (sym none)
-    (record { stands = λ is. is; frames = λ is. sym (append-nil frames) })
+    (record { stands = λ is. is; frames = λ is. sym (append-nil frames); is_frame = λ is. tt })
 
 abbrev AnswersAll : WriterPart → MetaData → WriterTurn → Writer → Writer → Option FrameWords → Type 0
 AnswersAll part meta turn old new sent = (deeds : List WriterDeed) → IsWriter meta (settings_of part) deeds old → Answers meta (settings_of part) deeds turn new sent
+
+none-is-frame : (part : WriterPart) (meta : MetaData) (answer : Option PlacedFrame) → Path (Option Frame) None (option_map (carried_frame part meta) answer) → IsFrameIf part meta answer
+none-is-frame part meta None same = tt
+none-is-frame part meta (Some placed) same = absurd (let no : Path (Option Frame) None (Some (carried_frame part meta placed)) = same in cc)
+
+-- the frame in words is one of the meta, and so is what it carries
+sent-is-frame : (part : WriterPart) (meta : MetaData) (frame : FrameWords) (answer : Option PlacedFrame) → IsFrameOf meta frame → HasNarrowNumbers frame
+    → Path (Option Frame) (Some (frame_in meta.fields frame)) (option_map (carried_frame part meta) answer) → IsFrameIf part meta answer
+sent-is-frame part meta frame None is narrow same = tt
+sent-is-frame part meta frame (Some placed) is narrow same =
+    let inner : frame_in meta.fields frame ≡ carried_frame part meta placed = cc in
+    subst (IsFrame meta) inner (words-fit meta frame is narrow.number narrow.major narrow.minor)
 
 pub quiet-answered : (part : WriterPart) (index : ℕ) (l : Layout) (meta : MetaData) (took : Option WriterTurn) (turn : WriterTurn) (deeds : List WriterDeed) (old new : Writer) (frames : List Spelled) → took ≡ Some turn
     → AnswersAll part meta turn old new None → HasAnswered part index l meta took deeds old new frames frames
@@ -43,16 +55,18 @@ quiet-answered part index l meta took turn deeds old new frames some answers =
     (record {
       stands = λ is. (answers deeds is).stands;
       frames = λ is. sym (append-nil frames) ∙ ap (λ (l : List Spelled). frames ++ l) (sym (no-frame part index l meta turn deeds (answers deeds is).sends));
+      is_frame = λ is. none-is-frame part meta (answer_if part (Some turn) deeds) (answers deeds is).sends;
     })
 
 pub sent-answered : (part : WriterPart) (index : ℕ) (l : Layout) (meta : MetaData) (took : Option WriterTurn) (turn : WriterTurn) (deeds : List WriterDeed) (old new : Writer) (frame : FrameWords) (before after : List Spelled)
-    → took ≡ Some turn → AnswersAll part meta turn old new (Some frame) → after ≡ before ++ spelled_words l index part meta frame ∷ []
+    → took ≡ Some turn → IsFrameOf meta frame → HasNarrowNumbers frame → AnswersAll part meta turn old new (Some frame) → after ≡ before ++ spelled_words l index part meta frame ∷ []
     → HasAnswered part index l meta took deeds old new before after
-sent-answered part index l meta took turn deeds old new frame before after some answers added =
+sent-answered part index l meta took turn deeds old new frame before after some is_frame narrow answers added =
     subst (λ (o : Option WriterTurn). HasAnswered part index l meta o deeds old new before after) (sym some)
     (record {
       stands = λ is. (answers deeds is).stands;
       frames = λ is. added ∙ ap (λ (l : List Spelled). before ++ l) (sent-frame part index l meta frame turn deeds (answers deeds is).sends);
+      is_frame = λ is. sent-is-frame part meta frame (answer_if part (Some turn) deeds) is_frame narrow (answers deeds is).sends;
     })
 
 -- ---- what it adds

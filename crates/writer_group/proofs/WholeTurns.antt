@@ -12,10 +12,10 @@ use Rattle.pubsub_model.specs.Cadence.{WriterDeed}
 use Rattle.writer_group.specs.declared.datagrams.Datagrams.{Datagrams}
 use Rattle.writer_group.specs.declared.group.Group.{Group}
 use Rattle.writer_group.specs.declared.sampled.Sampled.{Sampled}
-use Rattle.writer_group.specs.Answering.{HaveAnswered, MayGo, StandAfter, IsAnswerOf, AreAnswers}
+use Rattle.writer_group.specs.Answering.{HaveAnswered, MayGo, StandAfter, AreAnswers}
 use Rattle.writer_group.specs.Holding.{CargoValue, payload_in}
 use Rattle.writer_group.specs.Making.{AreSpelled, cargo_with, loads_for, passed, spelled_in, IsPosted}
-use Rattle.writer_group.specs.Payloads.{meta_at, payloads_of, size_of, writer_at, IsReadable, Spelled}
+use Rattle.writer_group.specs.Payloads.{meta_at, payloads_of, size_of, writer_at, Spelled}
 use Rattle.writer_group.specs.Sealing.{datagrams_from, AreWritten, Payload, advanced_by, envelope_with}
 use Rattle.writer_group.specs.Standing.{HasTicked, IsGroup, IsMadeFor, MayGoOn, datagrams_in, input_of, metas_for, MayTick, IsSenderFor}
 use Rattle.writer_group.specs.Turns.{GroupDeed, HadGroupTurn, TurnInput, envelope_of, frames_in, last_moment, made_in, settings_of, told_of, turn_datagrams, turned, turns_from}
@@ -24,7 +24,6 @@ use Rattle.writer_group.proofs.TickLaws.{IsCargoOf, datagrams-same, deeds-after,
 use Rattle.writer_group.proofs.TickSteps.{HasLoads, same-cargo, IsPartOf, at-part, loads-left, is-turn}
 use Rattle.std.specs.List.{HoldsAt}
 use Rattle.writer_group.specs.Envelopes.{mode_of}
-use Rattle.std.proofs.lemmas.List.Elements.{All-weaker}
 use Rattle.writer_group.proofs.LongestTurns.{none-longer}
 
 -- ---- the datagrams are those of the definition
@@ -144,10 +143,6 @@ pub record WasTurned (config : Config) (index : ℕ) (part : GroupPart) (metas :
   pub count_is : count ≡ length (datagrams_in last_out)
   pub passed_is : last ≡ passed now closing count after
 
-all-readable : (part : GroupPart) (metas : List MetaData) (frames : List Spelled) → All (IsAnswerOf part metas) frames → All (IsReadable part metas) frames
-all-readable part metas frames are =
-    All-weaker (IsAnswerOf part metas) (IsReadable part metas) (λ (frame : Spelled) (is : IsAnswerOf part metas frame). record { placed = is.placed; spelled = is.spelled; is_frame = is.is_frame }) frames are
-
 pub has-ticked : (config : Config) (index : ℕ) (part : GroupPart) (metas : List MetaData) (rows : List Sampled) (on : List Bool) (now : ℕ) (closing : Bool) (sender : Option SenderState) (before after last : Group) (out then_out last_out : Datagrams) (count : ℕ)
     → WasTurned config index part metas rows on now closing sender before after last out then_out last_out count
     → (past : List GroupDeed) → IsGroup (metas_for part metas) part past before → HasTicked config part past (input_of now closing metas rows on sender) last last_out
@@ -168,7 +163,7 @@ has-ticked config index part metas rows on now closing sender before after last 
       short = none-longer config part (made_in past) metas (frames_in part past input) sender
           (is-turn config index part metas (frames_in part past input) sender is.posted.own is.posted.may.metas_are is.posted.may.sender_is
           (subst (AreAnswers part metas (length part.writer)) frames had.spelled.answers));
-      readable = subst (All (IsReadable part metas)) frames (all-readable part metas (spelled_in out) had.spelled.answers.each);
+      answers = λ writer. (had.answered past).are_frames start writer;
       stands = subst (IsGroup (metas_for part metas) part (HadGroupTurn (turned config part past input) ∷ past)) (sym is.passed_is)
           (group-after config part past input after count number moment (is.count_is ∙ ap length all) ((had.answered past).stands start));
     }

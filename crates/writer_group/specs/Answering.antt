@@ -16,8 +16,8 @@ use Rattle.ps_config.specs.FixedSound.{front_size}
 use Rattle.ps_config.specs.Rooms.{is_fixed, largest_frame}
 use Rattle.fixed_layout.specs.Spelling.{raw_size}
 use Rattle.writer_group.specs.declared.sampled.Sampled.{Sampled}
-use Rattle.writer_group.specs.Payloads.{Spelled, carried_frame, meta_at, size_of, writer_at, spelled_as}
-use Rattle.writer_group.specs.Turns.{GroupDeed, Told, settings_of, writer_past, list_of, turns_from, frames_from}
+use Rattle.writer_group.specs.Payloads.{IsFrameIf, Spelled, carried_frame, meta_at, size_of, writer_at, spelled_as}
+use Rattle.writer_group.specs.Turns.{GroupDeed, Told, answer_to, settings_of, writer_past, list_of, turns_from, frames_from}
 use Rattle.frame_codec.specs.declared.frame.Frame.{Frame as FrameWords}
 use Rattle.frame_codec.specs.Frames.{IsFrame}
 
@@ -32,11 +32,17 @@ frame_if part index layout meta None deeds = []
 frame_if part index layout meta (Some turn) deeds =
     list_of (option_map (spelled_as part index layout meta) (latest_answer (cadence (model_settings (settings_of part)) (HadTurn turn ∷ deeds))))
 
--- a writer had its turn, if it has one, and its frame, if its cadence answers with one, was spelled behind the others
+-- what it answers the turn with
+abbrev pub answer_if : WriterPart → Option WriterTurn → List WriterDeed → Option PlacedFrame
+answer_if part None deeds = None
+answer_if part (Some turn) deeds = latest_answer (cadence (model_settings (settings_of part)) (HadTurn turn ∷ deeds))
+
+-- a writer had its turn, if it has one, and its frame, if its cadence answers with one, was spelled behind the others; it is one of its data set
 pub record HasAnswered (part : WriterPart) (index : ℕ) (layout : Layout) (meta : MetaData) (took : Option WriterTurn) (deeds : List WriterDeed)
     (old new : Writer) (before after : List Spelled) : Type 0 where
   pub stands : IsWriter meta (settings_of part) deeds old → IsWriter meta (settings_of part) (with_turn took deeds) new
   pub frames : IsWriter meta (settings_of part) deeds old → after ≡ before ++ frame_if part index layout meta took deeds
+  pub is_frame : IsWriter meta (settings_of part) deeds old → IsFrameIf part meta (answer_if part took deeds)
 
 -- what a frame in words carries beside its content has the ranges of its types
 pub record HasNarrowNumbers (frame : FrameWords) : Type 0 where
@@ -102,10 +108,12 @@ StandAfter part metas past took writers = (writer : ℕ) → writer < length par
     → HoldsAt (IsWriter (meta_at part metas writer) (settings_of (writer_at part writer))
     (deeds_with writer past (slice_index_or took writer None))) writers writer
 
--- where all writers stand after these deeds, they stand after their turns too, and their frames were spelled
+-- where all writers stand after these deeds, they stand after their turns too, and their frames were spelled, each of its data set
 pub record HaveAnswered (part : GroupPart) (told : Told) (on : List Bool) (past : List GroupDeed) (old new : List Writer) (frames : List Spelled) : Type 0 where
   pub stands : StandAfter part told.metas past [] old → StandAfter part told.metas past (turns_from part told 0 on) new
   pub frames_are : StandAfter part told.metas past [] old → frames ≡ frames_from part told.metas past 0 (turns_from part told 0 on)
+  pub are_frames : StandAfter part told.metas past [] old → (writer : ℕ)
+      → IsFrameIf (writer_at part writer) (meta_at part told.metas writer) (answer_to part past writer (slice_index_or (turns_from part told 0 on) writer None))
 
 -- the writers may go on
 pub record MayGo (part : GroupPart) (metas : List MetaData) (old new : List Writer) : Type 0 where

@@ -1,5 +1,5 @@
 -- The payloads of a turn (Payloads, Chunks, Slots): its frames as they are spelled, packed into datagrams or cut into chunks, or laid into their slots.
-use Rattle.std.specs.Prelude.{ℕ, List, [], ◌∷◌, ◌++◌, length, map, nat_lt, slice_index_or, false, if◌then◌else◌, ◌≡◌}
+use Rattle.std.specs.Prelude.{ℕ, List, [], ◌∷◌, ◌++◌, length, map, nat_lt, slice_index_or, false, if◌then◌else◌, Option, IfSome}
 use Rattle.std.specs.Int.{w16, to_le_bytes}
 use Rattle.std.specs.List.{flat_map}
 use Rattle.dataset_meta.specs.declared.field.Field.{Field}
@@ -83,11 +83,9 @@ spelled_as part index layout meta placed = record {
 abbrev pub spelled_by : GroupPart → List MetaData → ℕ → PlacedFrame → Spelled
 spelled_by group metas writer placed = spelled_as (writer_at group writer) writer group.layout (meta_at group metas writer) placed
 
--- it is one that can be read, as it was spelled
-pub record IsReadable (group : GroupPart) (metas : List MetaData) (frame : Spelled) : Type 0 where
-  pub placed : PlacedFrame
-  pub spelled : frame ≡ spelled_by group metas frame.writer placed
-  pub is_frame : IsFrame (meta_at group metas frame.writer) (carried_frame (writer_at group frame.writer) (meta_at group metas frame.writer) placed)
+-- what the writer answers is a frame of its data set, if it answers: one that can be read as it was spelled
+abbrev pub IsFrameIf : WriterPart → MetaData → Option PlacedFrame → Type 0
+IsFrameIf writer meta answer = IfSome answer (λ placed. IsFrame meta (carried_frame writer meta placed))
 
 -- ---- dynamic layouts
 

@@ -18,9 +18,9 @@ use Rattle.writer_group.specs.declared.group.Group.{Group}
 use Rattle.writer_group.specs.declared.posting.Range.{Range}
 use Rattle.writer_group.specs.declared.sampled.Sampled.{Sampled}
 use Rattle.writer_group.specs.Answering.{HasLived}
-use Rattle.writer_group.specs.Payloads.{meta_at, writer_at, fixed_header, payloads_of, slots_of, IsReadable}
+use Rattle.writer_group.specs.Payloads.{meta_at, writer_at, fixed_header, payloads_of, slots_of, IsFrameIf}
 use Rattle.writer_group.specs.Sealing.{AreWritten}
-use Rattle.writer_group.specs.Turns.{GroupDeed, HadGroupTurn, told_of, writer_past, settings_of, made_in, last_moment, TurnInput, envelope_of, frames_in, turn_datagrams, turned}
+use Rattle.writer_group.specs.Turns.{answer_by, GroupDeed, HadGroupTurn, told_of, writer_past, settings_of, made_in, last_moment, TurnInput, envelope_of, frames_in, turn_datagrams, turned}
 use Rattle.writer_group.specs.Limits.{frames_bytes, most_datagrams, buffer_bytes}
 
 -- ---- the datagrams in the buffer, of which the first 32,768 bytes are for the frames
@@ -122,11 +122,11 @@ pub record MayTick (config : Config) (metas : List MetaData) (rows : List Sample
   pub goes_on : MayGoOn (metas_for part metas) part 1 group
   pub sender_is : IsSenderFor part sender
 
--- a turn behind these deeds: the datagrams, that none is longer than the group's largest, that their headers and their frames can be read, and where it
--- leaves the group
+-- a turn behind these deeds: the datagrams, that none is longer than the group's largest, that their headers can be written, that what each writer answers is a
+-- frame of its data set, and where it leaves the group
 pub record HasTicked (config : Config) (part : GroupPart) (past : List GroupDeed) (input : TurnInput) (after : Group) (out : Datagrams) : Type 0 where
   pub datagrams : datagrams_in out ≡ turn_datagrams config part past input
   pub written : AreWritten (envelope_of config part past) input.sender 0 (payloads_of config part (frames_in part past input))
   pub short : All (λ datagram. length datagram ≤ part.max_size) (turn_datagrams config part past input)
-  pub readable : All (IsReadable part input.told.metas) (frames_in part past input)
+  pub answers : (writer : ℕ) → IsFrameIf (writer_at part writer) (meta_at part input.told.metas writer) (answer_by part past input writer)
   pub stands : IsGroup (metas_for part input.told.metas) part (HadGroupTurn (turned config part past input) ∷ past) after

@@ -113,6 +113,11 @@ abbrev pub answer_of : GroupPart → List GroupDeed → ℕ → WriterTurn → O
 answer_of group past writer turn =
     latest_answer (cadence (model_settings (settings_of (writer_at group writer))) (HadTurn turn ∷ writer_past writer past))
 
+-- what the writer with this index answers with a turn, if it has one
+abbrev pub answer_to : GroupPart → List GroupDeed → ℕ → Option WriterTurn → Option PlacedFrame
+answer_to group past writer None = None
+answer_to group past writer (Some turn) = answer_of group past writer turn
+
 abbrev pub frame_of_writer : GroupPart → List MetaData → List GroupDeed → ℕ → Option WriterTurn → Option Spelled
 frame_of_writer group metas past writer None = None
 frame_of_writer group metas past writer (Some turn) = option_map (spelled_by group metas writer) (answer_of group past writer turn)
@@ -129,6 +134,18 @@ frames_from group metas past writer (took ∷ rest) =
 
 abbrev pub frames_in : GroupPart → List GroupDeed → TurnInput → List Spelled
 frames_in group past input = frames_from group input.told.metas past 0 (turns_from group input.told 0 input.on)
+
+-- the turn that the writer with this index has, if it is Operational
+abbrev pub turn_by : GroupPart → TurnInput → ℕ → Option WriterTurn
+turn_by group input writer = slice_index_or (turns_from group input.told 0 input.on) writer None
+
+-- what it answers, where it is Operational and answers at all
+abbrev pub answer_by : GroupPart → List GroupDeed → TurnInput → ℕ → Option PlacedFrame
+answer_by group past input writer = answer_to group past writer (turn_by group input writer)
+
+-- the frame that it answers with, as it is spelled
+abbrev pub frame_by : GroupPart → List GroupDeed → TurnInput → ℕ → Option Spelled
+frame_by group past input writer = frame_of_writer group input.told.metas past writer (turn_by group input writer)
 
 abbrev pub envelope_of : Config → GroupPart → List GroupDeed → Envelope
 envelope_of config group past = envelope_with config group (made_in past)

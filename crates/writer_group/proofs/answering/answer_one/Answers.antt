@@ -41,6 +41,7 @@ returns-clause-answered c = λ deeds.
     sent-answered c.args.part.now c.args.index c.args.layout c.args.meta.now (if c.args.on then Some turn else None) turn deeds c.args.writer.now c.answer.new.self frame
     (frames_at c.args.bytes.now c.args.frames.now) (frames_at c.spell.new.bytes c.spell.new.self)
     (ap (λ (b : Bool). if b then Some turn else None) c.if-not-on.false)
+    (c.answer.ensures.frame c.if-not-answer.false) (subst HasNarrowNumbers c.frame-lent.ensures c.numbers_are_narrow.ensures)
     (λ past stands. subst (λ (b : Bool). Answers c.args.meta.now (settings_of c.args.part.now) past turn c.answer.new.self (lent b c.answer.new.self)) c.if-not-answer.false (c.answer.ensures.answers (settings_of c.args.part.now) past stands))
     (rw (← c.frame-lent.ensures) c.spell.ensures.added)
 
