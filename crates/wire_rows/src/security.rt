@@ -1,4 +1,4 @@
-//! Rows of `aes_ctr`, `aes_plain`, `hmac_sign` and `group_keys`.
+//! Rows of `aes_ctr`, `hmac_sign` and `group_keys`.
 use crate::bench::Answer;
 use aes_ctr::{Key, Key128, Key256, apply_stream};
 use arrayvec::ArrayVec;
