@@ -24,11 +24,23 @@ pub fn read_raw(meta: &Meta, cursor: &mut Cursor<'_>) -> Result<Row, RawFault>
         (raw_row_at meta.now.fields) }
 {
     prove!(meta.fields().len() <= 64);
-    let mut ahead = *cursor;
     let mut row = Row::opening();
-    read_row(&mut ahead, meta, &mut row)?;
-    *cursor = ahead;
+    read_raw_into(meta, cursor, &mut row)?;
     Ok(row)
+}
+
+/// Reads the row of RawData that the bytes begin with, as `read_raw` does, in place of a row of this meta that the caller keeps: what it
+/// keeps then is what `read_raw` answers. A refusal leaves the cursor, and some row of this meta.
+pub fn read_raw_into(meta: &Meta, cursor: &mut Cursor<'_>, row: &mut Row) -> Result<(), RawFault>
+    requires { Belongs meta.now row.old.words }
+    ensures belongs { Belongs meta.now row.new.words }
+    ensures answer { Reads (leaving result (row_in meta.now.fields row.new.words))
+        cursor.old cursor.new (raw_row_at meta.now.fields) }
+{
+    let mut ahead = *cursor;
+    read_row(&mut ahead, meta, row)?;
+    *cursor = ahead;
+    Ok(())
 }
 
 /// The values of the fields, one after another, set in a row without statuses.
