@@ -1,18 +1,15 @@
 -- One value after another, in front of those that are still to be read.
-use Rattle.std.proofs.Common.{◌≡◌, ℕ, zero, suc, ◌+◌, ◌<◌, ◌≤◌, List, [], ◌∷◌, ◌++◌, length, take, drop, get_or, Result, Ok, Err, refl, sym, ap, ◌∙◌, append_assoc}
+use Rattle.std.proofs.Common.{◌≡◌, ℕ, ◌+◌, ◌<◌, ◌≤◌, List, [], ◌∷◌, ◌++◌, length, take, drop, get_or, Result, Ok, Err, refl, sym, ap, ◌∙◌, append_assoc}
 use Rattle.std.specs.Prelude.{slice_set}
 use Rattle.std.proofs.lemmas.List.{drop_more, take_more_set, drop_all, take_all, append-nil}
-use Rattle.std.proofs.lemmas.List.Elements.{All-head, All-tail, All-set, All-map}
 use Rattle.ua_values.specs.declared.value.Value.{Value}
 use Rattle.ua_binary.specs.Reading.{◌>>=◌}
 use Rattle.dataset_meta.specs.declared.field.Field.{Field}
 use Rattle.dataset_meta.specs.DataValues.{DataValue}
-use Rattle.dataset_meta.specs.Rows.{opening_value, opening_row}
-use Rattle.row_words.specs.Setting.{with_value}
 use Rattle.fixed_layout.specs.declared.fault.RawFault.{RawFault}
 use Rattle.fixed_layout.specs.Calls.{set_at}
 use Rattle.fixed_layout.specs.Reading.{raw_value_at, raw_field_at, raw_row_at}
-use Rattle.fixed_layout.specs.Spelling.{good, AreGood}
+use Rattle.fixed_layout.specs.Spelling.{good}
 use Rattle.fixed_layout.proofs.Laying.{Stands, stands}
 
 -- the first values of a row, in front of what is read behind them
@@ -104,15 +101,3 @@ behind-refused index fields row bytes fault within read =
 -- no value is left to be read
 pub behind-all : (index : ℕ) (fields : List Field) (row : List DataValue) (bytes : List ℕ) → length fields ≤ index → length row ≤ index → behind index row (raw_row_at (drop index fields) bytes) ≡ Ok (row, bytes)
 behind-all index fields row bytes all whole = rw (drop_all index fields all, take_all index row whole, append-nil row) refl
-
--- where each status is Good, setting a value is all
-pub set_good : (row : List DataValue) (index : ℕ) (value : Value) → AreGood row → with_value row index value ≡ slice_set row index (good value)
-set_good [] index value are = refl
-set_good (x ∷ row) zero value are = ap (λ (n : ℕ). record { value = value; status = n } ∷ row) (All-head (λ (y : DataValue). y.status ≡ 0) x row are)
-set_good (x ∷ row) (suc index) value are = ap (λ (rest : List DataValue). x ∷ rest) (set_good row index value (All-tail (λ (y : DataValue). y.status ≡ 0) x row are))
-
-pub good_set : (row : List DataValue) (index : ℕ) (value : Value) → AreGood row → AreGood (slice_set row index (good value))
-good_set row index value are = All-set (λ (y : DataValue). y.status ≡ 0) row index (good value) refl are
-
-pub opening-good : (fields : List Field) → AreGood (opening_row fields)
-opening-good fields = All-map (λ (x : DataValue). x.status ≡ 0) opening_value fields (λ k d within. refl)

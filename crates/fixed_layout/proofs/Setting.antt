@@ -1,5 +1,5 @@
 -- What is set in a row once it is read.
-use Rattle.std.proofs.Common.{◌≡◌, ℕ, ◌<◌, List, length, get_or, Ok, Err, sym, ap, ◌∙◌, subst}
+use Rattle.std.proofs.Common.{◌≡◌, ℕ, ◌<◌, List, length, get_or, Ok, Err, sym, ap, ◌∙◌}
 use Rattle.std.specs.Prelude.{slice_set}
 use Rattle.std.proofs.lemmas.List.{get_or_default}
 use Rattle.ua_values.specs.declared.value.Value.{Value}
@@ -7,25 +7,14 @@ use Rattle.ua_binary.specs.declared.cursor.Cursor.{Cursor}
 use Rattle.ua_binary.specs.Reading.{HasRead, rest_of}
 use Rattle.dataset_meta.specs.declared.field.Field.{Field}
 use Rattle.dataset_meta.specs.DataValues.{DataValue}
-use Rattle.row_words.specs.Words.{scalar_in}
-use Rattle.row_words.specs.Setting.{with_value}
 use Rattle.fixed_layout.specs.declared.fault.RawFault.{RawFault}
 use Rattle.fixed_layout.specs.Calls.{set_at}
 use Rattle.fixed_layout.specs.Reading.{raw_value_at}
-use Rattle.fixed_layout.specs.Spelling.{good, AreGood}
-use Rattle.fixed_layout.proofs.RowReading.{value_set, value_refused, set_good, good_set}
+use Rattle.fixed_layout.specs.Spelling.{good}
+use Rattle.fixed_layout.proofs.RowReading.{value_set, value_refused}
 
 here : (fields : List Field) (index : ℕ) (field : Field) → index < length fields → field ≡ get_or fields index field → (d : Field) → get_or fields index d ≡ field
 here fields index field within at d = get_or_default fields index d field within ∙ sym at
-
--- a word that was set
-pub word-set : (fields : List Field) (index : ℕ) (field : Field) (row new : List DataValue) (word : ℕ) → field ≡ get_or fields index field → AreGood row
-    → ((d : Field) → new ≡ with_value row index (scalar_in (get_or fields index d).kind word)) → new ≡ slice_set row index (good (scalar_in field.kind word))
-word-set fields index field row new word at are set =
-    set field ∙ ap (λ (f : Field). with_value row index (scalar_in f.kind word)) (sym at) ∙ set_good row index (scalar_in field.kind word) are
-
-pub good-after : (row new : List DataValue) (index : ℕ) (value : Value) → AreGood row → new ≡ slice_set row index (good value) → AreGood new
-good-after row new index value are is = subst AreGood (sym is) (good_set row index value are)
 
 pub read-set : (fields : List Field) (index : ℕ) (field : Field) (row new : List DataValue) (value : Value) (old now : Cursor) → index < length fields → field ≡ get_or fields index field
     → HasRead value old now (raw_value_at field.kind field.cap) → new ≡ slice_set row index (good value) → (d : Field) → HasRead new old now (set_at (get_or fields index d) index row)

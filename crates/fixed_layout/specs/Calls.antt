@@ -1,5 +1,5 @@
 -- What private steps of reading and writing say: scalars as words, and values that are set where they stand.
-use Rattle.std.specs.Prelude.{ℕ, List, [], ◌∷◌, slice_set, Result, Ok, Err}
+use Rattle.std.specs.Prelude.{◌≡◌, ℕ, ◌+◌, List, length, [], ◌∷◌, slice_set, Result, Ok, Err}
 use Rattle.std.specs.Int.{w16, w32, w64, to_le_bytes}
 use Rattle.std.specs.List.{HoldsAt}
 use Rattle.ua_values.specs.declared.kind.Kind.{Kind}
@@ -7,7 +7,7 @@ use Rattle.ua_values.specs.declared.kind.Kind.TheVariants as kinds
 use Rattle.ua_values.specs.declared.value.Value.{Value}
 use Rattle.ua_binary.specs.declared.pen.Pen.{Pen}
 use Rattle.ua_binary.specs.Reading.{◌>>=◌}
-use Rattle.ua_binary.specs.Writing.{Puts}
+use Rattle.ua_binary.specs.Writing.{Puts, laid}
 use Rattle.dataset_meta.specs.declared.field.Field.{Field}
 use Rattle.dataset_meta.specs.DataValues.{DataValue}
 use Rattle.row_words.specs.declared.row.Row.{Row}
@@ -58,3 +58,9 @@ scalar_bytes kinds.Guid word = []
 -- the value at an index of a row stands behind what was written
 abbrev pub PutsValue : List Field → List DataValue → ℕ → Pen → Pen → Type 0
 PutsValue fields row index old new = HoldsAt (λ field. HoldsAt (λ x. Puts old new (raw_value field.cap x.value)) row index) fields index
+
+-- the value at an index of a row was laid into these bytes from `at` on, and ends there
+abbrev pub LaysValue : List Field → List DataValue → ℕ → ℕ → List ℕ → List ℕ → ℕ → Type 0
+LaysValue fields row index at old new end =
+    HoldsAt (λ field. HoldsAt (λ x. (new ≡ laid old at (raw_value field.cap x.value))
+    × (end ≡ at + length (raw_value field.cap x.value))) row index) fields index

@@ -19,7 +19,7 @@ pub use laws::{
     rows_have_the_size_of_their_meta, slots_have_one_fault, slots_lie_apart_by_their_ends,
     values_are_refused_at_their_first_fault, written_rows_are_read,
 };
-pub use reading::read_raw;
+pub use reading::{read_raw, read_raw_into};
 pub use size::{raw_size, raw_width};
 pub use slot::Slot;
 pub use slot_fault::SlotFault;

@@ -1,12 +1,12 @@
 //! Reading rows of RawData.
-ghost use Rattle.std.specs.Prelude.{◌≡◌, ◌<◌, ◌≤◌, ℕ, true, false, length, IfOk, OnOk};
+ghost use Rattle.std.specs.Prelude.{◌≡◌, ◌<◌, ◌≤◌, ℕ, true, false, length, slice_set, IfOk};
 ghost use Rattle.std.specs.List.{HoldsAt};
 ghost use Rattle.ua_values.specs.Values.{Fits};
 ghost use Rattle.ua_binary.specs.Reading.{Reads, ReadsAhead, lent};
-ghost use Rattle.row_words.specs.Words.{IsWordOf, is_scalar};
+ghost use Rattle.row_words.specs.Words.{IsWordOf, is_scalar, scalar_in};
 ghost use Rattle.row_words.specs.Belonging.{Belongs, row_in};
 ghost use Rattle.fixed_layout.specs.Calls.{meaning, leaving, scalar_of, set_at};
-ghost use Rattle.fixed_layout.specs.Spelling.{AreGood};
+ghost use Rattle.fixed_layout.specs.Spelling.{good};
 ghost use Rattle.fixed_layout.specs.Reading.{raw_block_at, raw_text_at, raw_value_at, raw_row_at};
 
 use crate::fault::RawFault;
@@ -24,18 +24,30 @@ pub fn read_raw(meta: &Meta, cursor: &mut Cursor<'_>) -> Result<Row, RawFault>
         (raw_row_at meta.now.fields) }
 {
     prove!(meta.fields().len() <= 64);
-    let mut ahead = *cursor;
     let mut row = Row::opening();
-    read_row(&mut ahead, meta, &mut row)?;
-    *cursor = ahead;
+    read_raw_into(meta, cursor, &mut row)?;
     Ok(row)
 }
 
-/// The values of the fields, one after another, set in a row without statuses.
+/// Reads the row of RawData that the bytes begin with, as `read_raw` does, in place of a row of this meta that the caller keeps: what it
+/// keeps then is what `read_raw` answers. A refusal leaves the cursor, and some row of this meta.
+pub fn read_raw_into(meta: &Meta, cursor: &mut Cursor<'_>, row: &mut Row) -> Result<(), RawFault>
+    requires { Belongs meta.now row.old.words }
+    ensures belongs { Belongs meta.now row.new.words }
+    ensures answer { Reads (leaving result (row_in meta.now.fields row.new.words))
+        cursor.old cursor.new (raw_row_at meta.now.fields) }
+{
+    let mut ahead = *cursor;
+    read_row(&mut ahead, meta, row)?;
+    *cursor = ahead;
+    Ok(())
+}
+
+/// The values of the fields, one after another, set in a row, each Good.
+#[inline(always)]
 fn read_row(cursor: &mut Cursor<'_>, meta: &Meta, row: &mut Row) -> Result<(), RawFault>
-    requires belongs { Belongs meta.now row.old.words }
-    requires good { AreGood (row_in meta.now.fields row.old.words) }
-    ensures belongs { OnOk result (Belongs meta.now row.new.words) }
+    requires { Belongs meta.now row.old.words }
+    ensures belongs { Belongs meta.now row.new.words }
     ensures answer { ReadsAhead (leaving result (row_in meta.now.fields row.new.words))
         cursor.old cursor.new (raw_row_at meta.now.fields) }
 {
@@ -49,22 +61,99 @@ fn read_row(cursor: &mut Cursor<'_>, meta: &Meta, row: &mut Row) -> Result<(), R
 #[inline(always)]
 fn read_into(cursor: &mut Cursor<'_>, meta: &Meta, index: u8, row: &mut Row) -> Result<(), RawFault>
     requires belongs { Belongs meta.now row.old.words }
-    requires good { AreGood (row_in meta.now.fields row.old.words) }
     requires index { index < length meta.now.fields }
-    ensures belongs { OnOk result (Belongs meta.now row.new.words) }
-    ensures good { OnOk result (AreGood (row_in meta.now.fields row.new.words)) }
+    ensures belongs { Belongs meta.now row.new.words }
+    ensures answer { HoldsAt (λ field. ReadsAhead (leaving result
+        (row_in meta.now.fields row.new.words)) cursor.old cursor.new
+        (set_at field index (row_in meta.now.fields row.old.words))) meta.now.fields index }
+{
+    if is_scalar(meta.fields()[usize::from(index)].kind) {
+        read_scalar_into(cursor, meta, index, row)
+    } else {
+        read_lent_into(cursor, meta, index, row)
+    }
+}
+
+/// The same of a scalar.
+#[inline(always)]
+fn read_scalar_into(
+    cursor: &mut Cursor<'_>,
+    meta: &Meta,
+    index: u8,
+    row: &mut Row,
+) -> Result<(), RawFault>
+    requires belongs { Belongs meta.now row.old.words }
+    requires index { index < length meta.now.fields }
+    requires scalar { HoldsAt (λ field. is_scalar field.kind ≡ true) meta.now.fields index }
+    ensures belongs { Belongs meta.now row.new.words }
     ensures answer { HoldsAt (λ field. ReadsAhead (leaving result
         (row_in meta.now.fields row.new.words)) cursor.old cursor.new
         (set_at field index (row_in meta.now.fields row.old.words))) meta.now.fields index }
 {
     let field = &meta.fields()[usize::from(index)];
-    if is_scalar(field.kind) {
-        let word = read_word(cursor, field.kind)?;
-        row.set_word(meta, index, word);
-    } else {
-        let value = read_long(cursor, field)?;
-        row.set(meta, index, &value);
+    let word = read_word(cursor, field.kind)?;
+    set_good(meta, index, word, row);
+    Ok(())
+}
+
+/// Sets the scalar with this word, Good.
+#[inline(always)]
+fn set_good(meta: &Meta, index: u8, word: u64, row: &mut Row)
+    requires belongs { Belongs meta.now row.old.words }
+    requires index { index < length meta.now.fields }
+    requires word { HoldsAt (λ field. IsWordOf field.kind word) meta.now.fields index }
+    ensures belongs { Belongs meta.now row.new.words }
+    ensures set { HoldsAt (λ field. row_in meta.now.fields row.new.words
+        ≡ slice_set (row_in meta.now.fields row.old.words) index (good (scalar_in field.kind word)))
+        meta.now.fields index }
+{
+    row.set_word(meta, index, word);
+    if meta.quality() {
+        row.set_status(meta, index, 0);
     }
+}
+
+/// Reads a text, a blob or a Guid by a copy of the cursor, so that the cursor itself need not stand in memory.
+#[inline(always)]
+fn read_lent_into(
+    cursor: &mut Cursor<'_>,
+    meta: &Meta,
+    index: u8,
+    row: &mut Row,
+) -> Result<(), RawFault>
+    requires belongs { Belongs meta.now row.old.words }
+    requires index { index < length meta.now.fields }
+    requires long { HoldsAt (λ field. is_scalar field.kind ≡ false) meta.now.fields index }
+    ensures belongs { Belongs meta.now row.new.words }
+    ensures answer { HoldsAt (λ field. ReadsAhead (leaving result
+        (row_in meta.now.fields row.new.words)) cursor.old cursor.new
+        (set_at field index (row_in meta.now.fields row.old.words))) meta.now.fields index }
+{
+    let mut lent = *cursor;
+    read_long_into(&mut lent, meta, index, row)?;
+    *cursor = lent;
+    Ok(())
+}
+
+/// The same, by the cursor itself. It is a function of its own for the room that a value takes.
+#[inline(never)]
+fn read_long_into(
+    cursor: &mut Cursor<'_>,
+    meta: &Meta,
+    index: u8,
+    row: &mut Row,
+) -> Result<(), RawFault>
+    requires belongs { Belongs meta.now row.old.words }
+    requires index { index < length meta.now.fields }
+    requires long { HoldsAt (λ field. is_scalar field.kind ≡ false) meta.now.fields index }
+    ensures belongs { Belongs meta.now row.new.words }
+    ensures answer { HoldsAt (λ field. ReadsAhead (leaving result
+        (row_in meta.now.fields row.new.words)) cursor.old cursor.new
+        (set_at field index (row_in meta.now.fields row.old.words))) meta.now.fields index }
+{
+    let field = &meta.fields()[usize::from(index)];
+    let value = read_long(cursor, field)?;
+    row.set_with_status(meta, index, &value, 0);
     Ok(())
 }
 

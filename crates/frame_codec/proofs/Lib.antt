@@ -17,5 +17,7 @@ pub mod RowReading
 pub mod ScalarLaws
 pub mod Setting
 pub mod Laid
+pub mod Marks
+pub mod Clearing
 pub mod Lengths
 pub mod WordLaws

@@ -10,7 +10,7 @@ use Rattle.ua_binary.specs.Reading.{◌>>=◌, number_at, HasRead, ReadsAhead, r
 use Rattle.dataset_meta.specs.declared.field.Field.{Field}
 use Rattle.dataset_meta.specs.DataValues.{DataValue}
 use Rattle.dataset_meta.specs.Metas.{MetaData}
-use Rattle.dataset_meta.specs.Rows.{IsRow}
+use Rattle.dataset_meta.specs.Rows.{IsRow, put_in}
 use Rattle.row_words.specs.Words.{IsWordOf, scalar_in}
 use Rattle.row_words.specs.Setting.{with_value, with_status}
 use Rattle.row_words.proofs.ScalarLaws.{FitsIn-scalar_in}
@@ -59,6 +59,16 @@ own_set quality encoding fields index field row new word status bytes rest withi
     ap (λ (f : Field). set_at quality encoding f index row bytes) here
     ∙ own_read quality encoding field index row word status bytes rest is read
     ∙ ap (λ (r : List DataValue). Ok (r, rest)) (ap (λ (f : Field). slice_set row index (kept quality (scalar_in f.kind word) status)) (sym here) ∙ sym (set d))
+
+pub own_put : (quality : Bool) (encoding : ℕ) (fields : List Field) (index : ℕ) (field : Field) (patch new : List (ℕ × DataValue)) (word status : ℕ) (bytes rest : List ℕ) → index < length fields → field ≡ get_or fields index field
+    → IsWordOf field.kind word → value_at encoding bytes ≡ Ok (measured_in field.kind word status, rest)
+    → ((d : Field) → new ≡ put_in patch index (kept quality (scalar_in (get_or fields index d).kind word) status))
+    → (d : Field) → put_at quality false encoding patch index (Some (get_or fields index d)) bytes ≡ Ok (new, rest)
+own_put quality encoding fields index field patch new word status bytes rest within at is read set d =
+    let here : get_or fields index d ≡ field = same_at fields index d field within ∙ sym at in
+    ap (λ (f : Field). put_at quality false encoding patch index (Some f) bytes) here
+    ∙ ap (λ (r : Result (DataValue × List ℕ) FrameFault). r >>= λ x. Ok (put_in patch index x.0, x.1)) (own_field quality encoding field word status bytes rest is read)
+    ∙ ap (λ (p : List (ℕ × DataValue)). Ok (p, rest)) (ap (λ (f : Field). put_in patch index (kept quality (scalar_in f.kind word) status)) (sym here) ∙ sym (set d))
 
 -- an index among the fields, or past them
 get_there : (fields : List Field) (index : ℕ) → index < length fields → (d : Field) → slice_get fields index ≡ Some (get_or fields index d)

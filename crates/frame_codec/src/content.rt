@@ -1,9 +1,10 @@
 //! The fields of a DataSetMessage, read.
-ghost use Rattle.std.specs.Prelude.{◌≡◌, ◌<◌, ℕ, Bool, true, false, Some, length, slice_set, OnOk, IfOk, if◌then◌else◌};
+ghost use Rattle.std.specs.Prelude.{◌≡◌, ◌<◌, ℕ, Bool, true, false, Some, length, slice_set, [], IfOk, if◌then◌else◌};
 ghost use Rattle.std.specs.List.{HoldsAt};
 ghost use Rattle.ua_values.specs.Values.{Fits};
 ghost use Rattle.ua_binary.specs.Reading.{ReadsAhead};
 ghost use Rattle.dataset_meta.specs.DataValues.{IsStatus};
+ghost use Rattle.dataset_meta.specs.Rows.{put_in};
 ghost use Rattle.row_words.specs.Words.{IsWordOf, scalar_in};
 ghost use Rattle.row_words.specs.Belonging.{Belongs, row_in};
 ghost use Rattle.row_words.specs.Patches.{IsPatchOf, patch_in};
@@ -22,7 +23,7 @@ use row_words::{Patch, Row};
 use ua_binary::{Cursor, Measured, read_data_value, read_variant};
 use ua_values::{Value, fits};
 
-/// All that stands behind the front, in place of other content of the same meta. The row of a key frame is filled where it
+/// All that stands behind the front, in place of other content of the same meta. Content of the same kind is filled where it
 /// stands.
 #[inline(always)]
 #[tactic(auto, unfolding(crate::specs::Contents::content_at))]
@@ -34,13 +35,16 @@ pub(crate) fn read_content_into(
     kind: &mut FrameKind,
 ) -> Result<(), FrameFault>
     requires { IsKindOf meta.now kind.old }
-    ensures of { OnOk result (IsKindOf meta.now kind.new) }
+    ensures of { IsKindOf meta.now kind.new }
     ensures answer { ReadsAhead (leaving result (content_in meta.now.fields kind.new))
         cursor.old cursor.new (content_at meta.now newer front.now.encoding front.now.kind) }
 {
     match kind {
         FrameKind::Whole(row) if front.kind == KEY => {
             read_whole(cursor, meta, newer, front.encoding, row)
+        }
+        FrameKind::Change(patch) if front.kind == DELTA => {
+            read_patch_into(cursor, meta, newer, front.encoding, patch)
         }
         _ => replace_content(cursor, meta, newer, front, kind),
     }
@@ -55,7 +59,8 @@ fn replace_content(
     front: &Front,
     kind: &mut FrameKind,
 ) -> Result<(), FrameFault>
-    ensures of { OnOk result (IsKindOf meta.now kind.new) }
+    requires { IsKindOf meta.now kind.old }
+    ensures of { IsKindOf meta.now kind.new }
     ensures answer { ReadsAhead (leaving result (content_in meta.now.fields kind.new))
         cursor.old cursor.new (content_at meta.now newer front.now.encoding front.now.kind) }
 {
@@ -98,7 +103,7 @@ fn read_whole(
     row: &mut Row,
 ) -> Result<(), FrameFault>
     requires { Belongs meta.now row.old.words }
-    ensures belongs { OnOk result (Belongs meta.now row.new.words) }
+    ensures belongs { Belongs meta.now row.new.words }
     ensures answer { ReadsAhead (leaving result (row_in meta.now.fields row.new.words))
         cursor.old cursor.new (whole_at meta.now newer encoding) }
 {
@@ -127,7 +132,7 @@ fn read_counted(
     row: &mut Row,
 ) -> Result<(), FrameFault>
     requires { Belongs meta.now row.old.words }
-    ensures belongs { OnOk result (Belongs meta.now row.new.words) }
+    ensures belongs { Belongs meta.now row.new.words }
     ensures answer { ReadsAhead (leaving result (row_in meta.now.fields row.new.words))
         cursor.old cursor.new (counted_at meta.now.quality encoding meta.now.fields count) }
 {
@@ -145,7 +150,7 @@ fn read_row(
     row: &mut Row,
 ) -> Result<(), FrameFault>
     requires row { Belongs meta.now row.old.words }
-    ensures belongs { OnOk result (Belongs meta.now row.new.words) }
+    ensures belongs { Belongs meta.now row.new.words }
     ensures answer { ReadsAhead (leaving result (row_in meta.now.fields row.new.words))
         cursor.old cursor.new (row_at meta.now.quality encoding meta.now.fields) }
 {
@@ -167,7 +172,7 @@ fn read_row(
 fn read_data_values(cursor: &mut Cursor<'_>, meta: &Meta, row: &mut Row) -> Result<(), FrameFault>
     requires quality { meta.now.quality ≡ true }
     requires row { Belongs meta.now row.old.words }
-    ensures belongs { OnOk result (Belongs meta.now row.new.words) }
+    ensures belongs { Belongs meta.now row.new.words }
     ensures answer { ReadsAhead (leaving result (row_in meta.now.fields row.new.words))
         cursor.old cursor.new (row_at meta.now.quality DATA_VALUE meta.now.fields) }
 {
@@ -179,7 +184,7 @@ fn read_data_values(cursor: &mut Cursor<'_>, meta: &Meta, row: &mut Row) -> Resu
 fn read_variants(cursor: &mut Cursor<'_>, meta: &Meta, row: &mut Row) -> Result<(), FrameFault>
     requires plain { meta.now.quality ≡ false }
     requires row { Belongs meta.now row.old.words }
-    ensures belongs { OnOk result (Belongs meta.now row.new.words) }
+    ensures belongs { Belongs meta.now row.new.words }
     ensures answer { ReadsAhead (leaving result (row_in meta.now.fields row.new.words))
         cursor.old cursor.new (row_at meta.now.quality VARIANT meta.now.fields) }
 {
@@ -195,7 +200,7 @@ fn read_others(
     row: &mut Row,
 ) -> Result<(), FrameFault>
     requires row { Belongs meta.now row.old.words }
-    ensures belongs { OnOk result (Belongs meta.now row.new.words) }
+    ensures belongs { Belongs meta.now row.new.words }
     ensures answer { ReadsAhead (leaving result (row_in meta.now.fields row.new.words))
         cursor.old cursor.new (row_at meta.now.quality encoding meta.now.fields) }
 {
@@ -214,7 +219,7 @@ fn read_apart(
 ) -> Result<(), FrameFault>
     requires quality { quality ≡ meta.now.quality }
     requires row { Belongs meta.now row.old.words }
-    ensures belongs { OnOk result (Belongs meta.now row.new.words) }
+    ensures belongs { Belongs meta.now row.new.words }
     ensures answer { ReadsAhead (leaving result (row_in meta.now.fields row.new.words))
         cursor.old cursor.new (row_at meta.now.quality encoding meta.now.fields) }
 {
@@ -235,7 +240,7 @@ fn read_values(
 ) -> Result<(), FrameFault>
     requires quality { quality ≡ meta.now.quality }
     requires row { Belongs meta.now row.old.words }
-    ensures belongs { OnOk result (Belongs meta.now row.new.words) }
+    ensures belongs { Belongs meta.now row.new.words }
     ensures answer { ReadsAhead (leaving result (row_in meta.now.fields row.new.words))
         cursor.old cursor.new (row_at meta.now.quality encoding meta.now.fields) }
 {
@@ -259,7 +264,7 @@ fn read_into(
     requires quality { quality ≡ meta.now.quality }
     requires row { Belongs meta.now row.old.words }
     requires index { index < length meta.now.fields }
-    ensures belongs { OnOk result (Belongs meta.now row.new.words) }
+    ensures belongs { Belongs meta.now row.new.words }
     ensures answer { HoldsAt (λ field. ReadsAhead (leaving result
         (row_in meta.now.fields row.new.words))
         cursor.old cursor.new
@@ -287,7 +292,7 @@ fn read_lent_into(
 ) -> Result<(), FrameFault>
     requires row { Belongs meta.now row.old.words }
     requires index { index < length meta.now.fields }
-    ensures belongs { OnOk result (Belongs meta.now row.new.words) }
+    ensures belongs { Belongs meta.now row.new.words }
     ensures answer { HoldsAt (λ field. ReadsAhead (leaving result
         (row_in meta.now.fields row.new.words))
         cursor.old cursor.new
@@ -312,7 +317,7 @@ fn read_any_into(
 ) -> Result<(), FrameFault>
     requires row { Belongs meta.now row.old.words }
     requires index { index < length meta.now.fields }
-    ensures belongs { OnOk result (Belongs meta.now row.new.words) }
+    ensures belongs { Belongs meta.now row.new.words }
     ensures answer { HoldsAt (λ field. ReadsAhead (leaving result
         (row_in meta.now.fields row.new.words))
         cursor.old cursor.new
@@ -424,10 +429,42 @@ fn read_patch(
         cursor.old cursor.new (patch_at meta.now newer encoding) }
 {
     prove!(meta.fields().len() <= 64);
-    let count = cursor.read_u16()?;
     let mut patch = Patch::empty();
-    read_changes(cursor, meta, newer, encoding, count, &mut patch)?;
+    read_patch_into(cursor, meta, newer, encoding, &mut patch)?;
     Ok(patch)
+}
+
+/// The same in place of another patch of this meta.
+#[inline(never)]
+#[tactic(auto, unfolding(crate::specs::Contents::patch_at))]
+fn read_patch_into(
+    cursor: &mut Cursor<'_>,
+    meta: &Meta,
+    newer: bool,
+    encoding: u8,
+    patch: &mut Patch,
+) -> Result<(), FrameFault>
+    requires { IsPatchOf meta.now patch.old }
+    ensures of { IsPatchOf meta.now patch.new }
+    ensures answer { ReadsAhead (leaving result (patch_in meta.now.fields patch.new))
+        cursor.old cursor.new (patch_at meta.now newer encoding) }
+{
+    let count = cursor.read_u16()?;
+    clear_patch(meta, patch);
+    read_changes(cursor, meta, newer, encoding, count, patch)
+}
+
+/// Takes all changes out of a patch. Behind the words of the meta's rows stand zeros already.
+#[inline(always)]
+fn clear_patch(meta: &Meta, patch: &mut Patch)
+    requires { IsPatchOf meta.now patch.old }
+    ensures of { IsPatchOf meta.now patch.new }
+    ensures empty { patch_in meta.now.fields patch.new ≡ [] }
+{
+    prove!(meta.fields().len() <= 64);
+    let _ = Row::opening();
+    patch.row.words[..meta.words() as usize].fill(0);
+    patch.mask = 0;
 }
 
 /// So many changes, one after another. Of two of one field the later counts.
@@ -441,7 +478,7 @@ fn read_changes(
     patch: &mut Patch,
 ) -> Result<(), FrameFault>
     requires { IsPatchOf meta.now patch.old }
-    ensures of { OnOk result (IsPatchOf meta.now patch.new) }
+    ensures of { IsPatchOf meta.now patch.new }
     ensures answer { ReadsAhead (leaving result (patch_in meta.now.fields patch.new))
         cursor.old cursor.new (changes_at meta.now newer encoding count
         (patch_in meta.now.fields patch.old)) }
@@ -462,7 +499,7 @@ fn read_change(
     patch: &mut Patch,
 ) -> Result<(), FrameFault>
     requires { IsPatchOf meta.now patch.old }
-    ensures of { OnOk result (IsPatchOf meta.now patch.new) }
+    ensures of { IsPatchOf meta.now patch.new }
     ensures answer { ReadsAhead (leaving result (patch_in meta.now.fields patch.new))
         cursor.old cursor.new (change_at meta.now newer encoding
         (patch_in meta.now.fields patch.old)) }
@@ -475,9 +512,9 @@ fn read_change(
     }
 }
 
-/// Reads a value that fits its field, and puts it into the patch. It is a function of its own for the room that a value takes.
-#[inline(never)]
-#[tactic(auto, unfolding(crate::specs::Contents::field_at))]
+/// Reads a value that fits its field, and puts it into the patch. Of a scalar of the field's own kind no more than its word is
+/// copied.
+#[inline(always)]
 fn read_put(
     cursor: &mut Cursor<'_>,
     meta: &Meta,
@@ -487,7 +524,36 @@ fn read_put(
 ) -> Result<(), FrameFault>
     requires patch { IsPatchOf meta.now patch.old }
     requires index { index < length meta.now.fields }
-    ensures of { OnOk result (IsPatchOf meta.now patch.new) }
+    ensures of { IsPatchOf meta.now patch.new }
+    ensures answer { HoldsAt (λ field. ReadsAhead (leaving result
+        (patch_in meta.now.fields patch.new))
+        cursor.old cursor.new
+        (put_at meta.now.quality false encoding (patch_in meta.now.fields patch.old) index
+        (Some field))) meta.now.fields index }
+{
+    let field = &meta.fields()[usize::from(index)];
+    match read_own(cursor, field, encoding) {
+        Some(own) => {
+            put_word(meta, patch, index, own);
+            Ok(())
+        }
+        None => read_any_put(cursor, meta, index, encoding, patch),
+    }
+}
+
+/// The same of any value. It is a function of its own for the room that a value takes.
+#[inline(never)]
+#[tactic(auto, unfolding(crate::specs::Contents::field_at))]
+fn read_any_put(
+    cursor: &mut Cursor<'_>,
+    meta: &Meta,
+    index: u8,
+    encoding: u8,
+    patch: &mut Patch,
+) -> Result<(), FrameFault>
+    requires patch { IsPatchOf meta.now patch.old }
+    requires index { index < length meta.now.fields }
+    ensures of { IsPatchOf meta.now patch.new }
     ensures answer { HoldsAt (λ field. ReadsAhead (leaving result
         (patch_in meta.now.fields patch.new))
         cursor.old cursor.new
@@ -499,6 +565,22 @@ fn read_put(
     let value = suited(measured.value, field)?;
     patch.put(meta, index, &value, kept_status(meta, measured.status));
     Ok(())
+}
+
+/// Puts a scalar of the field's own kind into the patch, whose words and mask it sets.
+#[inline(always)]
+fn put_word(meta: &Meta, patch: &mut Patch, index: u8, own: Own)
+    requires patch { IsPatchOf meta.now patch.old }
+    requires index { index < length meta.now.fields }
+    requires word { HoldsAt (λ field. IsWordOf field.kind own.word) meta.now.fields index }
+    ensures of { IsPatchOf meta.now patch.new }
+    ensures put { HoldsAt (λ field. patch_in meta.now.fields patch.new
+        ≡ put_in (patch_in meta.now.fields patch.old) index (kept meta.now.quality
+        (scalar_in field.kind own.word) own.status)) meta.now.fields index }
+{
+    prove!(usize::from(index) < meta.fields().len());
+    set_word(meta, &mut patch.row, index, own, meta.quality());
+    patch.mask |= 1 << index;
 }
 
 /// The status of a value, or Good where the data set has none.

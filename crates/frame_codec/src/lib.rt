@@ -24,5 +24,5 @@ pub use laws::{
     written_fronts_are_read,
 };
 pub use length::MAX_LEN;
-pub use reading::read_frame;
+pub use reading::{read_frame, read_frame_into};
 pub use writing::{write_frame, write_front};

@@ -1,5 +1,5 @@
 //! Reading frames.
-ghost use Rattle.std.specs.Prelude.{◌≡◌, false, OnOk};
+ghost use Rattle.std.specs.Prelude.{◌≡◌, false};
 ghost use Rattle.ua_binary.specs.Reading.{ReadsAhead, rest_of};
 ghost use Rattle.frame_codec.specs.Calls.{leaving};
 ghost use Rattle.frame_codec.specs.Contents.{is_newer};
@@ -24,8 +24,26 @@ pub fn read_frame(meta: &Meta, bytes: &[u8]) -> Result<Frame, FrameFault>
     ensures { GivesFrame meta.now result (frame_at meta.now bytes.now) }
 {
     let mut frame = opening(meta);
-    read_into(meta, bytes, &mut frame)?;
+    read_frame_into(meta, bytes, &mut frame)?;
     Ok(frame)
+}
+
+/// Reads the frame that the bytes spell, as `read_frame` does, in place of one of this meta that the caller keeps: what it keeps then is
+/// what `read_frame` answers. Content of the same kind is filled where it stands. A refusal leaves some frame of this meta.
+#[inline(never)]
+#[tactic(auto, unfolding(crate::specs::Reading::frame_at))]
+pub fn read_frame_into(meta: &Meta, bytes: &[u8], frame: &mut Frame) -> Result<(), FrameFault>
+    requires { IsFrameOf meta.now frame.old }
+    ensures of { IsFrameOf meta.now frame.new }
+    ensures answer { leaving result (frame_in meta.now.fields frame.new)
+        ≡ frame_at meta.now bytes.now }
+{
+    let mut cursor = Cursor { bytes, at: 0 };
+    read_message(&mut cursor, meta, frame)?;
+    if !is_at_end(&cursor) {
+        return Err(FrameFault::Trailing);
+    }
+    Ok(())
 }
 
 /// A frame to be read over, whose row is zeros.
@@ -46,28 +64,11 @@ fn opening(meta: &Meta) -> Frame
     OPENING
 }
 
-/// Reads the frame that the bytes spell in place of another of this meta. The row of a key frame is filled where it stands.
-#[inline(never)]
-#[tactic(auto, unfolding(crate::specs::Reading::frame_at))]
-fn read_into(meta: &Meta, bytes: &[u8], frame: &mut Frame) -> Result<(), FrameFault>
-    requires { IsFrameOf meta.now frame.old }
-    ensures of { OnOk result (IsFrameOf meta.now frame.new) }
-    ensures answer { leaving result (frame_in meta.now.fields frame.new)
-        ≡ frame_at meta.now bytes.now }
-{
-    let mut cursor = Cursor { bytes, at: 0 };
-    read_message(&mut cursor, meta, frame)?;
-    if !is_at_end(&cursor) {
-        return Err(FrameFault::Trailing);
-    }
-    Ok(())
-}
-
 #[inline(always)]
 #[tactic(auto, unfolding(crate::specs::Reading::message_at, crate::specs::Reading::behind_front))]
 fn read_message(cursor: &mut Cursor<'_>, meta: &Meta, frame: &mut Frame) -> Result<(), FrameFault>
     requires { IsFrameOf meta.now frame.old }
-    ensures of { OnOk result (IsFrameOf meta.now frame.new) }
+    ensures of { IsFrameOf meta.now frame.new }
     ensures answer { ReadsAhead (leaving result (frame_in meta.now.fields frame.new))
         cursor.old cursor.new (message_at meta.now) }
 {

@@ -19,7 +19,7 @@ use crate::flags::{
     VALUE_AND_STATUS, VARIANT,
 };
 use crate::frame::{Frame, FrameKind};
-use crate::length::{MAX_LEN, field_count, frame_len, front_len, is_marked};
+use crate::length::{MAX_LEN, field_count, frame_len, front_len};
 use crate::scalar::{has_eight_bytes, has_four_bytes};
 use dataset_meta::Meta;
 use row_words::{Patch, Row, is_scalar};
@@ -252,10 +252,11 @@ fn put_patch(pen: &mut Pen<'_>, meta: &Meta, patch: &Patch)
     ensures { Puts pen.old pen.new (changes_bytes meta.now.quality
         (patch_in meta.now.fields patch.now)) }
 {
-    for index in 0..meta.fields().len() {
-        if is_marked(patch, index) {
-            put_change(pen, meta, &patch.row, index as u8);
-        }
+    let mut left = patch.mask;
+    while left != 0 {
+        let index = left.trailing_zeros();
+        put_change(pen, meta, &patch.row, index as u8);
+        left &= !(1 << index);
     }
 }
 

@@ -23,8 +23,7 @@ loop-index-preserved c =
     let long = length_row c.args.meta.now.quality fields row c.loop-index.invariant.belongs.row in
     let set = c.in_ok-read_into.ensures.answer in
     record {
-      belongs = c.in_ok-read_into.ensures.belongs;
-      good = c.in_ok-read_into.ensures.good;
+      belongs = c.read_into.ensures.belongs;
       same = (set (stands fields c.loop-index.index within).x).same_bytes ∙ c.loop-index.invariant.same;
       read = c.loop-index.invariant.read
           ∙ behind-set c.loop-index.index fields row (row_in fields c.read_into.new.row.words) (rest_of c.loop-index.cursor) (rest_of c.read_into.new.cursor) within (omega (arith, long, within)) (λ d. (set d).answer);

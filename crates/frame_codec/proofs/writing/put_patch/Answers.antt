@@ -1,41 +1,48 @@
-use Rattle.std.proofs.Common.{◌<◌, ◌≤◌, ◌∙◌, sym, length, arith}
-use Rattle.std.proofs.lemmas.List.{take_all}
+use Rattle.std.proofs.Common.{◌<◌, ◌^◌, ℕ, length, rules, refl, sym, subst, arith}
 use Rattle.row_words.specs.Belonging.{row_in}
-use Rattle.row_words.specs.Patches.{patch_in}
-use Rattle.row_words.proofs.FieldLaws.{stands_at}
-use Rattle.ua_binary.specs.Writing.{Puts}
-use Rattle.ua_binary.proofs.Laying.{Puts-then}
-use Rattle.frame_codec.specs.Spelling.{change_bytes}
-use Rattle.frame_codec.proofs.Laid.{length-row_in, changes-marked, changes-unmarked, changes-within, at_stands}
+use Rattle.row_words.specs.Patches.{marked_from, patch_in}
+use Rattle.frame_codec.specs.Spelling.{changes_bytes}
+use Rattle.frame_codec.proofs.Laid.{length-row_in}
+use Rattle.frame_codec.proofs.Marks.{lowest, none-laid, change-room, change-laid, changes-laid}
 use Rattle.frame_codec.proofs.writing.put_patch.Goals as goal
-use Rattle.frame_codec.proofs.writing.put_patch.Goals.{then-is_marked, else-is_marked}
+
+pub put_change-requires-clause-index : goal.put_change-requires-clause-index
+put_change-requires-clause-index c =
+    let row = row_in c.args.meta.now.fields c.args.patch.now.row.words in
+    let first = lowest c.loop-left.left (length row) c.loop-left-test.true (search rules) c.loop-left.invariant.marks in
+    omega (arith, first.within, length-row_in c.args.meta.now.fields c.args.patch.now.row.words)
 
 pub put_change-requires-clause-room : goal.put_change-requires-clause-room
 unfolding patch_in
-put_change-requires-clause-room c = λ d.
-    let fields = c.args.meta.now.fields in
-    let row = row_in fields c.args.patch.now.row.words in
-    let within : c.loop-index.index < length row = omega (arith, length-row_in fields c.args.patch.now.row.words, rw c.fields-index-end.ensures.fields at c.loop-index-test.true) in
-    omega (arith, changes-within c.args.meta.now.quality row c.args.patch.now.mask c.loop-index.index d within (sym c.is_marked.ensures ∙ c.if-is_marked.true), c.requires.room, c.loop-index.invariant.moved, c.loop-index.invariant.same_length)
+put_change-requires-clause-room c =
+    let row = row_in c.args.meta.now.fields c.args.patch.now.row.words in
+    let first = lowest c.loop-left.left (length row) c.loop-left-test.true (search rules) c.loop-left.invariant.marks in
+    change-room c.args.meta.now.quality row c.loop-left.left c.args.pen.now c.loop-left.pen (changes_bytes c.args.meta.now.quality (marked_from 0 c.args.patch.now.mask row)) first c.loop-left.invariant.laid c.requires.room
 
-pub loop-index-preserved : goal.loop-index-preserved
-loop-index-preserved c =
-    let fields = c.args.meta.now.fields in
-    let quality = c.args.meta.now.quality in
-    let row = row_in fields c.args.patch.now.row.words in
-    let within : c.loop-index.index < length row = omega (arith, length-row_in fields c.args.patch.now.row.words, rw c.fields-index-end.ensures.fields at c.loop-index-test.true) in
-    let s = stands_at row c.loop-index.index within in
-    elim c.if-is_marked.branch [
-      | then-is_marked w ↦ rw (w.pen-is, changes-marked quality row c.args.patch.now.mask c.loop-index.index within s (sym c.is_marked.ensures ∙ w.if-is_marked.true))
-          (Puts-then c.args.pen.now c.loop-index.pen w.put_change.new.pen _ _ c.loop-index.invariant
-          (at_stands (λ x. Puts c.loop-index.pen w.put_change.new.pen (change_bytes quality (c.loop-index.index, x))) row c.loop-index.index s w.put_change.ensures))
-      | else-is_marked w ↦ rw (w.pen-is, changes-unmarked quality row c.args.patch.now.mask c.loop-index.index within (sym c.is_marked.ensures ∙ w.if-is_marked.false)) c.loop-index.invariant
-    ]
+pub loop-left-init : goal.loop-left-init
+loop-left-init c =
+    let row = row_in c.args.meta.now.fields c.args.patch.now.row.words in
+    record {
+      marks = subst (λ (n : ℕ). c.args.patch.now.mask < 2 ^ n) (sym (length-row_in c.args.meta.now.fields c.args.patch.now.row.words)) c.requires.of.marks;
+      laid = none-laid c.args.pen.now _;
+    }
+
+pub loop-left-smaller : goal.loop-left-smaller
+loop-left-smaller c =
+    let row = row_in c.args.meta.now.fields c.args.patch.now.row.words in
+    (lowest c.loop-left.left (length row) c.loop-left-test.true (search rules) c.loop-left.invariant.marks).fewer
+
+pub loop-left-preserved : goal.loop-left-preserved
+loop-left-preserved c =
+    let row = row_in c.args.meta.now.fields c.args.patch.now.row.words in
+    let first = lowest c.loop-left.left (length row) c.loop-left-test.true (search rules) c.loop-left.invariant.marks in
+    record {
+      marks = omega (arith, first.fewer, c.loop-left.invariant.marks);
+      laid = change-laid c.args.meta.now.quality row c.loop-left.left c.args.pen.now c.loop-left.pen c.put_change.new.pen (changes_bytes c.args.meta.now.quality (marked_from 0 c.args.patch.now.mask row)) first c.loop-left.invariant.laid c.put_change.ensures;
+    }
 
 pub returns : goal.returns
 unfolding patch_in
 returns c =
-    let fields = c.args.meta.now.fields in
-    let row = row_in fields c.args.patch.now.row.words in
-    let all : length row ≤ c.loop-index.index = omega (arith, length-row_in fields c.args.patch.now.row.words, rw c.fields-index-end.ensures.fields at c.loop-index-test.false) in
-    rw (take_all c.loop-index.index row all) at c.loop-index.invariant
+    let row = row_in c.args.meta.now.fields c.args.patch.now.row.words in
+    changes-laid c.args.meta.now.quality row c.loop-left.left c.args.pen.now c.loop-left.pen (changes_bytes c.args.meta.now.quality (marked_from 0 c.args.patch.now.mask row)) c.loop-left-test.false c.loop-left.invariant.laid

@@ -2,7 +2,7 @@ use Rattle.std.proofs.Common.{drop}
 use Rattle.row_words.specs.Belonging.{row_in}
 use Rattle.fixed_layout.specs.Spelling.{raw_row}
 use Rattle.fixed_layout.proofs.Laying.{IsLaid}
-use Rattle.fixed_layout.proofs.writing.put_row.Given as goal
+use Rattle.fixed_layout.proofs.writing.put_values.Given as goal
 
 -- the values so far stand behind one another
 abbrev pub invariant-loop-index : goal.invariant-loop-index

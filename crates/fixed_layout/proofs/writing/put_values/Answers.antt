@@ -3,7 +3,7 @@ use Rattle.dataset_meta.proofs.RowLaws.{length_row}
 use Rattle.row_words.specs.Belonging.{row_in}
 use Rattle.fixed_layout.specs.Spelling.{raw_row}
 use Rattle.fixed_layout.proofs.Laying.{room-left, value-laid, all-laid}
-use Rattle.fixed_layout.proofs.writing.put_row.Goals as goal
+use Rattle.fixed_layout.proofs.writing.put_values.Goals as goal
 
 pub put_value-requires-clause-room : goal.put_value-requires-clause-room
 put_value-requires-clause-room c =
