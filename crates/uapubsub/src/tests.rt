@@ -182,30 +182,6 @@ fn run<R: Threads + Wait + Sync>(
 }
 
 #[test]
-fn a_report_is_written(rt: HostRuntime) -> Result<(), Fail> {
-    let alloc = rt.alloc();
-    for (script, report) in [
-        ("write 0 demo a=7\ntick 100\n", FIRST_RUN),
-        ("write 0 demo a=7\ntick 100", FIRST_RUN),
-        ("", EMPTY_SCRIPT),
-        ("tick 99\n", EMPTY_SCRIPT),
-        ("tick 100\nwrite 0 demo a=7\n", WRITTEN_LAST),
-    ] {
-        let ran = run(
-            &rt,
-            alloc,
-            &["play", "s"],
-            Some(script.as_bytes()),
-            &Faults::default(),
-        )?;
-        assert_eq!(rt; ran.status, 0, "of {script}");
-        assert_eq!(rt; ran.out.bytes(), report.as_bytes(), "of {script}");
-        assert_eq!(rt; ran.err.bytes().len(), 0, "of {script}");
-    }
-    Ok(())
-}
-
-#[test]
 fn the_first_datagram_is_a_key_frame(rt: HostRuntime) -> Result<(), Fail> {
     let ran = run(
         &rt,
@@ -226,107 +202,6 @@ fn the_first_datagram_is_a_key_frame(rt: HostRuntime) -> Result<(), Fail> {
 }
 
 #[test]
-fn other_words_are_refused(rt: HostRuntime) -> Result<(), Fail> {
-    let alloc = rt.alloc();
-    for words in [
-        [].as_slice(),
-        &["play"],
-        &["play", ""],
-        &["play", "-s"],
-        &["play", "s", "t"],
-        &["play", "s", "--config", "c"],
-        &["Play", "s"],
-        &["play s"],
-        &["s", "play"],
-        &["check"],
-        &["check", "s"],
-        &["check", "--config"],
-        &["check", "--config", ""],
-        &["check", "--config", "-s"],
-        &["check", "-config", "s"],
-        &["check", "--config", "s", "t"],
-        &["--config", "s", "check"],
-        &["play", "--config", "s"],
-        &["run", "s"],
-        &["load", "1"],
-    ] {
-        let ran = run(&rt, alloc, words, Some(b""), &Faults::default())?;
-        assert_eq!(rt; ran.status, 2);
-        assert_eq!(rt; ran.err.bytes(), USAGE.as_bytes());
-        assert_eq!(rt; ran.out.bytes().len(), 0);
-    }
-    Ok(())
-}
-
-#[test]
-fn a_long_name_is_refused(rt: HostRuntime) -> Result<(), Fail> {
-    let alloc = rt.alloc();
-    let name = "x".repeat(alloc, 256)?;
-    let long = run(
-        &rt,
-        alloc,
-        &["play", name.as_str()],
-        Some(b""),
-        &Faults::default(),
-    )?;
-    assert_eq!(rt; long.status, 2);
-    assert_eq!(rt; long.err.bytes(), USAGE.as_bytes());
-    let longest = run(
-        &rt,
-        alloc,
-        &["play", &name.as_str()[1..]],
-        Some(b""),
-        &Faults::default(),
-    )?;
-    assert_eq!(rt; longest.status, 5);
-    assert_eq!(rt; longest.err.bytes().len(), 268);
-    Ok(())
-}
-
-#[test]
-fn other_scripts_are_refused(rt: HostRuntime) -> Result<(), Fail> {
-    let alloc = rt.alloc();
-    let many_ticks = "tick 1\n".repeat(alloc, 4097)?;
-    let many_writes = "write 0 demo a=1\n".repeat(alloc, 32_769)?;
-    for script in [
-        b"\n".as_slice(),
-        b"tick 1\n\n",
-        b"\ntick 1\n",
-        b"tick  1\n",
-        b" tick 1\n",
-        b"tick 1 \n",
-        b"tick 01\n",
-        b"tick 0\n",
-        b"tick 3600001\n",
-        b"tick 4294967297\n",
-        b"tick +1\n",
-        b"tick\n",
-        b"tick 1\r\n",
-        b"tick 1\xff\n",
-        b"TICK 1\n",
-        b"write 0 demo a=4294967296\n",
-        b"write 0 demo a=01\n",
-        b"write 0 demo a=-1\n",
-        b"write 0 demo a=\n",
-        b"write 0  demo a=1\n",
-        b"write 0 demo a=1 b=1\n",
-        b"write 0 demo b=1\n",
-        b"write 1 demo a=1\n",
-        b"write 0 other a=1\n",
-        b"enable g1\n",
-        b"# text\n",
-        many_ticks.as_bytes(),
-        many_writes.as_bytes(),
-    ] {
-        let ran = run(&rt, alloc, &["play", "s"], Some(script), &Faults::default())?;
-        assert_eq!(rt; ran.status, 4);
-        assert_eq!(rt; ran.err.bytes(), b"script refused\n".as_slice());
-        assert_eq!(rt; ran.out.bytes().len(), 0);
-    }
-    Ok(())
-}
-
-#[test]
 fn long_files_are_told(rt: HostRuntime) -> Result<(), Fail> {
     let alloc = rt.alloc();
     let long = "#".repeat(alloc, 1_048_577)?;
@@ -336,32 +211,6 @@ fn long_files_are_told(rt: HostRuntime) -> Result<(), Fail> {
         assert_eq!(rt; ran.err.bytes(), b"file too long: s\n".as_slice());
         assert_eq!(rt; ran.out.bytes().len(), 0);
     }
-    Ok(())
-}
-
-#[test]
-fn the_longest_script_is_played(rt: HostRuntime) -> Result<(), Fail> {
-    let alloc = rt.alloc();
-    let mut script = "write 0 demo a=4294967295\n".repeat(alloc, 32_768)?;
-    let ticks = "tick 3600000\n".repeat(alloc, 4096)?;
-    script.push_str(&ticks)?;
-    let ran = run(
-        &rt,
-        alloc,
-        &["play", "s"],
-        Some(script.as_bytes()),
-        &Faults::default(),
-    )?;
-    assert_eq!(rt; ran.status, 0);
-    let end = b"
-readgroup rg1 operational taken 4097:
-reader r1 operational number 4096 version 32768: a=4294967295 b=0 c=0 d=0
-gaps r1 0:
-link sent 4097 failed 0 received 4097 broken 0 long 0 limit 0
-end
-";
-    assert!(rt; ran.out.bytes().starts_with(b"history demo 32768: 0 0 0 "));
-    assert!(rt; ran.out.bytes().ends_with(end));
     Ok(())
 }
 
@@ -377,7 +226,7 @@ struct Row<'a> {
 }
 
 #[test]
-fn faults_are_told(rt: HostRuntime) -> Result<(), Fail> {
+fn reports_and_faults_are_told(rt: HostRuntime) -> Result<(), Fail> {
     let alloc = rt.alloc();
     let none = Faults::default();
     let first_run = Row {
@@ -405,6 +254,36 @@ fn faults_are_told(rt: HostRuntime) -> Result<(), Fail> {
         ..checked
     };
     for row in [
+        Row {
+            out: FIRST_RUN,
+            ..first_run
+        },
+        Row {
+            script: Some("write 0 demo a=7\ntick 100"),
+            out: FIRST_RUN,
+            ..first_run
+        },
+        Row {
+            script: Some(""),
+            out: EMPTY_SCRIPT,
+            ..first_run
+        },
+        Row {
+            script: Some("tick 99\n"),
+            out: EMPTY_SCRIPT,
+            ..first_run
+        },
+        Row {
+            script: Some("tick 100\nwrite 0 demo a=7\n"),
+            out: WRITTEN_LAST,
+            ..first_run
+        },
+        Row {
+            words: &["play"],
+            status: 2,
+            err: USAGE,
+            ..first_run
+        },
         Row {
             script: None,
             ..unread
