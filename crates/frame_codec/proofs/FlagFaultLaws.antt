@@ -9,7 +9,7 @@ use Rattle.frame_codec.specs.declared.fault.FrameFault.TheVariants.{NotValid, Ba
 use Rattle.frame_codec.specs.Fronts.{encoding_in, kind_in, is_encoding, fault_in_flags1, fault_in_flags2, front_at}
 use Rattle.frame_codec.specs.Refusals.{HasFlags2}
 use Rattle.frame_codec.specs.Wire.{is_field_encoding}
-use Rattle.frame_codec.proofs.FlagLaws.{BitsTell, bits-tell}
+use Rattle.frame_codec.proofs.FlagLaws.{bits-tell}
 use Rattle.frame_codec.proofs.FaultLaws.{flags1-refused, flags2-refused}
 
 -- ---- DataSetFlags1

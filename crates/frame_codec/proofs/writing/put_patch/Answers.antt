@@ -1,4 +1,4 @@
-use Rattle.std.proofs.Common.{◌<◌, ◌^◌, ℕ, length, rules, refl, sym, subst, arith}
+use Rattle.std.proofs.Common.{◌<◌, ◌^◌, ℕ, length, rules, sym, subst, arith}
 use Rattle.row_words.specs.Belonging.{row_in}
 use Rattle.row_words.specs.Patches.{marked_from, patch_in}
 use Rattle.frame_codec.specs.Spelling.{changes_bytes}
