@@ -1,5 +1,5 @@
 //! Changes between rows.
-ghost use Rattle.std.specs.Prelude.{◌≡◌, ◌≢◌, ◌<◌, true, false, not, length};
+ghost use Rattle.std.specs.Prelude.{◌≡◌, ◌≢◌, ◌<◌, [], true, false, not, length};
 ghost use Rattle.std.specs.List.{HoldsAt};
 ghost use Rattle.dataset_meta.specs.Rows.{patched, differs};
 ghost use Rattle.dataset_meta.specs.SameValues.{same_value, same_data_value};
@@ -17,14 +17,28 @@ pub fn changed(meta: &Meta, old: &Row, new: &Row) -> Patch
     ensures differ { patch_in meta.now.fields result
         ≡ differs (row_in meta.now.fields old.now.words) (row_in meta.now.fields new.now.words) }
 {
-    let fields = meta.fields();
+    prove!(!meta.fields().is_empty());
     let mut patch = Patch::empty();
+    mark_changes(meta, old, new, &mut patch);
+    patch
+}
+
+/// Makes an empty patch the one that `changed` answers.
+pub fn mark_changes(meta: &Meta, old: &Row, new: &Row, patch: &mut Patch)
+    requires old { Belongs meta.now old.now.words }
+    requires new { Belongs meta.now new.now.words }
+    requires of { IsPatchOf meta.now patch.old }
+    requires empty { patch_in meta.now.fields patch.old ≡ [] }
+    ensures of { IsPatchOf meta.now patch.new }
+    ensures differ { patch_in meta.now.fields patch.new
+        ≡ differs (row_in meta.now.fields old.now.words) (row_in meta.now.fields new.now.words) }
+{
+    let fields = meta.fields();
     for index in 0..fields.len() {
         if differs_at(meta, index as u8, old, new) {
             patch.mark(meta, index as u8, new);
         }
     }
-    patch
 }
 
 /// Gives each field that the patch marks its new value and status, and leaves the others.

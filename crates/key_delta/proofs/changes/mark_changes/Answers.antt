@@ -8,8 +8,8 @@ use Rattle.row_words.specs.Belonging.{row_in}
 use Rattle.row_words.specs.Patches.{patch_in}
 use Rattle.row_words.proofs.FieldLaws.{stands, StandsAt}
 use Rattle.key_delta.proofs.Differences.{upto_more, put_more, upto_all}
-use Rattle.key_delta.proofs.changes.changed.Goals as goal
-use Rattle.key_delta.proofs.changes.changed.Goals.{then-differs_at, else-differs_at}
+use Rattle.key_delta.proofs.changes.mark_changes.Goals as goal
+use Rattle.key_delta.proofs.changes.mark_changes.Goals.{then-differs_at, else-differs_at}
 
 tested : (result : Bool) (old new : List DataValue) (index : ℕ) (s : StandsAt old index) (t : StandsAt new index)
     → HoldsAt (λ before. HoldsAt (λ after. result ≡ not (same_data_value before after)) new index) old index → result ≡ not (same_data_value s.x t.x)
@@ -17,10 +17,7 @@ tested result old new index s t holds =
     holds s.x t.x ∙ ap (λ (x : DataValue). not (same_data_value x _)) (s.here s.x) ∙ ap (λ (y : DataValue). not (same_data_value s.x y)) (t.here t.x)
 
 pub loop-index-init : goal.loop-index-init
-loop-index-init c = record {
-  of = c.empty-patch.ensures.of c.args.meta.now c.fields-fields.ensures.meta;
-  differ = c.empty-patch.ensures.empty c.args.meta.now.fields;
-}
+loop-index-init c = record { of = c.requires.of; differ = c.requires.empty }
 
 pub loop-index-preserved : goal.loop-index-preserved
 loop-index-preserved c =

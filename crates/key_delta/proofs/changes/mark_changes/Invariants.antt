@@ -2,7 +2,7 @@ use Rattle.std.proofs.Common.{◌≡◌}
 use Rattle.row_words.specs.Belonging.{row_in}
 use Rattle.row_words.specs.Patches.{IsPatchOf, patch_in}
 use Rattle.key_delta.proofs.Differences.{upto}
-use Rattle.key_delta.proofs.changes.changed.Given as goal
+use Rattle.key_delta.proofs.changes.mark_changes.Given as goal
 
 abbrev pub invariant-loop-index : goal.invariant-loop-index
 invariant-loop-index l = record {
