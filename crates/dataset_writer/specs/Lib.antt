@@ -1,3 +1,4 @@
+pub mod Kinds
 pub mod Turns
 pub mod Sends
 pub mod Standing

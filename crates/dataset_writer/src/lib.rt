@@ -2,6 +2,7 @@
 //! KeepAliveTime).
 #![tactic(auto)]
 
+mod kept;
 mod laws;
 mod sends;
 mod settings;

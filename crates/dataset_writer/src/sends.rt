@@ -6,9 +6,10 @@ ghost use Rattle.row_words.specs.Belonging.{Belongs, row_in};
 ghost use Rattle.row_words.specs.Patches.{IsPatchOf, patch_in};
 ghost use Rattle.dataset_meta.specs.Rows.{differs};
 
+use crate::kept::{make_change, make_whole, wider};
 use dataset_meta::Meta;
 use frame_codec::{Frame, FrameKind};
-use key_delta::changed;
+use key_delta::copy_front;
 use row_words::Row;
 use seq_number::Count;
 use std::alloc::Global;
@@ -26,16 +27,20 @@ pub(crate) struct Sends {
     pub log: Vec<(u64, u64)>,
     // The last frame, where it is lent.
     pub frame: Frame,
+    // Behind so many words the row has zeros, and so has the frame's: no more of them is ever written.
+    pub used: u32,
 }
 
 impl Sends {
-    ghost use Rattle.dataset_writer.specs.Sends.{HasSent, IsData, framed};
+    ghost use Rattle.dataset_writer.specs.Sends.{HasSent, IsData, EndsInZeros, framed};
+    ghost use Rattle.key_delta.specs.Fronts.{HasZerosBehind};
 
     pub fn new(alloc: Global, first_number: u16, turns: u32) -> Result<Sends, NoMemory>
         ensures sent_at { IfOk result (λ sends. sends.sent_at ≡ 0) }
         ensures next { IfOk result (λ sends. sends.next.place ≡ first_number) }
         ensures log { IfOk result (λ sends. sends.log.items ≡ []) }
         ensures room { IfOk result (λ sends. turns ≤ vec_capacity sends.log) }
+        ensures zeros { IfOk result EndsInZeros }
     {
         Ok(Sends {
             row: Row::opening(),
@@ -50,6 +55,7 @@ impl Sends {
                 major: None,
                 minor: None,
             },
+            used: 0,
         })
     }
 
@@ -57,12 +63,16 @@ impl Sends {
     pub fn whole(&mut self, meta: &Meta, versions: bool, now: u64, row: &Row, version: u64)
         requires room { vec_len self.old.log < vec_capacity self.old.log }
         requires few { self.old.next.place < 2 ^ 63 }
+        requires row { Belongs meta.now row.now.words }
+        requires zeros { EndsInZeros self.old }
         ensures kind { self.new.frame.kind ≡ FrameKind.Whole row.now }
         ensures sent { HasSent meta.now versions self.old self.new }
         ensures data_is { IsData now row.now version self.old self.new }
         ensures room { vec_capacity self.old.log ≤ vec_capacity self.new.log }
+        ensures zeros { EndsInZeros self.new }
     {
-        self.frame.kind = FrameKind::Whole(*row);
+        self.used = wider(self.used, meta);
+        make_whole(&mut self.frame.kind, row, self.used);
         self.data(meta, versions, now, row, version);
     }
 
@@ -72,6 +82,7 @@ impl Sends {
         requires few { self.old.next.place < 2 ^ 63 }
         requires holds { Belongs meta.now self.old.row.words }
         requires row { Belongs meta.now row.now.words }
+        requires zeros { EndsInZeros self.old }
         ensures kind { (patch : PatchValue) × (self.new.frame.kind ≡ FrameKind.Change patch)
             × IsPatchOf meta.now patch
             × (patch_in meta.now.fields patch
@@ -80,16 +91,20 @@ impl Sends {
         ensures sent { HasSent meta.now versions self.old self.new }
         ensures data_is { IsData now row.now version self.old self.new }
         ensures room { vec_capacity self.old.log ≤ vec_capacity self.new.log }
+        ensures zeros { EndsInZeros self.new }
     {
-        self.frame.kind = FrameKind::Change(changed(meta, &self.row, row));
+        self.used = wider(self.used, meta);
+        make_change(&mut self.frame.kind, meta, &self.row, row, self.used);
         self.data(meta, versions, now, row, version);
     }
 
     /// Sends a keep-alive, which uses no number up.
     pub fn alive(&mut self, meta: &Meta, versions: bool, now: u64)
+        requires zeros { EndsInZeros self.old }
         ensures kind { self.new.frame.kind ≡ FrameKind.Alive }
         ensures sent { HasSent meta.now versions self.old self.new }
         ensures kept { self.new ≡ record self.old { sent_at = now; frame = self.new.frame } }
+        ensures zeros { EndsInZeros self.new }
     {
         self.frame.kind = FrameKind::Alive;
         self.head(meta, versions);
@@ -100,18 +115,21 @@ impl Sends {
     fn data(&mut self, meta: &Meta, versions: bool, now: u64, row: &Row, version: u64)
         requires room { vec_len self.old.log < vec_capacity self.old.log }
         requires few { self.old.next.place < 2 ^ 63 }
+        requires zeros { EndsInZeros self.old }
+        requires row { HasZerosBehind self.old.used row.now.words }
         ensures sent { HasSent meta.now versions self.old self.new }
         ensures kind { self.new.frame.kind ≡ self.old.frame.kind }
         ensures data_is { IsData now row.now version self.old self.new }
         ensures room { vec_capacity self.old.log ≤ vec_capacity self.new.log }
+        ensures zeros { EndsInZeros self.new }
     {
+        copy_front(row, self.used, &mut self.row);
         self.head(meta, versions);
         match self.log.push((self.next.place, version)) {
             Ok(()) => {}
             Err(_) => unreachable!(),
         }
         self.next.step();
-        self.row = *row;
         self.sent_at = now;
     }
 

@@ -7,6 +7,7 @@ ghost use Rattle.frame_codec.specs.Words.{IsFrameOf};
 ghost use Rattle.pubsub_model.specs.Cadence.{WriterDeed, Refreshed, log_of};
 ghost use Rattle.dataset_writer.specs.declared.settings.WriterSettings.{WriterSettings as SettingsValue};
 ghost use Rattle.dataset_writer.specs.Turns.{model_settings, turn_at, sent_by, IsTurnOf};
+ghost use Rattle.dataset_writer.specs.Sends.{EndsInZeros, EndsInZeros-prop};
 
 use crate::sends::Sends;
 use crate::settings::WriterSettings;
@@ -32,6 +33,7 @@ pub struct Writer {
     ghost counted: { 1 ≤ settings.key_frame_count },
     ghost room: { vec_len sends.log + left ≤ vec_capacity sends.log },
     ghost few: { sends.next.place + left < 2 ^ 63 },
+    ghost zeros: { EndsInZeros sends } by { EndsInZeros-prop sends },
 }
 
 impl Writer {

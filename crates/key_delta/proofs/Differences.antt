@@ -1,6 +1,7 @@
 -- What differs between two rows, one field after another.
 use Rattle.std.proofs.Common.{◌≡◌, ◌↔◌, ℕ, ◌+◌, ◌<◌, Bool, true, false, not, List, [], ◌∷◌, ◌++◌, length, take, Some, ◌≤◌, refl, sym, ap, ◌∙◌, arith}
 use Rattle.std.specs.Prelude.{slice_get}
+use Rattle.std.specs.List.{HoldsAt}
 use Rattle.std.proofs.lemmas.List.{take_more, take_all, length-take-le}
 use Rattle.std.proofs.lemmas.Option.{get_or_from_slice_get}
 use Rattle.dataset_meta.specs.DataValues.{DataValue}
@@ -12,7 +13,9 @@ use Rattle.dataset_meta.proofs.RowLaws.{patched-differs}
 use Rattle.row_words.specs.declared.patch.Patch.{Patch}
 use Rattle.row_words.specs.Belonging.{row_in, spelled_row, Belongs}
 use Rattle.row_words.specs.Patches.{patch_in, patched_words}
+use Rattle.row_words.proofs.FieldLaws.{StandsAt}
 use Rattle.row_words.proofs.PatchLaws.{past_case}
+use Rattle.key_delta.specs.Changes.{changes_upto}
 
 -- nothing differs between a row and itself
 none_if : (same : Bool) (index : ℕ) (value : DataValue) (rest : List (ℕ × DataValue)) → same ≡ true → cons_if (not same) (index, value) rest ≡ rest
@@ -43,16 +46,18 @@ other_more (o ∷ olds) (n ∷ news) from at old new same is e =
     ap (cons_if (not (same_data_value o n)) (from, n)) (other_more olds news (from + 1) at old new (omega arith) (omega arith) e)
     ∙ sym (past_case (not (same_data_value o n)) n (differs_from (from + 1) olds news) from at new (omega arith))
 
--- what differs in the first fields
-abbrev pub upto : ℕ → List DataValue → List DataValue → List (ℕ × DataValue)
-upto count old new = differs (take count old) (take count new)
+-- the test of a field, of what stands there
+pub tested : (result : Bool) (old new : List DataValue) (index : ℕ) (s : StandsAt old index) (t : StandsAt new index)
+    → HoldsAt (λ before. HoldsAt (λ after. result ≡ not (same_data_value before after)) new index) old index → result ≡ not (same_data_value s.x t.x)
+tested result old new index s t holds =
+    holds s.x t.x ∙ ap (λ (x : DataValue). not (same_data_value x _)) (s.here s.x) ∙ ap (λ (y : DataValue). not (same_data_value s.x y)) (t.here t.x)
 
 next_is : (row : List DataValue) (i : ℕ) (value : DataValue) → slice_get row i ≡ Some value → i < length row → take (i + 1) row ≡ take i row ++ value ∷ []
 next_is row i value here within = take_more row i value within ∙ ap (λ (v : DataValue). take i row ++ v ∷ []) (get_or_from_slice_get row i value value here)
 
 -- what the test of a field makes of what differs in front of it
 pub upto_more : (old new : List DataValue) (i : ℕ) (before after : DataValue) (test : Bool) → i < length old → i < length new → slice_get old i ≡ Some before → slice_get new i ≡ Some after
-    → test ≡ not (same_data_value before after) → test ≡ false → upto i old new ≡ upto (i + 1) old new
+    → test ≡ not (same_data_value before after) → test ≡ false → changes_upto i old new ≡ changes_upto (i + 1) old new
 upto_more old new i before after test in_old in_new was is tested same_words =
     let same : same_data_value before after ≡ true = not_not (same_data_value before after) (sym tested ∙ same_words) in
     sym (ap (λ (row : List DataValue). differs row (take (i + 1) new)) (next_is old i before was in_old)
@@ -64,7 +69,7 @@ upto_more old new i before after test in_old in_new was is tested same_words =
     not_not false e = absurd (cc)
 
 pub put_more : (old new : List DataValue) (i : ℕ) (before after : DataValue) (test : Bool) → i < length old → i < length new → slice_get old i ≡ Some before → slice_get new i ≡ Some after
-    → test ≡ not (same_data_value before after) → test ≡ true → put_in (upto i old new) i after ≡ upto (i + 1) old new
+    → test ≡ not (same_data_value before after) → test ≡ true → put_in (changes_upto i old new) i after ≡ changes_upto (i + 1) old new
 put_more old new i before after test in_old in_new was is tested other_words =
     let other : same_data_value before after ≡ false = not_yes (same_data_value before after) (sym tested ∙ other_words) in
     sym (ap (λ (row : List DataValue). differs row (take (i + 1) new)) (next_is old i before was in_old)
@@ -76,7 +81,7 @@ put_more old new i before after test in_old in_new was is tested other_words =
     not_yes true e = absurd (cc)
     not_yes false e = refl
 
-pub upto_all : (old new : List DataValue) (i : ℕ) → length old ≤ i → length new ≤ i → upto i old new ≡ differs old new
+pub upto_all : (old new : List DataValue) (i : ℕ) → length old ≤ i → length new ≤ i → changes_upto i old new ≡ differs old new
 upto_all old new i all_old all_new = ap (λ (row : List DataValue). differs row (take i new)) (take_all i old all_old) ∙ ap (differs old) (take_all i new all_new)
 
 -- the new row, words and all, is what the changes make of the old one

@@ -112,7 +112,7 @@ good_tells meta old new index differs result of_old of_new within none is same v
     is ∙ good_case (same_value before.value after.value) (before.status == after.status) (sym same ∙ values d e) ((Decides-eqb before.status after.status).1 statuses)
 
 -- the words of a row, and zeros behind them
-fronts : (meta : MetaData) (words : List ℕ) → Belongs meta words → words ≡ take (words_of meta.fields) words ++ replicate (125 - words_of meta.fields) 0
+pub fronts : (meta : MetaData) (words : List ℕ) → Belongs meta words → words ≡ take (words_of meta.fields) words ++ replicate (125 - words_of meta.fields) 0
 unfolding spelled_row
 fronts meta words belongs =
     let row = row_in meta.fields words in

@@ -1,2 +1,3 @@
 pub mod FieldWords
 pub mod Differences
+pub mod ClearLaws

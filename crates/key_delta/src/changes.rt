@@ -1,10 +1,11 @@
 //! Changes between rows.
-ghost use Rattle.std.specs.Prelude.{◌≡◌, ◌≢◌, ◌<◌, true, false, not, length};
+ghost use Rattle.std.specs.Prelude.{◌≡◌, ◌≢◌, ◌<◌, ◌≤◌, [], true, false, not, length};
 ghost use Rattle.std.specs.List.{HoldsAt};
 ghost use Rattle.dataset_meta.specs.Rows.{patched, differs};
 ghost use Rattle.dataset_meta.specs.SameValues.{same_value, same_data_value};
 ghost use Rattle.row_words.specs.Belonging.{Belongs, row_in};
 ghost use Rattle.row_words.specs.Patches.{IsPatchOf, patch_in, patched_words};
+ghost use Rattle.key_delta.specs.Changes.{changes_upto};
 
 use dataset_meta::Meta;
 use row_words::{Patch, Row, is_scalar};
@@ -17,14 +18,51 @@ pub fn changed(meta: &Meta, old: &Row, new: &Row) -> Patch
     ensures differ { patch_in meta.now.fields result
         ≡ differs (row_in meta.now.fields old.now.words) (row_in meta.now.fields new.now.words) }
 {
-    let fields = meta.fields();
+    prove!(!meta.fields().is_empty());
     let mut patch = Patch::empty();
-    for index in 0..fields.len() {
+    mark_changes(meta, old, new, &mut patch);
+    patch
+}
+
+/// Makes an empty patch the one that `changed` answers.
+pub fn mark_changes(meta: &Meta, old: &Row, new: &Row, patch: &mut Patch)
+    requires old { Belongs meta.now old.now.words }
+    requires new { Belongs meta.now new.now.words }
+    requires of { IsPatchOf meta.now patch.old }
+    requires empty { patch_in meta.now.fields patch.old ≡ [] }
+    ensures of { IsPatchOf meta.now patch.new }
+    ensures differ { patch_in meta.now.fields patch.new
+        ≡ differs (row_in meta.now.fields old.now.words) (row_in meta.now.fields new.now.words) }
+{
+    let count = meta.fields().len();
+    let mut index = next_changed(meta, old, new, 0);
+    while index < count {
+        patch.mark(meta, index as u8, new);
+        index = next_changed(meta, old, new, index + 1);
+    }
+}
+
+/// The first field from this index on that differs, or how many there are. It writes nothing, so that the fields that don't
+/// differ are passed fast.
+fn next_changed(meta: &Meta, old: &Row, new: &Row, from: usize) -> usize
+    requires old { Belongs meta.now old.now.words }
+    requires new { Belongs meta.now new.now.words }
+    requires from { from ≤ length meta.now.fields }
+    ensures within { result ≤ length meta.now.fields }
+    ensures ahead { from ≤ result }
+    ensures same { changes_upto result (row_in meta.now.fields old.now.words) (row_in meta.now.fields new.now.words)
+        ≡ changes_upto from (row_in meta.now.fields old.now.words) (row_in meta.now.fields new.now.words) }
+    ensures differs { result < length meta.now.fields
+        → HoldsAt (λ before. HoldsAt (λ after. true ≡ not (same_data_value before after))
+        (row_in meta.now.fields new.now.words) result) (row_in meta.now.fields old.now.words) result }
+{
+    let fields = meta.fields();
+    for index in from..fields.len() {
         if differs_at(meta, index as u8, old, new) {
-            patch.mark(meta, index as u8, new);
+            return index;
         }
     }
-    patch
+    fields.len()
 }
 
 /// Gives each field that the patch marks its new value and status, and leaves the others.

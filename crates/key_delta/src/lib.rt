@@ -2,7 +2,9 @@
 #![tactic(auto)]
 
 mod changes;
+mod copying;
 mod laws;
 
-pub use changes::{apply, changed, is_changed};
+pub use changes::{apply, changed, is_changed, mark_changes};
+pub use copying::{clear_front, copy_front};
 pub use laws::changes_give_the_new_row;

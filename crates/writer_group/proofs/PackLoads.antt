@@ -1,7 +1,8 @@
 -- The loads of packs, one pack after another.
 use Rattle.std.proofs.Common.{◌≡◌, ℕ, zero, suc, ◌+◌, ◌<◌, ◌≤◌, Bool, true, List, [], ◌∷◌, ◌++◌, length, map, take, get_or, refl, sym, ap, ◌∙◌, append_assoc, append-nil, arith}
-use Rattle.std.specs.Prelude.{slice_index_or, if◌then◌else◌}
+use Rattle.std.specs.Prelude.{slice_index_or, if◌then◌else◌, ◌==◌}
 use Rattle.std.specs.List.{All, flat_map}
+use Rattle.std.proofs.lemmas.Bool.Decides.{nat_tests}
 use Rattle.std.proofs.lemmas.List.{length-append, take_more}
 use Rattle.std.proofs.lemmas.List.Elements.{All-head, All-tail}
 use Rattle.std.proofs.lemmas.List.FromFn.{length-map-range_with_len}
@@ -11,7 +12,7 @@ use Rattle.payload_layout.proofs.Filled.{itself}
 use Rattle.payload_layout.proofs.Packs.{packs-frames, packs-sound}
 use Rattle.writer_group.specs.declared.load.Load.{Load}
 use Rattle.writer_group.specs.declared.load.Load.TheVariants.{Chunk, Frames}
-use Rattle.writer_group.specs.Planning.{chunk_count, chunk_loads, pack_loads, loads_from}
+use Rattle.writer_group.specs.Planning.{chunk_count, chunk_loads, pack_loads, loads_from, planned}
 
 -- how many frames packs have
 abbrev pub counted : List Pack → ℕ
@@ -116,3 +117,8 @@ pack-within room sizes packs index d are within =
     let below : index < length (map pack_of packed) = omega (arith, within, ap length are) in
     let some : 0 < (get_or packs index d).count = rw are (some-at itself room packed index d (packs-sound itself room sizes) below) in
     record { some = some; within = omega (arith, all, counted-take packs index d within) }
+
+-- without frames there is no load
+pub nothing-planned : (frame_room room : ℕ) (sizes : List ℕ) (loads : List Load) → loads ≡ [] → (length sizes == 0) ≡ true → loads ≡ planned frame_room room sizes
+nothing-planned frame_room room [] loads empty none = empty
+nothing-planned frame_room room (size ∷ sizes) loads empty none = absurd (grind (arith, nat_tests))

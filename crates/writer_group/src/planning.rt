@@ -2,6 +2,7 @@
 ghost use Rattle.std.specs.Prelude.{◌≡◌, ◌<◌, ◌≤◌, ◌+◌, ◌++◌, ◌∷◌, [], false, length, slice_index_or, vec_len, vec_capacity};
 ghost use Rattle.payload_layout.specs.declared.packing.Pack.{Pack as AnyPack};
 ghost use Rattle.ps_config.specs.Rooms.{chunk_room, is_fixed};
+ghost use Rattle.writer_group.specs.Envelopes.{frame_room};
 ghost use Rattle.writer_group.specs.Making.{loads_for};
 ghost use Rattle.writer_group.specs.Planning.{chunk_count, chunk_loads, pack_loads, planned};
 
@@ -27,17 +28,32 @@ pub(crate) fn plan_loads(
     ensures capacity { vec_capacity loads.old ≤ vec_capacity loads.new }
 {
     match group.layout {
-        Layout::Dynamic => {
-            let frame_room = frame_room(publisher, group);
-            let chunk_room = chunk_room(publisher, group);
-            plan_dynamic(frames.sizes.as_slice(), frame_room, chunk_room, loads);
-        }
+        Layout::Dynamic => plan_frames(publisher, group, frames.sizes.as_slice(), loads),
         Layout::Fixed => {
             if !group.writer.as_slice().is_empty() {
                 push_load(Load::Slots, loads);
             }
         }
     }
+}
+
+/// The same of a dynamic turn. Without frames nothing is planned.
+fn plan_frames(publisher: &Publisher, group: &GroupPart, sizes: &[u16], loads: &mut Vec<Load>)
+    requires room { 1 ≤ chunk_room publisher.now group.now }
+    requires few { length sizes.now ≤ 16 }
+    requires empty { loads.old.items ≡ [] }
+    requires left { length (planned (frame_room publisher.now group.now) (chunk_room publisher.now group.now) sizes.now)
+        ≤ vec_capacity loads.old }
+    ensures planned { loads.new.items
+        ≡ planned (frame_room publisher.now group.now) (chunk_room publisher.now group.now) sizes.now }
+    ensures capacity { vec_capacity loads.old ≤ vec_capacity loads.new }
+{
+    if sizes.is_empty() {
+        return;
+    }
+    let frame_room = frame_room(publisher, group);
+    let chunk_room = chunk_room(publisher, group);
+    plan_dynamic(sizes, frame_room, chunk_room, loads);
 }
 
 /// Pushes what each datagram of a dynamic turn carries, whose frames have these sizes.

@@ -1,0 +1,9 @@
+use Rattle.std.proofs.Common.{◌≡◌, ℕ, List, sym, ap, ◌∙◌, subst}
+use Rattle.row_words.specs.Belonging.{Belongs, row_in}
+use Rattle.key_delta.proofs.copying.zeros_are_a_row.Goals as goal
+
+pub returns-clause-belongs : goal.returns-clause-belongs
+returns-clause-belongs c = λ meta words is zeros. subst (Belongs meta) (c.opening.ensures.zeros ∙ sym zeros) (c.opening.ensures.belongs meta is)
+
+pub returns-clause-row : goal.returns-clause-row
+returns-clause-row c = λ fields words is zeros. ap (row_in fields) (zeros ∙ sym c.opening.ensures.zeros) ∙ c.opening.ensures.row fields is
