@@ -1,4 +1,5 @@
 //! The words of a line.
+use crate::escapes::unescaped;
 use crate::fault::LineFault;
 use std::alloc::Global;
 use std::str::SplitWhitespace;
@@ -46,6 +47,14 @@ impl<'a> Line<'a> {
         let rest = self.rest;
         self.rest = "";
         rest
+    }
+
+    /// The rest of the line, a text of several lines in one.
+    pub fn text(&mut self, alloc: Global) -> Result<Vec<u8>, LineFault> {
+        match unescaped(alloc, self.rest())? {
+            Some(bytes) => Ok(bytes),
+            None => Err(LineFault::Text),
+        }
     }
 
     /// The words that are left.
