@@ -2,7 +2,7 @@ use Rattle.std.proofs.Common.{sym, subst}
 use Rattle.std.proofs.lemmas.List.Elements.{All-push}
 use Rattle.group_rows.specs.Kept.{AreTurners, IsTurner}
 use Rattle.group_rows.proofs.Longer.{all-first, all-rest}
-use Rattle.group_rows.proofs.turners.grown_turners.Goals as goal
+use Rattle.group_rows.proofs.groups.grown_turners.Goals as goal
 
 pub grown-requires-clause-turner : goal.grown-requires-clause-turner
 grown-requires-clause-turner c =

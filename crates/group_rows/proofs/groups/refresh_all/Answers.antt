@@ -1,6 +1,6 @@
 use Rattle.std.proofs.lemmas.List.Elements.{All-set}
 use Rattle.group_rows.specs.Kept.{IsTurner}
-use Rattle.group_rows.proofs.publishing.refresh_all.Goals as goal
+use Rattle.group_rows.proofs.groups.refresh_all.Goals as goal
 
 pub loop-index-preserved : goal.loop-index-preserved
 loop-index-preserved c =

@@ -1,5 +1,5 @@
 use Rattle.group_rows.specs.Kept.{AreTurners}
-use Rattle.group_rows.proofs.turners.grown_turners.Given as goal
+use Rattle.group_rows.proofs.groups.grown_turners.Given as goal
 
 -- those that are done, and those that are left
 abbrev pub invariant-loop-turner : goal.invariant-loop-turner

@@ -1,7 +1,7 @@
 use Rattle.std.proofs.Common.{sym, subst}
 use Rattle.std.proofs.lemmas.List.Elements.{All-push}
 use Rattle.group_rows.specs.Kept.{AreTurners, IsTurner}
-use Rattle.group_rows.proofs.turners.turners_of.Goals as goal
+use Rattle.group_rows.proofs.groups.turners_of.Goals as goal
 
 pub loop-index-preserved : goal.loop-index-preserved
 loop-index-preserved c =
