@@ -1,6 +1,7 @@
 //! Why a line is no case.
 use std::alloc::{AllocError, AllocFailed};
 use std::fmt;
+use ua_base::NoMemory;
 
 /// Why a line is no case.
 #[derive(Clone, Copy, Debug, Drop)]
@@ -13,6 +14,8 @@ pub enum LineFault {
     Number,
     /// No hexadecimal digits, or an odd number of them.
     Hex,
+    /// No text: an escape that isn't one, or bytes that aren't UTF-8.
+    Text,
     /// What the call takes as given doesn't hold of the arguments.
     Condition,
     Memory,
@@ -26,6 +29,12 @@ impl From<AllocError> for LineFault {
 
 impl<T: Drop> From<AllocFailed<T>> for LineFault {
     fn from(_: AllocFailed<T>) -> LineFault {
+        LineFault::Memory
+    }
+}
+
+impl From<NoMemory> for LineFault {
+    fn from(_: NoMemory) -> LineFault {
         LineFault::Memory
     }
 }

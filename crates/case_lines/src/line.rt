@@ -1,7 +1,9 @@
 //! The words of a line.
+use crate::escapes::unescaped;
 use crate::fault::LineFault;
+use crate::parsed::number;
 use std::alloc::Global;
-use std::str::SplitWhitespace;
+use std::str::{FromStr, SplitWhitespace};
 
 /// What is left of a line. Words are parted by single spaces.
 #[derive(Drop)]
@@ -48,25 +50,45 @@ impl<'a> Line<'a> {
         rest
     }
 
+    /// The rest of the line, a text of several lines in one.
+    pub fn text(&mut self, alloc: Global) -> Result<Vec<u8>, LineFault> {
+        match unescaped(alloc, self.rest())? {
+            Some(bytes) => Ok(bytes),
+            None => Err(LineFault::Text),
+        }
+    }
+
     /// The words that are left.
     pub fn words(&self) -> SplitWhitespace<'a> {
         self.rest.split_whitespace()
     }
 
     pub fn u8(&mut self) -> Result<u8, LineFault> {
-        self.word()?.parse::<u8>().map_err(|_| LineFault::Number)
+        number(self.word()?)
     }
 
     pub fn u64(&mut self) -> Result<u64, LineFault> {
-        self.word()?.parse::<u64>().map_err(|_| LineFault::Number)
+        number(self.word()?)
     }
 
     pub fn u32(&mut self) -> Result<u32, LineFault> {
-        self.word()?.parse::<u32>().map_err(|_| LineFault::Number)
+        number(self.word()?)
     }
 
     pub fn u16(&mut self) -> Result<u16, LineFault> {
-        self.word()?.parse::<u16>().map_err(|_| LineFault::Number)
+        number(self.word()?)
+    }
+
+    /// The next word, a number, or none where it is a dash.
+    pub fn number_or_dash<T: FromStr>(&mut self) -> Result<Option<T>, LineFault>
+    where
+        <T as FromStr>::Err: Drop,
+    {
+        let word = self.word()?;
+        if word == "-" {
+            return Ok(None);
+        }
+        Ok(Some(number(word)?))
     }
 
     /// The next word, `0x` and up to eight hexadecimal digits.
@@ -141,7 +163,7 @@ fn push_word(alloc: Global, bytes: &mut Vec<u8>, word: &str) -> Result<(), LineF
         return Ok(());
     }
     let (digits, times) = match word.split_once('*') {
-        Some((digits, times)) => (digits, times.parse::<u32>().map_err(|_| LineFault::Number)?),
+        Some((digits, times)) => (digits, number::<u32>(times)?),
         None => (word, 1),
     };
     let Ok(piece) = hex::decode(alloc, digits) else {

@@ -51,25 +51,34 @@ pub fn value_in(alloc: Global, kind: Kind, line: &mut Line) -> Result<Value, Lin
 /// A whole number of this kind.
 fn number_of(kind: Kind, word: &str) -> Result<Value, LineFault> {
     match kind {
-        Kind::SByte => Ok(Value::SByte(parsed(word)?)),
-        Kind::Byte => Ok(Value::Byte(parsed(word)?)),
-        Kind::Int16 => Ok(Value::Int16(parsed(word)?)),
-        Kind::UInt16 => Ok(Value::UInt16(parsed(word)?)),
-        Kind::Int32 => Ok(Value::Int32(parsed(word)?)),
-        Kind::UInt32 => Ok(Value::UInt32(parsed(word)?)),
-        Kind::Int64 => Ok(Value::Int64(parsed(word)?)),
-        Kind::DateTime => Ok(Value::DateTime(parsed(word)?)),
-        _ => Ok(Value::UInt64(parsed(word)?)),
+        Kind::SByte => Ok(Value::SByte(number(word)?)),
+        Kind::Byte => Ok(Value::Byte(number(word)?)),
+        Kind::Int16 => Ok(Value::Int16(number(word)?)),
+        Kind::UInt16 => Ok(Value::UInt16(number(word)?)),
+        Kind::Int32 => Ok(Value::Int32(number(word)?)),
+        Kind::UInt32 => Ok(Value::UInt32(number(word)?)),
+        Kind::Int64 => Ok(Value::Int64(number(word)?)),
+        Kind::DateTime => Ok(Value::DateTime(number(word)?)),
+        _ => Ok(Value::UInt64(number(word)?)),
     }
 }
 
-fn parsed<T: FromStr>(word: &str) -> Result<T, LineFault>
+/// The number that a word spells.
+pub fn number<T: FromStr>(word: &str) -> Result<T, LineFault>
 where
     <T as FromStr>::Err: Drop,
 {
     match word.parse::<T>() {
         Ok(number) => Ok(number),
         Err(_) => Err(LineFault::Number),
+    }
+}
+
+/// The text of these bytes.
+pub fn string_of(bytes: Vec<u8>) -> Result<String, LineFault> {
+    match String::from_utf8(bytes) {
+        Ok(text) => Ok(text),
+        Err(_) => Err(LineFault::Text),
     }
 }
 

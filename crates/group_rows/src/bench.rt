@@ -3,7 +3,7 @@ ghost use Rattle.writer_group.specs.Standing.{IsGood};
 
 use crate::publishing::Publishing;
 use crate::takers::{Taker, takers_of};
-use case_lines::{Line, LineFault};
+use case_lines::{Answer, Line, LineFault};
 use ps_config::Config;
 use std::alloc::Global;
 
@@ -27,14 +27,15 @@ impl<'c> Bench<'c> {
         })
     }
 
-    pub fn answer(&mut self, line: &mut Line) -> Result<String, LineFault> {
+    pub fn answer(&mut self, line: &mut Line) -> Answer {
         let call = line.word()?;
-        match call {
+        let answer = match call {
             "take" | "prefixes" | "bits" | "damaged" | "reader" | "on" | "expire" | "cut" => {
-                self.taken(call, line)
+                self.taken(call, line)?
             }
-            _ => self.publishing.answer(call, line),
-        }
+            _ => self.publishing.answer(call, line)?,
+        };
+        Ok(Some(answer))
     }
 
     /// The calls of read groups.

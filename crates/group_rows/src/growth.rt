@@ -4,7 +4,7 @@ ghost use Rattle.row_words.specs.Belonging.{Belongs};
 ghost use Rattle.group_rows.specs.Kept.{AreRows, GrowsAt};
 
 use crate::sets::{copied_fields, copies, meta_at, opening, sampled_at};
-use case_lines::{Line, LineFault, kind_of};
+use case_lines::{Line, LineFault, kind_of, number};
 use dataset_meta::{Field, Meta, Name32};
 use row_words::Row;
 use std::alloc::Global;
@@ -26,7 +26,7 @@ pub fn field_of(line: &mut Line) -> Result<Field, LineFault> {
     let kind = kind_of(line.word()?)?;
     let cap = match line.optional() {
         None => 0,
-        Some(word) => word.parse::<u16>().map_err(|_| LineFault::Number)?,
+        Some(word) => number::<u16>(word)?,
     };
     Ok(Field { name, kind, cap })
 }

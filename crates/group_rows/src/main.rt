@@ -5,21 +5,19 @@
 
 mod bench;
 mod damage;
+mod groups;
 mod growth;
 mod publishing;
 mod runs;
+mod senders;
 mod sets;
 mod shown;
 mod takers;
 mod turners;
 
-ghost use Rattle.std.specs.Prelude.{IfOk};
-ghost use Rattle.writer_group.specs.Standing.{IsGood};
-
 use crate::bench::Bench;
-use case_lines::{Line, LineFault};
-use line_texts::unescaped;
-use ps_config::{Config, read_config};
+use case_lines::{AnsweredLine, Line, LineFault, is_note};
+use session_lines::config_of;
 use std::alloc::Global;
 use std::fmt::Write;
 use std::io;
@@ -66,27 +64,16 @@ fn push_section(alloc: Global, text: &mut String, section: &str) -> Result<(), L
     let mut bench = Bench::new(alloc, &config)?;
     for line in cases.split('\n') {
         text.push('\n')?;
-        text.push_str(line)?;
-        if line.is_empty() || line.starts_with('#') {
-            continue;
-        }
-        match bench.answer(&mut Line::new(line)) {
-            Ok(answer) => write!(text, " -> {answer}")?,
-            Err(fault) => write!(text, " -> not a case: {fault:?}")?,
-        }
+        let answer = if is_note(line) {
+            Ok(None)
+        } else {
+            bench.answer(&mut Line::new(line))
+        };
+        let told = AnsweredLine {
+            line,
+            answer: &answer,
+        };
+        write!(text, "{told}")?;
     }
     Ok(())
-}
-
-/// The configuration that a document tells.
-fn config_of(alloc: Global, document: &str) -> Result<Config, LineFault>
-    ensures { IfOk result IsGood }
-{
-    let Some(bytes) = unescaped(alloc, document)? else {
-        return Err(LineFault::Condition);
-    };
-    match read_config(alloc, &bytes) {
-        Ok(config) => Ok(config),
-        Err(_) => Err(LineFault::Condition),
-    }
 }

@@ -1,18 +1,16 @@
 //! The writers' side: rows, groups, senders, and the datagrams that were made.
-ghost use Rattle.std.specs.Prelude.{All, IfOk};
-ghost use Rattle.message_guard.specs.Senders.{IsSender};
-ghost use Rattle.ps_config.specs.Sound.{IsKeyGroup};
 ghost use Rattle.writer_group.specs.Standing.{IsGood};
-ghost use Rattle.group_rows.specs.Kept.{AreTurners};
 
+use crate::groups::{grown_turners, refresh_all, turners_of};
 use crate::growth::{field_of, grown_sets};
+use crate::senders::{has_turned, senders_of};
 use crate::sets::{copies, opening_rows, write};
 use crate::shown::yes_or_no;
-use crate::turners::{Turner, Turning, grown_turners, turners_of};
+use crate::turners::{Turner, Turning};
 use case_lines::{Digits, Line, LineFault};
 use dataset_meta::Meta;
 use message_guard::Sender;
-use ps_config::{Config, KeyGroupPart, ring_of};
+use ps_config::Config;
 use std::alloc::Global;
 use std::fmt::Write;
 use std::marker::Model;
@@ -257,43 +255,6 @@ impl<'c> Publishing<'c> {
 /// The last of the datagrams that were made.
 fn last(made: &[Vec<u8>], count: u32) -> &[Vec<u8>] {
     &made[made.len().saturating_sub(count as usize)..]
-}
-
-/// The senders of all key groups.
-fn senders_of(alloc: Global, parts: &[KeyGroupPart]) -> Result<Vec<Sender>, LineFault>
-    requires { All IsKeyGroup parts.now }
-    ensures { IfOk result (λ senders. All IsSender senders.items) }
-{
-    let mut senders = Vec::new(alloc);
-    for part in parts {
-        senders.push(sender_of(part))?;
-    }
-    Ok(senders)
-}
-
-fn sender_of(part: &KeyGroupPart) -> Sender
-    requires { IsKeyGroup part.now }
-    ensures { IsSender result }
-{
-    Sender::new(ring_of(part), part.random, part.first_block, part.used)
-}
-
-/// Turns a sender to a moment; tells whether its token changed.
-fn has_turned(sender: &mut Sender, now: u64) -> bool
-    requires { IsSender sender.old }
-    ensures { IsSender sender.new }
-{
-    sender.turn_to(now)
-}
-
-/// The writers of the groups of a key group are fresh.
-fn refresh_all(config: &Config, metas: &[Meta], groups: &mut Vec<Turner<'_>>, keygroup: usize)
-    requires { AreTurners config.now metas.now groups.old.items }
-    ensures { AreTurners config.now metas.now groups.new.items }
-{
-    for index in 0..groups.len() {
-        groups[index].refresh_all(config, metas, keygroup);
-    }
 }
 
 /// `1` and `0` for each, or `-` for none.

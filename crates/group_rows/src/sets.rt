@@ -6,8 +6,8 @@ ghost use Rattle.group_rows.specs.Kept.{AreRows};
 use case_lines::{Line, LineFault};
 use dataset_meta::{Field, Meta};
 use row_words::Row;
+use session_lines::set_field;
 use std::alloc::Global;
-use value_texts::{parse_status, parse_value};
 use writer_group::Sampled;
 
 /// The same data sets.
@@ -121,35 +121,4 @@ fn set(meta: &Meta, row: &mut Row, word: &str) -> Result<(), LineFault>
         return Err(LineFault::Condition);
     }
     set_field(meta, row, index, text)
-}
-
-fn set_field(meta: &Meta, row: &mut Row, index: u8, text: &str) -> Result<(), LineFault>
-    requires belongs { Belongs meta.now row.old.words }
-    requires index { index < length meta.now.fields }
-    ensures { Belongs meta.now row.new.words }
-{
-    let (status, text) = status_and_value(text)?;
-    if status != 0 && !meta.quality() {
-        return Err(LineFault::Condition);
-    }
-    let field = meta.fields()[usize::from(index)];
-    match parse_value(field.kind, field.cap, text.as_bytes()) {
-        Some(value) => row.set_with_status(meta, index, &value, status),
-        None => return Err(LineFault::Condition),
-    }
-    Ok(())
-}
-
-/// The status, 0 where none is spelled, and the value's text.
-fn status_and_value(text: &str) -> Result<(u32, &str), LineFault> {
-    let Some(behind) = text.strip_prefix('!') else {
-        return Ok((0, text));
-    };
-    let Some((status, value)) = behind.split_once('=') else {
-        return Err(LineFault::Missing);
-    };
-    match parse_status(status.as_bytes()) {
-        Some(status) => Ok((status, value)),
-        None => Err(LineFault::Number),
-    }
 }

@@ -1,16 +1,15 @@
 //! Answers as text.
-ghost use Rattle.std.specs.Prelude.{◌≡◌, ◌<◌, Ok, IfOk, length};
+ghost use Rattle.std.specs.Prelude.{◌≡◌, ◌<◌, IfOk, length};
 ghost use Rattle.dataset_reader.specs.Reader.{IsReaderOf};
 ghost use Rattle.row_words.specs.Belonging.{Belongs};
 
-use case_lines::LineFault;
+use case_lines::{LineFault, string_of};
 use dataset_meta::Meta;
 use dataset_reader::{Reader, Why};
 use reader_group::{Refusal, Taken};
 use row_words::Row;
 use std::alloc::Global;
 use std::fmt::Write;
-use ua_base::NoMemory;
 use value_texts::value_text;
 
 /// How many parts a datagram had, how many were given to readers, and how many of these were bad; or why it is refused.
@@ -22,6 +21,22 @@ pub fn receipt_text(alloc: Global, receipt: &Result<Taken, Refusal>) -> Result<S
         )?),
         Err(refusal) => Ok(format!(in alloc; "{refusal:?}")?),
     }
+}
+
+/// What an answer is counted as: `taken` where no part was bad, `bad` where one was, else the refusal without what it tells.
+pub fn receipt_name(alloc: Global, answer: &str) -> Result<String, LineFault> {
+    let word = match answer.split_once(' ') {
+        Some(("taken", told)) if told.ends_with(" 0") => "taken",
+        Some(("taken", _)) => "bad",
+        Some((word, _)) => word,
+        None => answer,
+    };
+    let end = if word.contains('(') && !word.ends_with(')') {
+        ")"
+    } else {
+        ""
+    };
+    Ok(format!(in alloc; "{word}{end}")?)
 }
 
 /// What a reader holds, or why it waits, and its breaks.
@@ -69,11 +84,8 @@ fn push_field(
         write!(text, "!0x{status:08x}=")?;
     }
     let mut bytes = Vec::new(alloc);
-    made(value_text(&row.field(meta, index), &mut bytes))?;
-    match std::str::from_utf8(&bytes) {
-        Ok(value) => text.push_str(value)?,
-        Err(_) => return Err(LineFault::Condition),
-    }
+    value_text(&row.field(meta, index), &mut bytes)?;
+    text.push_str(string_of(bytes)?.as_str())?;
     Ok(())
 }
 
@@ -88,19 +100,6 @@ fn why_word(why: Why) -> &'static str {
     }
 }
 
-/// The reason with this word.
-pub fn why(word: &str) -> Result<Why, LineFault> {
-    Ok(match word {
-        "start" => Why::Start,
-        "gap" => Why::Gap,
-        "timeout" => Why::Timeout,
-        "newtoken" => Why::NewToken,
-        "jump" => Why::Jump,
-        "restarted" => Why::Restarted,
-        _ => return Err(LineFault::Missing),
-    })
-}
-
 pub fn yes_or_no(alloc: Global, holds: bool) -> Result<String, LineFault> {
     let answer = if holds { "yes" } else { "no" };
     Ok(String::from_str(alloc, answer)?)
@@ -112,13 +111,4 @@ pub fn copied(alloc: Global, bytes: &[u8]) -> Result<Vec<u8>, LineFault>
     let mut copy = Vec::new(alloc);
     copy.extend_from_slice(bytes)?;
     Ok(copy)
-}
-
-pub fn made<T>(outcome: Result<T, NoMemory>) -> Result<T, LineFault>
-    ensures { IfOk result (λ value. outcome ≡ Ok value) }
-{
-    match outcome {
-        Ok(value) => Ok(value),
-        Err(NoMemory) => Err(LineFault::Memory),
-    }
 }

@@ -2,14 +2,15 @@
 ghost use Rattle.std.specs.Prelude.{◌≡◌, ◌<◌, length, slice_index_or};
 ghost use Rattle.writer_group.specs.Standing.{IsGood};
 
-use crate::damage::{Numbers, damaged};
+use crate::damage::damaged;
 use crate::publishing::switches;
-use crate::runs::{Runs, Tally};
-use crate::shown::{copied, reader_text, receipt_text, why};
-use case_lines::{Line, LineFault};
+use crate::runs::Runs;
+use crate::shown::{copied, reader_text, receipt_name, receipt_text};
+use case_lines::{Line, LineFault, Numbers, Tally};
 use dataset_meta::Meta;
 use ps_config::{Config, ReadGroupPart, ReaderPart};
 use reader_group::ReaderGroup;
+use session_lines::why_of;
 use std::alloc::Global;
 use std::marker::Model;
 
@@ -152,7 +153,8 @@ impl<'c> Taker<'c> {
         for _ in 0..line.u32()? {
             let bytes = damaged(alloc, &mut numbers, made)?;
             let answer = self.given(alloc, now, bytes)?;
-            tally.add(alloc, answer.as_str())?;
+            let name = receipt_name(alloc, answer.as_str())?;
+            tally.add(alloc, name.as_str(), answer.as_str())?;
         }
         Ok(format!(in alloc; "{tally}")?)
     }
@@ -194,7 +196,7 @@ impl<'c> Taker<'c> {
     /// `READER WHY`: cuts a reader
     fn cut(&mut self, alloc: Global, line: &mut Line) -> Result<String, LineFault> {
         let index = line.u8()?;
-        let why = why(line.word()?)?;
+        let why = why_of(line.word()?)?;
         if usize::from(index) >= self.on.len() {
             return Err(LineFault::Condition);
         }

@@ -1,8 +1,7 @@
-//! Groups of writers with the turns that they may still have.
-ghost use Rattle.std.specs.Prelude.{◌≡◌, ◌≢◌, ◌<◌, ◌≤◌, All, IfOk, IsTrue, length, slice_index_or};
+//! A group of writers with the turns that it may still have.
+ghost use Rattle.std.specs.Prelude.{◌≡◌, ◌≢◌, ◌<◌, ◌≤◌, All, IsTrue, length, slice_index_or};
 ghost use Rattle.ps_config.specs.Headers.{is_secured};
-ghost use Rattle.writer_group.specs.Standing.{IsGood, IsReserved, datagrams_in};
-ghost use Rattle.group_rows.specs.Kept.{AreTurners, GrowsAt};
+ghost use Rattle.writer_group.specs.Standing.{IsReserved, datagrams_in};
 
 use crate::shown::copied;
 use case_lines::LineFault;
@@ -32,23 +31,6 @@ pub struct Turning<'a> {
     pub closing: bool,
 }
 
-/// All groups of a configuration.
-pub fn turners_of<'c>(
-    alloc: Global,
-    config: &'c Config,
-    metas: &[Meta],
-) -> Result<Vec<Turner<'c>>, LineFault>
-    requires good { IsGood config.now }
-    requires metas { metas.now ≡ config.now.dataset }
-    ensures { IfOk result (λ turners. AreTurners config.now metas.now turners.items) }
-{
-    let mut turners = Vec::new(alloc);
-    for index in 0..config.group.as_slice().len() as u8 {
-        turners.push(Turner::new(alloc, config, metas, index)?)?;
-    }
-    Ok(turners)
-}
-
 impl<'c> Turner<'c> {
     ghost use Rattle.std.specs.Prelude.{◌≡◌, ◌<◌, IfOk, length};
     ghost use Rattle.message_guard.specs.Senders.{IsSender};
@@ -56,7 +38,7 @@ impl<'c> Turner<'c> {
     ghost use Rattle.group_rows.specs.Kept.{AreRows, GrowsAt, IsTurner};
 
     /// The group before its first turn.
-    fn new(
+    pub fn new(
         alloc: Global,
         config: &'c Config,
         _metas: &[Meta],
@@ -230,26 +212,6 @@ impl<'c> Turner<'c> {
         }
         Ok(text)
     }
-}
-
-/// All groups, where a data set has a field more.
-pub fn grown_turners<'c>(
-    alloc: Global,
-    config: &Config,
-    old: &[Meta],
-    new: &[Meta],
-    set: usize,
-    turners: Vec<Turner<'c>>,
-) -> Result<Vec<Turner<'c>>, LineFault>
-    requires turners { AreTurners config.now old.now turners.items }
-    requires grows { GrowsAt set old.now new.now }
-    ensures { IfOk result (λ grown. AreTurners config.now new.now grown.items) }
-{
-    let mut done = Vec::new(alloc);
-    for turner in turners {
-        done.push(turner.grown(config, old, new, set)?)?;
-    }
-    Ok(done)
 }
 
 /// Whether no writer of the group is of this data set.

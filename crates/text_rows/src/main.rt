@@ -1,35 +1,34 @@
-//! Cases of what users write, one a line: a call and its argument. Each line is printed again, with
-//! what the call answers behind ` -> `. Lines that begin with `#`, and empty ones, are printed as
-//! they are.
+//! Cases of what users write and read, one a line: a call and its arguments. Each line is printed again, with what the call
+//! answers behind ` -> `; an answer of several lines begins below it. Lines that begin with `#`, and empty ones, are printed as
+//! they are, and so is `with TEXT`, which gives the configuration of the lines behind it, at first `built_in`.
 #![tactic(auto)]
 
-mod config;
-mod value;
+mod bench;
+mod configs;
+mod reports;
+mod scripts;
+mod states;
+mod values;
 
-use std::alloc::Global;
+use crate::bench::Bench;
+use case_lines::{AnsweredLine, is_note};
 use std::io;
 
 fn main(rt: HostRuntime) -> io::Result<()> {
+    let mut bench = Bench::new(rt.alloc())?;
     for line in rt.lines(rt.alloc()) {
         let line = line?;
         let text = line.as_str();
-        if text.is_empty() || text.starts_with('#') {
-            println!(rt; "{text}")?;
-            continue;
-        }
-        let answer = answer(rt.alloc(), text)?;
-        println!(rt; "{text} -> {answer}")?;
+        let answer = if is_note(text) {
+            Ok(None)
+        } else {
+            bench.answer(text)
+        };
+        let told = AnsweredLine {
+            line: text,
+            answer: &answer,
+        };
+        println!(rt; "{told}")?;
     }
     Ok(())
-}
-
-/// What the call that a line spells answers.
-fn answer(alloc: Global, line: &str) -> io::Result<String> {
-    match line.split_once(' ') {
-        Some(("config", text)) => config::answer(alloc, text),
-        Some(("values", text)) => config::values(alloc, text),
-        Some(("built_in", _)) => config::built_in_values(alloc),
-        Some(("value", text)) => value::answer(alloc, text),
-        _ => Ok(String::from_str(alloc, "not a row")?),
-    }
 }

@@ -1,11 +1,11 @@
 //! The calls by their names, and what is kept from line to line.
 use crate::guards::GuardRows;
 use crate::joiners::{self, JoinerRows};
-use crate::random::{Numbers, Tally, line_of};
+use crate::random::{line_of, name_of};
 use crate::timers::TimerRows;
 use crate::windows::WindowRows;
 use crate::{frames, headers, metas, payloads, security, slots, values};
-use case_lines::{Line, LineFault};
+use case_lines::{Answer, Line, LineFault, Numbers, Tally};
 use std::alloc::Global;
 
 /// What is kept from line to line: the machines that the calls speak of.
@@ -17,9 +17,6 @@ pub struct Bench {
     window: WindowRows,
     guards: GuardRows,
 }
-
-/// What a call prints, where it answers anything.
-pub type Answer = Result<Option<String>, LineFault>;
 
 impl Bench {
     pub fn new(alloc: Global) -> Bench {
@@ -80,7 +77,7 @@ impl Bench {
         let mut line = Line::new(made);
         let call = line.word()?;
         if let Some(answer) = self.call(call, &mut line)? {
-            tally.add(self.alloc, answer.as_str())?;
+            tally.add(self.alloc, name_of(answer.as_str()), answer.as_str())?;
         }
         Ok(())
     }

@@ -4,9 +4,8 @@ ghost use Rattle.row_words.specs.Belonging.{Belongs};
 ghost use Rattle.row_words.specs.Patches.{IsPatchOf};
 ghost use Rattle.frame_codec.specs.Words.{IsFrameOf};
 
-use crate::bench::Answer;
 use crate::metas::data_set;
-use case_lines::{Hex, Line, LineFault, Shown};
+use case_lines::{Answer, Hex, Line, LineFault, Shown};
 use dataset_meta::Meta;
 use frame_codec::{
     Frame, FrameFault, FrameKind, read_frame as read_one, read_front as read_first, write_frame,

@@ -3,9 +3,8 @@ ghost use Rattle.std.specs.Prelude.{◌≤◌, IsTrue, IfOk, length};
 ghost use Rattle.message_guard.specs.Guards.{IsPassOf};
 ghost use Rattle.message_guard.specs.Modes.{is_secured};
 
-use crate::bench::Answer;
 use arrayvec::ArrayVec;
-use case_lines::{Digits, Line, LineFault};
+use case_lines::{Answer, Digits, Line, LineFault};
 use group_keys::{KeySet, Ring};
 use message_guard::{Guard, Mode, OpenFault, Pass1, Sender};
 use std::alloc::Global;

@@ -1,5 +1,5 @@
 //! Headers from words.
-use case_lines::{Line, LineFault, bytes_of};
+use case_lines::{Line, LineFault, bytes_of, number};
 use std::alloc::Global;
 use uadp_header::{Header, Ids, PublisherId, SecurityPart};
 
@@ -67,10 +67,10 @@ impl HeaderParts {
         match part {
             "id" => self.publisher = Some(publisher_of(alloc, text)?),
             "class" => self.class_id = bytes_of(alloc, text)?.first_chunk::<16>().copied(),
-            "group" => self.group = Some(number16(text)?),
-            "version" => self.version = Some(number32(text)?),
-            "number" => self.message_number = Some(number16(text)?),
-            "sequence" => self.sequence = Some(number16(text)?),
+            "group" => self.group = Some(number(text)?),
+            "version" => self.version = Some(number(text)?),
+            "number" => self.message_number = Some(number(text)?),
+            "sequence" => self.sequence = Some(number(text)?),
             "ids" => self.ids = ids_of(alloc, text)?,
             "security" => self.security = Some(security_of(alloc, text)?),
             _ => return Err(LineFault::Missing),
@@ -130,10 +130,10 @@ impl Security {
 fn publisher_of(alloc: Global, text: &str) -> Result<Publisher, LineFault> {
     let (kind, id) = text.split_once(':').ok_or(LineFault::Missing)?;
     match kind {
-        "u8" => Ok(Publisher::U8(id.parse::<u8>().map_err(|_| LineFault::Number)?)),
-        "u16" => Ok(Publisher::U16(number16(id)?)),
-        "u32" => Ok(Publisher::U32(number32(id)?)),
-        "u64" => Ok(Publisher::U64(id.parse::<u64>().map_err(|_| LineFault::Number)?)),
+        "u8" => Ok(Publisher::U8(number(id)?)),
+        "u16" => Ok(Publisher::U16(number(id)?)),
+        "u32" => Ok(Publisher::U32(number(id)?)),
+        "u64" => Ok(Publisher::U64(number(id)?)),
         "text" => Ok(Publisher::Text(bytes_of(alloc, id)?)),
         _ => Err(LineFault::Missing),
     }
@@ -143,7 +143,7 @@ fn ids_of(alloc: Global, text: &str) -> Result<WriterIds, LineFault> {
     let (kind, ids) = text.split_once(':').ok_or(LineFault::Missing)?;
     match kind {
         "list" => Ok(WriterIds::List(bytes_of(alloc, ids)?)),
-        "chunk" => Ok(WriterIds::Chunk(number16(ids)?)),
+        "chunk" => Ok(WriterIds::Chunk(number(ids)?)),
         _ => Err(LineFault::Missing),
     }
 }
@@ -156,15 +156,7 @@ fn security_of(alloc: Global, text: &str) -> Result<Security, LineFault> {
         encrypted: flags.contains('e'),
         footer: flags.contains('f'),
         reset: flags.contains('r'),
-        token: number32(token)?,
+        token: number(token)?,
         nonce: bytes_of(alloc, nonce)?,
     })
-}
-
-fn number16(text: &str) -> Result<u16, LineFault> {
-    text.parse::<u16>().map_err(|_| LineFault::Number)
-}
-
-fn number32(text: &str) -> Result<u32, LineFault> {
-    text.parse::<u32>().map_err(|_| LineFault::Number)
 }

@@ -2,11 +2,10 @@
 ghost use Rattle.uadp_header.specs.Headers.{header_in};
 ghost use Rattle.uadp_header.specs.Spelling.{IsSenders};
 
-use crate::bench::Answer;
 use crate::header_parts::HeaderParts;
 use crate::senders::is_senders;
 use crate::shown::ShownHeader;
-use case_lines::{Hex, Line, LineFault};
+use case_lines::{Answer, Hex, Line, LineFault};
 use std::alloc::Global;
 use ua_binary::Pen;
 use uadp_header::{Header, HeaderFault, header_len, read_header as read_one, write_header};

@@ -1,6 +1,5 @@
 //! Rows of `chunker`.
-use crate::bench::Answer;
-use case_lines::{Hex, Line, LineFault};
+use case_lines::{Answer, Hex, Line, LineFault};
 use chunker::{
     ChunkPayload, Joined, Joiner, cut as cut_one, read_chunk as read_one, write_chunk as write_one,
 };

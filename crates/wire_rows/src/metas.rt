@@ -1,6 +1,5 @@
 //! Rows of `dataset_meta`.
-use crate::bench::Answer;
-use case_lines::{Line, LineFault, kind_of};
+use case_lines::{Answer, Line, LineFault, kind_of, number};
 use dataset_meta::{Field, Meta, MetaFault, Name32};
 use std::alloc::Global;
 use std::fmt::{self, Write};
@@ -74,8 +73,8 @@ pub fn data_set(alloc: Global, word: &str) -> Result<Meta, LineFault> {
         None => (version, false),
     };
     let (major, minor) = version.split_once('.').ok_or(LineFault::Missing)?;
-    let major = major.parse::<u32>().map_err(|_| LineFault::Number)?;
-    let minor = minor.parse::<u32>().map_err(|_| LineFault::Number)?;
+    let major = number::<u32>(major)?;
+    let minor = number::<u32>(minor)?;
     let mut fields = Vec::new(alloc);
     for field in rest.split('/') {
         fields.push(field_of(field)?)?;
@@ -99,7 +98,7 @@ fn new_meta(
 fn field_of(word: &str) -> Result<Field, LineFault> {
     let (name, rest) = word.split_once(':').ok_or(LineFault::Missing)?;
     let (kind, cap) = match rest.split_once(':') {
-        Some((kind, cap)) => (kind, cap.parse::<u16>().map_err(|_| LineFault::Number)?),
+        Some((kind, cap)) => (kind, number::<u16>(cap)?),
         None => (rest, 0),
     };
     Ok(Field {

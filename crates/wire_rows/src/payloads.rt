@@ -1,7 +1,6 @@
 //! Rows of `payload_layout`.
-use crate::bench::Answer;
 use arrayvec::ArrayVec;
-use case_lines::{Hex, Line, LineFault};
+use case_lines::{Answer, Hex, Line, LineFault, number};
 use payload_layout::{
     Packs, Parts, plan as plan_packs, split as split_parts, write_sizes as write_list,
 };
@@ -82,7 +81,7 @@ fn sizes_of(line: &Line) -> Result<ArrayVec<u16, 16>, LineFault> {
         if sizes.is_full() {
             return Err(LineFault::Condition);
         }
-        sizes.push(word.parse::<u16>().map_err(|_| LineFault::Number)?);
+        sizes.push(number::<u16>(word)?);
     }
     Ok(sizes)
 }

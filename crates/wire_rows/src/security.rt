@@ -1,8 +1,7 @@
 //! Rows of `aes_ctr`, `hmac_sign` and `group_keys`.
-use crate::bench::Answer;
 use aes_ctr::{Key, Key128, Key256, apply_stream};
 use arrayvec::ArrayVec;
-use case_lines::{Hex, Line, LineFault};
+use case_lines::{Answer, Hex, Line, LineFault, number};
 use group_keys::{KeySet, Ring};
 use hmac_sign::{SigningKey, matches, sign};
 use std::alloc::Global;
@@ -82,7 +81,7 @@ pub fn ring(alloc: Global, line: &mut Line) -> Answer {
 fn key_set(word: &str) -> Result<KeySet, LineFault> {
     let (token, rest) = word.split_once(':').ok_or(LineFault::Missing)?;
     let (moment, length) = rest.split_once(':').ok_or(LineFault::Missing)?;
-    let length = length.parse::<u8>().map_err(|_| LineFault::Number)?;
+    let length = number::<u8>(length)?;
     let mut encrypting = ArrayVec::new();
     for _ in 0..length {
         if encrypting.is_full() {
@@ -91,8 +90,8 @@ fn key_set(word: &str) -> Result<KeySet, LineFault> {
         encrypting.push(0);
     }
     Ok(KeySet {
-        token: token.parse::<u32>().map_err(|_| LineFault::Number)?,
-        from: moment.parse::<u64>().map_err(|_| LineFault::Number)?,
+        token: number::<u32>(token)?,
+        from: number::<u64>(moment)?,
         signing: [0; 32],
         encrypting,
         nonce: [0; 4],

@@ -3,11 +3,10 @@ ghost use Rattle.std.specs.Prelude.{◌<◌, ◌≤◌, IsTrue, IfOk, length};
 ghost use Rattle.std.specs.List.{HoldsAt};
 ghost use Rattle.fixed_layout.specs.Slots.{end_of};
 
-use crate::bench::Answer;
 use crate::frames::push_fields;
 use crate::metas::data_set;
 use arrayvec::ArrayVec;
-use case_lines::{Hex, Line, LineFault};
+use case_lines::{Answer, Hex, Line, LineFault, number};
 use dataset_meta::Meta;
 use fixed_layout::{
     RawFault, Slot, Slots, raw_size as size_of, read_raw as read_one, write_raw as write_one,
@@ -187,8 +186,8 @@ fn slot_of(word: &str) -> Result<Slot, LineFault> {
     let (offset, rest) = word.split_once(':').ok_or(LineFault::Missing)?;
     let (size, need) = rest.split_once(':').ok_or(LineFault::Missing)?;
     Ok(Slot {
-        offset: offset.parse::<u32>().map_err(|_| LineFault::Number)?,
-        size: size.parse::<u32>().map_err(|_| LineFault::Number)?,
-        need: need.parse::<u32>().map_err(|_| LineFault::Number)?,
+        offset: number::<u32>(offset)?,
+        size: number::<u32>(size)?,
+        need: number::<u32>(need)?,
     })
 }

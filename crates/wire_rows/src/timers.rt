@@ -1,6 +1,5 @@
 //! Rows of `receive_timer`.
-use crate::bench::Answer;
-use case_lines::Line;
+use case_lines::{Answer, Line};
 use receive_timer::Timer;
 use std::alloc::Global;
 

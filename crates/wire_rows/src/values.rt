@@ -1,6 +1,5 @@
 //! Rows of `ua_values` and `ua_binary`.
-use crate::bench::Answer;
-use case_lines::{Hex, Line, LineFault, Shown, kind_of, value_of};
+use case_lines::{Answer, Hex, Line, LineFault, Shown, kind_of, value_of};
 use std::alloc::Global;
 use std::fmt::Write;
 use ua_binary::{

@@ -1,6 +1,5 @@
 //! Rows of `replay_window`.
-use crate::bench::Answer;
-use case_lines::Line;
+use case_lines::{Answer, Line};
 use replay_window::{Seen, Window};
 use std::alloc::Global;
 

@@ -1,0 +1,157 @@
+//! A closed session from the pieces of a line.
+ghost use Rattle.std.specs.Prelude.{◌≡◌, ◌+◌, ◌<◌, ◌++◌, IfOk, OnOk, List, length, All};
+ghost use Rattle.ps_config.specs.declared.parts.ReaderPart.{ReaderPart};
+ghost use Rattle.ps_report.specs.Conditions.{IsClosedOf, HoldRows, writers_of, readers_of};
+
+use crate::reports::ends::{group, history, link, read_group, watch, writer};
+use crate::reports::held::reader;
+use crate::reports::pieces::Pieces;
+use case_lines::LineFault;
+use dataset_meta::Meta;
+use ps_config::{Config, GroupPart, ReadGroupPart, ReaderPart, WriterPart};
+use ps_report::{Closed, GroupEnd, History, Parts, ReadGroupEnd, ReaderEnd, WatchEnd, WriterEnd};
+use std::alloc::Global;
+
+/// The session that the pieces tell of.
+pub fn closed_of(alloc: Global, config: &Config, pieces: &mut Pieces) -> Result<Closed, LineFault>
+    ensures { IfOk result (IsClosedOf config.now) }
+{
+    let sets = config.dataset.as_slice();
+    let histories = histories(alloc, sets, pieces)?;
+    let groups = groups(alloc, config.group.as_slice(), pieces)?;
+    let writers = writers(alloc, config.group.as_slice(), pieces)?;
+    let read_groups = read_groups(alloc, config.readgroup.as_slice(), pieces)?;
+    let readers = readers(alloc, sets, config.readgroup.as_slice(), pieces)?;
+    let watches = watches(alloc, readers.as_slice(), pieces)?;
+    let link = link(&mut pieces.piece("link")?)?;
+    Ok(Closed {
+        histories,
+        groups,
+        writers,
+        read_groups,
+        readers,
+        watches,
+        link,
+    })
+}
+
+fn histories(alloc: Global, sets: &[Meta], pieces: &mut Pieces) -> Result<Parts<History>, LineFault>
+    ensures { IfOk result (λ ends. length ends ≡ length sets.now) }
+{
+    let mut ends = Vec::new(alloc);
+    for _set in sets {
+        ends.push(history(alloc, &pieces.piece("history")?)?)?;
+    }
+    Ok(Parts::new(ends))
+}
+
+fn groups(
+    alloc: Global,
+    parts: &[GroupPart],
+    pieces: &mut Pieces,
+) -> Result<Parts<GroupEnd>, LineFault>
+    ensures { IfOk result (λ ends. length ends ≡ length parts.now) }
+{
+    let mut ends = Vec::new(alloc);
+    for _part in parts {
+        ends.push(group(&mut pieces.piece("group")?)?)?;
+    }
+    Ok(Parts::new(ends))
+}
+
+/// The writers of all groups.
+fn writers(
+    alloc: Global,
+    groups: &[GroupPart],
+    pieces: &mut Pieces,
+) -> Result<Parts<WriterEnd>, LineFault>
+    ensures { IfOk result (λ ends. length ends ≡ length (writers_of groups.now)) }
+{
+    let mut ends = Vec::new(alloc);
+    for group in groups {
+        push_writers(alloc, &mut ends, group.writer.as_slice(), pieces)?;
+    }
+    Ok(Parts::new(ends))
+}
+
+fn push_writers(
+    alloc: Global,
+    ends: &mut Vec<WriterEnd>,
+    parts: &[WriterPart],
+    pieces: &mut Pieces,
+) -> Result<(), LineFault>
+    ensures { OnOk result (length ends.new.items ≡ length ends.old.items + length parts.now) }
+{
+    for _part in parts {
+        ends.push(writer(alloc, &mut pieces.piece("writer")?)?)?;
+    }
+    Ok(())
+}
+
+fn read_groups(
+    alloc: Global,
+    parts: &[ReadGroupPart],
+    pieces: &mut Pieces,
+) -> Result<Parts<ReadGroupEnd>, LineFault>
+    ensures { IfOk result (λ ends. length ends ≡ length parts.now) }
+{
+    let mut ends = Vec::new(alloc);
+    for _part in parts {
+        ends.push(read_group(&mut pieces.piece("readgroup")?)?)?;
+    }
+    Ok(Parts::new(ends))
+}
+
+/// The readers of all read groups.
+fn readers(
+    alloc: Global,
+    sets: &[Meta],
+    groups: &[ReadGroupPart],
+    pieces: &mut Pieces,
+) -> Result<Parts<ReaderEnd>, LineFault>
+    ensures { IfOk result (HoldRows sets.now (readers_of groups.now)) }
+{
+    let mut ends = Vec::new(alloc);
+    for group in groups {
+        push_readers(&mut ends, sets, group.reader.as_slice(), pieces)?;
+    }
+    Ok(Parts::new(ends))
+}
+
+fn push_readers(
+    ends: &mut Vec<ReaderEnd>,
+    sets: &[Meta],
+    parts: &[ReaderPart],
+    pieces: &mut Pieces,
+) -> Result<(), LineFault>
+    ensures { OnOk result ((before : List ReaderPart) → HoldRows sets.now before ends.old.items
+        → HoldRows sets.now (before ++ parts.now) ends.new.items) }
+{
+    for part in parts {
+        let end = reader(sets, part, pieces)?;
+        ends.push(end)?;
+    }
+    Ok(())
+}
+
+/// The watch lines, of which a script has at most 64.
+fn watches(
+    alloc: Global,
+    readers: &[ReaderEnd],
+    pieces: &mut Pieces,
+) -> Result<Parts<WatchEnd>, LineFault>
+    ensures { IfOk result (All (λ end. end.reader < length readers.now)) }
+{
+    let mut ends = Vec::new(alloc);
+    'lines: for _ in 0..64 {
+        let Some(mut line) = pieces.optional("watch") else {
+            break;
+        };
+        let end = watch(alloc, &mut line)?;
+        if usize::from(end.reader) >= readers.len() {
+            return Err(LineFault::Condition);
+        }
+        ends.push(end)?;
+    }
+    Ok(Parts::new(ends))
+}
