@@ -11,6 +11,7 @@ mod cell;
 mod laws;
 mod making;
 mod pass;
+mod places;
 mod rule;
 mod sets;
 mod spelling;

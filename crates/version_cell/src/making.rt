@@ -11,16 +11,14 @@ ghost use Rattle.version_cell.specs.Making.{AreFresh, AreNew, IsFresh, new_known
 
 use crate::cell::{Cell, Words};
 use crate::pass::Pass;
-use crate::rule::{Copies, Enrolling, Loads, LoadsAtLast, Longer, View};
+use crate::places::{Place, join_places, load_words};
+use crate::rule::{Copies, Enrolling};
 use crate::spelling::{spelled, terms_for};
-use crossbeam_utils::atomic::seq_cell;
 use dataset_meta::{Meta, fields_have_one_fault};
 use row_words::Row;
 use std::alloc::Global;
 use std::sync::Wait;
 use ua_base::NoMemory;
-
-type Place = seq_cell::Pass<[u64; 151], View>;
 
 impl Cell {
     /// A cell of rows of this meta with no entries yet, whose authors may make so many entries; a pass with no number, and a pass
@@ -97,7 +95,7 @@ fn attempt<R: Wait>(
 {
     let start = words_with(0, terms);
     let (words, mut first) = Words::ruled(alloc, start)?;
-    if words.load_as::<Loads, R>(rt, &mut first) != start {
+    if load_words(rt, &words, &mut first) != start {
         return Ok(None);
     }
     let Some(places) = all_enrolled(rt, alloc, &words, terms, &mut first)? else {
@@ -195,8 +193,7 @@ fn take_in<R: Wait>(rt: &R, words: &Words, place: &mut Place, other: &mut Place)
         × (cell_view other.new ≡ cell_view other.old) }
 {
     let told = words.split_pass::<Copies>(other);
-    words.join_pass::<Longer>(place, told);
-    words.load_as::<LoadsAtLast, R>(rt, place);
+    join_places(rt, words, place, told);
 }
 
 // A token that knows all numbers is a pass.

@@ -5,7 +5,8 @@ ghost use Rattle.version_cell.specs.Passes.{IsPassOf, Joins, SeesLawful, SeesMor
 
 use crate::cell::{Cell, Placed, Wrote};
 use crate::pass::Pass;
-use crate::rule::{Copies, Exchanges, Loads, LoadsAtLast, Longer, Moves};
+use crate::places::{join_places, load_words};
+use crate::rule::{Copies, Exchanges, Moves};
 use crate::spelling::{row_in, spelled};
 use row_words::{Patch, patched_words_belong, words_belong_by_shape};
 use std::sync::Wait;
@@ -19,7 +20,7 @@ impl Cell {
         ensures version { result ≡ length pass.new.seen }
         ensures lawful { SeesLawful pass.new }
     {
-        let words = self.words.load_as::<Loads, R>(rt, &mut pass.place);
+        let words = load_words(rt, &self.words, &mut pass.place);
         pass.version = words[0];
         pass.row = row_in(&words);
         pass.version
@@ -116,8 +117,7 @@ impl Cell {
             ..
         } = other;
         let moved = self.words.split_pass::<Moves>(&mut place);
-        self.words.join_pass::<Longer>(&mut pass.place, moved);
-        self.words.load_as::<LoadsAtLast, R>(rt, &mut pass.place);
+        join_places(rt, &self.words, &mut pass.place, moved);
         if pass.version < version {
             pass.version = version;
             pass.row = row;

@@ -1,0 +1,35 @@
+//! Steps of the words that several calls make.
+ghost use Rattle.std.specs.Prelude.{◌≡◌, ℕ, List, []};
+ghost use Rattle.crossbeam_utils.specs.Seq.{cell_view, IsSamePass};
+ghost use Rattle.version_cell.specs.Views.{joined};
+ghost use Rattle.version_cell.specs.Steps.{Closes, Reads};
+
+use crate::cell::Words;
+use crate::rule::{Loads, LoadsAtLast, Longer, View};
+use crossbeam_utils::atomic::seq_cell;
+use std::sync::Wait;
+
+/// A token of the words, with what it has seen.
+pub(crate) type Place = seq_cell::Pass<[u64; 151], View>;
+
+/// One load.
+pub(crate) fn load_words<R: Wait>(rt: &R, words: &Words, place: &mut Place) -> [u64; 151]
+    requires { place.old.table_id ≡ words.now.table.shared.table_id }
+    ensures same { IsSamePass place.old place.new }
+    ensures reads { Reads (cell_view place.old) result result (cell_view place.new) }
+{
+    words.load_as::<Loads, R>(rt, place)
+}
+
+/// The place takes in what another has seen that has made no step yet, and a load ends the join.
+pub(crate) fn join_places<R: Wait>(rt: &R, words: &Words, place: &mut Place, other: Place)
+    requires own { place.old.table_id ≡ words.now.table.shared.table_id }
+    requires other { other.table_id ≡ place.old.table_id }
+    requires unmoved { other.me.1 ≡ [] }
+    ensures same { IsSamePass place.old place.new }
+    ensures closes { (x : List ℕ)
+        × Closes (joined (cell_view place.old) (cell_view other)) x x (cell_view place.new) }
+{
+    words.join_pass::<Longer>(place, other);
+    words.load_as::<LoadsAtLast, R>(rt, place);
+}
