@@ -26,7 +26,8 @@ pub fn read_frame(alloc: Global, line: &mut Line) -> Answer {
     Ok(Some(answer))
 }
 
-/// `rewrite_frame META BYTES`: the frame that the bytes are read as, written
+/// `rewrite_frame META BYTES`: the frame that the bytes are read as, written; and where it isn't so, that a room of one byte less is
+/// refused, with nothing written
 pub fn rewrite_frame(alloc: Global, line: &mut Line) -> Answer {
     let meta = data_set(alloc, line.word()?)?;
     let bytes = line.bytes(alloc)?;
@@ -43,7 +44,26 @@ pub fn rewrite_frame(alloc: Global, line: &mut Line) -> Answer {
     if !done || at > room.len() {
         return Ok(Some(format!(in alloc; "Room")?));
     }
-    Ok(Some(format!(in alloc; "{}", Hex(&room[..at]))?))
+    let wrong = if is_refused(&meta, &frame, at) {
+        ""
+    } else {
+        " fits in less"
+    };
+    Ok(Some(format!(in alloc; "{}{wrong}", Hex(&room[..at]))?))
+}
+
+/// Whether a room of one byte less than this is refused, with nothing written.
+fn is_refused(meta: &Meta, frame: &Frame, len: usize) -> bool
+    requires { IsFrameOf meta.now frame.now }
+{
+    let mut room = [0xee; 2048];
+    let Some(less) = room.get_mut(..len.wrapping_sub(1)) else {
+        return false;
+    };
+    let mut pen = Pen { bytes: less, at: 0 };
+    write_frame(&mut pen, meta, frame).is_err()
+        && pen.at == 0
+        && pen.bytes.iter().all(|byte| *byte == 0xee)
 }
 
 /// `prefixes_of_frame META BYTES`: how many proper prefixes are Short
