@@ -2,11 +2,8 @@
 use crate::readers::ReaderRows;
 use crate::rows;
 use crate::writers::WriterRows;
-use case_lines::{Line, LineFault};
+use case_lines::{Answer, Line, LineFault};
 use std::alloc::Global;
-
-/// What a call prints, where it answers anything.
-pub type Answer = Result<Option<String>, LineFault>;
 
 /// What is kept from line to line: a writer and a reader.
 #[derive(Drop)]

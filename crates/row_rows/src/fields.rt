@@ -7,7 +7,7 @@ ghost use Rattle.row_words.specs.Belonging.{Belongs};
 ghost use Rattle.row_words.specs.Patches.{IsPatchOf};
 ghost use Rattle.row_words.specs.Props.{Belongs-prop};
 
-use case_lines::{Line, LineFault, kind_of, value_in};
+use case_lines::{Line, LineFault, kind_of, number, value_in};
 use dataset_meta::{Field, Meta, Name32};
 use row_words::{Patch, Row};
 use std::alloc::Global;
@@ -135,7 +135,7 @@ impl Case {
     /// A change, INDEX=VALUE, and !STATUS behind it where the status isn't 0: its three parts.
     fn change(&self, alloc: Global, word: &str) -> Result<(u8, Value, u32), LineFault> {
         let (index, value) = word.split_once('=').ok_or(LineFault::Missing)?;
-        let index = index.parse::<u8>().map_err(|_| LineFault::Number)?;
+        let index = number::<u8>(index)?;
         let fields = self.meta.fields();
         if usize::from(index) >= fields.len() {
             return Err(LineFault::Condition);
@@ -269,7 +269,7 @@ fn repeated(word: &str) -> Result<(u8, &str), LineFault> {
     match word.as_bytes() {
         [b'0'..=b'9', ..] => {
             let (times, word) = word.split_once('*').ok_or(LineFault::Missing)?;
-            Ok((times.parse::<u8>().map_err(|_| LineFault::Number)?, word))
+            Ok((number::<u8>(times)?, word))
         }
         _ => Ok((1, word)),
     }
@@ -288,7 +288,7 @@ fn kind_and_cap(word: &str) -> Result<(Kind, u16), LineFault> {
     match word.split_once('[') {
         Some((kind, cap)) => {
             let cap = cap.strip_suffix(']').ok_or(LineFault::Missing)?;
-            let cap = cap.parse::<u16>().map_err(|_| LineFault::Number)?;
+            let cap = number::<u16>(cap)?;
             Ok((kind_of(kind)?, cap))
         }
         None => Ok((kind_of(word)?, 0)),

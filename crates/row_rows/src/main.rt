@@ -9,7 +9,7 @@ mod rows;
 mod writers;
 
 use bench::Bench;
-use case_lines::Line;
+use case_lines::{AnsweredLine, Line, is_note};
 use std::io;
 
 fn main(rt: HostRuntime) -> io::Result<()> {
@@ -17,15 +17,16 @@ fn main(rt: HostRuntime) -> io::Result<()> {
     for line in rt.lines(rt.alloc()) {
         let line = line?;
         let text = line.as_str();
-        if text.is_empty() || text.starts_with('#') {
-            println!(rt; "{text}")?;
-            continue;
-        }
-        match bench.answer(&mut Line::new(text)) {
-            Ok(Some(answer)) => println!(rt; "{text} -> {answer}")?,
-            Ok(None) => println!(rt; "{text}")?,
-            Err(fault) => println!(rt; "{text} -> not a case: {fault:?}")?,
-        }
+        let answer = if is_note(text) {
+            Ok(None)
+        } else {
+            bench.answer(&mut Line::new(text))
+        };
+        let told = AnsweredLine {
+            line: text,
+            answer: &answer,
+        };
+        println!(rt; "{told}")?;
     }
     Ok(())
 }

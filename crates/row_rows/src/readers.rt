@@ -5,9 +5,8 @@ ghost use Rattle.frame_codec.specs.Words.{IsFrameOf, IsKindOf};
 ghost use Rattle.dataset_reader.specs.Reader.{IsReaderOf};
 ghost use Rattle.dataset_reader.specs.Props.{IsReaderOf-prop};
 
-use crate::bench::Answer;
 use crate::fields::{Case, Put, patch_of};
-use case_lines::{Line, LineFault};
+use case_lines::{Answer, Line, LineFault};
 use dataset_meta::{Field, Name32};
 use dataset_reader::{Numbering, Outcome, Reader, Took};
 use frame_codec::{Frame, FrameKind, read_frame};
@@ -53,7 +52,7 @@ impl ReaderRows {
         let Some(heard) = &mut self.heard else {
             return Err(LineFault::Missing);
         };
-        let number = Carried::optional(line)?;
+        let number = line.number_or_dash::<u16>()?;
         let value = if kind == "alive" { 0 } else { line.u32()? };
         let carried = Carried::read(line)?;
         Ok(Some(heard.frame(alloc, kind, number, value, &carried)?))
@@ -127,7 +126,7 @@ impl Carried {
         let Some(name) = line.optional() else {
             return Ok(());
         };
-        let number = number_of(line.word()?)?;
+        let number = line.number_or_dash::<u32>()?;
         match name {
             "major" => self.major = number,
             "minor" => self.minor = number,
@@ -136,22 +135,6 @@ impl Carried {
         }
         Ok(())
     }
-
-    /// A message number, or `-` for none.
-    fn optional(line: &mut Line) -> Result<Option<u16>, LineFault> {
-        match number_of(line.word()?)? {
-            Some(number) => Ok(Some(u16::try_from(number).map_err(|_| LineFault::Number)?)),
-            None => Ok(None),
-        }
-    }
-}
-
-/// A number, or `-` for none.
-fn number_of(word: &str) -> Result<Option<u32>, LineFault> {
-    if word == "-" {
-        return Ok(None);
-    }
-    Ok(Some(word.parse::<u32>().map_err(|_| LineFault::Number)?))
 }
 
 fn why_of(word: &str) -> Result<Why, LineFault> {

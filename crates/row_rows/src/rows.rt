@@ -1,9 +1,8 @@
 //! Cases of `row_words` and `key_delta`. A row is shown by its words in hexadecimal digits, `N*WORD` for N equal ones where they
 //! are four or more, and without the zeros at the end, so
 //! that `0` is no word but zeros. A change is INDEX=VALUE!STATUS.
-use crate::bench::Answer;
 use crate::fields::{Case, changes_of, patch_of};
-use case_lines::Line;
+use case_lines::{Answer, Line};
 use key_delta::{apply, changed as changes};
 use row_words::{Patch, shape as shape_of};
 use std::alloc::Global;

@@ -6,9 +6,8 @@ ghost use Rattle.dataset_writer.specs.Standing.{HoldsRowOf};
 ghost use Rattle.dataset_writer.specs.Props.{HoldsRowOf-prop};
 ghost use Rattle.frame_codec.specs.Words.{IsFrameOf};
 
-use crate::bench::Answer;
 use crate::fields::{Case, Put};
-use case_lines::{Line, LineFault};
+use case_lines::{Answer, Line, LineFault, number};
 use dataset_meta::{Field, Meta, Name32};
 use dataset_writer::{Turn, Writer, WriterSettings};
 use frame_codec::{Frame, FrameKind};
@@ -141,7 +140,7 @@ fn values_of(alloc: Global, line: &Line) -> Result<Vec<Put>, LineFault> {
     for (index, word) in line.words().enumerate() {
         values.push(Put {
             index: u8::try_from(index).map_err(|_| LineFault::Condition)?,
-            value: Value::UInt32(word.parse::<u32>().map_err(|_| LineFault::Number)?),
+            value: Value::UInt32(number::<u32>(word)?),
             status: 0,
         })?;
     }

@@ -80,17 +80,22 @@ impl fmt::Display for SpelledLine<'_> {
     fn fmt<W: fmt::Write>(&self, f: &mut fmt::Formatter<W>) -> fmt::Result {
         match &self.0.act {
             Act::Write { thread, patch, .. } => {
-                let words = &patch.row.words;
-                let (name, word) = match patch.mask {
-                    1 => ("a", words[0]),
-                    2 => ("b", words[1]),
-                    4 => ("c", words[2]),
-                    _ => ("d", words[3]),
-                };
-                write!(f, "write {thread} demo {name}={word}")
+                write!(f, "write {thread} demo ")?;
+                write_field(f, patch)
             }
             Act::Tick(ms) => write!(f, "tick {ms}"),
             _ => f.write_str("#"),
         }
+    }
+}
+
+/// The field that a patch of generated work changes.
+fn write_field<W: fmt::Write>(f: &mut fmt::Formatter<W>, patch: &Patch) -> fmt::Result {
+    let words = &patch.row.words;
+    match patch.mask {
+        1 => write!(f, "a={}", words[0]),
+        2 => write!(f, "b={}", words[1]),
+        4 => write!(f, "c={}", words[2]),
+        _ => write!(f, "d={}", words[3]),
     }
 }
