@@ -6,10 +6,10 @@ use Rattle.std.proofs.lemmas.List.FromFn.{sum_by-map-range_with_len_more}
 use Rattle.reader_group.specs.declared.member.Member.{Member}
 use Rattle.reader_group.specs.declared.tally.Tally.{Tally}
 use Rattle.reader_group.specs.Members.{Seat, MemberValue, seat_at}
-use Rattle.reader_group.specs.MemberWords.{IsMemberOf, Tells}
+use Rattle.reader_group.specs.MemberWords.{HoldsRowsOf, IsMemberOf, Tells}
 use Rattle.reader_group.specs.declared.receipt.Receipt.{Receipt}
 use Rattle.reader_group.specs.Payloads.{Payload}
-use Rattle.reader_group.specs.Groups.{AreMembers, AreReaders, HoldsRowsOf, ChangesAt, IsTallyOf}
+use Rattle.reader_group.specs.Groups.{AreMembers, AreReaders, ChangesAt, IsTallyOf}
 use Rattle.reader_group.specs.Plain.{Fed, fed_by, member_at, each}
 use Rattle.reader_group.proofs.Each.{by_seat, ArePartly, partly-none, partly-more, fed_member, readers-change}
 

@@ -7,8 +7,8 @@ use Rattle.dataset_meta.specs.Metas.{MetaData}
 use Rattle.pubsub_model.specs.declared.reading.Why.{Why}
 use Rattle.reader_group.specs.declared.member.Member.{Member}
 use Rattle.reader_group.specs.Members.{Seat, MemberValue, seat_at, new_member, expired, stopped}
-use Rattle.reader_group.specs.MemberWords.{IsMemberOf}
-use Rattle.reader_group.specs.Groups.{AreMembers, AreReaders, HoldsRowsOf, ChangesAt}
+use Rattle.reader_group.specs.MemberWords.{HoldsRowsOf, IsMemberOf}
+use Rattle.reader_group.specs.Groups.{AreMembers, AreReaders, ChangesAt}
 use Rattle.reader_group.specs.Plain.{member_at, each, stopped_if, one_stopped}
 use Rattle.reader_group.proofs.Each.{ArePartly, partly-none, partly-more, partly-all, stays_at, each-at, each-length, readers-change}
 
@@ -76,6 +76,9 @@ one-stopped index why old new within member others count seats values are = reco
         subst (λ (b : Bool). HoldsAt (IsMemberOf (seat_at seats k) (stopped_if b why (member_at values k))) new k) (sym e)
         (stays_at (IsMemberOf (seat_at seats k) (member_at values k)) index k old new other others (are.each k inside))
 
-pub readers-stopped : (index : ℕ) (old new : List Member) → index < length old → ((meta : MetaData) → HoldsAt (HoldsRowsOf meta) new index) → ChangesAt index old new
+pub readers-stopped : (index : ℕ) (old new : List Member) → index < length old → ((meta : MetaData) → HoldsAt (HoldsRowsOf meta) old index → HoldsAt (HoldsRowsOf meta) new index)
+    → ChangesAt index old new
     → length new ≡ length old → (seats : List Seat) → AreReaders seats old → AreReaders seats new
-readers-stopped index old new within reader others count seats are = readers-change seats index old new count others (reader (seat_at seats index).meta) are
+readers-stopped index old new within reader others count seats are =
+    let inside : index < length seats = omega (arith, within, are.count) in
+    readers-change seats index old new count others (reader (seat_at seats index).meta (are.each index inside)) are

@@ -7,8 +7,8 @@ use Rattle.std.proofs.lemmas.List.{length-map, get_or-set_other, get_or-set_same
 use Rattle.std.proofs.lemmas.List.FromFn.{get_or-map-range_with_len, length-map-range_with_len}
 use Rattle.reader_group.specs.declared.member.Member.{Member}
 use Rattle.reader_group.specs.Members.{Seat, MemberValue, seat_at, new_member}
-use Rattle.reader_group.specs.MemberWords.{IsMemberOf}
-use Rattle.reader_group.specs.Groups.{AreMembers, AreReaders, HoldsRowsOf, ChangesAt}
+use Rattle.reader_group.specs.MemberWords.{HoldsRowsOf, IsMemberOf}
+use Rattle.reader_group.specs.Groups.{AreMembers, AreReaders, ChangesAt}
 use Rattle.reader_group.specs.Plain.{Fed, unfed, member_at, each}
 
 -- what the reader at this index has by f

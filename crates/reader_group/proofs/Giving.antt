@@ -1,6 +1,6 @@
 -- A reader is given what was read.
-use Rattle.std.proofs.Common.{◌≡◌, refl, sym, ap, ◌∙◌, subst, arith, ℕ, ◌<◌, false, Option, Some, None}
-use Rattle.std.specs.Prelude.{IfSome, option_map, Result, Ok}
+use Rattle.std.proofs.Common.{◌≡◌, refl, sym, ap, ◌∙◌, subst, arith, ℕ, ◌<◌, true, false, Option, Some, None}
+use Rattle.std.specs.Prelude.{IfSome, option_map, Result, Ok, Err}
 use Rattle.seq_number.specs.Numbers.{number_of_place}
 use Rattle.frame_codec.specs.declared.fault.FrameFault.{FrameFault}
 use Rattle.frame_codec.specs.declared.frame.Frame.{Frame as FrameWords}
@@ -61,3 +61,8 @@ given_is seat receipt member frame old between new took carried h kept took_is n
 pub read_follows : (seat : Seat) (receipt : Receipt) (member : MemberValue) (frame : Frame) (read : Result Frame FrameFault) (new : Member) → read ≡ Ok frame
     → IsMemberOf seat (given seat receipt member frame) new → Follows seat (read_case seat receipt member read) new false
 read_follows seat receipt member frame read new is h = subst (λ (r : Result Frame FrameFault). Follows seat (read_case seat receipt member r) new false) (sym is) (h, refl)
+
+-- a frame that can't be read leaves the reader as it is
+pub refused_follows : (seat : Seat) (receipt : Receipt) (member : MemberValue) (fault : FrameFault) (read : Result Frame FrameFault) (new : Member) → read ≡ Err fault
+    → IsMemberOf seat member new → Follows seat (read_case seat receipt member read) new true
+refused_follows seat receipt member fault read new is h = subst (λ (r : Result Frame FrameFault). Follows seat (read_case seat receipt member r) new true) (sym is) (h, refl)

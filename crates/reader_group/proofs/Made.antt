@@ -20,8 +20,8 @@ use Rattle.ps_config.specs.Sound.{IsSound, IsReadGroup}
 use Rattle.message_guard.specs.declared.mode.Mode.{Mode}
 use Rattle.reader_group.specs.declared.member.Member.{Member}
 use Rattle.reader_group.specs.Members.{Seat, seat_of, seat_at, no_seat, MemberValue, new_member}
-use Rattle.reader_group.specs.MemberWords.{IsMemberOf}
-use Rattle.reader_group.specs.Groups.{AreMembers, AreReaders, HoldsRowsOf}
+use Rattle.reader_group.specs.MemberWords.{HoldsRowsOf, IsMemberOf}
+use Rattle.reader_group.specs.Groups.{AreMembers, AreReaders}
 use Rattle.reader_group.specs.Opening.{mode_of}
 use Rattle.reader_group.specs.Plain.{opening}
 use Rattle.reader_group.proofs.Seats.{seats-length}

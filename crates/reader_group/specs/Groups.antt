@@ -2,7 +2,6 @@
 use Rattle.std.specs.Prelude.{◌≡◌, ℕ, ◌<◌, List, length, sum_by, slice_set, slice_index_or}
 use Rattle.std.specs.List.{HoldsAt}
 use Rattle.dataset_meta.specs.Metas.{MetaData}
-use Rattle.dataset_reader.specs.Reader.{IsReaderOf}
 use Rattle.message_guard.specs.declared.guard.Guard.{Guard}
 use Rattle.message_guard.specs.Guards.{IsGuardOf, setup_of}
 use Rattle.ps_config.specs.declared.parts.Config.{Config}
@@ -11,7 +10,7 @@ use Rattle.reader_group.specs.declared.member.Member.{Member}
 use Rattle.reader_group.specs.declared.group.ReaderGroup.{ReaderGroup}
 use Rattle.reader_group.specs.declared.tally.Tally.{Tally}
 use Rattle.reader_group.specs.Members.{Seat, MemberValue, seat_at}
-use Rattle.reader_group.specs.MemberWords.{IsMemberOf}
+use Rattle.reader_group.specs.MemberWords.{IsMemberOf, HoldsRowsOf}
 use Rattle.reader_group.specs.Plain.{Setting, PlainGroup, Fed, member_at}
 use Rattle.reader_group.specs.Settings.{setting_of}
 
@@ -32,10 +31,6 @@ pub record AreMembers (seats : List Seat) (values : List MemberValue) (members :
   pub count : length members ≡ length seats
   pub values_count : length values ≡ length seats
   pub each : (k : ℕ) → k < length seats → HoldsAt (IsMemberOf (seat_at seats k) (member_at values k)) members k
-
--- a reader holds rows of this meta alone
-abbrev pub HoldsRowsOf : MetaData → Member → Type 0
-HoldsRowsOf meta member = IsReaderOf meta member.reader
 
 -- each reader holds rows of its meta alone
 pub record AreReaders (seats : List Seat) (members : List Member) : Type 0 where

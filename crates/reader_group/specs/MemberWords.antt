@@ -1,8 +1,10 @@
 -- Which reader in memory has what a read group keeps for it.
 use Rattle.std.specs.Prelude.{◌≡◌, Bool}
+use Rattle.dataset_meta.specs.Metas.{MetaData}
+use Rattle.frame_codec.specs.Words.{IsFrameOf}
 use Rattle.receive_timer.specs.Told.{IsTimerOf}
 use Rattle.chunker.specs.Joiners.{IsJoinerOf}
-use Rattle.dataset_reader.specs.Reader.{kept_by}
+use Rattle.dataset_reader.specs.Reader.{kept_by, IsReaderOf}
 use Rattle.dataset_reader.specs.Reader as readers
 use Rattle.reader_group.specs.declared.member.Member.{Member}
 use Rattle.reader_group.specs.declared.tally.Tally.{Tally}
@@ -16,6 +18,11 @@ pub record IsMemberOf (seat : Seat) (value : MemberValue) (member : Member) : Ty
   pub timer : IsTimerOf seat.part.timeout value.told member.timer
   pub late : member.late ≡ value.late
   pub ready : member.ready ≡ value.ready
+
+-- a reader holds rows of this meta alone, and the frame that was read last is one of it
+pub record HoldsRowsOf (meta : MetaData) (member : Member) : Type 0 where
+  pub reader : IsReaderOf meta member.reader
+  pub frame : IsFrameOf meta member.frame
 
 -- what is kept then, and whether the part was bad
 abbrev pub Follows : Seat → MemberValue × Bool → Member → Bool → Type 0

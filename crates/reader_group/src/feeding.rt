@@ -5,8 +5,8 @@ ghost use Rattle.dataset_meta.specs.Metas.{MetaData};
 ghost use Rattle.ps_config.specs.Sound.{IsSound};
 ghost use Rattle.reader_group.specs.Members.{Seat, MemberValue, seat_of, stopped, expired};
 ghost use Rattle.reader_group.specs.Settings.{setting_by};
-ghost use Rattle.reader_group.specs.Groups.{AreMembers, AreReaders, IsTallyOf, HoldsRowsOf, ChangesAt};
-ghost use Rattle.reader_group.specs.MemberWords.{IsMemberOf, Tells};
+ghost use Rattle.reader_group.specs.Groups.{AreMembers, AreReaders, IsTallyOf, ChangesAt};
+ghost use Rattle.reader_group.specs.MemberWords.{IsMemberOf, HoldsRowsOf, Tells};
 ghost use Rattle.reader_group.specs.Held.{payload_in};
 ghost use Rattle.reader_group.specs.Payloads.{part_count};
 ghost use Rattle.reader_group.specs.Plain.{all_fed, all_expired, fed_by, one_stopped};
@@ -152,7 +152,8 @@ fn stop_at(members: &mut [Member], index: usize, why: Why)
     ensures member { (seat : Seat) (value : MemberValue)
         → HoldsAt (IsMemberOf seat value) members.old index
         → HoldsAt (IsMemberOf seat (stopped why value)) members.new index }
-    ensures reader { (meta : MetaData) → HoldsAt (HoldsRowsOf meta) members.new index }
+    ensures reader { (meta : MetaData) → HoldsAt (HoldsRowsOf meta) members.old index
+        → HoldsAt (HoldsRowsOf meta) members.new index }
     ensures others { ChangesAt index members.old members.new }
     ensures count { length members.new ≡ length members.old }
 {

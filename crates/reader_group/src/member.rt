@@ -4,6 +4,7 @@ ghost use Rattle.reader_group.specs.Members.{numbering_of};
 
 use chunker::Joiner;
 use dataset_reader::{Numbering, Outcome, Reader};
+use frame_codec::{Frame, FrameKind};
 use ps_config::{NumberingWord, ReaderPart};
 use pubsub_model::Why;
 use receive_timer::Timer;
@@ -18,21 +19,22 @@ pub(crate) struct Member {
     pub late: bool,
     /// Whether it held a row, with neither a timeout nor a cut by hand since.
     pub ready: bool,
+    /// The frame that was read last. The next one is read over it.
+    pub frame: Frame,
 }
 
 impl Member {
     ghost use Rattle.std.specs.Prelude.{◌≡◌};
     ghost use Rattle.dataset_meta.specs.Metas.{MetaData};
-    ghost use Rattle.dataset_reader.specs.Reader.{IsReaderOf};
     ghost use Rattle.pubsub_model.specs.declared.reading.Why.TheVariants.{NewToken};
     ghost use Rattle.reader_group.specs.Members.{Seat, MemberValue, seat_of, new_member, cut_member, stopped, expired, seen, noted};
     ghost use Rattle.reader_group.specs.Plain.{cut_if};
-    ghost use Rattle.reader_group.specs.MemberWords.{IsMemberOf};
+    ghost use Rattle.reader_group.specs.MemberWords.{IsMemberOf, HoldsRowsOf};
 
     /// Before anything.
     pub fn new(part: &ReaderPart) -> Member
         ensures member { (meta : MetaData) → IsMemberOf (seat_of part.now meta) new_member result }
-        ensures reader { (meta : MetaData) → IsReaderOf meta result.reader }
+        ensures reader { (meta : MetaData) → HoldsRowsOf meta result }
     {
         Member {
             reader: Reader::new(numbering_of(part.numbering)),
@@ -40,6 +42,12 @@ impl Member {
             timer: Timer::new(part.timeout),
             late: false,
             ready: false,
+            frame: Frame {
+                number: None,
+                kind: FrameKind::Alive,
+                major: None,
+                minor: None,
+            },
         }
     }
 
@@ -47,7 +55,7 @@ impl Member {
     pub fn cut(&mut self, why: Why)
         ensures member { (seat : Seat) (member : MemberValue) → IsMemberOf seat member self.old
             → IsMemberOf seat (cut_member why member) self.new }
-        ensures reader { (meta : MetaData) → IsReaderOf meta self.new.reader }
+        ensures reader { (meta : MetaData) → HoldsRowsOf meta self.old → HoldsRowsOf meta self.new }
     {
         self.reader.cut(why);
         self.joiner.clear();
@@ -58,7 +66,7 @@ impl Member {
     pub fn stop(&mut self, why: Why)
         ensures member { (seat : Seat) (member : MemberValue) → IsMemberOf seat member self.old
             → IsMemberOf seat (stopped why member) self.new }
-        ensures reader { (meta : MetaData) → IsReaderOf meta self.new.reader }
+        ensures reader { (meta : MetaData) → HoldsRowsOf meta self.old → HoldsRowsOf meta self.new }
     {
         self.cut(why);
         self.ready = false;
@@ -68,8 +76,7 @@ impl Member {
     pub fn expire(&mut self, now: u64)
         ensures member { (seat : Seat) (member : MemberValue) → IsMemberOf seat member self.old
             → IsMemberOf seat (expired seat.part.timeout now member) self.new }
-        ensures reader { (meta : MetaData) → IsReaderOf meta self.old.reader
-            → IsReaderOf meta self.new.reader }
+        ensures reader { (meta : MetaData) → HoldsRowsOf meta self.old → HoldsRowsOf meta self.new }
     {
         if self.timer.due(now) {
             self.cut(Why::Timeout);
@@ -82,8 +89,7 @@ impl Member {
     pub fn cut_if_raised(&mut self, raised: bool)
         ensures member { (seat : Seat) (member : MemberValue) → IsMemberOf seat member self.old
             → IsMemberOf seat (cut_if raised NewToken member) self.new }
-        ensures reader { (meta : MetaData) → IsReaderOf meta self.old.reader
-            → IsReaderOf meta self.new.reader }
+        ensures reader { (meta : MetaData) → HoldsRowsOf meta self.old → HoldsRowsOf meta self.new }
     {
         if raised {
             self.cut(Why::NewToken);
@@ -95,6 +101,7 @@ impl Member {
         ensures member { (seat : Seat) (member : MemberValue) → IsMemberOf seat member self.old
             → IsMemberOf seat (noted now outcome member) self.new }
         ensures reader { self.new.reader ≡ self.old.reader }
+        ensures frame { self.new.frame ≡ self.old.frame }
     {
         match outcome {
             Outcome::Held => {
@@ -111,6 +118,7 @@ impl Member {
         ensures member { (seat : Seat) (member : MemberValue) → IsMemberOf seat member self.old
             → IsMemberOf seat (seen now member) self.new }
         ensures reader { self.new.reader ≡ self.old.reader }
+        ensures frame { self.new.frame ≡ self.old.frame }
     {
         self.timer.seen(now);
         self.late = false;

@@ -15,21 +15,21 @@ use crate::slot_frame::read_slot_frame;
 use crate::tally::Tally;
 use chunker::{Joined, Joiner, read_chunk};
 use dataset_meta::Meta;
-use frame_codec::{Frame, read_frame};
+use frame_codec::{Frame, FrameFault, read_frame, read_frame_into};
 use ps_config::ReaderPart;
 
 impl Member {
     ghost use Rattle.std.specs.Prelude.{◌≡◌, ◌≤◌, ◌<◌, ◌+◌, ◌==◌, length, fold};
-    ghost use Rattle.dataset_reader.specs.Reader.{IsReaderOf};
     ghost use Rattle.frame_codec.specs.Words.{IsFrameOf, frame_in};
+    ghost use Rattle.frame_codec.specs.Calls.{leaving};
     ghost use Rattle.frame_codec.specs.Reading.{frame_at};
     ghost use Rattle.chunker.specs.Joining.{joined_bytes};
     ghost use Rattle.ps_config.specs.declared.parts.ReaderPart.{ReaderPart as AnyPart};
-    ghost use Rattle.reader_group.specs.Members.{MemberValue, seat_of};
+    ghost use Rattle.reader_group.specs.Members.{Seat, MemberValue, seat_of};
     ghost use Rattle.reader_group.specs.Payloads.{Message, Chunked, pieces, slot_piece};
     ghost use Rattle.reader_group.specs.Held.{payload_in, messages_in, listed_at};
     ghost use Rattle.reader_group.specs.Plain.{Fed, given, read_case, piece_case, fed_if, fed_on, unfed, fed_by};
-    ghost use Rattle.reader_group.specs.MemberWords.{IsMemberOf, Follows, IsFed};
+    ghost use Rattle.reader_group.specs.MemberWords.{IsMemberOf, HoldsRowsOf, Follows, IsFed};
 
     /// What a datagram brings the reader: with a higher token a cut, and where it is enabled its parts.
     pub fn feed(
@@ -41,12 +41,12 @@ impl Member {
         enabled: bool,
         payload: &Payload<'_>,
     ) -> Tally
-        requires { IsReaderOf meta.now self.old.reader }
+        requires { HoldsRowsOf meta.now self.old }
         ensures fed { (member : MemberValue) → IsMemberOf (seat_of part.now meta.now) member self.old
             → IsFed (seat_of part.now meta.now)
             (fed_by (seat_of part.now meta.now) receipt.now raised enabled (payload_in payload.now) member)
             self.new result }
-        ensures reader { IsReaderOf meta.now self.new.reader }
+        ensures reader { HoldsRowsOf meta.now self.new }
         ensures matched { result.matched ≤ 255 }
         ensures bad { result.bad ≤ 255 }
     {
@@ -66,12 +66,12 @@ impl Member {
         receipt: &Receipt,
         payload: &Payload<'_>,
     ) -> Tally
-        requires { IsReaderOf meta.now self.old.reader }
+        requires { HoldsRowsOf meta.now self.old }
         ensures fed { (member : MemberValue) → IsMemberOf (seat_of part.now meta.now) member self.old
             → IsFed (seat_of part.now meta.now)
             (fold (fed_on (seat_of part.now meta.now) receipt.now) (unfed member)
             (pieces part.now (payload_in payload.now))) self.new result }
-        ensures reader { IsReaderOf meta.now self.new.reader }
+        ensures reader { HoldsRowsOf meta.now self.new }
         ensures matched { result.matched ≤ 255 }
         ensures bad { result.bad ≤ 255 }
     {
@@ -93,12 +93,12 @@ impl Member {
         receipt: &Receipt,
         messages: &Messages<'_>,
     ) -> Tally
-        requires { IsReaderOf meta.now self.old.reader }
+        requires { HoldsRowsOf meta.now self.old }
         ensures fed { (member : MemberValue) → IsMemberOf (seat_of part.now meta.now) member self.old
             → IsFed (seat_of part.now meta.now)
             (fold (fed_on (seat_of part.now meta.now) receipt.now) (unfed member)
             (pieces part.now (messages_in messages.now))) self.new result }
-        ensures reader { IsReaderOf meta.now self.new.reader }
+        ensures reader { HoldsRowsOf meta.now self.new }
         ensures matched { result.matched ≤ 255 }
         ensures bad { result.bad ≤ 255 }
     {
@@ -119,7 +119,7 @@ impl Member {
         index: usize,
         tally: &mut Tally,
     )
-        requires reader { IsReaderOf meta.now self.old.reader }
+        requires reader { HoldsRowsOf meta.now self.old }
         requires index { index < length messages.now.parts.now }
         requires matched { tally.old.matched < 255 }
         requires bad { tally.old.bad < 255 }
@@ -128,7 +128,7 @@ impl Member {
             (fed_if (seat_of part.now meta.now) receipt.now
             ((listed_at messages.now index).0 == part.now.writer) fed
             (Message (listed_at messages.now index).1)) self.new tally.new }
-        ensures reader { IsReaderOf meta.now self.new.reader }
+        ensures reader { HoldsRowsOf meta.now self.new }
         ensures matched { tally.new.matched ≤ tally.old.matched + 1 }
         ensures bad { tally.new.bad ≤ tally.old.bad + 1 }
     {
@@ -141,11 +141,11 @@ impl Member {
 
     // What stands in the reader's slot; it is bad where the datagram ends before the slot does.
     fn slot(&mut self, part: &ReaderPart, meta: &Meta, receipt: &Receipt, datagram: &[u8]) -> bool
-        requires { IsReaderOf meta.now self.old.reader }
+        requires { HoldsRowsOf meta.now self.old }
         ensures case { (member : MemberValue) → IsMemberOf (seat_of part.now meta.now) member self.old
             → Follows (seat_of part.now meta.now) (piece_case (seat_of part.now meta.now) receipt.now member
             (slot_piece (slot_of datagram.now (reader_slot part.now)))) self.new result }
-        ensures reader { IsReaderOf meta.now self.new.reader }
+        ensures reader { HoldsRowsOf meta.now self.new }
     {
         let Some(bytes) = slot_of(part, datagram) else {
             return true;
@@ -159,28 +159,42 @@ impl Member {
 
     // A message; the answer says whether it is bad.
     fn message(&mut self, meta: &Meta, receipt: &Receipt, bytes: &[u8]) -> bool
-        requires { IsReaderOf meta.now self.old.reader }
+        requires { HoldsRowsOf meta.now self.old }
         ensures case { (part : AnyPart) (member : MemberValue)
             → IsMemberOf (seat_of part meta.now) member self.old
             → Follows (seat_of part meta.now)
             (piece_case (seat_of part meta.now) receipt.now member (Message bytes.now)) self.new result }
-        ensures reader { IsReaderOf meta.now self.new.reader }
+        ensures reader { HoldsRowsOf meta.now self.new }
     {
-        let Ok(frame) = read_frame(meta, bytes) else {
-            return true;
-        };
-        self.give(meta, receipt, &frame);
-        false
+        match self.read(meta, bytes) {
+            Ok(()) => {
+                self.give_kept(meta, receipt);
+                false
+            }
+            Err(_) => true,
+        }
+    }
+
+    // Reads a message over the frame that is kept.
+    fn read(&mut self, meta: &Meta, bytes: &[u8]) -> Result<(), FrameFault>
+        requires { HoldsRowsOf meta.now self.old }
+        ensures member { (seat : Seat) (member : MemberValue)
+            → IsMemberOf seat member self.old → IsMemberOf seat member self.new }
+        ensures answer { leaving result (frame_in meta.now.fields self.new.frame)
+            ≡ frame_at meta.now bytes.now }
+        ensures reader { HoldsRowsOf meta.now self.new }
+    {
+        read_frame_into(meta, bytes, &mut self.frame)
     }
 
     // A chunk of a message, and the message where it is whole then.
     fn chunk(&mut self, meta: &Meta, receipt: &Receipt, bytes: &[u8]) -> bool
-        requires { IsReaderOf meta.now self.old.reader }
+        requires { HoldsRowsOf meta.now self.old }
         ensures case { (part : AnyPart) (member : MemberValue)
             → IsMemberOf (seat_of part meta.now) member self.old
             → Follows (seat_of part meta.now)
             (piece_case (seat_of part meta.now) receipt.now member (Chunked bytes.now)) self.new result }
-        ensures reader { IsReaderOf meta.now self.new.reader }
+        ensures reader { HoldsRowsOf meta.now self.new }
     {
         let Ok(chunk) = read_chunk(bytes) else {
             return true;
@@ -200,13 +214,13 @@ impl Member {
 
     // The message that was joined.
     fn joined(&mut self, meta: &Meta, receipt: &Receipt) -> bool
-        requires { IsReaderOf meta.now self.old.reader }
+        requires { HoldsRowsOf meta.now self.old }
         ensures case { (part : AnyPart) (member : MemberValue)
             → IsMemberOf (seat_of part meta.now) member self.old
             → Follows (seat_of part meta.now)
             (read_case (seat_of part meta.now) receipt.now member
             (frame_at meta.now (joined_bytes member.joining))) self.new result }
-        ensures reader { IsReaderOf meta.now self.new.reader }
+        ensures reader { HoldsRowsOf meta.now self.new }
     {
         let Ok(frame) = read_frame(meta, self.joiner.bytes()) else {
             return true;
@@ -215,15 +229,29 @@ impl Member {
         false
     }
 
+    // The reader is given the frame that is kept.
+    fn give_kept(&mut self, meta: &Meta, receipt: &Receipt)
+        requires { HoldsRowsOf meta.now self.old }
+        ensures member { (part : AnyPart) (member : MemberValue)
+            → IsMemberOf (seat_of part meta.now) member self.old
+            → IsMemberOf (seat_of part meta.now)
+            (given (seat_of part meta.now) receipt.now member (frame_in meta.now.fields self.old.frame)) self.new }
+        ensures reader { HoldsRowsOf meta.now self.new }
+    {
+        carries_short(self.frame.number);
+        let took = self.reader.frame(meta, &self.frame, receipt.stamp);
+        self.note(receipt.moment, took.outcome);
+    }
+
     // The reader is given a frame.
     fn give(&mut self, meta: &Meta, receipt: &Receipt, frame: &Frame)
         requires frame { IsFrameOf meta.now frame.now }
-        requires reader { IsReaderOf meta.now self.old.reader }
+        requires reader { HoldsRowsOf meta.now self.old }
         ensures member { (part : AnyPart) (member : MemberValue)
             → IsMemberOf (seat_of part meta.now) member self.old
             → IsMemberOf (seat_of part meta.now)
             (given (seat_of part meta.now) receipt.now member (frame_in meta.now.fields frame.now)) self.new }
-        ensures reader { IsReaderOf meta.now self.new.reader }
+        ensures reader { HoldsRowsOf meta.now self.new }
     {
         carries_short(frame.number);
         let took = self.reader.frame(meta, frame, receipt.stamp);

@@ -1,7 +1,7 @@
 use Rattle.std.proofs.Common.{◌≡◌, ◌<◌, length, refl, ◌∙◌, subst, arith, Bool}
 use Rattle.std.specs.List.{HoldsAt}
+use Rattle.reader_group.specs.MemberWords.{HoldsRowsOf}
 use Rattle.reader_group.specs.Members.{Seat, seat_at, seat_of}
-use Rattle.reader_group.specs.Groups.{HoldsRowsOf}
 use Rattle.reader_group.specs.Held.{payload_in}
 use Rattle.reader_group.specs.Plain.{fed_by}
 use Rattle.reader_group.specs.Settings.{setting_by}

@@ -1,6 +1,5 @@
 use Rattle.reader_group.specs.Members.{stopped}
-use Rattle.reader_group.specs.MemberWords.{IsMemberOf}
-use Rattle.reader_group.specs.Groups.{HoldsRowsOf}
+use Rattle.reader_group.specs.MemberWords.{HoldsRowsOf, IsMemberOf}
 use Rattle.reader_group.proofs.Each.{held_set}
 use Rattle.reader_group.proofs.feeding.stop_at.Goals as goal
 
@@ -10,4 +9,5 @@ returns-clause-member c = λ seat value holds.
     (c.stop.ensures.member seat value (holds c.index-members-index.result))
 
 pub returns-clause-reader : goal.returns-clause-reader
-returns-clause-reader c = λ meta. held_set (HoldsRowsOf meta) c.args.members.now c.args.index c.stop.new.self c.requires (c.stop.ensures.reader meta)
+returns-clause-reader c = λ meta holds.
+    held_set (HoldsRowsOf meta) c.args.members.now c.args.index c.stop.new.self c.requires (c.stop.ensures.reader meta (holds c.index-members-index.result))

@@ -1,3 +1,8 @@
+use Rattle.std.proofs.Common.{sym, subst}
+use Rattle.frame_codec.specs.declared.frame.Frame.{Frame}
+use Rattle.frame_codec.specs.Words.{IsFrameOf}
+use Rattle.dataset_reader.specs.declared.reader.Reader.{Reader}
+use Rattle.dataset_reader.specs.Reader.{IsReaderOf}
 use Rattle.reader_group.specs.Members.{seat_of}
 use Rattle.reader_group.proofs.Giving.{given_is}
 use Rattle.reader_group.proofs.member.Member.give.Goals as goal
@@ -6,3 +11,9 @@ pub returns-clause-member : goal.returns-clause-member
 returns-clause-member c = λ part member h.
     given_is (seat_of part c.args.meta.now) c.args.receipt.now member c.args.frame.now c.args.self.now c.frame-took.new.self c.note.new.self c.frame-took.result c.carries_short.ensures h
     c.frame-took.ensures.kept c.frame-took.ensures.took (λ value is. c.note.ensures.member (seat_of part c.args.meta.now) value is) c.frame-took.ensures.numbering
+
+pub returns-clause-reader : goal.returns-clause-reader
+returns-clause-reader c = record {
+  reader = subst (λ (r : Reader). IsReaderOf c.args.meta.now r) (sym c.note.ensures.reader) c.frame-took.ensures.reader;
+  frame = subst (λ (f : Frame). IsFrameOf c.args.meta.now f) (sym c.note.ensures.frame) c.requires.reader.frame;
+}
