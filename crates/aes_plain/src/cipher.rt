@@ -1,27 +1,31 @@
 // The rounds (FIPS 197, 5.1). A state is 16 bytes, by columns.
-ghost use Rattle.std.specs.Prelude.{◌≡◌, ◌+◌, ◌*◌, ◌≤◌, length};
-ghost use Rattle.aes_ctr.specs.Cipher.{add_round_key, cipher, mix_columns, mixed, shift_rows, sub_bytes};
+ghost use Rattle.std.specs.Prelude.{◌≡◌, ◌+◌, ◌*◌, ◌≤◌, ◌++◌, ◌∷◌, [], length, slice_index};
+ghost use Rattle.aes_ctr.specs.Cipher.{add_round_key, cipher, mix_columns, mixed, shift_rows, sub_bytes, word_of};
 ghost use Rattle.aes_ctr.specs.Field.{field_mul};
 
-use crate::sbox::sub_byte;
+use crate::expand::add_words;
+use crate::sbox::sub_word;
 
-// The array of a value at each i from 0 to 15.
-macro_rules! each_byte {
-    ($i:ident => $value:expr) => {
-        [
-            { let $i = 0; $value }, { let $i = 1; $value }, { let $i = 2; $value }, { let $i = 3; $value },
-            { let $i = 4; $value }, { let $i = 5; $value }, { let $i = 6; $value }, { let $i = 7; $value },
-            { let $i = 8; $value }, { let $i = 9; $value }, { let $i = 10; $value }, { let $i = 11; $value },
-            { let $i = 12; $value }, { let $i = 13; $value }, { let $i = 14; $value }, { let $i = 15; $value },
-        ]
-    };
+// The state with these columns.
+fn joined(a: [u8; 4], b: [u8; 4], c: [u8; 4], d: [u8; 4]) -> [u8; 16]
+    ensures { result ≡ word_of (slice_index a) ++ word_of (slice_index b)
+        ++ word_of (slice_index c) ++ word_of (slice_index d) }
+{
+    [
+        a[0], a[1], a[2], a[3], b[0], b[1], b[2], b[3], c[0], c[1], c[2], c[3], d[0], d[1], d[2],
+        d[3],
+    ]
 }
 
-#[tactic(auto, unfolding(aes_ctr::specs::Cipher::sub_bytes))]
 fn sub_bytes(s: &[u8; 16]) -> [u8; 16]
     ensures { result ≡ sub_bytes s.now }
 {
-    each_byte!(i => sub_byte(s[i]))
+    joined(
+        sub_word([s[0], s[1], s[2], s[3]]),
+        sub_word([s[4], s[5], s[6], s[7]]),
+        sub_word([s[8], s[9], s[10], s[11]]),
+        sub_word([s[12], s[13], s[14], s[15]]),
+    )
 }
 
 // Row r moves r places to the left.
@@ -29,7 +33,10 @@ fn sub_bytes(s: &[u8; 16]) -> [u8; 16]
 fn shift_rows(s: &[u8; 16]) -> [u8; 16]
     ensures { result ≡ shift_rows s.now }
 {
-    each_byte!(i => s[(i + i % 4 * 4) % 16])
+    [
+        s[0], s[5], s[10], s[15], s[4], s[9], s[14], s[3], s[8], s[13], s[2], s[7], s[12], s[1],
+        s[6], s[11],
+    ]
 }
 
 fn double(b: u8) -> u8
@@ -38,7 +45,6 @@ fn double(b: u8) -> u8
     (b << 1) ^ ((b >> 7) * 0x1b)
 }
 
-#[tactic(auto, using(aes_ctr::proofs::AllBytes::tripled_is))]
 fn triple(b: u8) -> u8
     ensures { result ≡ field_mul 3 b }
 {
@@ -52,29 +58,40 @@ fn mixed(a: u8, b: u8, c: u8, d: u8) -> u8
     double(a) ^ triple(b) ^ c ^ d
 }
 
+// The matrix times a column.
+fn mixed_column(a: u8, b: u8, c: u8, d: u8) -> [u8; 4]
+    ensures { result ≡ mixed a b c d ∷ mixed b c d a ∷ mixed c d a b ∷ mixed d a b c ∷ [] }
+{
+    [
+        mixed(a, b, c, d),
+        mixed(b, c, d, a),
+        mixed(c, d, a, b),
+        mixed(d, a, b, c),
+    ]
+}
+
 // Each column times the matrix.
-#[tactic(auto, unfolding(aes_ctr::specs::Cipher::mix_columns))]
 fn mix_columns(s: &[u8; 16]) -> [u8; 16]
     ensures { result ≡ mix_columns s.now }
 {
-    each_byte!(i => {
-        let top = i / 4 * 4;
-        mixed(s[i], s[top + (i + 1) % 4], s[top + (i + 2) % 4], s[top + (i + 3) % 4])
-    })
+    joined(
+        mixed_column(s[0], s[1], s[2], s[3]),
+        mixed_column(s[4], s[5], s[6], s[7]),
+        mixed_column(s[8], s[9], s[10], s[11]),
+        mixed_column(s[12], s[13], s[14], s[15]),
+    )
 }
 
-#[tactic(auto, unfolding(aes_ctr::specs::Cipher::add_states, aes_ctr::specs::Cipher::round_key))]
 fn add_round_key(words: &[[u8; 4]], r: usize, s: &[u8; 16]) -> [u8; 16]
     requires { 4 * r + 4 ≤ length words.now }
     ensures { result ≡ add_round_key words.now r s.now }
 {
-    let key = [
-        words[4 * r],
-        words[4 * r + 1],
-        words[4 * r + 2],
-        words[4 * r + 3],
-    ];
-    each_byte!(i => s[i] ^ key[i / 4][i % 4])
+    joined(
+        add_words([s[0], s[1], s[2], s[3]], words[4 * r]),
+        add_words([s[4], s[5], s[6], s[7]], words[4 * r + 1]),
+        add_words([s[8], s[9], s[10], s[11]], words[4 * r + 2]),
+        add_words([s[12], s[13], s[14], s[15]], words[4 * r + 3]),
+    )
 }
 
 /// The block after `n + 1` rounds.

@@ -21,7 +21,8 @@ fn rot_word(w: [u8; 4]) -> [u8; 4]
     [w[1], w[2], w[3], w[0]]
 }
 
-fn add_words(v: [u8; 4], w: [u8; 4]) -> [u8; 4]
+/// The sum of two words.
+pub fn add_words(v: [u8; 4], w: [u8; 4]) -> [u8; 4]
     ensures { result ≡ add_words v w }
 {
     [v[0] ^ w[0], v[1] ^ w[1], v[2] ^ w[2], v[3] ^ w[3]]
