@@ -1,10 +1,10 @@
 -- What is computed at each of the 256 bytes.
-use Rattle.std.proofs.Common.{◌≡◌, ℕ, zero, suc, ◌<◌, ◌+◌, ◌-◌, ◌%◌, ◌==◌, Bool, ◌&&◌, true, nat_lt, [], ◌∷◌, slice_index, bit_xor, arith, refl}
+use Rattle.std.proofs.Common.{◌≡◌, ℕ, zero, suc, ◌<◌, ◌+◌, ◌-◌, ◌%◌, ◌==◌, Bool, ◌&&◌, true, nat_lt, [], ◌∷◌, slice_index, bit_xor, arith, refl, ap, sym, ◌∙◌}
 use Rattle.std.specs.Int.{bit_at}
 use Rattle.std.proofs.lemmas.Bool.{agree_below, agree_below_at, and_parts, eqb-true, ltb-true}
 use Rattle.aes_ctr.specs.declared.expand.TheConstants.{POWERS}
 use Rattle.aes_ctr.specs.Cipher.{power_of_x}
-use Rattle.aes_ctr.specs.Field.{field_mul, inverse, inverse_below, from_bits_of}
+use Rattle.aes_ctr.specs.Field.{field_mul, inverse, inverse_below, affine_bit, from_bits_of, sub_byte}
 
 -- a test at each number below n
 abbrev pub each_below : ℕ → (ℕ → Bool) → Bool
@@ -64,3 +64,30 @@ inverse_small (suc b) h = (inverse_parts b (omega arith)).0
 pub only_inverse : (b c : ℕ) → 0 < b → b < 256 → c < 256 → (field_mul b c == 1) ≡ (c == inverse b)
 only_inverse zero c some hb hc = absurd (omega arith)
 only_inverse (suc b) c some hb hc = (inverse_parts b (omega arith)).1 c hc
+
+-- ---- the S-box
+
+-- the byte whose affine map this is
+abbrev unmapped : ℕ → ℕ
+unmapped s = from_bits_of (λ i. (bit_at s ((i + 2) % 8) + bit_at s ((i + 5) % 8) + bit_at s ((i + 7) % 8) + bit_at 0x05 i) % 2)
+
+-- s is the S-box on b, whose inverse is found from s
+abbrev is_sub : ℕ → ℕ → Bool
+is_sub b s = let c = unmapped s in nat_lt c 256 && ((field_mul b c == 1) && (from_bits_of (affine_bit c) == s))
+
+sub_from : (b s : ℕ) → 0 < b → b < 256 → is_sub b s ≡ true → s ≡ sub_byte b
+unfolding sub_byte
+sub_from b s some h e =
+    let parts = and_parts _ _ e in
+    let rest = and_parts _ _ parts.1 in
+    let found : unmapped s ≡ inverse b = eqb-true (unmapped s) (inverse b) (sym (only_inverse b (unmapped s) some h (ltb-true _ _ parts.0)) ∙ rest.0) in
+    sym (eqb-true _ _ rest.1) ∙ ap (λ c. from_bits_of (affine_bit c)) found
+
+sub_of_zero : sub_byte 0 ≡ 0x63
+unfolding sub_byte
+sub_of_zero = ap (λ c. from_bits_of (affine_bit c)) inverse_of_zero
+
+-- what is the S-box on each byte
+pub sub_below : (f : ℕ → ℕ) → f 0 ≡ 0x63 → each_below 255 (λ b. let s = f (suc b) in is_sub (suc b) s) ≡ true → (b : ℕ) → b < 256 → f b ≡ sub_byte b
+sub_below f first others zero h = first ∙ sym sub_of_zero
+sub_below f first others (suc b) h = sub_from (suc b) (f (suc b)) (omega arith) h (each_below-at 255 (λ b. let s = f (suc b) in is_sub (suc b) s) b others (omega arith))

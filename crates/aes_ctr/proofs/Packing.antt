@@ -1,8 +1,8 @@
 -- Blocks into planes, and back.
 use Rattle.std.proofs.Common.{◌≡◌, ℕ, ◌<◌, ◌+◌, ◌*◌, ◌/◌, ◌%◌, List, [], slice_index_or, refl, ap, sym, ◌∙◌, lit<}
-use Rattle.aes_ctr.specs.InPlanes.{AreLanes, IsLanes, lane_in, planes_of, byte_of, block_in, transposed, values}
+use Rattle.aes_ctr.specs.InPlanes.{AreLanes, IsLanes, lane_in, plane, planes_of, moved, byte_of, block_in, transposed, values}
 use Rattle.aes_ctr.proofs.Lists.{values_of, values-lt, below_eight}
-use Rattle.aes_ctr.proofs.Rounds.{plane, by_lanes, moved, state_is}
+use Rattle.aes_ctr.proofs.Rounds.{by_lanes, state_is}
 use Rattle.aes_ctr.proofs.Swapping.{transposed-lt, byte_transposed, transposed_byte}
 
 abbrev pub flipped : List (List ℕ) → List (List ℕ)

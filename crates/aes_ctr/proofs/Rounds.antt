@@ -1,17 +1,9 @@
 -- The steps of a round on planes, as on each block.
-use Rattle.std.proofs.Common.{◌≡◌, ℕ, ◌+◌, ◌*◌, ◌/◌, ◌%◌, List, [], ◌∷◌, ◌++◌, bit_xor, length, slice_index_or, refl, ap, sym, ◌∙◌, subst}
-use Rattle.std.specs.Simd.Lanes.{zip2, pick_l}
+use Rattle.std.proofs.Common.{◌≡◌, ℕ, ◌+◌, ◌*◌, ◌/◌, ◌%◌, List, [], ◌∷◌, length, refl, ap, sym, ◌∙◌, subst}
 use Rattle.aes_ctr.specs.Cipher.{shift_rows, mixed, mix_columns, add_states, state_of}
-use Rattle.aes_ctr.specs.InPlanes.{Eight, IsPlanes, lane_in, planes_of, byte_of, block_in, values}
+use Rattle.aes_ctr.specs.InPlanes.{Eight, IsPlanes, lane_in, plane, eight, planes_of, moved, sums, doubled_planes, byte_of, block_in, values}
 use Rattle.aes_ctr.proofs.Bytes.{byte_sum, byte_mixed}
 use Rattle.aes_ctr.proofs.Lists.{values_of}
-
-abbrev pub plane : List (List ℕ) → ℕ → List ℕ
-plane q p = slice_index_or q p []
-
--- eight planes
-abbrev pub eight : (ℕ → List ℕ) → List (List ℕ)
-eight f = f 0 ∷ f 1 ∷ f 2 ∷ f 3 ∷ f 4 ∷ f 5 ∷ f 6 ∷ f 7 ∷ []
 
 pub eight_is : (f g : ℕ → List ℕ) → Eight (λ p. f p ≡ g p) → eight f ≡ eight g
 eight_is f g e = λ i. e.0 i ∷ e.1 i ∷ e.2 i ∷ e.3 i ∷ e.4 i ∷ e.5 i ∷ e.6 i ∷ e.7 i ∷ []
@@ -37,22 +29,10 @@ module _ (q : List (List ℕ)) (full : IsPlanes q) (step : List (List ℕ) → L
 abbrev all_long : Eight (λ p. ◌≡◌ {A = ℕ} 16 16)
 all_long = (refl, refl, refl, refl, refl, refl, refl, refl)
 
--- the lanes of each plane, moved
-abbrev pub moved : (ℕ → ℕ) → List (List ℕ) → List (List ℕ)
-moved f q = eight (λ p. pick_l 0 (plane q p ++ plane q p) (values f 0 16))
-
 abbrev shifted : List (List ℕ) → List (List ℕ)
 shifted = moved (λ i. i / 4 * 4 + (i + i / 4) % 4)
 
-abbrev pub sums : List (List ℕ) → List (List ℕ) → List (List ℕ)
-sums q k = eight (λ p. zip2 bit_xor (plane q p) (plane k p))
-
-abbrev doubled_planes : List (List ℕ) → List (List ℕ)
-doubled_planes q =
-    let with7 = λ (p : ℕ). zip2 bit_xor (plane q p) (plane q 7) in
-    plane q 7 ∷ with7 0 ∷ plane q 1 ∷ with7 2 ∷ with7 3 ∷ plane q 4 ∷ plane q 5 ∷ plane q 6 ∷ []
-
-abbrev mixed_planes : List (List ℕ) → List (List ℕ)
+abbrev pub mixed_planes : List (List ℕ) → List (List ℕ)
 mixed_planes q =
     let below = moved (λ i. (i + 4) % 16) q in
     let pairs = sums q below in

@@ -3,14 +3,14 @@ use Rattle.std.proofs.Common.{◌≡◌, ℕ, ◌<◌, min, List, [], ◌∷◌,
 use Rattle.std.specs.Int.{bit_at}
 use Rattle.std.specs.Simd.Lanes.{zip2}
 use Rattle.std.proofs.lemmas.Nat.Bits.{bit_at_xor, bit_at_and, bit_at_ones, bit_at-zero}
-use Rattle.aes_ctr.specs.Field.{field_mul, inverse, inverse_below, sub_byte, from_bits_of}
+use Rattle.aes_ctr.specs.Field.{field_mul, sub_byte, from_bits_of}
 use Rattle.aes_ctr.specs.Cipher.{sub_bytes}
-use Rattle.aes_ctr.specs.InPlanes.{IsPlanes, lane_in, byte_of, block_in, planes_of, values}
-use Rattle.aes_ctr.proofs.AllBytes.{equal_below}
+use Rattle.aes_ctr.specs.InPlanes.{IsPlanes, lane_in, plane, byte_of, block_in, planes_of, values}
+use Rattle.aes_ctr.proofs.AllBytes.{sub_below}
 use Rattle.aes_ctr.proofs.Bytes.{add, byte-lt, bits}
 use Rattle.aes_ctr.proofs.Circuits.{Gate, outputs, run, circuit_is}
 use Rattle.aes_ctr.proofs.Gates.{gates, result_wires}
-use Rattle.aes_ctr.proofs.Rounds.{plane, step_full, step_block, state_is}
+use Rattle.aes_ctr.proofs.Rounds.{step_full, step_block, state_is}
 
 -- the wires of eight planes, and a one
 abbrev wires : {A : Type 0} → (ℕ → A) → A → List A
@@ -27,8 +27,8 @@ abbrev sub_bits : List Gate → (ℕ → ℕ) → List ℕ
 sub_bits gs b = outputs 0 add min gs result_wires (wires b 1)
 
 pub sub_bits_is : (n : ℕ) → n < 256 → number (sub_bits gates (bit_at n)) ≡ sub_byte n
-unfolding sub_byte inverse inverse_below field_mul
-sub_bits_is n h = equal_below (λ n. number (sub_bits gates (bit_at n))) sub_byte 256 n refl h
+unfolding field_mul
+sub_bits_is n h = sub_below (λ n. number (sub_bits gates (bit_at n))) refl refl n h
 
 -- a function of a lane's number, as its lanes and as a bit of one of them
 abbrev lanes : (ℕ → ℕ) → List ℕ

@@ -1,8 +1,9 @@
 -- The words of the bodies, which no public contract cites.
 -- Eight blocks in eight planes of 16 lanes: bit j of lane 4 r + c of plane p is bit p of the byte
 -- at row r and column c of block j.
-use Rattle.std.specs.Prelude.{ℕ, zero, suc, ◌≡◌, ◌<◌, length, ◌+◌, ◌*◌, ◌/◌, ◌%◌, ◌^◌, ◌==◌, List, [], ◌∷◌, bit_and, bit_xor, slice_index, slice_index_or, if◌then◌else◌}
+use Rattle.std.specs.Prelude.{ℕ, zero, suc, ◌≡◌, ◌<◌, length, ◌+◌, ◌*◌, ◌/◌, ◌%◌, ◌^◌, ◌==◌, List, [], ◌∷◌, ◌++◌, bit_and, bit_xor, slice_index, slice_index_or, if◌then◌else◌}
 use Rattle.std.specs.Int.{bit_at}
+use Rattle.std.specs.Simd.Lanes.{zip2, pick_l}
 use Rattle.aes_ctr.specs.Field.{from_bits_of}
 use Rattle.aes_ctr.specs.Cipher.{state_of}
 
@@ -58,3 +59,26 @@ exchanged n mask f p = swapped n mask (p % 2) (f (p / 2)) (f (p / 2 + 4))
 -- eight bytes whose bits and numbers have changed places, by three exchanges
 unfoldable pub transposed : (ℕ → ℕ) → ℕ → ℕ
 transposed f = exchanged 1 0x55 (exchanged 2 0x33 (exchanged 4 0x0f f))
+
+-- ---- the steps of a round on planes
+
+abbrev pub plane : List (List ℕ) → ℕ → List ℕ
+plane q p = slice_index_or q p []
+
+-- eight planes
+abbrev pub eight : (ℕ → List ℕ) → List (List ℕ)
+eight f = f 0 ∷ f 1 ∷ f 2 ∷ f 3 ∷ f 4 ∷ f 5 ∷ f 6 ∷ f 7 ∷ []
+
+-- the lanes of each plane, moved
+abbrev pub moved : (ℕ → ℕ) → List (List ℕ) → List (List ℕ)
+moved f q = eight (λ p. pick_l 0 (plane q p ++ plane q p) (values f 0 16))
+
+-- the sum of each plane and its fellow
+abbrev pub sums : List (List ℕ) → List (List ℕ) → List (List ℕ)
+sums q k = eight (λ p. zip2 bit_xor (plane q p) (plane k p))
+
+-- the planes of each byte's product by x
+abbrev pub doubled_planes : List (List ℕ) → List (List ℕ)
+doubled_planes q =
+    let with7 = λ (p : ℕ). zip2 bit_xor (plane q p) (plane q 7) in
+    plane q 7 ∷ with7 0 ∷ plane q 1 ∷ with7 2 ∷ with7 3 ∷ plane q 4 ∷ plane q 5 ∷ plane q 6 ∷ []

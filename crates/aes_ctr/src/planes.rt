@@ -1,7 +1,7 @@
 // Eight blocks in bit planes, and what AES does to all of them at once.
-ghost use Rattle.std.specs.Prelude.{◌≡◌, ℕ, ◌<◌, [], slice_index, slice_index_or};
+ghost use Rattle.std.specs.Prelude.{◌≡◌, ℕ, ◌+◌, ◌%◌, ◌<◌, [], slice_index, slice_index_or};
 ghost use Rattle.aes_ctr.specs.Cipher.{add_states, mix_columns, shift_rows};
-ghost use Rattle.aes_ctr.specs.InPlanes.{AreLanes, IsLanes, IsPlanes, block_in, exchanged, lane_in, planes_of, swapped, transposed, values};
+ghost use Rattle.aes_ctr.specs.InPlanes.{AreLanes, IsLanes, IsPlanes, block_in, doubled_planes, exchanged, lane_in, moved, planes_of, sums, swapped, transposed, values};
 
 use std::simd::prelude::*;
 
@@ -43,7 +43,7 @@ pub fn add(q: Planes, k: Planes) -> Planes
     ensures full { IsPlanes result }
     ensures blocks { (j : ℕ) → block_in result j ≡ add_states (block_in q j) (block_in k j) }
 {
-    each_plane!(p => q[p] ^ k[p])
+    sums(q, k)
 }
 
 /// Row r moves r places to the left (FIPS 197, 5.1.2).
@@ -63,11 +63,39 @@ pub fn mix_columns(q: Planes) -> Planes
     ensures full { IsPlanes result }
     ensures blocks { (j : ℕ) → block_in result j ≡ mix_columns (block_in q j) }
 {
-    let below = each_plane!(p => q[p].swizzle(ONE_DOWN));
-    let pairs = each_plane!(p => q[p] ^ below[p]);
-    let [a, b, c, d, e, f, g, h] = pairs;
-    let doubled = [h, a ^ h, b, c ^ h, d ^ h, e, f, g];
-    each_plane!(p => below[p] ^ pairs[p].swizzle(TWO_DOWN) ^ doubled[p])
+    let below = one_down(q);
+    let pairs = sums(q, below);
+    sums(sums(below, two_down(pairs)), doubled(pairs))
+}
+
+#[inline(always)]
+fn sums(q: Planes, k: Planes) -> Planes
+    ensures { result ≡ sums q k }
+{
+    each_plane!(p => q[p] ^ k[p])
+}
+
+#[inline(always)]
+fn one_down(q: Planes) -> Planes
+    ensures { result ≡ moved (λ i. (i + 4) % 16) q }
+{
+    each_plane!(p => q[p].swizzle(ONE_DOWN))
+}
+
+#[inline(always)]
+fn two_down(q: Planes) -> Planes
+    ensures { result ≡ moved (λ i. (i + 8) % 16) q }
+{
+    each_plane!(p => q[p].swizzle(TWO_DOWN))
+}
+
+// The planes of each byte's product by x.
+#[inline(always)]
+fn doubled(q: Planes) -> Planes
+    ensures { result ≡ doubled_planes q }
+{
+    let [a, b, c, d, e, f, g, h] = q;
+    [h, a ^ h, b, c ^ h, d ^ h, e, f, g]
 }
 
 // Swaps the bits of a at the mask's places + by with those of b at the mask's places.

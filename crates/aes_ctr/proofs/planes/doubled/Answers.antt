@@ -1,0 +1,5 @@
+use Rattle.std.proofs.Common.{refl}
+use Rattle.aes_ctr.proofs.planes.doubled.Goals as goal
+
+pub returns : goal.returns
+returns c = refl
