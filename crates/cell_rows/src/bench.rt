@@ -3,12 +3,9 @@ use crate::banks::BankCase;
 use crate::cells::CellCase;
 use crate::fields::DataSets;
 use crate::targets::TargetsCase;
-use case_lines::{Line, LineFault};
+use case_lines::{Answer, Line, LineFault};
 use std::alloc::Global;
 use std::sync::Wait;
-
-/// What a call prints, where it answers anything.
-pub type Answer = Result<Option<String>, LineFault>;
 
 /// What is kept from line to line: the data sets that no line has used yet, a cell, a bank and targets.
 #[derive(Drop)]

@@ -3,7 +3,7 @@ ghost use Rattle.std.specs.Prelude.{◌≡◌, ◌<◌, ◌^◌, IfOk, length, s
 ghost use Rattle.row_words.specs.Belonging.{Belongs};
 ghost use Rattle.row_words.specs.Patches.{IsPatchOf};
 
-use case_lines::{Line, LineFault};
+use case_lines::{Line, LineFault, number};
 use dataset_meta::{Field, Meta, Name32};
 use row_words::{Patch, Row};
 use std::alloc::Global;
@@ -96,8 +96,8 @@ fn put(meta: &Meta, patch: &mut Patch, word: &str) -> Result<(), LineFault>
     ensures { IsPatchOf meta.now patch.new }
 {
     let (index, value) = word.split_once('=').ok_or(LineFault::Missing)?;
-    let index = index.parse::<u8>().map_err(|_| LineFault::Number)?;
-    let value = Value::UInt32(value.parse::<u32>().map_err(|_| LineFault::Number)?);
+    let index = number::<u8>(index)?;
+    let value = Value::UInt32(number::<u32>(value)?);
     let fields = meta.fields();
     if usize::from(index) >= fields.len() {
         return Err(LineFault::Condition);

@@ -11,7 +11,7 @@ mod shown;
 mod targets;
 
 use bench::Bench;
-use case_lines::Line;
+use case_lines::{AnsweredLine, Line, is_note};
 use std::io;
 
 fn main(rt: HostRuntime) -> io::Result<()> {
@@ -19,15 +19,16 @@ fn main(rt: HostRuntime) -> io::Result<()> {
     for line in rt.lines(rt.alloc()) {
         let line = line?;
         let text = line.as_str();
-        if text.is_empty() || text.starts_with('#') {
-            println!(rt; "{text}")?;
-            continue;
-        }
-        match bench.answer(&rt, &mut Line::new(text)) {
-            Ok(Some(answer)) => println!(rt; "{text} -> {answer}")?,
-            Ok(None) => println!(rt; "{text}")?,
-            Err(fault) => println!(rt; "{text} -> not a case: {fault:?}")?,
-        }
+        let answer = if is_note(text) {
+            Ok(None)
+        } else {
+            bench.answer(&rt, &mut Line::new(text))
+        };
+        let told = AnsweredLine {
+            line: text,
+            answer: &answer,
+        };
+        println!(rt; "{told}")?;
     }
     Ok(())
 }

@@ -3,7 +3,7 @@ ghost use Rattle.std.specs.Prelude.{◌≡◌, ◌<◌, All, IfOk, length};
 
 use crate::fields::{DataSets, row_of};
 use crate::shown::{Answered, seen, text};
-use case_lines::{Line, LineFault};
+use case_lines::{Line, LineFault, number};
 use dataset_meta::Meta;
 use std::alloc::Global;
 use std::marker::Model;
@@ -198,7 +198,7 @@ fn readers_of(alloc: Global, line: &Line, metas: &[Meta]) -> Result<Vec<u8>, Lin
 {
     let mut readers = Vec::new(alloc);
     for word in line.words() {
-        let set = word.parse::<u8>().map_err(|_| LineFault::Number)?;
+        let set = number::<u8>(word)?;
         if usize::from(set) >= metas.len() {
             return Err(LineFault::Condition);
         }
