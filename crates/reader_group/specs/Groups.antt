@@ -1,7 +1,6 @@
 -- Which read group in memory has the plain reading of what befell it.
 use Rattle.std.specs.Prelude.{◌≡◌, ℕ, ◌<◌, List, length, sum_by, slice_set, slice_index_or}
 use Rattle.std.specs.List.{HoldsAt}
-use Rattle.dataset_meta.specs.Metas.{MetaData}
 use Rattle.message_guard.specs.declared.guard.Guard.{Guard}
 use Rattle.message_guard.specs.Guards.{IsGuardOf, setup_of}
 use Rattle.ps_config.specs.declared.parts.Config.{Config}

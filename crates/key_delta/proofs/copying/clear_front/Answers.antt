@@ -1,4 +1,4 @@
-use Rattle.std.proofs.Common.{◌≡◌, ◌≤◌, ℕ, length, replicate, ap, ◌∙◌, arith, length-take-le}
+use Rattle.std.proofs.Common.{◌≤◌, ℕ, length, replicate, ap, ◌∙◌, arith, length-take-le}
 use Rattle.row_words.proofs.PatchLaws.{patch_in-none}
 use Rattle.key_delta.proofs.ClearLaws.{all_zeros, empty_patch}
 use Rattle.key_delta.proofs.copying.clear_front.Goals as goal

@@ -1,4 +1,4 @@
-use Rattle.std.proofs.Common.{◌≡◌, ℕ, List, sym, ap, ◌∙◌, subst}
+use Rattle.std.proofs.Common.{sym, ap, ◌∙◌, subst}
 use Rattle.row_words.specs.Belonging.{Belongs, row_in}
 use Rattle.key_delta.proofs.copying.zeros_are_a_row.Goals as goal
 
