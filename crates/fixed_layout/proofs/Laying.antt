@@ -17,11 +17,11 @@ use Rattle.dataset_meta.specs.DataValues.{DataValue, FitsField}
 use Rattle.dataset_meta.specs.Rows.{IsRowOf}
 use Rattle.dataset_meta.proofs.RowLaws.{length_row}
 use Rattle.row_words.specs.Setting.{HasValue}
-use Rattle.row_words.specs.Words.{IsWordOf, scalar_in}
+use Rattle.row_words.specs.Words.{IsWordOf, scalar_in, scalar_bytes}
 use Rattle.row_words.proofs.FieldLaws.{IsRow-at}
 use Rattle.row_words.proofs.ScalarLaws.{boolean_word}
 use Rattle.fixed_layout.specs.Spelling.{raw_width, raw_width_of, filling, raw_value, raw_row}
-use Rattle.fixed_layout.specs.Calls.{scalar_bytes, PutsValue}
+use Rattle.fixed_layout.specs.Calls.{PutsValue}
 use Rattle.fixed_layout.proofs.Sizes.{length_in_field}
 
 -- what stands at an index

@@ -1,9 +1,7 @@
 -- What private steps of reading and writing say: scalars as words, and values that are set where they stand.
 use Rattle.std.specs.Prelude.{◌≡◌, ℕ, ◌+◌, List, length, [], ◌∷◌, slice_set, Result, Ok, Err}
-use Rattle.std.specs.Int.{w16, w32, w64, to_le_bytes}
 use Rattle.std.specs.List.{HoldsAt}
 use Rattle.ua_values.specs.declared.kind.Kind.{Kind}
-use Rattle.ua_values.specs.declared.kind.Kind.TheVariants as kinds
 use Rattle.ua_values.specs.declared.value.Value.{Value}
 use Rattle.ua_binary.specs.declared.pen.Pen.{Pen}
 use Rattle.ua_binary.specs.Reading.{◌>>=◌}
@@ -35,25 +33,6 @@ scalar_of kind (Err fault) = Err fault
 -- the value of a field, set at an index of a row
 unfoldable pub set_at : Field → ℕ → List DataValue → List ℕ → Result (List DataValue × List ℕ) RawFault
 set_at field index row bytes = raw_field_at field bytes >>= λ x. Ok (slice_set row index x.0, x.1)
-
--- the bytes of a scalar's word
-abbrev pub scalar_bytes : Kind → ℕ → List ℕ
-scalar_bytes kinds.Boolean word = word ∷ []
-scalar_bytes kinds.SByte word = word ∷ []
-scalar_bytes kinds.Byte word = word ∷ []
-scalar_bytes kinds.Int16 word = to_le_bytes w16 word
-scalar_bytes kinds.UInt16 word = to_le_bytes w16 word
-scalar_bytes kinds.Int32 word = to_le_bytes w32 word
-scalar_bytes kinds.UInt32 word = to_le_bytes w32 word
-scalar_bytes kinds.Int64 word = to_le_bytes w64 word
-scalar_bytes kinds.UInt64 word = to_le_bytes w64 word
-scalar_bytes kinds.Float word = to_le_bytes w32 word
-scalar_bytes kinds.Double word = to_le_bytes w64 word
-scalar_bytes kinds.DateTime word = to_le_bytes w64 word
-scalar_bytes kinds.StatusCode word = to_le_bytes w32 word
-scalar_bytes kinds.String word = []
-scalar_bytes kinds.ByteString word = []
-scalar_bytes kinds.Guid word = []
 
 -- the value at an index of a row stands behind what was written
 abbrev pub PutsValue : List Field → List DataValue → ℕ → Pen → Pen → Type 0

@@ -4,9 +4,9 @@ ghost use Rattle.std.specs.List.{HoldsAt};
 ghost use Rattle.ua_values.specs.Values.{kind_of};
 ghost use Rattle.ua_binary.specs.Spelling.{block};
 ghost use Rattle.ua_binary.specs.Writing.{Puts, Writes};
-ghost use Rattle.row_words.specs.Words.{IsWordOf, is_scalar};
+ghost use Rattle.row_words.specs.Words.{IsWordOf, is_scalar, scalar_bytes};
 ghost use Rattle.row_words.specs.Belonging.{Belongs, row_in};
-ghost use Rattle.fixed_layout.specs.Calls.{scalar_bytes, PutsValue, LaysValue};
+ghost use Rattle.fixed_layout.specs.Calls.{PutsValue, LaysValue};
 ghost use Rattle.fixed_layout.specs.Spelling.{raw_width_of, raw_size, raw_value, raw_row};
 
 use crate::size::raw_size;

@@ -20,7 +20,7 @@ use Rattle.frame_codec.specs.declared.fault.FrameFault.TheVariants.{Short, BadVa
 use Rattle.frame_codec.specs.Contents.{in_frame, good, value_at, suits, kept, given, field_at, present, surplus_at, row_at, surpluses_at}
 use Rattle.frame_codec.specs.Wire.{WireField, AsVariant, AsDataValue, IsWireField, field_bytes, field_read, wire_values_bytes, IsForField, AreValues, value_read, row_read}
 use Rattle.frame_codec.proofs.Grammars.{Choice, either_grammar, judged_grammar, framed_grammar}
-use Rattle.frame_codec.proofs.FlagLaws.{both}
+use Rattle.ua_binary.proofs.FlagTests.{both}
 
 -- a value on the wire
 pub record SpellsValue (encoding : ℕ) (measured : Measured) (text : List ℕ) : Type 0 where

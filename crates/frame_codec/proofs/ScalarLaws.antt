@@ -20,9 +20,9 @@ use Rattle.ua_binary.specs.Reading.{◌>>=◌, byte_at, bytes_at, number_at, Rea
 use Rattle.ua_binary.specs.ReadingValues.{as_value, plain_at, variant_at, parts_at, times_past, data_value_at}
 use Rattle.ua_binary.proofs.Parts.{bytes_again}
 use Rattle.ua_binary.proofs.Values.{kind_read}
-use Rattle.row_words.specs.Words.{IsWordOf, scalar_in}
+use Rattle.row_words.specs.Words.{IsWordOf, scalar_in, scalar_bytes}
 use Rattle.row_words.proofs.ScalarLaws.{kind_of-scalar_in, boolean_word}
-use Rattle.frame_codec.specs.Calls.{scalar_bytes, has_four_bytes, has_eight_bytes, EndsDataValue}
+use Rattle.frame_codec.specs.Calls.{has_four_bytes, has_eight_bytes, EndsDataValue}
 
 -- a scalar's bytes are those of its word
 pub plain-scalar_in : (kind : Kind) (word : ℕ) → IsWordOf kind word → plain (scalar_in kind word) ≡ scalar_bytes kind word

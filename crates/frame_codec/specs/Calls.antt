@@ -1,6 +1,5 @@
 -- What private steps of reading and writing say: scalars as words, and values that are set where they stand.
 use Rattle.std.specs.Prelude.{◌≡◌, ℕ, Bool, true, false, List, [], ◌∷◌, slice_set, Some, Result, Ok, Err}
-use Rattle.std.specs.Int.{w16, w32, w64, to_le_bytes}
 use Rattle.ua_values.specs.declared.kind.Kind.{Kind}
 use Rattle.ua_values.specs.declared.kind.Kind.TheVariants as kinds
 use Rattle.ua_values.specs.declared.value.Value.{Value}
@@ -53,25 +52,6 @@ abbrev pub EndsDataValue : ℕ → ℕ → List ℕ → List ℕ → Type 0
 EndsDataValue mask status here there =
     (value : Value) (bytes : List ℕ) → variant_at bytes ≡ Ok (value, here)
     → data_value_at (mask ∷ bytes) ≡ Ok (record { value = Some value; status = status }, there)
-
--- the bytes of a scalar's word, without its type
-abbrev pub scalar_bytes : Kind → ℕ → List ℕ
-scalar_bytes kinds.Boolean word = word ∷ []
-scalar_bytes kinds.SByte word = word ∷ []
-scalar_bytes kinds.Byte word = word ∷ []
-scalar_bytes kinds.Int16 word = to_le_bytes w16 word
-scalar_bytes kinds.UInt16 word = to_le_bytes w16 word
-scalar_bytes kinds.Int32 word = to_le_bytes w32 word
-scalar_bytes kinds.UInt32 word = to_le_bytes w32 word
-scalar_bytes kinds.Int64 word = to_le_bytes w64 word
-scalar_bytes kinds.UInt64 word = to_le_bytes w64 word
-scalar_bytes kinds.Float word = to_le_bytes w32 word
-scalar_bytes kinds.Double word = to_le_bytes w64 word
-scalar_bytes kinds.DateTime word = to_le_bytes w64 word
-scalar_bytes kinds.StatusCode word = to_le_bytes w32 word
-scalar_bytes kinds.String word = []
-scalar_bytes kinds.ByteString word = []
-scalar_bytes kinds.Guid word = []
 
 -- the scalars of which scalar_bytes has four bytes
 abbrev pub has_four_bytes : Kind → Bool

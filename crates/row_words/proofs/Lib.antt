@@ -9,6 +9,7 @@ mod OpeningLaws
 pub mod PatchLaws
 pub mod MeaningLaws
 mod ShapeLaws
+pub mod Marks
 mod LayLaws
 mod CutLaws
 pub mod ScalarLaws

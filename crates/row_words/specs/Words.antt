@@ -1,7 +1,7 @@
 -- How values stand in words of 64 bits. Bits that a value doesn't use are zero.
 use Rattle.std.specs.Prelude.{◌≡◌, ℕ, ◌-◌, ◌*◌, ◌^◌, ◌<◌, ◌≤◌, Bool, true, false, ◌==◌, if◌then◌else◌, List, [], ◌∷◌, length, take, drop, slice_index}
 use Rattle.std.specs.List.{flat_map}
-use Rattle.std.specs.Int.{w8, w16, w32, w64, cast_signed, cast_unsigned}
+use Rattle.std.specs.Int.{w8, w16, w32, w64, cast_signed, cast_unsigned, to_le_bytes}
 use Rattle.ua_values.specs.declared.kind.Kind.{Kind}
 use Rattle.ua_values.specs.declared.kind.Kind.TheVariants as kinds
 use Rattle.ua_values.specs.declared.value.Value.{Value}
@@ -33,6 +33,25 @@ scalar_word (values.Double bits) = bits
 scalar_word (values.DateTime steps) = cast_unsigned w64 steps
 scalar_word (values.StatusCode code) = code
 scalar_word _ = 0
+
+-- the bytes of a scalar's word as OPC 10000-6 spells it, lowest first
+abbrev pub scalar_bytes : Kind → ℕ → List ℕ
+scalar_bytes kinds.Boolean word = word ∷ []
+scalar_bytes kinds.SByte word = word ∷ []
+scalar_bytes kinds.Byte word = word ∷ []
+scalar_bytes kinds.Int16 word = to_le_bytes w16 word
+scalar_bytes kinds.UInt16 word = to_le_bytes w16 word
+scalar_bytes kinds.Int32 word = to_le_bytes w32 word
+scalar_bytes kinds.UInt32 word = to_le_bytes w32 word
+scalar_bytes kinds.Int64 word = to_le_bytes w64 word
+scalar_bytes kinds.UInt64 word = to_le_bytes w64 word
+scalar_bytes kinds.Float word = to_le_bytes w32 word
+scalar_bytes kinds.Double word = to_le_bytes w64 word
+scalar_bytes kinds.DateTime word = to_le_bytes w64 word
+scalar_bytes kinds.StatusCode word = to_le_bytes w32 word
+scalar_bytes kinds.String word = []
+scalar_bytes kinds.ByteString word = []
+scalar_bytes kinds.Guid word = []
 
 -- eight bytes to a word, the first byte lowest, in so many words; zeros behind the last byte
 unfoldable pub packed : ℕ → List ℕ → List ℕ

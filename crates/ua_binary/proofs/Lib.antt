@@ -1,6 +1,7 @@
 pub mod Blocks
 pub mod DataValues
 pub mod Faults
+pub mod FlagTests
 pub mod Grammar
 pub mod Laying
 pub mod Masks

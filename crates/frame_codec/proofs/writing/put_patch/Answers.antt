@@ -3,7 +3,8 @@ use Rattle.row_words.specs.Belonging.{row_in}
 use Rattle.row_words.specs.Patches.{marked_from, patch_in}
 use Rattle.frame_codec.specs.Spelling.{changes_bytes}
 use Rattle.frame_codec.proofs.Laid.{length-row_in}
-use Rattle.frame_codec.proofs.Marks.{lowest, none-laid, change-room, change-laid, changes-laid}
+use Rattle.row_words.proofs.Marks.{lowest}
+use Rattle.frame_codec.proofs.Marks.{none-laid, change-room, change-laid, changes-laid}
 use Rattle.frame_codec.proofs.writing.put_patch.Goals as goal
 
 pub put_change-requires-clause-index : goal.put_change-requires-clause-index

@@ -1,7 +1,7 @@
 use Rattle.std.proofs.Common.{◌∷◌, List, ℕ, ap, sym, subst, length, arith}
 use Rattle.ua_binary.specs.Writing.{Puts}
 use Rattle.ua_binary.proofs.Laying.{Puts-then}
-use Rattle.frame_codec.specs.Calls.{scalar_bytes}
+use Rattle.row_words.specs.Words.{scalar_bytes}
 use Rattle.frame_codec.proofs.ScalarLaws.{variant-scalar_in}
 use Rattle.frame_codec.proofs.writing.put_scalar.Goals as goal
 

@@ -1,5 +1,6 @@
 use Rattle.std.proofs.Common.{length, rules, ◌∙◌, arith}
-use Rattle.row_words.proofs.LayLaws.{lowest, laid_more, laid_all, words_laid}
+use Rattle.row_words.proofs.LayLaws.{laid_more, laid_all, words_laid}
+use Rattle.row_words.proofs.Marks.{lowest}
 use Rattle.row_words.proofs.patch.Patch.lay.Goals as goal
 
 pub copy_field-requires-clause-index : goal.copy_field-requires-clause-index
