@@ -11,7 +11,7 @@ ghost use Rattle.reader_group.specs.Payloads.{reader_slot};
 use crate::member::Member;
 use crate::payload::{Messages, Payload};
 use crate::receipt::Receipt;
-use crate::slot_frame::read_slot_frame;
+use crate::slot_frame::read_slot_frame_into;
 use crate::tally::Tally;
 use chunker::{Joined, Joiner, read_chunk};
 use dataset_meta::Meta;
@@ -27,6 +27,7 @@ impl Member {
     ghost use Rattle.ps_config.specs.declared.parts.ReaderPart.{ReaderPart as AnyPart};
     ghost use Rattle.reader_group.specs.Members.{Seat, MemberValue, seat_of};
     ghost use Rattle.reader_group.specs.Payloads.{Message, Chunked, pieces, slot_piece};
+    ghost use Rattle.reader_group.specs.SlotFrames.{slot_frame_at};
     ghost use Rattle.reader_group.specs.Held.{payload_in, messages_in, listed_at};
     ghost use Rattle.reader_group.specs.Plain.{Fed, given, read_case, piece_case, fed_if, fed_on, unfed, fed_by};
     ghost use Rattle.reader_group.specs.MemberWords.{IsMemberOf, HoldsRowsOf, Follows, IsFed};
@@ -150,11 +151,25 @@ impl Member {
         let Some(bytes) = slot_of(part, datagram) else {
             return true;
         };
-        let Ok(frame) = read_slot_frame(meta, bytes) else {
-            return true;
-        };
-        self.give(meta, receipt, &frame);
-        false
+        match self.read_slot(meta, bytes) {
+            Ok(()) => {
+                self.give_kept(meta, receipt);
+                false
+            }
+            Err(_) => true,
+        }
+    }
+
+    // Reads a slot over the frame that is kept.
+    fn read_slot(&mut self, meta: &Meta, bytes: &[u8]) -> Result<(), FrameFault>
+        requires { HoldsRowsOf meta.now self.old }
+        ensures member { (seat : Seat) (member : MemberValue)
+            → IsMemberOf seat member self.old → IsMemberOf seat member self.new }
+        ensures answer { leaving result (frame_in meta.now.fields self.new.frame)
+            ≡ slot_frame_at meta.now bytes.now }
+        ensures reader { HoldsRowsOf meta.now self.new }
+    {
+        read_slot_frame_into(meta, bytes, &mut self.frame)
     }
 
     // A message; the answer says whether it is bad.
