@@ -15,12 +15,12 @@ use crate::slot_frame::read_slot_frame_into;
 use crate::tally::Tally;
 use chunker::{Joined, Joiner, read_chunk};
 use dataset_meta::Meta;
-use frame_codec::{Frame, FrameFault, read_frame, read_frame_into};
+use frame_codec::{FrameFault, read_frame_into};
 use ps_config::ReaderPart;
 
 impl Member {
     ghost use Rattle.std.specs.Prelude.{◌≡◌, ◌≤◌, ◌<◌, ◌+◌, ◌==◌, length, fold};
-    ghost use Rattle.frame_codec.specs.Words.{IsFrameOf, frame_in};
+    ghost use Rattle.frame_codec.specs.Words.{frame_in};
     ghost use Rattle.frame_codec.specs.Calls.{leaving};
     ghost use Rattle.frame_codec.specs.Reading.{frame_at};
     ghost use Rattle.chunker.specs.Joining.{joined_bytes};
@@ -237,11 +237,26 @@ impl Member {
             (frame_at meta.now (joined_bytes member.joining))) self.new result }
         ensures reader { HoldsRowsOf meta.now self.new }
     {
-        let Ok(frame) = read_frame(meta, self.joiner.bytes()) else {
-            return true;
-        };
-        self.give(meta, receipt, &frame);
-        false
+        match self.read_joined(meta) {
+            Ok(()) => {
+                self.give_kept(meta, receipt);
+                false
+            }
+            Err(_) => true,
+        }
+    }
+
+    // Reads the message that was joined over the frame that is kept.
+    fn read_joined(&mut self, meta: &Meta) -> Result<(), FrameFault>
+        requires { HoldsRowsOf meta.now self.old }
+        ensures member { (seat : Seat) (member : MemberValue)
+            → IsMemberOf seat member self.old → IsMemberOf seat member self.new }
+        ensures answer { (joining : Joining) → IsJoinerOf joining self.old.joiner
+            → leaving result (frame_in meta.now.fields self.new.frame)
+            ≡ frame_at meta.now (joined_bytes joining) }
+        ensures reader { HoldsRowsOf meta.now self.new }
+    {
+        read_frame_into(meta, self.joiner.bytes(), &mut self.frame)
     }
 
     // The reader is given the frame that is kept.
@@ -255,21 +270,6 @@ impl Member {
     {
         carries_short(self.frame.number);
         let took = self.reader.frame(meta, &self.frame, receipt.stamp);
-        self.note(receipt.moment, took.outcome);
-    }
-
-    // The reader is given a frame.
-    fn give(&mut self, meta: &Meta, receipt: &Receipt, frame: &Frame)
-        requires frame { IsFrameOf meta.now frame.now }
-        requires reader { HoldsRowsOf meta.now self.old }
-        ensures member { (part : AnyPart) (member : MemberValue)
-            → IsMemberOf (seat_of part meta.now) member self.old
-            → IsMemberOf (seat_of part meta.now)
-            (given (seat_of part meta.now) receipt.now member (frame_in meta.now.fields frame.now)) self.new }
-        ensures reader { HoldsRowsOf meta.now self.new }
-    {
-        carries_short(frame.number);
-        let took = self.reader.frame(meta, frame, receipt.stamp);
         self.note(receipt.moment, took.outcome);
     }
 }
