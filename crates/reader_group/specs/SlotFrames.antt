@@ -10,9 +10,7 @@ use Rattle.fixed_layout.specs.Reading.{raw_row_at}
 use Rattle.frame_codec.specs.declared.fault.FrameFault.{FrameFault}
 use Rattle.frame_codec.specs.declared.fault.FrameFault.TheVariants.{Short, BadValue}
 use Rattle.frame_codec.specs.declared.front.Front.{Front}
-use Rattle.frame_codec.specs.declared.frame.Frame.{Frame as FrameWords}
 use Rattle.frame_codec.specs.Frames.{Content, Whole, Alive, Frame}
-use Rattle.frame_codec.specs.Words.{GivesFrame}
 use Rattle.frame_codec.specs.Fronts.{front_at}
 use Rattle.frame_codec.specs.Reading.{frame_with, ended, frame_at}
 
@@ -42,7 +40,3 @@ frame_behind meta bytes front =
 
 unfoldable pub slot_frame_at : MetaData → List ℕ → Result Frame FrameFault
 slot_frame_at meta bytes = front_at true bytes >>= frame_behind meta bytes
-
--- the same, of a frame in words
-abbrev pub GivesBehind : MetaData → Result FrameWords FrameFault → Front → List ℕ → Type 0
-GivesBehind meta answer front bytes = GivesFrame meta answer (raw_frame_at meta front bytes)

@@ -11,22 +11,23 @@ ghost use Rattle.reader_group.specs.Payloads.{reader_slot};
 use crate::member::Member;
 use crate::payload::{Messages, Payload};
 use crate::receipt::Receipt;
-use crate::slot_frame::read_slot_frame;
+use crate::slot_frame::read_slot_frame_into;
 use crate::tally::Tally;
 use chunker::{Joined, Joiner, read_chunk};
 use dataset_meta::Meta;
-use frame_codec::{Frame, FrameFault, read_frame, read_frame_into};
+use frame_codec::{FrameFault, read_frame_into};
 use ps_config::ReaderPart;
 
 impl Member {
     ghost use Rattle.std.specs.Prelude.{◌≡◌, ◌≤◌, ◌<◌, ◌+◌, ◌==◌, length, fold};
-    ghost use Rattle.frame_codec.specs.Words.{IsFrameOf, frame_in};
+    ghost use Rattle.frame_codec.specs.Words.{frame_in};
     ghost use Rattle.frame_codec.specs.Calls.{leaving};
     ghost use Rattle.frame_codec.specs.Reading.{frame_at};
     ghost use Rattle.chunker.specs.Joining.{joined_bytes};
     ghost use Rattle.ps_config.specs.declared.parts.ReaderPart.{ReaderPart as AnyPart};
     ghost use Rattle.reader_group.specs.Members.{Seat, MemberValue, seat_of};
     ghost use Rattle.reader_group.specs.Payloads.{Message, Chunked, pieces, slot_piece};
+    ghost use Rattle.reader_group.specs.SlotFrames.{slot_frame_at};
     ghost use Rattle.reader_group.specs.Held.{payload_in, messages_in, listed_at};
     ghost use Rattle.reader_group.specs.Plain.{Fed, given, read_case, piece_case, fed_if, fed_on, unfed, fed_by};
     ghost use Rattle.reader_group.specs.MemberWords.{IsMemberOf, HoldsRowsOf, Follows, IsFed};
@@ -150,11 +151,25 @@ impl Member {
         let Some(bytes) = slot_of(part, datagram) else {
             return true;
         };
-        let Ok(frame) = read_slot_frame(meta, bytes) else {
-            return true;
-        };
-        self.give(meta, receipt, &frame);
-        false
+        match self.read_slot(meta, bytes) {
+            Ok(()) => {
+                self.give_kept(meta, receipt);
+                false
+            }
+            Err(_) => true,
+        }
+    }
+
+    // Reads a slot over the frame that is kept.
+    fn read_slot(&mut self, meta: &Meta, bytes: &[u8]) -> Result<(), FrameFault>
+        requires { HoldsRowsOf meta.now self.old }
+        ensures member { (seat : Seat) (member : MemberValue)
+            → IsMemberOf seat member self.old → IsMemberOf seat member self.new }
+        ensures answer { leaving result (frame_in meta.now.fields self.new.frame)
+            ≡ slot_frame_at meta.now bytes.now }
+        ensures reader { HoldsRowsOf meta.now self.new }
+    {
+        read_slot_frame_into(meta, bytes, &mut self.frame)
     }
 
     // A message; the answer says whether it is bad.
@@ -222,11 +237,26 @@ impl Member {
             (frame_at meta.now (joined_bytes member.joining))) self.new result }
         ensures reader { HoldsRowsOf meta.now self.new }
     {
-        let Ok(frame) = read_frame(meta, self.joiner.bytes()) else {
-            return true;
-        };
-        self.give(meta, receipt, &frame);
-        false
+        match self.read_joined(meta) {
+            Ok(()) => {
+                self.give_kept(meta, receipt);
+                false
+            }
+            Err(_) => true,
+        }
+    }
+
+    // Reads the message that was joined over the frame that is kept.
+    fn read_joined(&mut self, meta: &Meta) -> Result<(), FrameFault>
+        requires { HoldsRowsOf meta.now self.old }
+        ensures member { (seat : Seat) (member : MemberValue)
+            → IsMemberOf seat member self.old → IsMemberOf seat member self.new }
+        ensures answer { (joining : Joining) → IsJoinerOf joining self.old.joiner
+            → leaving result (frame_in meta.now.fields self.new.frame)
+            ≡ frame_at meta.now (joined_bytes joining) }
+        ensures reader { HoldsRowsOf meta.now self.new }
+    {
+        read_frame_into(meta, self.joiner.bytes(), &mut self.frame)
     }
 
     // The reader is given the frame that is kept.
@@ -240,21 +270,6 @@ impl Member {
     {
         carries_short(self.frame.number);
         let took = self.reader.frame(meta, &self.frame, receipt.stamp);
-        self.note(receipt.moment, took.outcome);
-    }
-
-    // The reader is given a frame.
-    fn give(&mut self, meta: &Meta, receipt: &Receipt, frame: &Frame)
-        requires frame { IsFrameOf meta.now frame.now }
-        requires reader { HoldsRowsOf meta.now self.old }
-        ensures member { (part : AnyPart) (member : MemberValue)
-            → IsMemberOf (seat_of part meta.now) member self.old
-            → IsMemberOf (seat_of part meta.now)
-            (given (seat_of part meta.now) receipt.now member (frame_in meta.now.fields frame.now)) self.new }
-        ensures reader { HoldsRowsOf meta.now self.new }
-    {
-        carries_short(frame.number);
-        let took = self.reader.frame(meta, frame, receipt.stamp);
         self.note(receipt.moment, took.outcome);
     }
 }

@@ -1,13 +1,20 @@
-use Rattle.std.proofs.Common.{sym, ap, ◌∙◌}
+use Rattle.std.proofs.Common.{sym}
 use Rattle.frame_codec.specs.Reading.{frame_at}
 use Rattle.frame_codec.specs.Words.{frame_in}
 use Rattle.chunker.specs.Joining.{joined_bytes}
 use Rattle.reader_group.specs.Members.{seat_of}
-use Rattle.reader_group.proofs.Giving.{read_follows}
+use Rattle.reader_group.proofs.Giving.{read_follows, refused_follows}
 use Rattle.reader_group.proofs.member.Member.joined.Goals as goal
 
-pub returns-clause-case : goal.returns-clause-case
-returns-clause-case c = λ part member h.
+pub returns-in-Ok-clause-case : goal.returns-in-Ok-clause-case
+returns-in-Ok-clause-case c = λ part member h.
     let meta = c.args.meta.now in
-    read_follows (seat_of part meta) c.args.receipt.now member (frame_in meta.fields c.in-Ok.frame) (frame_at meta (joined_bytes member.joining)) c.give.new.self
-    (ap (frame_at meta) (sym (c.bytes.ensures member.joining h.joining)) ∙ c.in-Ok.ensures.1) (c.give.ensures.member part member h)
+    let seat = seat_of part meta in
+    read_follows seat c.args.receipt.now member (frame_in meta.fields c.read_joined.new.self.frame) (frame_at meta (joined_bytes member.joining)) c.give_kept.new.self (sym (c.in-Ok.ensures.answer member.joining h.joining))
+    (c.give_kept.ensures.member part member (c.in-Ok.ensures.member seat member h))
+
+pub returns-in-Err-clause-case : goal.returns-in-Err-clause-case
+returns-in-Err-clause-case c = λ part member h.
+    let meta = c.args.meta.now in
+    let seat = seat_of part meta in
+    refused_follows seat c.args.receipt.now member _ (frame_at meta (joined_bytes member.joining)) c.read_joined.new.self (sym (c.in-Err.ensures.answer member.joining h.joining)) (c.in-Err.ensures.member seat member h)

@@ -1,0 +1,5 @@
+use Rattle.reader_group.proofs.member.Member.read_slot.Goals as goal
+
+pub returns-clause-member : goal.returns-clause-member
+returns-clause-member c = λ seat member h.
+    record { kept = h.kept; numbering = h.numbering; joining = h.joining; timer = h.timer; late = h.late; ready = h.ready }
