@@ -1,6 +1,6 @@
 -- What a reader counts of each message, and what it waits for.
 use Rattle.std.proofs.Common.{◌≡◌, refl, sym, ap, ◌∙◌, subst, ◌⊎◌, inl, inr, arith, ℕ, ◌+◌, ◌≤◌, ◌^◌, ◌-◌, min, take, Bool, true, false, List, ◌∷◌, Option, Some, None}
-use Rattle.std.specs.Prelude.{◌==◌, nat_le, max, unwrap_or}
+use Rattle.std.specs.Prelude.{◌==◌}
 use Rattle.std.proofs.lemmas.Bool.{leb-true, le-leb}
 use Rattle.dataset_meta.specs.DataValues.{DataValue}
 use Rattle.seq_number.specs.Numbers.{newer}

@@ -6,8 +6,6 @@ use Rattle.std.proofs.lemmas.Bool.Decides.{nat_tests}
 use Rattle.seq_number.specs.Numbers.{newer}
 use Rattle.frame_codec.specs.Frames as frames
 use Rattle.frame_codec.specs.Frames.{Content, Frame}
-use Rattle.dataset_reader.specs.declared.took.Took.{Took}
-use Rattle.dataset_reader.specs.declared.took.Outcome.{Outcome}
 use Rattle.dataset_reader.specs.declared.took.Outcome.TheVariants as outcomes
 use Rattle.dataset_reader.specs.declared.took.Numbering.{Numbering}
 use Rattle.dataset_reader.specs.declared.took.Numbering.TheVariants as numberings

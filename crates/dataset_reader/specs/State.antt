@@ -12,7 +12,7 @@ kept_in fields state = record {
   last = state.last;
   stamp = state.stamp;
   number = state.number;
-  row = if state.holds then Some (row_in fields state.row.words) else None;
+  row = if state.holds then Some (row_in fields state.held.row.words) else None;
   why = state.why;
   breaks = state.breaks;
   recent = reverse state.recent.items;
@@ -20,4 +20,4 @@ kept_in fields state = record {
 
 -- the row that it holds is one of this meta
 abbrev pub IsStateOf : MetaData → State → Type 0
-IsStateOf meta state = state.holds ≡ true → Belongs meta state.row.words
+IsStateOf meta state = state.holds ≡ true → Belongs meta state.held.row.words

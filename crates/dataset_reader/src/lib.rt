@@ -2,6 +2,7 @@
 //! (OPC 10000-14 6.2.9, DataSetReader).
 #![tactic(auto)]
 
+mod held;
 mod laws;
 mod reader;
 mod state;

@@ -7,6 +7,7 @@ ghost use Rattle.frame_codec.specs.Words.{IsFrameOf, IsKindOf, frame_in, content
 ghost use Rattle.dataset_reader.specs.Kept.{fresh, cut_kept};
 ghost use Rattle.dataset_reader.specs.Cases.{frame_case, unnumbered_case, numbered_case, stamped, placed_case, record_number, record_case, noted, unbroken, is_alive, older};
 
+use crate::held::Held;
 use crate::took::{Numbering, Outcome, Took};
 use arrayvec::ArrayVec;
 use dataset_meta::Meta;
@@ -26,8 +27,8 @@ pub(crate) struct State {
     // of the message that the row was last made of
     pub number: Option<u16>,
     pub holds: bool,
-    // of no meaning where no row is held
-    pub row: Row,
+    // its row is of no meaning where none is held
+    pub held: Held,
     pub why: Why,
     pub breaks: u64,
     // the oldest first
@@ -45,7 +46,7 @@ impl State {
             stamp: None,
             number: None,
             holds: false,
-            row: Row::opening(),
+            held: Held::new(),
             why: Why::Start,
             breaks: 0,
             recent: ArrayVec::new(),
@@ -95,7 +96,7 @@ impl State {
     {
         unbroken(match kind {
             FrameKind::Whole(row) => {
-                self.hold(row);
+                self.hold(meta, row);
                 Outcome::Held
             }
             FrameKind::Change(_) => Outcome::Unnumbered,
@@ -146,7 +147,11 @@ impl State {
         ensures belongs { (meta : MetaData) → IsStateOf meta self.now
             → IfSome result (λ row. Belongs meta row.now.words) }
     {
-        if self.holds { Some(&self.row) } else { None }
+        if self.holds {
+            Some(self.held.row())
+        } else {
+            None
+        }
     }
 
     // Keeps the greatest stamp; a jump cuts the reader.
@@ -228,7 +233,7 @@ impl State {
     {
         match kind {
             FrameKind::Whole(row) => {
-                self.hold(row);
+                self.hold(meta, row);
                 self.number = Some(number);
                 Outcome::Held
             }
@@ -236,7 +241,7 @@ impl State {
                 if broke || !self.holds {
                     return self.wait(broke);
                 }
-                patch.lay(meta, &mut self.row);
+                self.held.lay(meta, patch);
                 self.number = Some(number);
                 Outcome::Held
             }
@@ -244,10 +249,12 @@ impl State {
         }
     }
 
-    fn hold(&mut self, row: &Row)
-        ensures { self.new ≡ record self.old { holds = true; row = row.now } }
+    fn hold(&mut self, meta: &Meta, row: &Row)
+        requires { Belongs meta.now row.now.words }
+        ensures row { self.new.held.row ≡ row.now }
+        ensures kept { self.new ≡ record self.old { holds = true; held = self.new.held } }
     {
-        self.row = *row;
+        self.held.hold(meta, row);
         self.holds = true;
     }
 

@@ -1,7 +1,6 @@
 //! The frame that a writer keeps, written over in place. Frames of one kind follow each other mostly, and then no more words are
 //! written than are used.
 ghost use Rattle.std.specs.Prelude.{◌≡◌, ◌≤◌};
-ghost use Rattle.dataset_meta.specs.Metas.{words_of};
 ghost use Rattle.dataset_meta.specs.Rows.{differs};
 ghost use Rattle.row_words.specs.declared.patch.Patch.{Patch as PatchValue};
 ghost use Rattle.row_words.specs.Belonging.{Belongs, row_in};
@@ -13,17 +12,6 @@ use dataset_meta::Meta;
 use frame_codec::FrameKind;
 use key_delta::{changed, clear_front, copy_front, mark_changes};
 use row_words::Row;
-
-/// So many words, or those of a row of this meta, where they are more.
-pub(crate) fn wider(used: u32, meta: &Meta) -> u32
-    requires { used ≤ 125 }
-    ensures covers { words_of meta.now.fields ≤ result }
-    ensures grows { used ≤ result }
-    ensures narrow { result ≤ 125 }
-{
-    let words = meta.words();
-    if used < words { words } else { used }
-}
 
 /// Makes what a frame is a key frame of this row.
 pub(crate) fn make_whole(kind: &mut FrameKind, row: &Row, used: u32)

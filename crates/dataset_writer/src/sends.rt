@@ -6,10 +6,10 @@ ghost use Rattle.row_words.specs.Belonging.{Belongs, row_in};
 ghost use Rattle.row_words.specs.Patches.{IsPatchOf, patch_in};
 ghost use Rattle.dataset_meta.specs.Rows.{differs};
 
-use crate::kept::{make_change, make_whole, wider};
+use crate::kept::{make_change, make_whole};
 use dataset_meta::Meta;
 use frame_codec::{Frame, FrameKind};
-use key_delta::copy_front;
+use key_delta::{copy_front, wider};
 use row_words::Row;
 use seq_number::Count;
 use std::alloc::Global;

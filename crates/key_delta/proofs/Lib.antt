@@ -1,3 +1,4 @@
 pub mod FieldWords
 pub mod Differences
 pub mod ClearLaws
+pub mod FrontLaws

@@ -1,13 +1,25 @@
 //! Rows and patches written over in place, no further than they are used.
 ghost use Rattle.std.specs.Prelude.{◌≡◌, ◌≤◌, ℕ, List, [], drop, replicate};
 ghost use Rattle.dataset_meta.specs.declared.field.Field.{Field};
-ghost use Rattle.dataset_meta.specs.Metas.{IsMeta, MetaData};
+ghost use Rattle.dataset_meta.specs.Metas.{IsMeta, MetaData, words_of};
 ghost use Rattle.dataset_meta.specs.Rows.{opening_row};
 ghost use Rattle.row_words.specs.Belonging.{Belongs, row_in};
 ghost use Rattle.row_words.specs.Patches.{IsPatchOf, patch_in};
 ghost use Rattle.key_delta.specs.Fronts.{HasZerosBehind};
 
+use dataset_meta::Meta;
 use row_words::{Patch, Row};
+
+/// So many words, or those of a row of this meta, where they are more.
+pub fn wider(used: u32, meta: &Meta) -> u32
+    requires { used ≤ 125 }
+    ensures covers { words_of meta.now.fields ≤ result }
+    ensures grows { used ≤ result }
+    ensures narrow { result ≤ 125 }
+{
+    let words = meta.words();
+    if used < words { words } else { used }
+}
 
 /// Makes a row another one, where both have zeros behind the first `count` words. No more than these are copied.
 pub fn copy_front(from: &Row, count: u32, to: &mut Row)

@@ -6,5 +6,5 @@ mod copying;
 mod laws;
 
 pub use changes::{apply, changed, is_changed, mark_changes};
-pub use copying::{clear_front, copy_front};
+pub use copying::{clear_front, copy_front, wider};
 pub use laws::changes_give_the_new_row;

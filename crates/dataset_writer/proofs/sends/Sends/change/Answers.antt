@@ -1,5 +1,6 @@
 use Rattle.std.proofs.Common.{◌∙◌}
-use Rattle.dataset_writer.proofs.Zeros.{belongs_behind, wider_behind, change_behind}
+use Rattle.key_delta.proofs.FrontLaws.{belongs_behind, wider_behind}
+use Rattle.dataset_writer.proofs.Zeros.{change_behind}
 use Rattle.dataset_writer.proofs.sends.Sends.change.Goals as goal
 
 pub make_change-requires-clause-kind : goal.make_change-requires-clause-kind

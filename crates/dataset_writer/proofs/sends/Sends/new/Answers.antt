@@ -1,5 +1,5 @@
 use Rattle.std.proofs.Common.{refl, arith}
-use Rattle.dataset_writer.proofs.Zeros.{opening_behind}
+use Rattle.key_delta.proofs.FrontLaws.{opening_behind}
 use Rattle.dataset_writer.proofs.sends.Sends.new.Goals as goal
 
 pub returns-clause-zeros : goal.returns-clause-zeros

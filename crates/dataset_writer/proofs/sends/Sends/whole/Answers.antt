@@ -1,4 +1,5 @@
-use Rattle.dataset_writer.proofs.Zeros.{belongs_behind, wider_behind, whole_behind}
+use Rattle.key_delta.proofs.FrontLaws.{belongs_behind, wider_behind}
+use Rattle.dataset_writer.proofs.Zeros.{whole_behind}
 use Rattle.dataset_writer.proofs.sends.Sends.whole.Goals as goal
 
 pub make_whole-requires-clause-kind : goal.make_whole-requires-clause-kind
