@@ -61,9 +61,8 @@ fn is_refused(meta: &Meta, frame: &Frame, len: usize) -> bool
         return false;
     };
     let mut pen = Pen { bytes: less, at: 0 };
-    write_frame(&mut pen, meta, frame).is_err()
-        && pen.at == 0
-        && pen.bytes.iter().all(|byte| *byte == 0xee)
+    let refused = write_frame(&mut pen, meta, frame).is_err() && pen.at == 0;
+    refused && room.iter().all(|byte| *byte == 0xee)
 }
 
 /// `prefixes_of_frame META BYTES`: how many proper prefixes are Short
