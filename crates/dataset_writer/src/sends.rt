@@ -27,7 +27,7 @@ pub(crate) struct Sends {
     pub log: Vec<(u64, u64)>,
     // The last frame, where it is lent.
     pub frame: Frame,
-    // Behind so many words the row has zeros, and so has the frame's: no more of them is ever written.
+    // Behind so many words the row has zeros, and so has the frame's: no more of them is written, but where the frame's kind changes.
     pub used: u32,
 }
 

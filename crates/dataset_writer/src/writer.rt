@@ -1,5 +1,5 @@
 //! Writers of data sets.
-ghost use Rattle.std.specs.Prelude.{◌≡◌, ◌<◌, ◌≤◌, ◌+◌, ◌-◌, ◌^◌, ◌∷◌, ◌||◌, ◌&&◌, ◌==◌, [], true, IfOk, List, not, nat_le, vec_len, vec_capacity};
+ghost use Rattle.std.specs.Prelude.{◌≡◌, ◌<◌, ◌≤◌, ◌+◌, ◌-◌, ◌^◌, ◌∷◌, ◌||◌, ◌&&◌, ◌==◌, [], true, false, IfOk, List, not, nat_le, vec_len, vec_capacity};
 ghost use Rattle.dataset_meta.specs.Metas.{MetaData};
 ghost use Rattle.row_words.specs.Belonging.{Belongs};
 ghost use Rattle.frame_codec.specs.declared.frame.Frame.{Frame as FrameValue};
@@ -97,6 +97,7 @@ impl Writer {
         ensures frame { IsTurnOf meta.now result }
         ensures lends { (sent : FrameValue) → result ≡ Turn.Send sent
             → frame_of_turn self.new ≡ sent }
+        ensures quiet { result ≡ Turn.Quiet → frame_of_turn self.new ≡ frame_of_turn self.old }
         ensures holds { HoldsRowOf meta.now self.new }
         ensures left { self.new.left + 1 ≡ self.old.left }
     {
@@ -117,6 +118,7 @@ impl Writer {
             → Answers meta.now settings deeds
             (turn_at meta.now.fields now row.now version closing) self.new (lent result self.new) }
         ensures frame { result ≡ true → IsFrameOf meta.now (frame_of_turn self.new) }
+        ensures quiet { result ≡ false → frame_of_turn self.new ≡ frame_of_turn self.old }
         ensures holds { HoldsRowOf meta.now self.new }
         ensures left { self.new.left + 1 ≡ self.old.left }
     {
@@ -140,7 +142,7 @@ impl Writer {
         true
     }
 
-    /// The frame of the last turn, where that turn sent one.
+    /// The frame of the last turn that sent one.
     pub fn frame(&self) -> &Frame
         ensures { result.now ≡ frame_of_turn self.now }
     {

@@ -1,5 +1,5 @@
 //! Rows and patches written over in place, no further than they are used.
-ghost use Rattle.std.specs.Prelude.{◌≡◌, ◌≤◌, ℕ, List, [], drop, replicate};
+ghost use Rattle.std.specs.Prelude.{◌≡◌, ◌≤◌, ℕ, List, [], drop, max, replicate};
 ghost use Rattle.dataset_meta.specs.declared.field.Field.{Field};
 ghost use Rattle.dataset_meta.specs.Metas.{IsMeta, MetaData, words_of};
 ghost use Rattle.dataset_meta.specs.Rows.{opening_row};
@@ -13,6 +13,7 @@ use row_words::{Patch, Row};
 /// So many words, or those of a row of this meta, where they are more.
 pub fn wider(used: u32, meta: &Meta) -> u32
     requires { used ≤ 125 }
+    ensures exact { result ≡ max used (words_of meta.now.fields) }
     ensures covers { words_of meta.now.fields ≤ result }
     ensures grows { used ≤ result }
     ensures narrow { result ≤ 125 }

@@ -19,7 +19,7 @@ pub(crate) struct Member {
     pub late: bool,
     /// Whether it held a row, with neither a timeout nor a cut by hand since.
     pub ready: bool,
-    /// The frame that was read last. The next one is read over it.
+    /// What the next frame is read over: the last frame, or what a refused one left.
     pub frame: Frame,
 }
 
