@@ -1,16 +1,17 @@
 //! Whole runs over an outside in memory, and what each leaves.
 use crate::top::top;
 use crate::words::Word;
+use itoa::Buffer;
 use mem_edge::{MemoryFolder, MemoryLink, MemorySink, Name, OpenGate};
 use std::alloc::Global;
 use std::sync::Wait;
 use std::test::Fail;
 use std::thread::Threads;
 
-/// The runs. A run's first line has its words; the file `s`, in which a slash is a line feed; the calls that fail, by
-/// their numbers from 0; and, where it isn't plain, what the run shows. Below stands what it leaves: the output, the
-/// status, and the error output in brackets.
-const RUNS: &str = "play s; write 0 demo a=7/tick 100/; none
+/// The runs. The first line of each has the words; the file `s`, in which a slash is a line feed; the calls that fail,
+/// by their numbers from 0; and what the run shows. Below stands what it leaves: the output, the status, and the error
+/// output in brackets.
+const RUNS: &str = "play s; write 0 demo a=7/tick 100/; none; a report
 history demo 1: 0
 group g1 operational sent 2
 writer w1 operational 2: 0=1 1=1
@@ -20,7 +21,7 @@ gaps r1 0:
 link sent 2 failed 0 received 2 broken 0 long 0 limit 0
 end
 status 0, error output []
-$ play s; write 0 demo a=7/tick 100; none
+$ play s; write 0 demo a=7/tick 100; none; the last line feed may be left out
 history demo 1: 0
 group g1 operational sent 2
 writer w1 operational 2: 0=1 1=1
@@ -30,7 +31,7 @@ gaps r1 0:
 link sent 2 failed 0 received 2 broken 0 long 0 limit 0
 end
 status 0, error output []
-$ play s; ; none
+$ play s; ; none; no line
 history demo 0:
 group g1 operational sent 1
 writer w1 operational 1: 0=0
@@ -40,7 +41,7 @@ gaps r1 0:
 link sent 1 failed 0 received 1 broken 0 long 0 limit 0
 end
 status 0, error output []
-$ play s; tick 99/; none
+$ play s; tick 99/; none; no frame is due before the closing one
 history demo 0:
 group g1 operational sent 1
 writer w1 operational 1: 0=0
@@ -60,22 +61,22 @@ gaps r1 0:
 link sent 2 failed 0 received 2 broken 0 long 0 limit 0
 end
 status 0, error output []
-$ play; write 0 demo a=7/tick 100/; none
+$ play; write 0 demo a=7/tick 100/; none; words without a shape
 status 2, error output [usage: uapubsub check --config FILE | play SCRIPT [--config FILE] | run SCRIPT [--config FILE] | load N
 ]
-$ play s; no file; none
+$ play s; no file; none; no file
 status 5, error output [cannot read s
 ]
-$ play s; write 0 demo a=7/tick 100/; read0
+$ play s; write 0 demo a=7/tick 100/; read0; the file is not read
 status 5, error output [cannot read s
 ]
-$ play s; write 0 demo a=7/tick 100/; read0 err1
+$ play s; write 0 demo a=7/tick 100/; read0 err1; half of the text is told
 status 5, error output [cannot read ]
-$ play s; tick 0; err0
+$ play s; tick 0; err0; a text that is not told changes no status
 status 4, error output []
-$ play s; write 0 demo a=7/tick 100/; out0
+$ play s; write 0 demo a=7/tick 100/; out0; the report is not written
 status 6, error output []
-$ play s; write 0 demo a=7/tick 100/; open0
+$ play s; write 0 demo a=7/tick 100/; open0; the link is not opened
 status 8, error output [cannot open link
 ]
 $ play s; write 0 demo a=7/tick 100/; send0; the reader has the closing frame alone, and no frame before it
@@ -128,7 +129,7 @@ gaps r1 0:
 link sent 2 failed 0 received 1 broken 1 long 0 limit 0
 end
 status 0, error output []
-$ play s; write 0 demo a=7/tick 100/; read1 send2 out1 err0; no such call is made
+$ play s; write 0 demo a=7/tick 100/; read1 send2 out1 err0; none of these calls is made
 history demo 1: 0
 group g1 operational sent 2
 writer w1 operational 2: 0=1 1=1
@@ -138,21 +139,21 @@ gaps r1 0:
 link sent 2 failed 0 received 2 broken 0 long 0 limit 0
 end
 status 0, error output []
-$ check --config s; [publisher]/id = \"u8:5\"/; none
+$ check --config s; [publisher]/id = \"u8:5\"/; none; a configuration
 ok
 status 0, error output []
-$ check --config s; x = 1; none
+$ check --config s; x = 1; none; a refusal
 status 3, error output [config: C2 UnknownKey .
 ]
-$ check --config s; x = 1; err2
+$ check --config s; x = 1; err2; a part of the refusal is told
 status 3, error output [config: C2]
-$ check --config s; no file; none
+$ check --config s; no file; none; no configuration
 status 5, error output [cannot read s
 ]
-$ check --config s; x = 1; read0
+$ check --config s; x = 1; read0; the configuration is not read
 status 5, error output [cannot read s
 ]
-$ check --config s; [publisher]/id = \"u8:5\"/; out0
+$ check --config s; [publisher]/id = \"u8:5\"/; out0; the answer is not written
 status 6, error output []";
 
 /// What a run left.
@@ -207,12 +208,13 @@ fn sink_with(alloc: Global, fails: &str, call: &str) -> Result<MemorySink, Fail>
 fn words_in(alloc: Global, text: &str) -> Result<Vec<Word>, Fail> {
     let mut words = Vec::new(alloc);
     for word in text.split(' ') {
-        words
-            .push(Word::new(String::from_str(alloc, word)?))
-            .ok()
-            .ok_or("memory")?;
+        words.push(word_of(alloc, word)?).ok().ok_or("memory")?;
     }
     Ok(words)
+}
+
+fn word_of(alloc: Global, text: &str) -> Result<Word, Fail> {
+    Ok(Word::new(String::from_str(alloc, text)?))
 }
 
 /// Runs the program with these words, this file `s`, and these calls that fail.
@@ -248,28 +250,47 @@ fn run<R: Threads + Wait + Sync>(
     })
 }
 
-/// The first line of a run, and below it what the run leaves.
-fn told<R: Threads + Wait + Sync>(rt: &R, alloc: Global, line: &str) -> Result<String, Fail> {
-    let mut parts = line.split("; ");
-    let words = parts.next().ok_or("no words")?;
-    let file = parts.next().ok_or("no file")?;
-    let fails = parts.next().ok_or("no failing calls")?;
-    let ran = run(rt, alloc, words, file, fails)?;
-    let out = str::from_utf8(ran.out.bytes()).ok().ok_or("no text")?;
-    let err = str::from_utf8(ran.err.bytes()).ok().ok_or("no text")?;
-    let status = ran.status;
-    Ok(format!(in alloc; "{line}\n{out}status {status}, error output [{err}]")?)
+/// The first line of a run, and below it what the run left.
+fn told(alloc: Global, line: &str, ran: &Ran) -> Result<Vec<u8>, Fail> {
+    let mut digits = Buffer::new();
+    let mut bytes = Vec::new(alloc);
+    for piece in [
+        line.as_bytes(),
+        b"\n",
+        ran.out.bytes(),
+        b"status ",
+        digits.format(ran.status).as_bytes(),
+        b", error output [",
+        ran.err.bytes(),
+        b"]",
+    ] {
+        bytes.extend_from_slice(piece)?;
+    }
+    Ok(bytes)
+}
+
+/// Runs the program as the first line of a run says.
+fn run_line<R: Threads + Wait + Sync>(rt: &R, alloc: Global, line: &str) -> Result<Ran, Fail> {
+    let (words, rest) = line.split_once("; ").ok_or("no file")?;
+    let (file, rest) = rest.split_once("; ").ok_or("no failing calls")?;
+    let (fails, _) = rest.split_once("; ").ok_or("it shows nothing")?;
+    run(rt, alloc, words, file, fails)
 }
 
 #[test]
 fn runs_leave_what_they_are_told_to(rt: HostRuntime) -> Result<(), Fail> {
     for section in RUNS.split("\n$ ") {
         let (line, _) = section.split_once('\n').ok_or("one line")?;
-        let left = told(&rt, rt.alloc(), line)?;
-        assert_eq!(rt; left.as_str(), section);
+        let ran = run_line(&rt, rt.alloc(), line)?;
+        let left = told(rt.alloc(), line, &ran)?;
+        assert_eq!(rt; str::from_utf8(&left).ok(), Some(section));
     }
     Ok(())
 }
+
+/// The key frame of the first run, as a datagram.
+const FIRST: &[u8] =
+    b"\x71\x05\x09\x01\x00\x00\x00\x01\x01\x00\x09\x00\x00\x04\x00\x07\x07\x00\x00\x00\x07\x00\x00\x00\x00\x07\x00\x00\x00\x00\x07\x00\x00\x00\x00";
 
 #[test]
 fn the_first_datagram_is_a_key_frame(rt: HostRuntime) -> Result<(), Fail> {
@@ -280,10 +301,8 @@ fn the_first_datagram_is_a_key_frame(rt: HostRuntime) -> Result<(), Fail> {
         "write 0 demo a=7/tick 100/",
         "none",
     )?;
-    let first = b"\x71\x05\x09\x01\x00\x00\x00\x01\x01\x00\x09\x00\x00\x04\x00\
-        \x07\x07\x00\x00\x00\x07\x00\x00\x00\x00\x07\x00\x00\x00\x00\x07\x00\x00\x00\x00";
-    assert_eq!(rt; ran.lab.sent(0), Some(first.as_slice()));
-    assert_eq!(rt; ran.lab.received(0), Some(first.as_slice()));
+    assert_eq!(rt; ran.lab.sent(0), Some(FIRST));
+    assert_eq!(rt; ran.lab.received(0), Some(FIRST));
     assert!(rt; ran.lab.sent(2).is_none());
     Ok(())
 }
