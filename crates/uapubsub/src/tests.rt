@@ -3,7 +3,7 @@ use crate::top::top;
 use crate::words::Word;
 use itoa::Buffer;
 use mem_edge::{MemoryFolder, MemoryLink, MemorySink, Name, OpenGate};
-use std::alloc::Global;
+use std::alloc::{AllocError, Global};
 use std::sync::Wait;
 use std::test::Fail;
 use std::thread::Threads;
@@ -205,16 +205,12 @@ fn sink_with(alloc: Global, fails: &str, call: &str) -> Result<MemorySink, Fail>
         .ok_or_else(|| "memory".into())
 }
 
-fn words_in(alloc: Global, text: &str) -> Result<Vec<Word>, Fail> {
+fn words_in(alloc: Global, text: &str) -> Result<Vec<Word>, AllocError> {
     let mut words = Vec::new(alloc);
     for word in text.split(' ') {
-        words.push(word_of(alloc, word)?).ok().ok_or("memory")?;
+        words.push(Word::new(String::from_str(alloc, word)?))?;
     }
     Ok(words)
-}
-
-fn word_of(alloc: Global, text: &str) -> Result<Word, Fail> {
-    Ok(Word::new(String::from_str(alloc, text)?))
 }
 
 /// Runs the program with these words, this file `s`, and these calls that fail.
@@ -251,7 +247,7 @@ fn run<R: Threads + Wait + Sync>(
 }
 
 /// The first line of a run, and below it what the run left.
-fn told(alloc: Global, line: &str, ran: &Ran) -> Result<Vec<u8>, Fail> {
+fn told(alloc: Global, line: &str, ran: &Ran) -> Result<Vec<u8>, AllocError> {
     let mut digits = Buffer::new();
     let mut bytes = Vec::new(alloc);
     for piece in [
@@ -301,8 +297,7 @@ fn the_first_datagram_is_a_key_frame(rt: HostRuntime) -> Result<(), Fail> {
         "write 0 demo a=7/tick 100/",
         "none",
     )?;
-    assert_eq!(rt; ran.lab.sent(0), Some(FIRST));
-    assert_eq!(rt; ran.lab.received(0), Some(FIRST));
-    assert!(rt; ran.lab.sent(2).is_none());
+    let datagrams = [ran.lab.sent(0), ran.lab.received(0), ran.lab.sent(2)];
+    assert_eq!(rt; datagrams, [Some(FIRST), Some(FIRST), None]);
     Ok(())
 }
