@@ -1,4 +1,4 @@
-use Rattle.std.proofs.Common.{◌≡◌, ℕ, Some, inl, inr, sym, ap, subst, arith, ◌∙◌}
+use Rattle.std.proofs.Common.{◌≡◌, Some, inl, inr, sym, ap, subst, arith, ◌∙◌}
 use Rattle.uapubsub.specs.declared.status.Status.{Status}
 use Rattle.uapubsub.specs.declared.status.Status.TheVariants.{BadWords}
 use Rattle.uapubsub.specs.Check.{Checks}
