@@ -15,3 +15,4 @@ pub mod Standing
 pub mod Told
 pub mod Ended
 pub mod Shapes
+pub mod Counts

@@ -1,5 +1,5 @@
 -- The shapes of words, and which status each leaves out.
-use Rattle.std.proofs.Common.{◌≡◌, ◌↔◌, ℕ, List, [], ◌∷◌, Option, Some, None, refl, sym, ap, ◌∙◌, arith}
+use Rattle.std.proofs.Common.{◌≡◌, ◌↔◌, ℕ, List, [], ◌∷◌, Option, Some, None, refl, sym, ap, ◌∙◌, subst, cond, eqb, arith}
 use Rattle.std.specs.Option.{option_or}
 use Rattle.ua_base.specs.Files.{ToldFile}
 use Rattle.ua_base.specs.Journal.{LinkState}
@@ -59,3 +59,19 @@ pub play_words : (words : List (List ℕ)) (script : List ℕ) (status : Status)
     → Plays status file told old new → (number_of status ≡ 2) ↔ HaveNoShape words
 play_words words script status file told old new is h =
     ((λ two. absurd (not_two_of_play status file told old new h two)), (λ none. absurd (let e : None ≡ Some script = sym none.no_play ∙ is in cc)))
+
+-- the status with a number, but that of a configuration
+abbrev pub numbered : ℕ → Status
+numbered n =
+    cond (eqb n 0) Done (cond (eqb n 2) BadWords (cond (eqb n 4) ScriptRefused (cond (eqb n 5) Unread (cond (eqb n 6) Unwritten (cond (eqb n 7) OutOfMemory (cond (eqb n 8) Unopened Long))))))
+
+pub by_number : (status : Status) (n : ℕ) → number_of status ≡ n → (n ≡ 3 → ⊥) → status ≡ numbered n
+by_number Done n is other = subst (λ (k : ℕ). Done ≡ numbered k) is refl
+by_number BadWords n is other = subst (λ (k : ℕ). BadWords ≡ numbered k) is refl
+by_number (ConfigRefused code path) n is other = absurd (other (sym is))
+by_number ScriptRefused n is other = subst (λ (k : ℕ). ScriptRefused ≡ numbered k) is refl
+by_number Unread n is other = subst (λ (k : ℕ). Unread ≡ numbered k) is refl
+by_number Unwritten n is other = subst (λ (k : ℕ). Unwritten ≡ numbered k) is refl
+by_number OutOfMemory n is other = subst (λ (k : ℕ). OutOfMemory ≡ numbered k) is refl
+by_number Unopened n is other = subst (λ (k : ℕ). Unopened ≡ numbered k) is refl
+by_number Long n is other = subst (λ (k : ℕ). Long ≡ numbered k) is refl

@@ -1,7 +1,6 @@
 -- The lines of a text, read one after another.
-use Rattle.std.proofs.Common.{◌≡◌, ℕ, suc, ◌+◌, ◌-◌, ◌<◌, ◌≤◌, Bool, true, false, not, cond, eqb, ltb, List, [], ◌∷◌, ◌++◌, length, take, drop, Some, None, refl, sym, ap, ◌∙◌, subst, append_assoc, arith}
-use Rattle.std.specs.List.{AllZip, onto_first, position_or_len, position}
-use borrow.Author.Tests.{ltb-true, ltb-false}
+use Rattle.std.proofs.Common.{◌≡◌, ℕ, suc, ◌+◌, ◌-◌, ◌<◌, ◌≤◌, Bool, true, false, not, cond, eqb, List, [], ◌∷◌, ◌++◌, length, take, drop, refl, sym, ap, ◌∙◌, subst, append_assoc, arith}
+use Rattle.std.specs.List.{AllZip, onto_first, position_or_len}
 use Rattle.std.proofs.lemmas.List.{take_rest, append-nil}
 use Rattle.uapubsub.specs.declared.script.Line.{Line}
 use Rattle.uapubsub.specs.Script.{text_lines, Spells, IsText}
@@ -67,25 +66,14 @@ pub read_stuck : (lines : List Line) (rest bytes text after : List ℕ) → HasR
 read_stuck lines rest bytes text after read split none others all =
     spelled_none others read.texts text (text_lines after) (subst (AllZip Spells others) (sym read.parts ∙ ap (λ (t : List (List ℕ)). read.texts ++ t) split) all) none
 
-first_some : (b : Bool) (n i : ℕ) → Some i ≡ cond b (Some n) None → (b ≡ true) × (n ≡ i)
-first_some true n i e = (refl, cc)
-first_some false n i e = absurd cc
-
-first_none : (b : Bool) (n : ℕ) → None ≡ cond b (Some n) None → b ≡ false
-first_none true n e = absurd cc
-first_none false n e = refl
-
 -- the first line ends at the first line feed, and is the whole text where there is none
-pub split_at : (xs : List ℕ) (i : ℕ) → Some i ≡ position (λ b. eqb b 10) xs → text_lines xs ≡ take i xs ∷ text_lines (take (length xs - (i + 1)) (drop (i + 1) xs))
-split_at xs i e =
-    let found = first_some (ltb (feed_at xs) (length xs)) (feed_at xs) i e in
-    let below : feed_at xs < length xs = ltb-true (feed_at xs) (length xs) found.0 in
+pub split_at : (xs : List ℕ) (i : ℕ) → i ≡ position_or_len (λ b. eqb b 10) xs → i < length xs → text_lines xs ≡ take i xs ∷ text_lines (take (length xs - (i + 1)) (drop (i + 1) xs))
+split_at xs i is below =
     let next : suc i ≡ i + 1 = omega arith in
-    subst (λ (n : ℕ). text_lines xs ≡ take n xs ∷ text_lines (drop (suc n) xs)) found.1 (split_there xs below)
+    subst (λ (n : ℕ). text_lines xs ≡ take n xs ∷ text_lines (drop (suc n) xs)) (sym is) (split_there xs (omega (arith, is, below)))
     ∙ ap (λ (l : List ℕ). take i xs ∷ text_lines l) (ap (λ (n : ℕ). drop n xs) next ∙ sym (take_rest xs (i + 1)))
 
-pub split_none : (xs : List ℕ) → 0 < length xs → None ≡ position (λ b. eqb b 10) xs → text_lines xs ≡ xs ∷ text_lines (take (length xs - length xs) (drop (length xs) xs))
-split_none xs some e =
+pub split_none : (xs : List ℕ) (i : ℕ) → 0 < length xs → i ≡ position_or_len (λ b. eqb b 10) xs → length xs ≤ i → text_lines xs ≡ xs ∷ text_lines (take (length xs - length xs) (drop (length xs) xs))
+split_none xs i some is past =
     let nothing : 0 ≡ length xs - length xs = omega arith in
-    let past : length xs ≤ feed_at xs = ltb-false (feed_at xs) (length xs) (first_none (ltb (feed_at xs) (length xs)) (feed_at xs) e) in
-    whole_there xs some past ∙ ap (λ (n : ℕ). xs ∷ text_lines (take n (drop (length xs) xs))) nothing
+    whole_there xs some (omega (arith, is, past)) ∙ ap (λ (n : ℕ). xs ∷ text_lines (take n (drop (length xs) xs))) nothing

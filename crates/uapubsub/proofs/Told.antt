@@ -109,3 +109,17 @@ check_accepts Long file old new bytes config h is short ok a b = let long : IsLo
 check_accepts BadWords file old new bytes config h is short ok a b = absurd h
 check_accepts ScriptRefused file old new bytes config h is short ok a b = absurd h
 check_accepts Unopened file old new bytes config h is short ok a b = absurd h
+
+-- `play`: where the script is accepted and no read or write failed, status 0, or memory ran out, or the link was not opened
+pub play_completes : {X : Type 0} (status : Status) (file : ToldFile) (told : Option LinkState) (old new : Option (List ℕ)) (bytes : List ℕ) (lines : List Line) → Plays status file told old new
+    → file ≡ Some (Some bytes) → length bytes ≤ 1048576 → IsScript bytes lines → (status ≡ Unread → ⊥) → (status ≡ Unwritten → ⊥) → (status ≡ Unopened → X)
+    → (number_of status ≡ 0) ⊎ (number_of status ≡ 7) ⊎ X
+play_completes Done file told old new bytes lines h is short script a b other = inl refl
+play_completes OutOfMemory file told old new bytes lines h is short script a b other = inr (inl refl)
+play_completes Unopened file told old new bytes lines h is short script a b other = inr (inr (other refl))
+play_completes Unread file told old new bytes lines h is short script a b other = absurd (a refl)
+play_completes Unwritten file told old new bytes lines h is short script a b other = absurd (b refl)
+play_completes ScriptRefused file told old new bytes lines h is short script a b other = absurd ((TellsFile-at file bytes IsRefused is h.0).none lines script)
+play_completes Long file told old new bytes lines h is short script a b other = let long : IsLong bytes = TellsFile-at file bytes IsLong is h.0 in absurd (omega (arith, long, short))
+play_completes BadWords file told old new bytes lines h is short script a b other = absurd h
+play_completes (ConfigRefused code path) file told old new bytes lines h is short script a b other = absurd h

@@ -1,5 +1,6 @@
 //! Scripts: the lines of a played session, and how they are read.
-ghost use Rattle.std.specs.Prelude.{◌≡◌, ◌≢◌, ◌<◌, ◌^◌, ◌∷◌, ◌++◌, ◌==◌, ℕ, List, length, count_by, position, MatchOption, IfSome};
+ghost use Rattle.std.specs.Prelude.{◌≡◌, ◌≢◌, ◌<◌, ◌^◌, ◌∷◌, ◌++◌, ◌==◌, ℕ, List, length, count_by, MatchOption, IfSome};
+ghost use Rattle.std.specs.List.{position_or_len};
 ghost use Rattle.std.specs.Fmt.{decimal};
 ghost use Rattle.uapubsub.specs.declared.script.Line.{Line as LineValue};
 ghost use Rattle.uapubsub.specs.declared.script.ScriptEnd.TheVariants.{Memory};
@@ -18,7 +19,7 @@ const MAX_WRITES: usize = 32_768;
 const MAX_MS: u32 = 3_600_000;
 
 /// A line of a script.
-#[derive(Clone, Copy, Debug, PartialEq, Eq)]
+#[derive(Clone, Copy)]
 pub enum Line {
     /// `write THREAD demo a=V`: one write of the data set by a thread.
     Write { thread: u8, value: u32 },
@@ -39,7 +40,7 @@ impl Line {
 }
 
 /// Why there are no lines.
-#[derive(Clone, Copy, Debug, PartialEq, Eq)]
+#[derive(Clone, Copy)]
 pub enum ScriptEnd {
     /// The text is no script.
     Refused,
@@ -112,11 +113,16 @@ fn read_line(text: &[u8]) -> Option<Line>
     Some(Line::Write { thread: 0, value })
 }
 
-// Where the first line feed stands.
-fn line_feed(text: &[u8]) -> Option<usize>
-    ensures { result ≡ position (λ byte. byte == 10) text.now }
+// How many bytes stand before the first line feed, where there is one.
+fn line_length(text: &[u8]) -> usize
+    ensures { result ≡ position_or_len (λ byte. byte == 10) text.now }
 {
-    text.iter().position(|byte| *byte == b'\n')
+    for end in 0..text.len() {
+        if text[end] == b'\n' {
+            return end;
+        }
+    }
+    text.len()
 }
 
 // The first line without its line feed, and what comes behind it.
@@ -125,9 +131,11 @@ fn first_line(text: &[u8]) -> (&[u8], &[u8])
     ensures parts { text_lines text.now ≡ result.0.now ∷ text_lines result.1.now }
     ensures shorter { length result.1.now < length text.now }
 {
-    match line_feed(text) {
-        Some(end) => (&text[..end], &text[end + 1..]),
-        None => (text, &text[text.len()..]),
+    let end = line_length(text);
+    if end < text.len() {
+        (&text[..end], &text[end + 1..])
+    } else {
+        (text, &text[text.len()..])
     }
 }
 
@@ -152,27 +160,34 @@ fn read_lines(alloc: Global, bytes: &[u8]) -> Result<Vec<Line>, ScriptEnd>
 pub fn tick_count(lines: &[Line]) -> usize
     ensures { result ≡ count_by is_tick lines.now }
 {
-    lines
-        .iter()
-        .filter(|line| matches!(line, Line::Tick { .. }))
-        .count()
+    let mut count = 0;
+    for line in lines {
+        match line {
+            Line::Tick { .. } => count += 1,
+            Line::Write { .. } => {}
+        }
+    }
+    count
 }
 
-/// How many of the lines are writes.
+/// How many of the lines are writes: all that are no ticks.
 pub fn write_count(lines: &[Line]) -> usize
     ensures { result ≡ count_by is_write lines.now }
 {
-    lines
-        .iter()
-        .filter(|line| matches!(line, Line::Write { .. }))
-        .count()
+    lines.len() - tick_count(lines)
 }
 
 /// How many of the lines are writes of this thread.
 pub fn write_count_of(thread: u8, lines: &[Line]) -> usize
     ensures { result ≡ count_by (is_by thread) lines.now }
 {
-    lines.iter().filter(|line| line.is_by(thread)).count()
+    let mut count = 0;
+    for line in lines {
+        if line.is_by(thread) {
+            count += 1;
+        }
+    }
+    count
 }
 
 /// Reads a script: lines `write 0 demo a=V` and `tick MS`, each ended by a line feed, which the last

@@ -1,16 +1,18 @@
-//! Whole runs over an outside in memory.
+//! Whole runs over an outside in memory, and what each leaves.
 use crate::top::top;
 use crate::words::Word;
+use itoa::Buffer;
 use mem_edge::{MemoryFolder, MemoryLink, MemorySink, Name, OpenGate};
-use std::alloc::Global;
+use std::alloc::{AllocError, Global};
 use std::sync::Wait;
 use std::test::Fail;
 use std::thread::Threads;
 
-const USAGE: &str =
-    "usage: uapubsub check --config FILE | play SCRIPT [--config FILE] | run SCRIPT [--config FILE] | load N\n";
-
-const FIRST_RUN: &str = "history demo 1: 0
+/// The runs. The first line of each has the words; the file `s`, in which a slash is a line feed; the calls that fail,
+/// by their numbers from 0; and what the run shows. Below stands what it leaves: the output, the status, and the error
+/// output in brackets.
+const RUNS: &str = "play s; write 0 demo a=7/tick 100/; none; a report
+history demo 1: 0
 group g1 operational sent 2
 writer w1 operational 2: 0=1 1=1
 readgroup rg1 operational taken 2:
@@ -18,9 +20,19 @@ reader r1 operational number 1 version 1: a=7 b=0 c=0 d=0
 gaps r1 0:
 link sent 2 failed 0 received 2 broken 0 long 0 limit 0
 end
-";
-
-const EMPTY_SCRIPT: &str = "history demo 0:
+status 0, error output []
+$ play s; write 0 demo a=7/tick 100; none; the last line feed may be left out
+history demo 1: 0
+group g1 operational sent 2
+writer w1 operational 2: 0=1 1=1
+readgroup rg1 operational taken 2:
+reader r1 operational number 1 version 1: a=7 b=0 c=0 d=0
+gaps r1 0:
+link sent 2 failed 0 received 2 broken 0 long 0 limit 0
+end
+status 0, error output []
+$ play s; ; none; no line
+history demo 0:
 group g1 operational sent 1
 writer w1 operational 1: 0=0
 readgroup rg1 operational taken 1:
@@ -28,10 +40,19 @@ reader r1 operational number 0 version 0: a=0 b=0 c=0 d=0
 gaps r1 0:
 link sent 1 failed 0 received 1 broken 0 long 0 limit 0
 end
-";
-
-/// A write behind the last tick: the closing frame has it.
-const WRITTEN_LAST: &str = "history demo 1: 0
+status 0, error output []
+$ play s; tick 99/; none; no frame is due before the closing one
+history demo 0:
+group g1 operational sent 1
+writer w1 operational 1: 0=0
+readgroup rg1 operational taken 1:
+reader r1 operational number 0 version 0: a=0 b=0 c=0 d=0
+gaps r1 0:
+link sent 1 failed 0 received 1 broken 0 long 0 limit 0
+end
+status 0, error output []
+$ play s; tick 100/write 0 demo a=7/; none; the closing frame has the write behind the last tick
+history demo 1: 0
 group g1 operational sent 2
 writer w1 operational 2: 0=0 1=1
 readgroup rg1 operational taken 2:
@@ -39,21 +60,27 @@ reader r1 operational number 1 version 1: a=7 b=0 c=0 d=0
 gaps r1 0:
 link sent 2 failed 0 received 2 broken 0 long 0 limit 0
 end
-";
-
-/// The third receive failed: the closing datagram never comes.
-const CLOSING_BROKEN: &str = "history demo 1: 0
-group g1 operational sent 2
-writer w1 operational 2: 0=1 1=1
-readgroup rg1 operational taken 1:
-reader r1 operational number 0 version 1: a=7 b=0 c=0 d=0
-gaps r1 0:
-link sent 2 failed 0 received 1 broken 1 long 0 limit 0
-end
-";
-
-/// The first send of row first-run failed: the reader has the closing frame alone, and no frame before it.
-const FIRST_LOST: &str = "history demo 1: 0
+status 0, error output []
+$ play; write 0 demo a=7/tick 100/; none; words without a shape
+status 2, error output [usage: uapubsub check --config FILE | play SCRIPT [--config FILE] | run SCRIPT [--config FILE] | load N
+]
+$ play s; no file; none; no file
+status 5, error output [cannot read s
+]
+$ play s; write 0 demo a=7/tick 100/; read0; the file is not read
+status 5, error output [cannot read s
+]
+$ play s; write 0 demo a=7/tick 100/; read0 err1; half of the text is told
+status 5, error output [cannot read ]
+$ play s; tick 0; err0; a text that is not told changes no status
+status 4, error output []
+$ play s; write 0 demo a=7/tick 100/; out0; the report is not written
+status 6, error output []
+$ play s; write 0 demo a=7/tick 100/; open0; the link is not opened
+status 8, error output [cannot open link
+]
+$ play s; write 0 demo a=7/tick 100/; send0; the reader has the closing frame alone, and no frame before it
+history demo 1: 0
 group g1 operational sent 1
 writer w1 operational 2: 0=1 1=1
 readgroup rg1 operational taken 1:
@@ -61,10 +88,9 @@ reader r1 operational number 1 version 1: a=7 b=0 c=0 d=0
 gaps r1 0:
 link sent 1 failed 1 received 1 broken 0 long 0 limit 0
 end
-";
-
-/// The last send failed: the group is in error and its writer paused.
-const LAST_LOST: &str = "history demo 1: 0
+status 0, error output []
+$ play s; write 0 demo a=7/tick 100/; send1; the group is in error and its writer paused
+history demo 1: 0
 group g1 error sent 1
 writer w1 paused 2: 0=1 1=1
 readgroup rg1 operational taken 1:
@@ -72,21 +98,9 @@ reader r1 operational number 0 version 1: a=7 b=0 c=0 d=0
 gaps r1 0:
 link sent 1 failed 1 received 1 broken 0 long 0 limit 0
 end
-";
-
-/// The first receive failed: its datagram comes with the next pump.
-const FIRST_BROKEN: &str = "history demo 1: 0
-group g1 operational sent 2
-writer w1 operational 2: 0=1 1=1
-readgroup rg1 operational taken 2:
-reader r1 operational number 1 version 1: a=7 b=0 c=0 d=0
-gaps r1 0:
-link sent 2 failed 0 received 2 broken 1 long 0 limit 0
-end
-";
-
-/// Both sends failed: nothing came.
-const ALL_LOST: &str = "history demo 1: 0
+status 0, error output []
+$ play s; write 0 demo a=7/tick 100/; send0 send1; nothing comes
+history demo 1: 0
 group g1 error sent 0
 writer w1 paused 2: 0=1 1=1
 readgroup rg1 operational taken 0:
@@ -94,18 +108,53 @@ reader r1 preoperational waits start
 gaps r1 0:
 link sent 0 failed 2 received 0 broken 0 long 0 limit 0
 end
-";
-
-/// The calls that fail, by their numbers from 0.
-#[derive(Clone, Copy, Default)]
-struct Faults<'a> {
-    reads: &'a [u32],
-    opening: bool,
-    sends: &'a [u64],
-    receives: &'a [u64],
-    out: &'a [u32],
-    err: &'a [u32],
-}
+status 0, error output []
+$ play s; write 0 demo a=7/tick 100/; receive0; the datagram comes with the next pump
+history demo 1: 0
+group g1 operational sent 2
+writer w1 operational 2: 0=1 1=1
+readgroup rg1 operational taken 2:
+reader r1 operational number 1 version 1: a=7 b=0 c=0 d=0
+gaps r1 0:
+link sent 2 failed 0 received 2 broken 1 long 0 limit 0
+end
+status 0, error output []
+$ play s; write 0 demo a=7/tick 100/; receive2; the closing datagram never comes
+history demo 1: 0
+group g1 operational sent 2
+writer w1 operational 2: 0=1 1=1
+readgroup rg1 operational taken 1:
+reader r1 operational number 0 version 1: a=7 b=0 c=0 d=0
+gaps r1 0:
+link sent 2 failed 0 received 1 broken 1 long 0 limit 0
+end
+status 0, error output []
+$ play s; write 0 demo a=7/tick 100/; read1 send2 out1 err0; none of these calls is made
+history demo 1: 0
+group g1 operational sent 2
+writer w1 operational 2: 0=1 1=1
+readgroup rg1 operational taken 2:
+reader r1 operational number 1 version 1: a=7 b=0 c=0 d=0
+gaps r1 0:
+link sent 2 failed 0 received 2 broken 0 long 0 limit 0
+end
+status 0, error output []
+$ check --config s; [publisher]/id = \"u8:5\"/; none; a configuration
+ok
+status 0, error output []
+$ check --config s; x = 1; none; a refusal
+status 3, error output [config: C2 UnknownKey .
+]
+$ check --config s; x = 1; err2; a part of the refusal is told
+status 3, error output [config: C2]
+$ check --config s; no file; none; no configuration
+status 5, error output [cannot read s
+]
+$ check --config s; x = 1; read0; the configuration is not read
+status 5, error output [cannot read s
+]
+$ check --config s; [publisher]/id = \"u8:5\"/; out0; the answer is not written
+status 6, error output []";
 
 /// What a run left.
 #[derive(Drop)]
@@ -116,56 +165,72 @@ struct Ran {
     err: MemorySink,
 }
 
-/// The folder with the script as its file `s`, where there is one.
-fn folder_with(alloc: Global, script: Option<&[u8]>, fails: &[u32]) -> Result<MemoryFolder, Fail> {
-    let mut files = Vec::new(alloc);
-    if let Some(bytes) = script {
-        let name = Name::new(b"s").ok_or("no name")?;
-        files
-            .push((name, Vec::from_slice(alloc, bytes)?))
-            .ok()
-            .ok_or("memory")?;
+/// The numbers of the calls of this name that fail.
+fn failing<N: From<u8> + Drop>(alloc: Global, fails: &str, call: &str) -> Result<Vec<N>, Fail> {
+    let mut numbers = Vec::new(alloc);
+    for word in fails.split(' ') {
+        if let Some(digits) = word.strip_prefix(call) {
+            let number = digits.parse::<u8>().ok().ok_or("no number")?;
+            numbers.push(N::from(number)).ok().ok_or("memory")?;
+        }
     }
-    Ok(MemoryFolder::new(files, Vec::from_slice(alloc, fails)?))
+    Ok(numbers)
 }
 
-fn link_with(alloc: Global, faults: &Faults) -> Result<MemoryLink, Fail> {
-    let sends = Vec::from_slice(alloc, faults.sends)?;
-    let receives = Vec::from_slice(alloc, faults.receives)?;
-    Ok(MemoryLink::new(alloc, Vec::new(alloc), sends, receives, faults.opening))
+/// The folder with the file `s`, where there is one.
+fn folder_with(alloc: Global, file: &str, fails: &str) -> Result<MemoryFolder, Fail> {
+    let mut files = Vec::new(alloc);
+    if file != "no file" {
+        let name = Name::new(b"s").ok_or("no name")?;
+        let mut bytes = Vec::from_slice(alloc, file.as_bytes())?;
+        for byte in &mut bytes {
+            if *byte == b'/' {
+                *byte = b'\n';
+            }
+        }
+        files.push((name, bytes)).ok().ok_or("memory")?;
+    }
+    Ok(MemoryFolder::new(files, failing(alloc, fails, "read")?))
 }
 
-fn sink_with(alloc: Global, fails: &[u32]) -> Result<MemorySink, Fail> {
-    let fails = Vec::from_slice(alloc, fails)?;
-    MemorySink::new(alloc, fails)
+fn link_with(alloc: Global, fails: &str) -> Result<MemoryLink, Fail> {
+    let sends = failing(alloc, fails, "send")?;
+    let receives = failing(alloc, fails, "receive")?;
+    Ok(MemoryLink::new(alloc, Vec::new(alloc), sends, receives, fails == "open0"))
+}
+
+fn sink_with(alloc: Global, fails: &str, call: &str) -> Result<MemorySink, Fail> {
+    MemorySink::new(alloc, failing(alloc, fails, call)?)
         .ok()
         .ok_or_else(|| "memory".into())
 }
 
-/// Runs the program with these words, with the script as the file `s`.
+fn words_in(alloc: Global, text: &str) -> Result<Vec<Word>, AllocError> {
+    let mut words = Vec::new(alloc);
+    for word in text.split(' ') {
+        words.push(Word::new(String::from_str(alloc, word)?))?;
+    }
+    Ok(words)
+}
+
+/// Runs the program with these words, this file `s`, and these calls that fail.
 fn run<R: Threads + Wait + Sync>(
     rt: &R,
     alloc: Global,
-    words: &[&str],
-    script: Option<&[u8]>,
-    faults: &Faults,
+    words: &str,
+    file: &str,
+    fails: &str,
 ) -> Result<Ran, Fail> {
-    let mut texts = Vec::new(alloc);
-    for word in words {
-        texts
-            .push(Word::new(String::from_str(alloc, word)?))
-            .ok()
-            .ok_or("memory")?;
-    }
-    let mut folder = folder_with(alloc, script, faults.reads)?;
-    let mut lab = link_with(alloc, faults)?;
-    let mut wire = link_with(alloc, faults)?;
-    let mut out = sink_with(alloc, faults.out)?;
-    let mut err = sink_with(alloc, faults.err)?;
+    let words = words_in(alloc, words)?;
+    let mut folder = folder_with(alloc, file, fails)?;
+    let mut lab = link_with(alloc, fails)?;
+    let mut wire = link_with(alloc, fails)?;
+    let mut out = sink_with(alloc, fails, "out")?;
+    let mut err = sink_with(alloc, fails, "err")?;
     let status = top(
         rt,
         alloc,
-        &texts,
+        &words,
         &mut folder,
         &mut lab,
         &mut wire,
@@ -181,248 +246,58 @@ fn run<R: Threads + Wait + Sync>(
     })
 }
 
+/// The first line of a run, and below it what the run left.
+fn told(alloc: Global, line: &str, ran: &Ran) -> Result<Vec<u8>, AllocError> {
+    let mut digits = Buffer::new();
+    let mut bytes = Vec::new(alloc);
+    for piece in [
+        line.as_bytes(),
+        b"\n",
+        ran.out.bytes(),
+        b"status ",
+        digits.format(ran.status).as_bytes(),
+        b", error output [",
+        ran.err.bytes(),
+        b"]",
+    ] {
+        bytes.extend_from_slice(piece)?;
+    }
+    Ok(bytes)
+}
+
+/// Runs the program as the first line of a run says.
+fn run_line<R: Threads + Wait + Sync>(rt: &R, alloc: Global, line: &str) -> Result<Ran, Fail> {
+    let (words, rest) = line.split_once("; ").ok_or("no file")?;
+    let (file, rest) = rest.split_once("; ").ok_or("no failing calls")?;
+    let (fails, _) = rest.split_once("; ").ok_or("it shows nothing")?;
+    run(rt, alloc, words, file, fails)
+}
+
+#[test]
+fn runs_leave_what_they_are_told_to(rt: HostRuntime) -> Result<(), Fail> {
+    for section in RUNS.split("\n$ ") {
+        let (line, _) = section.split_once('\n').ok_or("one line")?;
+        let ran = run_line(&rt, rt.alloc(), line)?;
+        let left = told(rt.alloc(), line, &ran)?;
+        assert_eq!(rt; str::from_utf8(&left).ok(), Some(section));
+    }
+    Ok(())
+}
+
+/// The key frame of the first run, as a datagram.
+const FIRST: &[u8] =
+    b"\x71\x05\x09\x01\x00\x00\x00\x01\x01\x00\x09\x00\x00\x04\x00\x07\x07\x00\x00\x00\x07\x00\x00\x00\x00\x07\x00\x00\x00\x00\x07\x00\x00\x00\x00";
+
 #[test]
 fn the_first_datagram_is_a_key_frame(rt: HostRuntime) -> Result<(), Fail> {
     let ran = run(
         &rt,
         rt.alloc(),
-        &["play", "s"],
-        Some(b"write 0 demo a=7\ntick 100\n"),
-        &Faults::default(),
+        "play s",
+        "write 0 demo a=7/tick 100/",
+        "none",
     )?;
-    let first = [
-        0x71u8, 0x05, 0x09, 0x01, 0x00, 0x00, 0x00, 0x01, 0x01, 0x00, 0x09, 0x00, 0x00, 0x04, 0x00,
-        0x07, 0x07, 0x00, 0x00, 0x00, 0x07, 0x00, 0x00, 0x00, 0x00, 0x07, 0x00, 0x00, 0x00, 0x00,
-        0x07, 0x00, 0x00, 0x00, 0x00,
-    ];
-    assert_eq!(rt; ran.lab.sent(0), Some(first.as_slice()));
-    assert_eq!(rt; ran.lab.received(0), Some(first.as_slice()));
-    assert!(rt; ran.lab.sent(2).is_none());
-    Ok(())
-}
-
-#[test]
-fn long_files_are_told(rt: HostRuntime) -> Result<(), Fail> {
-    let alloc = rt.alloc();
-    let long = "#".repeat(alloc, 1_048_577)?;
-    for words in [["play", "s"].as_slice(), &["check", "--config", "s"]] {
-        let ran = run(&rt, alloc, words, Some(long.as_bytes()), &Faults::default())?;
-        assert_eq!(rt; ran.status, 9);
-        assert_eq!(rt; ran.err.bytes(), b"file too long: s\n".as_slice());
-        assert_eq!(rt; ran.out.bytes().len(), 0);
-    }
-    Ok(())
-}
-
-/// A row: the words, the file `s`, the calls that fail, and what the run leaves: status, output, and error output.
-#[derive(Clone, Copy)]
-struct Row<'a> {
-    words: &'a [&'a str],
-    script: Option<&'a str>,
-    faults: Faults<'a>,
-    status: u8,
-    out: &'a str,
-    err: &'a str,
-}
-
-#[test]
-fn reports_and_faults_are_told(rt: HostRuntime) -> Result<(), Fail> {
-    let alloc = rt.alloc();
-    let none = Faults::default();
-    let first_run = Row {
-        words: &["play", "s"],
-        script: Some("write 0 demo a=7\ntick 100\n"),
-        faults: none,
-        status: 0,
-        out: "",
-        err: "",
-    };
-    let unread = Row {
-        status: 5,
-        err: "cannot read s\n",
-        ..first_run
-    };
-    let checked = Row {
-        words: &["check", "--config", "s"],
-        script: Some("[publisher]\nid = \"u8:5\"\n"),
-        ..first_run
-    };
-    let config_refused = Row {
-        script: Some("x = 1"),
-        status: 3,
-        err: "config: C2 UnknownKey .\n",
-        ..checked
-    };
-    for row in [
-        Row {
-            out: FIRST_RUN,
-            ..first_run
-        },
-        Row {
-            script: Some("write 0 demo a=7\ntick 100"),
-            out: FIRST_RUN,
-            ..first_run
-        },
-        Row {
-            script: Some(""),
-            out: EMPTY_SCRIPT,
-            ..first_run
-        },
-        Row {
-            script: Some("tick 99\n"),
-            out: EMPTY_SCRIPT,
-            ..first_run
-        },
-        Row {
-            script: Some("tick 100\nwrite 0 demo a=7\n"),
-            out: WRITTEN_LAST,
-            ..first_run
-        },
-        Row {
-            words: &["play"],
-            status: 2,
-            err: USAGE,
-            ..first_run
-        },
-        Row {
-            script: None,
-            ..unread
-        },
-        Row {
-            faults: Faults {
-                reads: &[0],
-                ..none
-            },
-            ..unread
-        },
-        Row {
-            faults: Faults {
-                reads: &[0],
-                err: &[1],
-                ..none
-            },
-            err: "cannot read ",
-            ..unread
-        },
-        Row {
-            script: Some("tick 0"),
-            faults: Faults { err: &[0], ..none },
-            status: 4,
-            ..first_run
-        },
-        Row {
-            faults: Faults { out: &[0], ..none },
-            status: 6,
-            ..first_run
-        },
-        Row {
-            faults: Faults {
-                opening: true,
-                ..none
-            },
-            status: 8,
-            err: "cannot open link\n",
-            ..first_run
-        },
-        Row {
-            faults: Faults {
-                sends: &[0],
-                ..none
-            },
-            out: FIRST_LOST,
-            ..first_run
-        },
-        Row {
-            faults: Faults {
-                sends: &[1],
-                ..none
-            },
-            out: LAST_LOST,
-            ..first_run
-        },
-        Row {
-            faults: Faults {
-                sends: &[0, 1],
-                ..none
-            },
-            out: ALL_LOST,
-            ..first_run
-        },
-        Row {
-            faults: Faults {
-                receives: &[0],
-                ..none
-            },
-            out: FIRST_BROKEN,
-            ..first_run
-        },
-        Row {
-            faults: Faults {
-                receives: &[2],
-                ..none
-            },
-            out: CLOSING_BROKEN,
-            ..first_run
-        },
-        Row {
-            faults: Faults {
-                reads: &[1],
-                sends: &[2],
-                out: &[1],
-                err: &[0],
-                ..none
-            },
-            out: FIRST_RUN,
-            ..first_run
-        },
-        Row {
-            out: "ok\n",
-            ..checked
-        },
-        config_refused,
-        Row {
-            faults: Faults { err: &[2], ..none },
-            err: "config: C2",
-            ..config_refused
-        },
-        Row {
-            script: None,
-            status: 5,
-            err: "cannot read s\n",
-            ..checked
-        },
-        Row {
-            faults: Faults {
-                reads: &[0],
-                ..none
-            },
-            status: 5,
-            err: "cannot read s\n",
-            ..config_refused
-        },
-        Row {
-            faults: Faults { out: &[0], ..none },
-            status: 6,
-            ..checked
-        },
-    ] {
-        let script = row.script.map(|text| text.as_bytes());
-        let ran = run(&rt, alloc, row.words, script, &row.faults)?;
-        assert_eq!(rt; ran.status, row.status, "for {}{}", row.out, row.err);
-        assert_eq!(rt;
-            ran.out.bytes(),
-            row.out.as_bytes(),
-            "for {}{}",
-            row.out,
-            row.err
-        );
-        assert_eq!(rt;
-            ran.err.bytes(),
-            row.err.as_bytes(),
-            "for {}{}",
-            row.out,
-            row.err
-        );
-    }
+    let datagrams = [ran.lab.sent(0), ran.lab.received(0), ran.lab.sent(2)];
+    assert_eq!(rt; datagrams, [Some(FIRST), Some(FIRST), None]);
     Ok(())
 }
