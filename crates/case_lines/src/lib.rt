@@ -11,11 +11,11 @@ mod parsed;
 mod shown;
 mod tally;
 
-pub use answered::{Answer, AnsweredLine, is_note};
+pub use answered::{Answer, AnsweredLine, is_note, refused, said, told, told_bytes, yes_or_no};
 pub use escapes::unescaped;
 pub use fault::LineFault;
 pub use line::{Line, bytes_of};
 pub use numbers::Numbers;
-pub use parsed::{kind_of, number, string_of, value_in, value_of};
+pub use parsed::{kind_of, number, parted, string_of, value_in, value_of};
 pub use shown::{Digits, Hex, Shown};
 pub use tally::Tally;

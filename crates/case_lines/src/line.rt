@@ -1,7 +1,7 @@
 //! The words of a line.
 use crate::escapes::unescaped;
 use crate::fault::LineFault;
-use crate::parsed::number;
+use crate::parsed::{decoded, number};
 use std::alloc::Global;
 use std::str::{FromStr, SplitWhitespace};
 
@@ -93,10 +93,7 @@ impl<'a> Line<'a> {
 
     /// The next word, `0x` and up to eight hexadecimal digits.
     pub fn hex32(&mut self) -> Result<u32, LineFault> {
-        match u32::try_from(hex_number(self.word()?)?) {
-            Ok(number) => Ok(number),
-            Err(_) => Err(LineFault::Number),
-        }
+        hex32_of(self.word()?)
     }
 
     /// The next word, `0x` and up to sixteen hexadecimal digits.
@@ -110,10 +107,7 @@ impl<'a> Line<'a> {
         if word == "none" {
             return Ok(None);
         }
-        match u32::try_from(hex_number(word)?) {
-            Ok(number) => Ok(Some(number)),
-            Err(_) => Err(LineFault::Number),
-        }
+        Ok(Some(hex32_of(word)?))
     }
 
     /// The next word, which has the digits of so many bytes.
@@ -148,6 +142,13 @@ pub fn bytes_of(alloc: Global, word: &str) -> Result<Vec<u8>, LineFault> {
     Ok(bytes)
 }
 
+fn hex32_of(word: &str) -> Result<u32, LineFault> {
+    match u32::try_from(hex_number(word)?) {
+        Ok(number) => Ok(number),
+        Err(_) => Err(LineFault::Number),
+    }
+}
+
 fn hex_number(word: &str) -> Result<u64, LineFault> {
     let Some(digits) = word.strip_prefix("0x") else {
         return Err(LineFault::Number);
@@ -166,9 +167,7 @@ fn push_word(alloc: Global, bytes: &mut Vec<u8>, word: &str) -> Result<(), LineF
         Some((digits, times)) => (digits, number::<u32>(times)?),
         None => (word, 1),
     };
-    let Ok(piece) = hex::decode(alloc, digits) else {
-        return Err(LineFault::Hex);
-    };
+    let piece = decoded(alloc, digits)?;
     for _ in 0..times {
         bytes.extend_from_slice(&piece)?;
     }

@@ -74,6 +74,22 @@ where
     }
 }
 
+/// What stands before the first mark in a word, and what stands behind it.
+pub fn parted(word: &str, mark: char) -> Result<(&str, &str), LineFault> {
+    match word.split_once(mark) {
+        Some(parts) => Ok(parts),
+        None => Err(LineFault::Missing),
+    }
+}
+
+/// The bytes of these hexadecimal digits.
+pub(crate) fn decoded(alloc: Global, digits: &str) -> Result<Vec<u8>, LineFault> {
+    match hex::decode(alloc, digits) {
+        Ok(bytes) => Ok(bytes),
+        Err(_) => Err(LineFault::Hex),
+    }
+}
+
 /// The text of these bytes.
 pub fn string_of(bytes: Vec<u8>) -> Result<String, LineFault> {
     match String::from_utf8(bytes) {

@@ -8,14 +8,7 @@ pub struct Hex<'a>(pub &'a [u8]);
 
 impl fmt::Display for Hex<'_> {
     fn fmt<W: fmt::Write>(&self, f: &mut fmt::Formatter<W>) -> fmt::Result {
-        if self.0.is_empty() {
-            return f.write_str("-");
-        }
-        for (index, byte) in self.0.iter().enumerate() {
-            let before = if index == 0 { "" } else { " " };
-            write!(f, "{before}{byte:02x}")?;
-        }
-        Ok(())
+        write_pairs(f, self.0)
     }
 }
 
@@ -38,38 +31,45 @@ pub struct Shown<'a>(pub &'a Value);
 
 impl fmt::Display for Shown<'_> {
     fn fmt<W: fmt::Write>(&self, f: &mut fmt::Formatter<W>) -> fmt::Result {
+        write!(f, "{:?} ", self.0.kind())?;
         match self.0 {
-            Value::String(text) => write!(f, "String {}", Hex(text.as_bytes())),
-            Value::ByteString(blob) => write!(f, "ByteString {}", Hex(blob.as_bytes())),
-            Value::Guid(bytes) => write!(f, "Guid {}", Hex(bytes)),
-            Value::Float(bits) => write!(f, "Float 0x{bits:08x}"),
-            Value::Double(bits) => write!(f, "Double 0x{bits:016x}"),
-            Value::StatusCode(code) => write!(f, "StatusCode 0x{code:08x}"),
-            other => write!(f, "{}", Number(other)),
+            Value::String(text) => write_pairs(f, text.as_bytes()),
+            Value::ByteString(blob) => write_pairs(f, blob.as_bytes()),
+            Value::Guid(bytes) => write_pairs(f, bytes),
+            Value::Float(bits) => write!(f, "0x{bits:08x}"),
+            Value::Double(bits) => write!(f, "0x{bits:016x}"),
+            Value::StatusCode(code) => write!(f, "0x{code:08x}"),
+            Value::Boolean(truth) => write!(f, "{truth}"),
+            Value::UInt64(number) => write!(f, "{number}"),
+            other => write!(f, "{}", whole_number(other)),
         }
     }
 }
 
-/// The kinds that are printed as a decimal number or a truth value.
-#[derive(Clone, Copy)]
-struct Number<'a>(&'a Value);
-
-impl fmt::Display for Number<'_> {
-    fn fmt<W: fmt::Write>(&self, f: &mut fmt::Formatter<W>) -> fmt::Result {
-        match self.0 {
-            Value::Boolean(truth) => write!(f, "Boolean {truth}"),
-            Value::SByte(n) => write!(f, "SByte {n}"),
-            Value::Byte(n) => write!(f, "Byte {n}"),
-            Value::Int16(n) => write!(f, "Int16 {n}"),
-            Value::UInt16(n) => write!(f, "UInt16 {n}"),
-            Value::Int32(n) => write!(f, "Int32 {n}"),
-            Value::UInt32(n) => write!(f, "UInt32 {n}"),
-            Value::Int64(n) => write!(f, "Int64 {n}"),
-            Value::UInt64(n) => write!(f, "UInt64 {n}"),
-            Value::DateTime(steps) => write!(f, "DateTime {steps}"),
-            _ => Ok(()),
-        }
+/// The number of a kind whose numbers are all below 2^63.
+fn whole_number(value: &Value) -> i64 {
+    match value {
+        Value::SByte(n) => i64::from(*n),
+        Value::Byte(n) => i64::from(*n),
+        Value::Int16(n) => i64::from(*n),
+        Value::UInt16(n) => i64::from(*n),
+        Value::Int32(n) => i64::from(*n),
+        Value::UInt32(n) => i64::from(*n),
+        Value::Int64(n) | Value::DateTime(n) => *n,
+        _ => 0,
     }
+}
+
+/// Bytes as pairs of hexadecimal digits with spaces between them, or `-` where there are none.
+fn write_pairs<W: fmt::Write>(f: &mut fmt::Formatter<W>, bytes: &[u8]) -> fmt::Result {
+    let [first, rest @ ..] = bytes else {
+        return f.write_str("-");
+    };
+    write!(f, "{first:02x}")?;
+    for byte in rest {
+        write!(f, " {byte:02x}")?;
+    }
+    Ok(())
 }
 
 /// Bytes as pairs of hexadecimal digits without spaces.

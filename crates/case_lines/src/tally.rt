@@ -6,16 +6,21 @@ use std::fmt;
 /// feed behind it.
 #[derive(Drop)]
 pub struct Tally {
-    names: Vec<String>,
-    counts: Vec<u32>,
+    kinds: Vec<Counted>,
     checksum: u32,
+}
+
+/// A kind of answer, and how often it came.
+#[derive(Drop)]
+struct Counted {
+    name: String,
+    times: u32,
 }
 
 impl Tally {
     pub fn new(alloc: Global) -> Tally {
         Tally {
-            names: Vec::new(alloc),
-            counts: Vec::new(alloc),
+            kinds: Vec::new(alloc),
             checksum: 0x811c_9dc5,
         }
     }
@@ -26,13 +31,14 @@ impl Tally {
             self.mix(*byte);
         }
         self.mix(b'\n');
-        let known = self.names.iter().position(|known| known.as_str() == name);
-        if let Some(count) = known.and_then(|index| self.counts.get_mut(index)) {
-            *count = count.saturating_add(1);
-            return Ok(());
+        for kind in &mut self.kinds {
+            if kind.name.as_str() == name {
+                kind.times = kind.times.saturating_add(1);
+                return Ok(());
+            }
         }
-        self.names.push(String::from_str(alloc, name)?)?;
-        self.counts.push(1)?;
+        let name = String::from_str(alloc, name)?;
+        self.kinds.push(Counted { name, times: 1 })?;
         Ok(())
     }
 
@@ -43,8 +49,8 @@ impl Tally {
 
 impl fmt::Display for Tally {
     fn fmt<W: fmt::Write>(&self, f: &mut fmt::Formatter<W>) -> fmt::Result {
-        for (name, count) in self.names.iter().zip(self.counts.iter()) {
-            write!(f, "{} {count}, ", name.as_str())?;
+        for kind in &self.kinds {
+            write!(f, "{} {}, ", kind.name, kind.times)?;
         }
         write!(f, "checksum 0x{:08x}", self.checksum)
     }

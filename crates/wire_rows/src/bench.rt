@@ -5,7 +5,7 @@ use crate::random::{line_of, name_of};
 use crate::timers::TimerRows;
 use crate::windows::WindowRows;
 use crate::{frames, headers, metas, payloads, security, slots, values};
-use case_lines::{Answer, Line, LineFault, Numbers, Tally};
+use case_lines::{Answer, Line, LineFault, Numbers, Tally, told};
 use std::alloc::Global;
 
 /// What is kept from line to line: the machines that the calls speak of.
@@ -49,7 +49,7 @@ impl Bench {
             let line = line_of(self.alloc, words, &bytes)?;
             self.tell(&mut tally, line.as_str())?;
         }
-        Ok(Some(format!(in self.alloc; "{tally}")?))
+        told(self.alloc, &tally)
     }
 
     /// `random_chunks SEED COUNT`: the answers to so many chunks of at most 24 bytes, of numbers that go up, of which some are
@@ -60,16 +60,21 @@ impl Bench {
         let mut tally = Tally::new(self.alloc);
         self.joiner.anew()?;
         for index in 0..count {
-            let number = (index / 16).wrapping_add(numbers.below(8) as u32 / 7) % 65536;
+            let late = u32::from(numbers.below(8) == 7);
+            let number = (index / 16).wrapping_add(late) % 65536;
             let offset = numbers.below(5) * 8;
-            let total = [32, 32, 32, 32, 32, 32, 24, 4097][numbers.below(8) as usize];
+            let total = match numbers.below(8) {
+                6 => 24,
+                7 => 4097,
+                _ => 32,
+            };
             let bytes = numbers.bytes(self.alloc, 24)?;
             let words = format!(in self.alloc; "chunk {number} {offset} {total}")?;
             let line = line_of(self.alloc, words.as_str(), &bytes)?;
             self.tell(&mut tally, line.as_str())?;
             self.tell(&mut tally, "joined")?;
         }
-        Ok(Some(format!(in self.alloc; "{tally}")?))
+        told(self.alloc, &tally)
     }
 
     /// Counts the answer to one line.

@@ -5,7 +5,8 @@ ghost use Rattle.row_words.specs.Patches.{IsPatchOf};
 ghost use Rattle.frame_codec.specs.Words.{IsFrameOf};
 
 use crate::metas::data_set;
-use case_lines::{Answer, Hex, Line, LineFault, Shown};
+use crate::tries::{is_filled, short_of};
+use case_lines::{Answer, Line, LineFault, Shown, refused, said, told_bytes};
 use dataset_meta::Meta;
 use frame_codec::{
     Frame, FrameFault, FrameKind, read_frame as read_one, read_front as read_first, write_frame,
@@ -19,15 +20,14 @@ use ua_binary::{Cursor, Pen};
 pub fn read_frame(alloc: Global, line: &mut Line) -> Answer {
     let meta = data_set(alloc, line.word()?)?;
     let bytes = line.bytes(alloc)?;
-    let answer = match read_one(&meta, &bytes) {
-        Ok(frame) => frame_text(alloc, &meta, &frame)?,
-        Err(fault) => format!(in alloc; "{fault:?}")?,
-    };
-    Ok(Some(answer))
+    match read_one(&meta, &bytes) {
+        Ok(frame) => Ok(Some(frame_text(alloc, &meta, &frame)?)),
+        Err(fault) => refused(alloc, &fault),
+    }
 }
 
-/// `rewrite_frame META BYTES`: the frame that the bytes are read as, written; and where it isn't so, that a room of one byte less is
-/// refused, with nothing written
+/// `rewrite_frame META BYTES`: the frame that the bytes are read as, written; or that a room of one byte less isn't refused with
+/// nothing written
 pub fn rewrite_frame(alloc: Global, line: &mut Line) -> Answer {
     let meta = data_set(alloc, line.word()?)?;
     let bytes = line.bytes(alloc)?;
@@ -42,14 +42,13 @@ pub fn rewrite_frame(alloc: Global, line: &mut Line) -> Answer {
     let done = write_frame(&mut pen, &meta, &frame).is_ok();
     let at = pen.at;
     if !done || at > room.len() {
-        return Ok(Some(format!(in alloc; "Room")?));
+        return said(alloc, "Room");
     }
-    let wrong = if is_refused(&meta, &frame, at) {
-        ""
+    if is_refused(&meta, &frame, at) {
+        told_bytes(alloc, &room[..at])
     } else {
-        " fits in less"
-    };
-    Ok(Some(format!(in alloc; "{}{wrong}", Hex(&room[..at]))?))
+        said(alloc, "fits in less")
+    }
 }
 
 /// Whether a room of one byte less than this is refused, with nothing written.
@@ -61,25 +60,21 @@ fn is_refused(meta: &Meta, frame: &Frame, len: usize) -> bool
         return false;
     };
     let mut pen = Pen { bytes: less, at: 0 };
-    let refused = write_frame(&mut pen, meta, frame).is_err() && pen.at == 0;
-    refused && room.iter().all(|byte| *byte == 0xee)
+    let is_full = write_frame(&mut pen, meta, frame).is_err() && pen.at == 0;
+    is_full && is_filled(&room, 0xee)
 }
 
 /// `prefixes_of_frame META BYTES`: how many proper prefixes are Short
 pub fn prefixes_of_frame(alloc: Global, line: &mut Line) -> Answer {
     let meta = data_set(alloc, line.word()?)?;
     let bytes = line.bytes(alloc)?;
-    let short = (0..bytes.len())
-        .filter(|len| is_short(&meta, &bytes[..*len]))
-        .count();
-    Ok(Some(format!(in alloc; "{short} of {} Short", bytes.len())?))
-}
-
-fn is_short(meta: &Meta, bytes: &[u8]) -> bool {
-    match read_one(meta, bytes) {
-        Ok(_) => false,
-        Err(fault) => fault == FrameFault::Short,
+    let mut short = 0_usize;
+    for len in 0..bytes.len() {
+        if let Err(FrameFault::Short) = read_one(&meta, &bytes[..len]) {
+            short = short.saturating_add(1);
+        }
     }
+    short_of(alloc, short, &bytes)
 }
 
 /// `read_front BYTES`: the fields before the field count in a fixed layout, and how many bytes are left, or the fault
@@ -89,17 +84,16 @@ pub fn read_front(alloc: Global, line: &mut Line) -> Answer {
         bytes: &bytes,
         at: 0,
     };
-    let answer = match read_first(&mut cursor) {
+    match read_first(&mut cursor) {
         Ok(front) => {
             let rest = bytes.len() - cursor.at;
             let mut text = format!(in alloc; "encoding {} kind {}", front.encoding, front.kind)?;
             push_versions(&mut text, front.number, front.major, front.minor)?;
             write!(text, ", rest {rest}")?;
-            text
+            Ok(Some(text))
         }
-        Err(fault) => format!(in alloc; "{fault:?}")?,
-    };
-    Ok(Some(answer))
+        Err(fault) => refused(alloc, &fault),
+    }
 }
 
 /// Its kind, its number and versions, and its fields: each index with its value, and its status where that isn't 0.
@@ -111,7 +105,7 @@ fn frame_text(alloc: Global, meta: &Meta, frame: &Frame) -> Result<String, LineF
         FrameKind::Change(_) => "change",
         FrameKind::Alive => "alive",
     };
-    let mut text = format!(in alloc; "{kind}")?;
+    let mut text = String::from_str(alloc, kind)?;
     push_versions(&mut text, frame.number, frame.major, frame.minor)?;
     match &frame.kind {
         FrameKind::Whole(row) => push_fields(&mut text, meta, row, u64::MAX)?,
@@ -130,11 +124,14 @@ fn push_versions(
     if let Some(number) = number {
         write!(text, " {number}")?;
     }
-    if let Some(major) = major {
-        write!(text, " major {major}")?;
-    }
-    if let Some(minor) = minor {
-        write!(text, " minor {minor}")?;
+    push_part(text, " major ", major)?;
+    push_part(text, " minor ", minor)
+}
+
+/// A number behind its name, where there is one.
+fn push_part(text: &mut String, name: &str, number: Option<u32>) -> Result<(), LineFault> {
+    if let Some(number) = number {
+        write!(text, "{name}{number}")?;
     }
     Ok(())
 }

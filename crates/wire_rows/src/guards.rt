@@ -3,12 +3,12 @@ ghost use Rattle.std.specs.Prelude.{◌≤◌, IsTrue, IfOk, length};
 ghost use Rattle.message_guard.specs.Guards.{IsPassOf};
 ghost use Rattle.message_guard.specs.Modes.{is_secured};
 
+use crate::header_parts::Security;
 use arrayvec::ArrayVec;
-use case_lines::{Answer, Digits, Line, LineFault};
+use case_lines::{Answer, Digits, Line, LineFault, number, refused, told, yes_or_no};
 use group_keys::{KeySet, Ring};
 use message_guard::{Guard, Mode, OpenFault, Pass1, Sender};
 use std::alloc::Global;
-use uadp_header::SecurityPart;
 
 /// The key sets, the sender and the guard that the lines speak of.
 #[derive(Drop)]
@@ -60,12 +60,14 @@ impl GuardRows {
     }
 
     fn ring(&self) -> Result<Ring, LineFault> {
-        let long = self
-            .sets
-            .as_slice()
-            .iter()
-            .any(|set| set.encrypting.len() == 32);
-        Ring::new(long, self.sets.clone()?).map_err(|_| LineFault::Condition)
+        let mut long = false;
+        for set in self.sets.as_slice() {
+            long |= set.encrypting.len() == 32;
+        }
+        match Ring::new(long, self.sets.clone()?) {
+            Ok(ring) => Ok(ring),
+            Err(_) => Err(LineFault::Condition),
+        }
     }
 
     /// `sender RANDOM FIRST USED`
@@ -128,7 +130,7 @@ impl GuardRows {
         match &self.sender {
             Some(sender) if sender.may_protect(mode, &datagram, at) => {
                 sender.protect(mode, &mut datagram, at);
-                Ok(Some(format!(in alloc; "{}", Digits(&datagram))?))
+                told(alloc, &Digits(&datagram))
             }
             _ => Err(LineFault::Condition),
         }
@@ -150,7 +152,7 @@ impl GuardRows {
                     "pass {} {} {}",
                     pass.token, pass.number, pass.end
                 )?)),
-                Err(fault) => Ok(Some(format!(in alloc; "{fault:?}")?)),
+                Err(fault) => refused(alloc, &fault),
             },
             None => Err(LineFault::Condition),
         }
@@ -167,54 +169,39 @@ impl GuardRows {
                     let payload = &asked.datagram[asked.payload..pass.end];
                     Ok(Some(format!(in alloc; "{} {raised}", Digits(payload))?))
                 }
-                Err(fault) => Ok(Some(format!(in alloc; "{fault:?}")?)),
+                Err(fault) => refused(alloc, &fault),
             },
             None => Err(LineFault::Condition),
         }
     }
 }
 
-/// A datagram with what its header says.
+/// A datagram with what its header says, without a security header where its flags are `-`.
 #[derive(Drop)]
 struct Asked {
-    flags: Option<Flags>,
-    token: u32,
-    nonce: Vec<u8>,
+    security: Option<Security>,
     payload: usize,
     datagram: Vec<u8>,
-}
-
-/// The flags of a security header.
-#[derive(Clone, Copy)]
-struct Flags {
-    signed: bool,
-    encrypted: bool,
-    footer: bool,
-    reset: bool,
 }
 
 impl Asked {
     fn read(alloc: Global, line: &mut Line) -> Result<Asked, LineFault>
         ensures { IfOk result (λ asked. asked.payload ≤ length asked.datagram.items) }
     {
-        let flags = flags_of(line.word()?);
-        let token = match flags {
-            Some(_) => line.u32()?,
-            None => {
-                line.word()?;
-                0
-            }
-        };
+        let (flags, token) = (line.word()?, line.word()?);
         let nonce = line.piece(alloc)?;
+        let security = if flags == "-" {
+            None
+        } else {
+            Some(Security::new(flags, number(token)?, nonce))
+        };
         let payload = line.u32()? as usize;
         let datagram = line.piece(alloc)?;
         if payload > datagram.len() {
             return Err(LineFault::Condition);
         }
         Ok(Asked {
-            flags,
-            token,
-            nonce,
+            security,
             payload,
             datagram,
         })
@@ -226,32 +213,11 @@ impl Asked {
         ensures order { IfOk result (λ pass. self.now.payload ≤ pass.end) }
         ensures within { IfOk result (λ pass. pass.end ≤ length self.now.datagram.items) }
     {
-        let Some(flags) = self.flags else {
+        let Some(security) = &self.security else {
             return guard.test(None, &self.datagram, self.payload);
         };
-        let part = SecurityPart {
-            signed: flags.signed,
-            encrypted: flags.encrypted,
-            footer: flags.footer,
-            reset: flags.reset,
-            token: self.token,
-            nonce: &self.nonce,
-        };
-        guard.test(Some(&part), &self.datagram, self.payload)
+        guard.test(Some(&security.part()), &self.datagram, self.payload)
     }
-}
-
-/// The letters `s`, `e`, `f` and `r`, or none where there is no security header.
-fn flags_of(word: &str) -> Option<Flags> {
-    if word == "-" {
-        return None;
-    }
-    Some(Flags {
-        signed: word.contains('s'),
-        encrypted: word.contains('e'),
-        footer: word.contains('f'),
-        reset: word.contains('r'),
-    })
 }
 
 fn mode_of(word: &str) -> Result<Mode, LineFault> {
@@ -271,9 +237,4 @@ fn secured(line: &mut Line) -> Result<Mode, LineFault>
         "encrypt" => Ok(Mode::Encrypt),
         _ => Err(LineFault::Call),
     }
-}
-
-fn yes_or_no(alloc: Global, holds: bool) -> Answer {
-    let answer = if holds { "yes" } else { "no" };
-    Ok(Some(format!(in alloc; "{answer}")?))
 }

@@ -1,5 +1,5 @@
 //! Headers from words.
-use case_lines::{Line, LineFault, bytes_of, number};
+use case_lines::{Line, LineFault, bytes_of, number, parted};
 use std::alloc::Global;
 use uadp_header::{Header, Ids, PublisherId, SecurityPart};
 
@@ -32,8 +32,9 @@ enum WriterIds {
     Chunk(u16),
 }
 
+/// A security header, with the memory that a `SecurityPart` lends.
 #[derive(Drop)]
-struct Security {
+pub struct Security {
     signed: bool,
     encrypted: bool,
     footer: bool,
@@ -57,7 +58,7 @@ impl HeaderParts {
             security: None,
         };
         for word in line.words() {
-            let (part, text) = word.split_once('=').ok_or(LineFault::Missing)?;
+            let (part, text) = parted(word, '=')?;
             parts.take(alloc, part, text)?;
         }
         Ok(parts)
@@ -79,15 +80,23 @@ impl HeaderParts {
     }
 
     pub fn header(&self) -> Header<'_> {
+        let publisher = match &self.publisher {
+            Some(publisher) => Some(publisher.id()),
+            None => None,
+        };
+        let security = match &self.security {
+            Some(security) => Some(security.part()),
+            None => None,
+        };
         Header {
-            publisher: self.publisher.as_ref().map(Publisher::id),
+            publisher,
             class_id: self.class_id,
             group: self.group,
             version: self.version,
             message_number: self.message_number,
             sequence: self.sequence,
             ids: self.ids.ids(),
-            security: self.security.as_ref().map(Security::part),
+            security,
         }
     }
 }
@@ -115,7 +124,19 @@ impl WriterIds {
 }
 
 impl Security {
-    fn part(&self) -> SecurityPart<'_> {
+    /// The flags are the letters `s`, `e`, `f` and `r`.
+    pub fn new(flags: &str, token: u32, nonce: Vec<u8>) -> Security {
+        Security {
+            signed: flags.contains('s'),
+            encrypted: flags.contains('e'),
+            footer: flags.contains('f'),
+            reset: flags.contains('r'),
+            token,
+            nonce,
+        }
+    }
+
+    pub fn part(&self) -> SecurityPart<'_> {
         SecurityPart {
             signed: self.signed,
             encrypted: self.encrypted,
@@ -128,7 +149,7 @@ impl Security {
 }
 
 fn publisher_of(alloc: Global, text: &str) -> Result<Publisher, LineFault> {
-    let (kind, id) = text.split_once(':').ok_or(LineFault::Missing)?;
+    let (kind, id) = parted(text, ':')?;
     match kind {
         "u8" => Ok(Publisher::U8(number(id)?)),
         "u16" => Ok(Publisher::U16(number(id)?)),
@@ -140,7 +161,7 @@ fn publisher_of(alloc: Global, text: &str) -> Result<Publisher, LineFault> {
 }
 
 fn ids_of(alloc: Global, text: &str) -> Result<WriterIds, LineFault> {
-    let (kind, ids) = text.split_once(':').ok_or(LineFault::Missing)?;
+    let (kind, ids) = parted(text, ':')?;
     match kind {
         "list" => Ok(WriterIds::List(bytes_of(alloc, ids)?)),
         "chunk" => Ok(WriterIds::Chunk(number(ids)?)),
@@ -149,14 +170,8 @@ fn ids_of(alloc: Global, text: &str) -> Result<WriterIds, LineFault> {
 }
 
 fn security_of(alloc: Global, text: &str) -> Result<Security, LineFault> {
-    let (flags, rest) = text.split_once(':').ok_or(LineFault::Missing)?;
-    let (token, nonce) = rest.split_once(':').ok_or(LineFault::Missing)?;
-    Ok(Security {
-        signed: flags.contains('s'),
-        encrypted: flags.contains('e'),
-        footer: flags.contains('f'),
-        reset: flags.contains('r'),
-        token: number(token)?,
-        nonce: bytes_of(alloc, nonce)?,
-    })
+    let (flags, rest) = parted(text, ':')?;
+    let (token, nonce) = parted(rest, ':')?;
+    let nonce = bytes_of(alloc, nonce)?;
+    Ok(Security::new(flags, number(token)?, nonce))
 }

@@ -5,7 +5,8 @@ ghost use Rattle.uadp_header.specs.Spelling.{IsSenders};
 use crate::header_parts::HeaderParts;
 use crate::senders::is_senders;
 use crate::shown::ShownHeader;
-use case_lines::{Answer, Hex, Line, LineFault};
+use crate::tries::is_filled;
+use case_lines::{Answer, Line, LineFault, refused, said, told_bytes};
 use std::alloc::Global;
 use ua_binary::Pen;
 use uadp_header::{Header, HeaderFault, header_len, read_header as read_one, write_header};
@@ -13,15 +14,14 @@ use uadp_header::{Header, HeaderFault, header_len, read_header as read_one, writ
 /// `read_header BYTES`: the header and where the payload begins, or the fault
 pub fn read_header(alloc: Global, line: &mut Line) -> Answer {
     let bytes = line.bytes(alloc)?;
-    let answer = match read_one(&bytes) {
-        Ok((header, end)) => format!(in alloc; "{} end={end}", ShownHeader(&header))?,
-        Err(fault) => format!(in alloc; "{fault:?}")?,
-    };
-    Ok(Some(answer))
+    match read_one(&bytes) {
+        Ok((header, end)) => Ok(Some(format!(in alloc; "{} end={end}", ShownHeader(&header))?)),
+        Err(fault) => refused(alloc, &fault),
+    }
 }
 
-/// `spell_header HEADER`: the bytes of a sender's header; and where it isn't so, that a room of one byte less is refused, that the
-/// bytes are read as the header again, and that each proper prefix is Short
+/// `spell_header HEADER`: the bytes of a sender's header; or that a room of one byte less isn't refused, or that the bytes aren't
+/// read as the header again and each proper prefix as Short
 pub fn spell_header(alloc: Global, line: &mut Line) -> Answer {
     let parts = HeaderParts::parse(alloc, line)?;
     let header = parts.header();
@@ -34,19 +34,19 @@ pub fn spell_header(alloc: Global, line: &mut Line) -> Answer {
         bytes.push(0xaa)?;
     }
     if !is_refused(&header, &mut bytes) {
-        return Ok(Some(format!(in alloc; "no room is asked for")?));
+        return said(alloc, "no room is asked for");
     }
     let mut pen = Pen {
         bytes: &mut bytes,
         at: 0,
     };
     if write_header(&mut pen, &header).is_err() {
-        return Ok(Some(format!(in alloc; "Room")?));
+        return said(alloc, "Room");
     }
     if !is_read_again(&header, &bytes) {
-        return Ok(Some(format!(in alloc; "{} and not read again", Hex(&bytes))?));
+        return said(alloc, "not read again");
     }
-    Ok(Some(format!(in alloc; "{}", Hex(&bytes))?))
+    told_bytes(alloc, &bytes)
 }
 
 /// Whether a room of one byte less is refused, with nothing written.
@@ -57,11 +57,15 @@ fn is_refused(header: &Header, bytes: &mut [u8]) -> bool
         return false;
     };
     let mut pen = Pen { bytes: less, at: 0 };
-    let refused = write_header(&mut pen, header).is_err() && pen.at == 0;
-    refused && bytes.iter().all(|byte| *byte == 0xaa)
+    let is_full = write_header(&mut pen, header).is_err() && pen.at == 0;
+    is_full && is_filled(bytes, 0xaa)
 }
 
 fn is_read_again(header: &Header, bytes: &[u8]) -> bool {
-    let all = read_one(bytes) == Ok((*header, bytes.len()));
-    all && (0..bytes.len()).all(|len| read_one(&bytes[..len]) == Err(HeaderFault::Short))
+    for len in 0..bytes.len() {
+        if read_one(&bytes[..len]) != Err(HeaderFault::Short) {
+            return false;
+        }
+    }
+    read_one(bytes) == Ok((*header, bytes.len()))
 }

@@ -1,5 +1,6 @@
 //! Rows of `chunker`.
-use case_lines::{Answer, Hex, Line, LineFault};
+use crate::tries::written;
+use case_lines::{Answer, Hex, Line, LineFault, refused, said, yes_or_no};
 use chunker::{
     ChunkPayload, Joined, Joiner, cut as cut_one, read_chunk as read_one, write_chunk as write_one,
 };
@@ -19,20 +20,20 @@ pub fn cut(alloc: Global, line: &mut Line) -> Answer {
 /// `read_chunk BYTES`: number, offset, total and the data, or the fault
 pub fn read_chunk(alloc: Global, line: &mut Line) -> Answer {
     let bytes = line.bytes(alloc)?;
-    let answer = match read_one(&bytes) {
+    match read_one(&bytes) {
         Ok(chunk) => {
             let (number, offset, total) = (chunk.number, chunk.offset, chunk.total);
-            format!(in alloc; "{number} {offset} {total} {}", Hex(chunk.data))?
+            let data = Hex(chunk.data);
+            Ok(Some(format!(in alloc; "{number} {offset} {total} {data}")?))
         }
-        Err(fault) => format!(in alloc; "{fault:?}")?,
-    };
-    Ok(Some(answer))
+        Err(fault) => refused(alloc, &fault),
+    }
 }
 
 /// `write_chunk NUMBER OFFSET TOTAL ROOM BYTES`: what is written into so much room, or Room
 pub fn write_chunk(alloc: Global, line: &mut Line) -> Answer {
     let (number, offset, total) = (line.u16()?, line.u32()?, line.u32()?);
-    let mut room = [0; 512];
+    let mut room = [0xaa; 512];
     let len = usize::from(line.u16()?).min(512);
     let data = line.bytes(alloc)?;
     if data.len() > 512 {
@@ -50,10 +51,7 @@ pub fn write_chunk(alloc: Global, line: &mut Line) -> Answer {
     };
     let done = write_one(&mut pen, &chunk).is_ok();
     let at = pen.at;
-    if !done || at > room.len() {
-        return Ok(Some(format!(in alloc; "Room")?));
-    }
-    Ok(Some(format!(in alloc; "{}", Hex(&room[..at]))?))
+    written(alloc, done, 0, at, &room)
 }
 
 /// The joiner that the lines speak of.
@@ -85,15 +83,14 @@ impl JoinerRows {
     pub fn chunk(&mut self, alloc: Global, line: &mut Line) -> Answer {
         let (number, offset, total) = (line.u16()?, line.u32()?, line.u32()?);
         let part = line.bytes(alloc)?;
-        let answer = match self.joiner.chunk(number, offset, total, &part) {
-            Joined::Whole(len) => format!(in alloc; "whole {len}")?,
-            Joined::Part => format!(in alloc; "part")?,
-            Joined::Older => format!(in alloc; "older")?,
-            Joined::TooLong { total } => format!(in alloc; "toolong {total}")?,
-            Joined::BadRange { offset, total } => format!(in alloc; "badrange {offset} {total}")?,
-            Joined::Differs { first, now } => format!(in alloc; "differs {first} {now}")?,
-        };
-        Ok(Some(answer))
+        match self.joiner.chunk(number, offset, total, &part) {
+            Joined::Whole(len) => Ok(Some(format!(in alloc; "whole {len}")?)),
+            Joined::Part => said(alloc, "part"),
+            Joined::Older => said(alloc, "older"),
+            Joined::TooLong { total } => Ok(Some(format!(in alloc; "toolong {total}")?)),
+            Joined::BadRange { offset, total } => two_told(alloc, "badrange", offset, total),
+            Joined::Differs { first, now } => two_told(alloc, "differs", first, now),
+        }
     }
 
     /// `joined`: the bytes of the whole message
@@ -104,8 +101,10 @@ impl JoinerRows {
     /// `joined_is BYTES`: whether these are the bytes of the whole message
     pub fn is(&self, alloc: Global, line: &mut Line) -> Answer {
         let bytes = line.bytes(alloc)?;
-        let same = self.joiner.bytes() == bytes.as_slice();
-        let answer = if same { "yes" } else { "no" };
-        Ok(Some(format!(in alloc; "{answer}")?))
+        yes_or_no(alloc, self.joiner.bytes() == bytes.as_slice())
     }
+}
+
+fn two_told(alloc: Global, name: &str, first: u32, second: u32) -> Answer {
+    Ok(Some(format!(in alloc; "{name} {first} {second}")?))
 }

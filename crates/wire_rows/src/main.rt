@@ -16,6 +16,7 @@ mod senders;
 mod shown;
 mod slots;
 mod timers;
+mod tries;
 mod values;
 mod windows;
 

@@ -1,26 +1,24 @@
 //! Rows of `dataset_meta`.
-use case_lines::{Answer, Line, LineFault, kind_of, number};
+use case_lines::{Answer, Line, LineFault, kind_of, number, parted, refused, said};
 use dataset_meta::{Field, Meta, MetaFault, Name32};
 use std::alloc::Global;
-use std::fmt::{self, Write};
+use std::fmt::Write;
 
 /// `name BYTES`: whether the bytes are a name of a data set or a field
 pub fn name(alloc: Global, line: &mut Line) -> Answer {
-    let bytes = line.optional().unwrap_or("").as_bytes();
-    let answer = match Name32::new(bytes) {
-        Some(_) => "is a name",
-        None => "is no name",
-    };
-    Ok(Some(format!(in alloc; "{answer}")?))
+    let bytes = line.rest().as_bytes();
+    match Name32::new(bytes) {
+        Some(_) => said(alloc, "is a name"),
+        None => said(alloc, "is no name"),
+    }
 }
 
 /// `meta FIELD ..`, a field as NAME:KIND or NAME:KIND:CAP: the words of a row, or the fault
 pub fn meta(alloc: Global, line: &mut Line) -> Answer {
-    let answer = match new_meta(fields_of(alloc, line)?, 1, 0, false)? {
-        Ok(meta) => format!(in alloc; "{} words", meta.words())?,
-        Err(fault) => format!(in alloc; "{fault:?}")?,
-    };
-    Ok(Some(answer))
+    match new_meta(fields_of(alloc, line)?, 1, 0, false)? {
+        Ok(meta) => Ok(Some(format!(in alloc; "{} words", meta.words())?)),
+        Err(fault) => refused(alloc, &fault),
+    }
 }
 
 /// `told MAJOR MINOR QUALITY FIELD ..`: what the meta tells
@@ -33,7 +31,9 @@ pub fn told(alloc: Global, line: &mut Line) -> Answer {
     let mut told = format!(in alloc; "{} {} {}:", meta.major(), meta.minor(), meta.quality())?;
     for (index, field) in meta.fields().iter().enumerate() {
         let at = meta.start(index as u8);
-        write!(told, " {}@{at}+{}", Letters(&field.name), field.words())?;
+        told.push_str(" ")?;
+        push_name(&mut told, &field.name)?;
+        write!(told, "@{at}+{}", field.words())?;
     }
     write!(
         told,
@@ -44,17 +44,11 @@ pub fn told(alloc: Global, line: &mut Line) -> Answer {
     Ok(Some(told))
 }
 
-/// A name as text.
-#[derive(Clone, Copy)]
-struct Letters<'a>(&'a Name32);
-
-impl fmt::Display for Letters<'_> {
-    fn fmt<W: fmt::Write>(&self, f: &mut fmt::Formatter<W>) -> fmt::Result {
-        for byte in self.0.as_bytes() {
-            f.write_char(char::from(*byte))?;
-        }
-        Ok(())
+fn push_name(text: &mut String, name: &Name32) -> Result<(), LineFault> {
+    for byte in name.as_bytes() {
+        text.push(char::from(*byte))?;
     }
+    Ok(())
 }
 
 fn fields_of(alloc: Global, line: &mut Line) -> Result<Vec<Field>, LineFault> {
@@ -67,19 +61,17 @@ fn fields_of(alloc: Global, line: &mut Line) -> Result<Vec<Field>, LineFault> {
 
 /// A data set in one word: its version and its fields, as `1.0/a:UInt32/b:String:60`, and `1.0+quality/..` where it has quality.
 pub fn data_set(alloc: Global, word: &str) -> Result<Meta, LineFault> {
-    let (version, rest) = word.split_once('/').ok_or(LineFault::Missing)?;
+    let (version, rest) = parted(word, '/')?;
     let (version, quality) = match version.split_once('+') {
         Some((version, _)) => (version, true),
         None => (version, false),
     };
-    let (major, minor) = version.split_once('.').ok_or(LineFault::Missing)?;
-    let major = number::<u32>(major)?;
-    let minor = number::<u32>(minor)?;
+    let (major, minor) = parted(version, '.')?;
     let mut fields = Vec::new(alloc);
     for field in rest.split('/') {
         fields.push(field_of(field)?)?;
     }
-    match new_meta(fields, major, minor, quality)? {
+    match new_meta(fields, number(major)?, number(minor)?, quality)? {
         Ok(meta) => Ok(meta),
         Err(_) => Err(LineFault::Condition),
     }
@@ -91,19 +83,26 @@ fn new_meta(
     minor: u32,
     quality: bool,
 ) -> Result<Result<Meta, MetaFault>, LineFault> {
-    let name = Name32::new(b"demo").ok_or(LineFault::Condition)?;
+    let name = name_of("demo")?;
     Ok(Meta::new(name, fields, major, minor, quality))
 }
 
 fn field_of(word: &str) -> Result<Field, LineFault> {
-    let (name, rest) = word.split_once(':').ok_or(LineFault::Missing)?;
+    let (name, rest) = parted(word, ':')?;
     let (kind, cap) = match rest.split_once(':') {
         Some((kind, cap)) => (kind, number::<u16>(cap)?),
         None => (rest, 0),
     };
     Ok(Field {
-        name: Name32::new(name.as_bytes()).ok_or(LineFault::Condition)?,
+        name: name_of(name)?,
         kind: kind_of(kind)?,
         cap,
     })
+}
+
+fn name_of(word: &str) -> Result<Name32, LineFault> {
+    match Name32::new(word.as_bytes()) {
+        Some(name) => Ok(name),
+        None => Err(LineFault::Condition),
+    }
 }

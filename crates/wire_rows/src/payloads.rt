@@ -1,6 +1,7 @@
 //! Rows of `payload_layout`.
+use crate::tries::written;
 use arrayvec::ArrayVec;
-use case_lines::{Answer, Hex, Line, LineFault, number};
+use case_lines::{Answer, Line, LineFault, number, said};
 use payload_layout::{
     Packs, Parts, plan as plan_packs, split as split_parts, write_sizes as write_list,
 };
@@ -31,8 +32,8 @@ pub fn split(alloc: Global, line: &mut Line) -> Answer {
     let bytes = line.bytes(alloc)?;
     let mut parts = Parts::new();
     if split_parts(&bytes, count, &mut parts).is_err() {
-        let left = if parts.is_empty() { "" } else { " left" };
-        return Ok(Some(format!(in alloc; "BadSizes{left}")?));
+        let kept = parts.is_empty();
+        return said(alloc, if kept { "BadSizes" } else { "BadSizes left" });
     }
     let mut text = String::new(alloc);
     for part in parts.iter() {
@@ -53,23 +54,15 @@ pub fn write_sizes(alloc: Global, line: &mut Line) -> Answer {
     };
     let done = write_list(&mut pen, &sizes).is_ok();
     let at = pen.at;
-    if !done || at > room.len() {
-        let moved = if room.iter().all(|byte| *byte == 0xaa) {
-            ""
-        } else {
-            " moved"
-        };
-        return Ok(Some(format!(in alloc; "Room{moved}")?));
+    if done && at == 0 {
+        return said(alloc, "nothing");
     }
-    if at == 0 {
-        return Ok(Some(format!(in alloc; "nothing")?));
-    }
-    Ok(Some(format!(in alloc; "{}", Hex(&room[..at]))?))
+    written(alloc, done, 0, at, &room)
 }
 
 fn named(alloc: Global, text: String) -> Answer {
     if text.is_empty() {
-        return Ok(Some(format!(in alloc; "none")?));
+        return said(alloc, "none");
     }
     Ok(Some(text))
 }

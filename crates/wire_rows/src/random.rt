@@ -8,11 +8,9 @@ pub fn name_of(answer: &str) -> &str {
         Some((word, _)) => word,
         None => answer,
     };
-    let is_word = word.starts_with(|c: char| c.is_ascii_alphabetic());
-    if is_word && !word.contains('=') {
-        word
-    } else {
-        "read"
+    match word.as_bytes() {
+        [b'A'..=b'Z' | b'a'..=b'z', ..] if !word.contains('=') => word,
+        _ => "read",
     }
 }
 

@@ -1,7 +1,7 @@
 //! Rows of `aes_ctr`, `hmac_sign` and `group_keys`.
 use aes_ctr::{Key, Key128, Key256, apply_stream};
 use arrayvec::ArrayVec;
-use case_lines::{Answer, Hex, Line, LineFault, number};
+use case_lines::{Answer, Hex, Line, LineFault, number, parted, refused, said, told_bytes};
 use group_keys::{KeySet, Ring};
 use hmac_sign::{SigningKey, matches, sign};
 use std::alloc::Global;
@@ -10,14 +10,14 @@ use std::alloc::Global;
 pub fn block128(alloc: Global, line: &mut Line) -> Answer {
     let key = Key128::new(&line.array()?);
     let block = key.encrypt_block(&line.array()?);
-    Ok(Some(format!(in alloc; "{}", Hex(&block))?))
+    told_bytes(alloc, &block)
 }
 
 /// `block256 KEY BLOCK`: the block under the key (FIPS 197)
 pub fn block256(alloc: Global, line: &mut Line) -> Answer {
     let key = Key256::new(&line.array()?);
     let block = key.encrypt_block(&line.array()?);
-    Ok(Some(format!(in alloc; "{}", Hex(&block))?))
+    told_bytes(alloc, &block)
 }
 
 /// `stream128 KEY FRONT FIRST BYTES`, the first block as four bytes, big-endian: the bytes with the stream added (NIST SP
@@ -38,7 +38,7 @@ fn stream(alloc: Global, line: &mut Line, key: &Key) -> Answer {
     let first = u32::from_be_bytes(line.array()?);
     let mut bytes = line.bytes(alloc)?;
     apply_stream(key, &front, first, &mut bytes);
-    Ok(Some(format!(in alloc; "{}", Hex(&bytes))?))
+    told_bytes(alloc, &bytes)
 }
 
 /// `hmac KEY TEXT`: the signature (RFC 2104 over SHA-256), and whether `matches` and a key that is kept hashed agree with it
@@ -47,18 +47,18 @@ pub fn hmac(alloc: Global, line: &mut Line) -> Answer {
     let text = line.bytes(alloc)?;
     let signature = sign(&key, &text);
     let same = matches(&key, &text, &signature);
-    let kept = kept_signature(&key, &text).is_none_or(|it| it == signature);
+    let kept = agrees_kept(&key, &text, &signature);
     Ok(Some(format!(in alloc; "{} {same} {kept}", Hex(&signature))?))
 }
 
-/// The signature by a key that is kept with its pads hashed, where the key has at most 32 bytes.
-fn kept_signature(key: &[u8], text: &[u8]) -> Option<[u8; 32]> {
+/// Whether a key that is kept with its pads hashed signs so, where the key has at most 32 bytes.
+fn agrees_kept(key: &[u8], text: &[u8], signature: &[u8; 32]) -> bool {
     if key.len() > 32 {
-        return None;
+        return true;
     }
     let mut whole = [0; 32];
     whole[..key.len()].copy_from_slice(key);
-    Some(SigningKey::new(&whole).sign(text))
+    SigningKey::new(&whole).sign(text) == *signature
 }
 
 /// `ring LONG SET ..`, a key set as TOKEN:MOMENT:LENGTH of its encrypting key: accepted, or the fault
@@ -71,16 +71,15 @@ pub fn ring(alloc: Global, line: &mut Line) -> Answer {
         }
         sets.push(key_set(word)?);
     }
-    let answer = match Ring::new(long, sets) {
-        Ok(_) => format!(in alloc; "accepted")?,
-        Err(fault) => format!(in alloc; "{fault:?}")?,
-    };
-    Ok(Some(answer))
+    match Ring::new(long, sets) {
+        Ok(_) => said(alloc, "accepted"),
+        Err(fault) => refused(alloc, &fault),
+    }
 }
 
 fn key_set(word: &str) -> Result<KeySet, LineFault> {
-    let (token, rest) = word.split_once(':').ok_or(LineFault::Missing)?;
-    let (moment, length) = rest.split_once(':').ok_or(LineFault::Missing)?;
+    let (token, rest) = parted(word, ':')?;
+    let (moment, length) = parted(rest, ':')?;
     let length = number::<u8>(length)?;
     let mut encrypting = ArrayVec::new();
     for _ in 0..length {

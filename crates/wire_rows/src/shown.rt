@@ -16,11 +16,25 @@ impl fmt::Display for ShownHeader<'_> {
             write_publisher(f, publisher)?;
         }
         if let Some(class_id) = &header.class_id {
-            words.next(f, "class=")?;
-            write!(f, "{}", Digits(class_id))?;
+            words.bytes(f, "class=", class_id)?;
         }
-        write_group_header(f, header, &mut words)?;
-        write_ids(f, &header.ids, &mut words)?;
+        if let Some(group) = header.group {
+            words.number(f, "group=", u32::from(group))?;
+        }
+        if let Some(version) = header.version {
+            words.number(f, "version=", version)?;
+        }
+        if let Some(number) = header.message_number {
+            words.number(f, "number=", u32::from(number))?;
+        }
+        if let Some(sequence) = header.sequence {
+            words.number(f, "sequence=", u32::from(sequence))?;
+        }
+        match &header.ids {
+            Ids::None => {}
+            Ids::List(bytes) => words.bytes(f, "ids=list:", bytes)?,
+            Ids::Chunk(id) => words.number(f, "ids=chunk:", u32::from(*id))?,
+        }
         if let Some(security) = &header.security {
             words.next(f, "security=")?;
             write_security(f, security)?;
@@ -43,6 +57,26 @@ impl Parts {
         self.any = true;
         f.write_str(name)
     }
+
+    fn number<W: fmt::Write>(
+        &mut self,
+        f: &mut fmt::Formatter<W>,
+        name: &str,
+        number: u32,
+    ) -> fmt::Result {
+        self.next(f, name)?;
+        write!(f, "{number}")
+    }
+
+    fn bytes<W: fmt::Write>(
+        &mut self,
+        f: &mut fmt::Formatter<W>,
+        name: &str,
+        bytes: &[u8],
+    ) -> fmt::Result {
+        self.next(f, name)?;
+        write!(f, "{}", Digits(bytes))
+    }
 }
 
 fn write_publisher<W: fmt::Write>(
@@ -50,57 +84,16 @@ fn write_publisher<W: fmt::Write>(
     publisher: &PublisherId,
 ) -> fmt::Result {
     match publisher {
-        PublisherId::U8(id) => write!(f, "u8:{id}"),
-        PublisherId::U16(id) => write!(f, "u16:{id}"),
-        PublisherId::U32(id) => write!(f, "u32:{id}"),
-        PublisherId::U64(id) => write!(f, "u64:{id}"),
-        PublisherId::Text(text) => {
-            f.write_str("text:")?;
-            write!(f, "{}", Digits(text.as_bytes()))
-        }
+        PublisherId::U8(id) => write_id(f, "u8", u64::from(*id)),
+        PublisherId::U16(id) => write_id(f, "u16", u64::from(*id)),
+        PublisherId::U32(id) => write_id(f, "u32", u64::from(*id)),
+        PublisherId::U64(id) => write_id(f, "u64", *id),
+        PublisherId::Text(text) => write!(f, "text:{}", Digits(text.as_bytes())),
     }
 }
 
-fn write_group_header<W: fmt::Write>(
-    f: &mut fmt::Formatter<W>,
-    header: &Header,
-    words: &mut Parts,
-) -> fmt::Result {
-    if let Some(group) = header.group {
-        words.next(f, "group=")?;
-        write!(f, "{group}")?;
-    }
-    if let Some(version) = header.version {
-        words.next(f, "version=")?;
-        write!(f, "{version}")?;
-    }
-    if let Some(number) = header.message_number {
-        words.next(f, "number=")?;
-        write!(f, "{number}")?;
-    }
-    if let Some(sequence) = header.sequence {
-        words.next(f, "sequence=")?;
-        write!(f, "{sequence}")?;
-    }
-    Ok(())
-}
-
-fn write_ids<W: fmt::Write>(
-    f: &mut fmt::Formatter<W>,
-    ids: &Ids,
-    words: &mut Parts,
-) -> fmt::Result {
-    match ids {
-        Ids::None => Ok(()),
-        Ids::List(bytes) => {
-            words.next(f, "ids=list:")?;
-            write!(f, "{}", Digits(bytes))
-        }
-        Ids::Chunk(id) => {
-            words.next(f, "ids=chunk:")?;
-            write!(f, "{id}")
-        }
-    }
+fn write_id<W: fmt::Write>(f: &mut fmt::Formatter<W>, kind: &str, id: u64) -> fmt::Result {
+    write!(f, "{kind}:{id}")
 }
 
 fn write_security<W: fmt::Write>(f: &mut fmt::Formatter<W>, part: &SecurityPart) -> fmt::Result {
@@ -110,14 +103,13 @@ fn write_security<W: fmt::Write>(f: &mut fmt::Formatter<W>, part: &SecurityPart)
         (part.footer, "f"),
         (part.reset, "r"),
     ];
+    let mut any = false;
     for (is_set, letter) in flags {
         if is_set {
+            any = true;
             f.write_str(letter)?;
         }
     }
-    if !(part.signed || part.encrypted || part.footer || part.reset) {
-        f.write_str("-")?;
-    }
-    write!(f, ":{}:", part.token)?;
-    write!(f, "{}", Digits(part.nonce))
+    let before = if any { "" } else { "-" };
+    write!(f, "{before}:{}:{}", part.token, Digits(part.nonce))
 }

@@ -5,8 +5,9 @@ ghost use Rattle.fixed_layout.specs.Slots.{end_of};
 
 use crate::frames::push_fields;
 use crate::metas::data_set;
+use crate::tries::{short_of, written};
 use arrayvec::ArrayVec;
-use case_lines::{Answer, Hex, Line, LineFault, number};
+use case_lines::{Answer, Line, LineFault, number, parted, refused, said, told, told_bytes};
 use dataset_meta::Meta;
 use fixed_layout::{
     RawFault, Slot, Slots, raw_size as size_of, read_raw as read_one, write_raw as write_one,
@@ -19,10 +20,10 @@ use ua_binary::{Cursor, Pen};
 /// `raw_size META`: how many bytes a row takes
 pub fn raw_size(alloc: Global, line: &mut Line) -> Answer {
     let meta = data_set(alloc, line.word()?)?;
-    Ok(Some(format!(in alloc; "{}", size_of(&meta))?))
+    told(alloc, &size_of(&meta))
 }
 
-/// `read_raw META BYTES`: the fields, and how many bytes are left, or the fault, with ` moved` where the cursor isn't left
+/// `read_raw META BYTES`: the fields, and how many bytes are left, or the fault, or `moved` where the cursor isn't left
 pub fn read_raw(alloc: Global, line: &mut Line) -> Answer {
     let meta = data_set(alloc, line.word()?)?;
     let bytes = line.bytes(alloc)?;
@@ -52,8 +53,10 @@ fn row_behind(alloc: Global, meta: &Meta, bytes: &[u8], start: usize) -> Answer
             Ok(Some(text))
         }
         Err(fault) => {
-            let moved = if cursor.at == start { "" } else { " moved" };
-            Ok(Some(format!(in alloc; "{fault:?}{moved}")?))
+            if cursor.at == start {
+                return refused(alloc, &fault);
+            }
+            said(alloc, "moved")
         }
     }
 }
@@ -62,18 +65,17 @@ fn row_behind(alloc: Global, meta: &Meta, bytes: &[u8], start: usize) -> Answer
 pub fn prefixes_of_raw(alloc: Global, line: &mut Line) -> Answer {
     let meta = data_set(alloc, line.word()?)?;
     let bytes = line.bytes(alloc)?;
-    let short = (0..bytes.len())
-        .filter(|len| is_short(&meta, &bytes[..*len]))
-        .count();
-    Ok(Some(format!(in alloc; "{short} of {} Short", bytes.len())?))
-}
-
-fn is_short(meta: &Meta, bytes: &[u8]) -> bool {
-    let mut cursor = Cursor { bytes, at: 0 };
-    match read_one(meta, &mut cursor) {
-        Ok(_) => false,
-        Err(fault) => fault == RawFault::Short,
+    let mut short = 0_usize;
+    for len in 0..bytes.len() {
+        let mut cursor = Cursor {
+            bytes: &bytes[..len],
+            at: 0,
+        };
+        if let Err(RawFault::Short) = read_one(&meta, &mut cursor) {
+            short = short.saturating_add(1);
+        }
     }
+    short_of(alloc, short, &bytes)
 }
 
 /// `write_raw META ROOM FRAME`: the row of a key frame, written as RawData into so much room behind three bytes `aa`, with
@@ -94,21 +96,17 @@ pub fn write_raw(alloc: Global, line: &mut Line) -> Answer {
     };
     let done = write_one(&mut pen, &meta, words).is_ok();
     let at = pen.at;
-    if !done || at > room.len() {
-        return Ok(Some(format!(in alloc; "Room")?));
-    }
-    Ok(Some(format!(in alloc; "{}", Hex(&room[..at]))?))
+    written(alloc, done, 3, at, &room)
 }
 
 /// `slots START LIMIT SLOTS`: where a datagram ends, or the fault
 pub fn slots(alloc: Global, line: &mut Line) -> Answer {
     let (start, limit) = (line.u32()?, line.u32()?);
     let list = slots_of(line.word()?)?;
-    let answer = match Slots::new(start, limit, list.as_slice()) {
-        Ok(slots) => format!(in alloc; "end {}", slots.end())?,
-        Err(fault) => format!(in alloc; "{fault:?}")?,
-    };
-    Ok(Some(answer))
+    match Slots::new(start, limit, list.as_slice()) {
+        Ok(slots) => Ok(Some(format!(in alloc; "end {}", slots.end())?)),
+        Err(fault) => refused(alloc, &fault),
+    }
 }
 
 /// `take SLOTS INDEX DATAGRAM`: what stands in the slot, or none
@@ -116,11 +114,10 @@ pub fn take(alloc: Global, line: &mut Line) -> Answer {
     let slots = accepted(0, line.word()?)?;
     let index = index_of(&slots, line)?;
     let datagram = line.bytes(alloc)?;
-    let answer = match slots.take(&datagram, index) {
-        Some(bytes) => format!(in alloc; "{}", Hex(bytes))?,
-        None => format!(in alloc; "none")?,
-    };
-    Ok(Some(answer))
+    match slots.take(&datagram, index) {
+        Some(bytes) => told_bytes(alloc, bytes),
+        None => said(alloc, "none"),
+    }
 }
 
 /// `place START SLOTS INDEX DATAGRAM BYTES`: the datagram, in one word, with the bytes placed
@@ -134,7 +131,7 @@ pub fn place(alloc: Global, line: &mut Line) -> Answer {
         return Err(LineFault::Condition);
     }
     slots.place(&mut datagram, index, &bytes);
-    Ok(Some(format!(in alloc; "{}", Hex(&datagram))?))
+    told_bytes(alloc, &datagram)
 }
 
 fn accepted(start: u32, word: &str) -> Result<Slots, LineFault> {
@@ -183,11 +180,11 @@ fn slots_of(word: &str) -> Result<ArrayVec<Slot, 16>, LineFault> {
 }
 
 fn slot_of(word: &str) -> Result<Slot, LineFault> {
-    let (offset, rest) = word.split_once(':').ok_or(LineFault::Missing)?;
-    let (size, need) = rest.split_once(':').ok_or(LineFault::Missing)?;
+    let (offset, rest) = parted(word, ':')?;
+    let (size, need) = parted(rest, ':')?;
     Ok(Slot {
-        offset: number::<u32>(offset)?,
-        size: number::<u32>(size)?,
-        need: number::<u32>(need)?,
+        offset: number(offset)?,
+        size: number(size)?,
+        need: number(need)?,
     })
 }

@@ -1,5 +1,5 @@
 //! Rows of `receive_timer`.
-use case_lines::{Answer, Line};
+use case_lines::{Answer, Line, yes_or_no};
 use receive_timer::Timer;
 use std::alloc::Global;
 
@@ -36,8 +36,6 @@ impl TimerRows {
 
     /// `due NOW`: yes or no
     pub fn due(&self, alloc: Global, line: &mut Line) -> Answer {
-        let due = self.timer.due(line.u64()?);
-        let answer = if due { "yes" } else { "no" };
-        Ok(Some(format!(in alloc; "{answer}")?))
+        yes_or_no(alloc, self.timer.due(line.u64()?))
     }
 }

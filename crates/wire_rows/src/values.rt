@@ -1,5 +1,6 @@
 //! Rows of `ua_values` and `ua_binary`.
-use case_lines::{Answer, Hex, Line, LineFault, Shown, kind_of, value_of};
+use crate::tries::{short_of, written};
+use case_lines::{Answer, Line, LineFault, Shown, kind_of, refused, said, value_of, yes_or_no};
 use std::alloc::Global;
 use std::fmt::Write;
 use ua_binary::{
@@ -11,27 +12,25 @@ use ua_values::{Blob, Text, fits as fits_field};
 /// `text BYTES`: how many bytes the text has, or the fault
 pub fn text(alloc: Global, line: &mut Line) -> Answer {
     let bytes = line.bytes(alloc)?;
-    let answer = match Text::from_bytes(&bytes) {
-        Ok(text) => {
-            let same = text.as_bytes() == bytes.as_slice();
-            format!(in alloc; "{} bytes, the same: {same}", text.as_bytes().len())?
-        }
-        Err(fault) => format!(in alloc; "{fault:?}")?,
-    };
-    Ok(Some(answer))
+    match Text::from_bytes(&bytes) {
+        Ok(text) => kept(alloc, &bytes, text.as_bytes()),
+        Err(fault) => refused(alloc, &fault),
+    }
 }
 
 /// `blob BYTES`: how many bytes the blob has, or the fault
 pub fn blob(alloc: Global, line: &mut Line) -> Answer {
     let bytes = line.bytes(alloc)?;
-    let answer = match Blob::from_bytes(&bytes) {
-        Ok(blob) => {
-            let same = blob.as_bytes() == bytes.as_slice();
-            format!(in alloc; "{} bytes, the same: {same}", blob.as_bytes().len())?
-        }
-        Err(fault) => format!(in alloc; "{fault:?}")?,
-    };
-    Ok(Some(answer))
+    match Blob::from_bytes(&bytes) {
+        Ok(blob) => kept(alloc, &bytes, blob.as_bytes()),
+        Err(fault) => refused(alloc, &fault),
+    }
+}
+
+/// How many bytes are kept, and whether they are those that were given.
+fn kept(alloc: Global, given: &[u8], bytes: &[u8]) -> Answer {
+    let same = given == bytes;
+    Ok(Some(format!(in alloc; "{} bytes, the same: {same}", bytes.len())?))
 }
 
 /// `fits KIND CAP BYTES`, the bytes of a Variant: whether its value fits such a field
@@ -45,29 +44,23 @@ pub fn fits(alloc: Global, line: &mut Line) -> Answer {
     }) else {
         return Err(LineFault::Condition);
     };
-    let answer = if fits_field(&value, kind, cap) {
-        "yes"
-    } else {
-        "no"
-    };
-    Ok(Some(format!(in alloc; "{answer}")?))
+    yes_or_no(alloc, fits_field(&value, kind, cap))
 }
 
-/// `read_variant BYTES`: the value, and how many bytes are left, or the fault
+/// `read_variant BYTES`: the value, and how many bytes are left, or the fault, or `moved` where it moves the cursor
 pub fn read_variant(alloc: Global, line: &mut Line) -> Answer {
     let bytes = line.bytes(alloc)?;
     let mut cursor = Cursor {
         bytes: &bytes,
         at: 0,
     };
-    let answer = match read_value(&mut cursor) {
+    match read_value(&mut cursor) {
         Ok(value) => {
             let rest = bytes.len() - cursor.at;
-            format!(in alloc; "{}, rest {rest}", Shown(&value))?
+            Ok(Some(format!(in alloc; "{}, rest {rest}", Shown(&value))?))
         }
-        Err(fault) => refused(alloc, fault, cursor.at)?,
-    };
-    Ok(Some(answer))
+        Err(fault) => refused_at(alloc, fault, cursor.at),
+    }
 }
 
 /// `read_data_value BYTES`: the value, where there is one, the status, and how many bytes are left, or the fault
@@ -77,35 +70,41 @@ pub fn read_data_value(alloc: Global, line: &mut Line) -> Answer {
         bytes: &bytes,
         at: 0,
     };
-    let answer = match read_measured(&mut cursor) {
-        Ok(measured) => measured_text(alloc, &measured, bytes.len() - cursor.at)?,
-        Err(fault) => refused(alloc, fault, cursor.at)?,
-    };
-    Ok(Some(answer))
+    match read_measured(&mut cursor) {
+        Ok(measured) => measured_text(alloc, &measured, bytes.len() - cursor.at),
+        Err(fault) => refused_at(alloc, fault, cursor.at),
+    }
 }
 
-fn measured_text(alloc: Global, measured: &Measured, rest: usize) -> Result<String, LineFault> {
-    let mut text = match measured.value {
-        Some(value) => format!(in alloc; "{}", Shown(&value))?,
-        None => format!(in alloc; "no value")?,
-    };
+fn measured_text(alloc: Global, measured: &Measured, rest: usize) -> Answer {
+    let mut text = String::new(alloc);
+    match &measured.value {
+        Some(value) => write!(text, "{}", Shown(value))?,
+        None => text.push_str("no value")?,
+    }
     write!(text, ", status 0x{:08x}, rest {rest}", measured.status)?;
-    Ok(text)
+    Ok(Some(text))
 }
 
-/// The fault, and whether the cursor moved.
-fn refused(alloc: Global, fault: ValueFault, at: usize) -> Result<String, LineFault> {
-    let moved = if at == 0 { "" } else { " moved" };
-    Ok(format!(in alloc; "{fault:?}{moved}")?)
+/// The fault, or that the cursor moved.
+fn refused_at(alloc: Global, fault: ValueFault, at: usize) -> Answer {
+    if at == 0 {
+        refused(alloc, &fault)
+    } else {
+        said(alloc, "moved")
+    }
 }
 
 /// `prefixes_of_variant BYTES`: how many proper prefixes are Short, and leave the cursor
 pub fn prefixes_of_variant(alloc: Global, line: &mut Line) -> Answer {
     let bytes = line.bytes(alloc)?;
-    let short = (0..bytes.len())
-        .filter(|len| is_short_variant(&bytes[..*len]))
-        .count();
-    Ok(Some(format!(in alloc; "{short} of {} Short", bytes.len())?))
+    let mut short = 0_usize;
+    for len in 0..bytes.len() {
+        if is_short_variant(&bytes[..len]) {
+            short = short.saturating_add(1);
+        }
+    }
+    short_of(alloc, short, &bytes)
 }
 
 fn is_short_variant(bytes: &[u8]) -> bool {
@@ -119,10 +118,13 @@ fn is_short_variant(bytes: &[u8]) -> bool {
 /// `prefixes_of_data_value BYTES`: how many proper prefixes are Short, and leave the cursor
 pub fn prefixes_of_data_value(alloc: Global, line: &mut Line) -> Answer {
     let bytes = line.bytes(alloc)?;
-    let short = (0..bytes.len())
-        .filter(|len| is_short_data_value(&bytes[..*len]))
-        .count();
-    Ok(Some(format!(in alloc; "{short} of {} Short", bytes.len())?))
+    let mut short = 0_usize;
+    for len in 0..bytes.len() {
+        if is_short_data_value(&bytes[..len]) {
+            short = short.saturating_add(1);
+        }
+    }
+    short_of(alloc, short, &bytes)
 }
 
 fn is_short_data_value(bytes: &[u8]) -> bool {
@@ -163,7 +165,7 @@ pub fn write_variant(alloc: Global, line: &mut Line) -> Answer {
     };
     let done = write_value(&mut pen, &value).is_ok();
     let at = pen.at;
-    written(alloc, done, at, &room)
+    written(alloc, done, 0, at, &room)
 }
 
 /// `write_data_value ROOM STATUS VALUE`, the status 0x.. or `none`: the bytes, or Room, in a buffer of so many bytes
@@ -178,15 +180,5 @@ pub fn write_data_value(alloc: Global, line: &mut Line) -> Answer {
     };
     let done = write_measured(&mut pen, &value, status).is_ok();
     let at = pen.at;
-    written(alloc, done, at, &room)
-}
-
-/// The bytes that were written, or Room; and where a refused write wrote something, that it did.
-fn written(alloc: Global, done: bool, at: usize, room: &[u8]) -> Answer {
-    if done && at <= room.len() {
-        return Ok(Some(format!(in alloc; "{}", Hex(&room[..at]))?));
-    }
-    let kept = at == 0 && room.iter().all(|byte| *byte == 0xaa);
-    let moved = if kept { "" } else { " moved" };
-    Ok(Some(format!(in alloc; "Room{moved}")?))
+    written(alloc, done, 0, at, &room)
 }

@@ -1,5 +1,5 @@
 //! Rows of `replay_window`.
-use case_lines::{Answer, Line};
+use case_lines::{Answer, Line, said};
 use replay_window::{Seen, Window};
 use std::alloc::Global;
 
@@ -24,25 +24,24 @@ impl WindowRows {
 
     /// `number_seen N`: fresh, repeated, or old and the greatest number taken
     pub fn test(&self, alloc: Global, line: &mut Line) -> Answer {
-        let answer = match self.window.test(line.u32()?) {
-            Seen::Fresh => format!(in alloc; "fresh")?,
-            Seen::Repeated => format!(in alloc; "repeated")?,
-            Seen::TooOld { high } => format!(in alloc; "old {high}")?,
-        };
-        Ok(Some(answer))
+        told_seen(alloc, self.window.test(line.u32()?))
     }
 
     /// `number_taken N`: the same, and the number is taken where it is fresh
     pub fn take(&mut self, alloc: Global, line: &mut Line) -> Answer {
         let number = line.u32()?;
-        let answer = match self.window.test(number) {
-            Seen::Fresh => {
-                self.window.take(number);
-                format!(in alloc; "fresh")?
-            }
-            Seen::Repeated => format!(in alloc; "repeated")?,
-            Seen::TooOld { high } => format!(in alloc; "old {high}")?,
-        };
-        Ok(Some(answer))
+        let seen = self.window.test(number);
+        if let Seen::Fresh = seen {
+            self.window.take(number);
+        }
+        told_seen(alloc, seen)
+    }
+}
+
+fn told_seen(alloc: Global, seen: Seen) -> Answer {
+    match seen {
+        Seen::Fresh => said(alloc, "fresh"),
+        Seen::Repeated => said(alloc, "repeated"),
+        Seen::TooOld { high } => Ok(Some(format!(in alloc; "old {high}")?)),
     }
 }
