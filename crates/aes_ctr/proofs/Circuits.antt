@@ -76,12 +76,12 @@ planes_are (x ∷ q) (suc n) h =
 
 -- so many wires leave each stage but the last
 abbrev pub IsWired : Circuit → Type 0
-IsWired c = (length c.0.1 ≡ 22) × (length c.1.1 ≡ 4) × (length c.2.1 ≡ 9) × (length c.3.1 ≡ 18)
+IsWired c = (length c.0.1 ≡ 22) × (length c.1.1 ≡ 4) × (length c.2.1 ≡ 9) × (length c.3.1 ≡ 15)
 
 module _ (c : Circuit) (wired : IsWired c) (q y n t z result : List (List ℕ))
     (y_is : y ≡ on_planes c.0 (planes_from q 0 8)) (n_is : n ≡ on_planes c.1 (planes_from y 0 22))
     (t_is : t ≡ on_planes c.2 (planes_from n 0 4)) (z_is : z ≡ on_planes c.3 (planes_from y 0 22 ++ planes_from t 0 9))
-    (result_is : result ≡ on_planes (c.4, result_wires) (planes_from z 0 18 ++ replicate 16 255 ∷ [])) where
+    (result_is : result ≡ on_planes (c.4, result_wires) (planes_from z 0 15 ++ replicate 16 255 ∷ [])) where
   -- what leaves a stage is what goes into the next
   whole : (s : Stage) (n : ℕ) (ws q : List (List ℕ)) → length s.1 ≡ n → q ≡ on_planes s ws → planes_from q 0 n ≡ on_planes s ws
   whole s n ws q h e =
@@ -92,5 +92,5 @@ module _ (c : Circuit) (wired : IsWired c) (q y n t z result : List (List ℕ))
       let y_whole = whole c.0 22 (planes_from q 0 8) y wired.0 y_is in
       let n_whole = whole c.1 4 _ n wired.1 n_is ∙ ap (on_planes c.1) y_whole in
       let t_whole = whole c.2 9 _ t wired.2 t_is ∙ ap (on_planes c.2) n_whole in
-      let z_whole = whole c.3 18 _ z wired.3 z_is ∙ ap₂ (λ (u v : List (List ℕ)). on_planes c.3 (u ++ v)) y_whole t_whole in
+      let z_whole = whole c.3 15 _ z wired.3 z_is ∙ ap₂ (λ (u v : List (List ℕ)). on_planes c.3 (u ++ v)) y_whole t_whole in
       result_is ∙ ap (λ (u : List (List ℕ)). on_planes (c.4, result_wires) (u ++ replicate 16 255 ∷ [])) z_whole

@@ -52,20 +52,19 @@ invert_stage = (
 
 abbrev pub multiply_stage : Stage
 multiply_stage = (
-  And 29 15 ∷ And 24 6 ∷ And 23 0 ∷ And 28 16 ∷ And 25 1 ∷ And 22 7 ∷ And 27 11 ∷ And 30 17 ∷
-      And 26 10 ∷ And 29 12 ∷ And 24 3 ∷ And 23 4 ∷ And 28 13 ∷ And 25 5 ∷ And 22 2 ∷ And 27 9 ∷
-      And 30 14 ∷ And 26 8 ∷ [],
-  31 ∷ 32 ∷ 33 ∷ 34 ∷ 35 ∷ 36 ∷ 37 ∷ 38 ∷ 39 ∷ 40 ∷ 41 ∷ 42 ∷ 43 ∷ 44 ∷ 45 ∷ 46 ∷ 47 ∷ 48 ∷ [],
+  And 23 0 ∷ And 22 2 ∷ And 23 4 ∷ And 22 7 ∷ And 27 9 ∷ And 27 11 ∷ Xor 31 34 ∷ And 24 3 ∷
+      And 24 6 ∷ And 29 15 ∷ Xor 38 33 ∷ And 29 12 ∷ And 25 5 ∷ And 25 1 ∷ Xor 42 38 ∷ And 28 16 ∷
+      And 28 13 ∷ Xor 34 43 ∷ And 26 10 ∷ Xor 40 46 ∷ And 30 17 ∷ And 30 14 ∷ Xor 31 47 ∷ And 26 8 ∷
+      Xor 35 52 ∷ Xor 51 49 ∷ Xor 36 51 ∷ Xor 52 54 ∷ [],
+  39 ∷ 46 ∷ 44 ∷ 47 ∷ 32 ∷ 55 ∷ 41 ∷ 48 ∷ 45 ∷ 53 ∷ 37 ∷ 56 ∷ 50 ∷ 57 ∷ 58 ∷ [],
 )
 
 abbrev pub join_stage : Stage
 join_stage = (
-  Xor 2 5 ∷ Xor 10 11 ∷ Xor 9 10 ∷ Xor 5 13 ∷ Xor 0 3 ∷ Xor 2 12 ∷ Xor 15 16 ∷ Xor 6 7 ∷ Xor 7 8 ∷
-      Xor 16 17 ∷ Xor 12 22 ∷ Xor 24 23 ∷ Xor 4 25 ∷ Xor 3 26 ∷ Xor 14 30 ∷ Xor 25 30 ∷ Xor 21 31 ∷
-      Xor 4 32 ∷ Xor 27 31 ∷ Xor 22 34 ∷ Xor 1 35 ∷ Xor 33 37 ∷ Xor 29 37 ∷ Xor 32 35 ∷ Xor 23 39 ∷
-      Xor 36 40 ∷ Xor 20 40 ∷ Xor 19 39 ∷ Xor 36 43 ∷ Xor 28 44 ∷ Xor 38 18 ∷ Xor 41 18 ∷ Xor 48 18 ∷
-      Xor 47 18 ∷ [],
-  49 ∷ 50 ∷ 45 ∷ 46 ∷ 43 ∷ 51 ∷ 52 ∷ 42 ∷ [],
+  Xor 3 7 ∷ Xor 9 12 ∷ Xor 2 5 ∷ Xor 1 13 ∷ Xor 4 17 ∷ Xor 5 17 ∷ Xor 8 18 ∷ Xor 2 19 ∷ Xor 11 18 ∷
+      Xor 7 21 ∷ Xor 0 22 ∷ Xor 20 24 ∷ Xor 16 24 ∷ Xor 19 22 ∷ Xor 12 26 ∷ Xor 23 27 ∷ Xor 6 27 ∷
+      Xor 10 26 ∷ Xor 23 30 ∷ Xor 14 31 ∷ Xor 25 15 ∷ Xor 28 15 ∷ Xor 35 15 ∷ Xor 34 15 ∷ [],
+  36 ∷ 37 ∷ 32 ∷ 33 ∷ 30 ∷ 38 ∷ 39 ∷ 29 ∷ [],
 )
 
 -- the first n of these planes
@@ -90,4 +89,4 @@ unfoldable pub multiply_planes : List (List ℕ) → List (List ℕ) → List (L
 multiply_planes y t = on_planes multiply_stage (planes_from y 0 22 ++ planes_from t 0 9)
 
 unfoldable pub join_planes : List (List ℕ) → List (List ℕ)
-join_planes z = on_planes join_stage (planes_from z 0 18 ++ replicate 16 255 ∷ [])
+join_planes z = on_planes join_stage (planes_from z 0 15 ++ replicate 16 255 ∷ [])

@@ -30,7 +30,7 @@ pub fn sub_word(w: &[u8; 4]) -> [u8; 4]
     [bytes[0], bytes[1], bytes[2], bytes[3]]
 }
 
-// The sums of the byte's bits, from y1 to y21, behind its lowest bit.
+// The sums y1 to y21 of the byte's bits, behind its lowest bit.
 #[inline(always)]
 #[tactic(auto, unfolding(crate::specs::Circuit::spread_planes))]
 fn spread(q: Planes) -> [u8x16; 22]
@@ -66,7 +66,7 @@ fn spread(q: Planes) -> [u8x16; 22]
     ]
 }
 
-// The element of 16 whose inverse is wanted, from the two halves of the byte.
+// The element of the field of 16 that is to be inverted.
 #[inline(always)]
 #[tactic(auto, unfolding(crate::specs::Circuit::norm_planes))]
 fn norm(y: [u8x16; 22]) -> [u8x16; 4]
@@ -125,63 +125,66 @@ fn invert(element: [u8x16; 4]) -> [u8x16; 9]
     [t29, t33, t37, t40, t41, t42, t43, t44, t45]
 }
 
-// The inverse's bits times the byte's.
+// The products of the inverse's bits and the byte's, or sums of two.
 #[inline(always)]
 #[tactic(auto, unfolding(crate::specs::Circuit::multiply_planes))]
-fn multiply(y: [u8x16; 22], inverse: [u8x16; 9]) -> [u8x16; 18]
+fn multiply(y: [u8x16; 22], inverse: [u8x16; 9]) -> [u8x16; 15]
     ensures { result ≡ multiply_planes y inverse }
 {
     let [t29, t33, t37, t40, t41, t42, t43, t44, t45] = inverse;
+    let z2 = t33 & y[0];
+    let z14 = t29 & y[2];
+    let z11 = t33 & y[4];
+    let z5 = t29 & y[7];
+    let z15 = t42 & y[9];
+    let z6 = t42 & y[11];
+    let t51 = z2 ^ z5;
+    let z10 = t37 & y[3];
+    let z1 = t37 & y[6];
+    let z0 = t44 & y[15];
+    let t47 = z10 ^ z11;
+    let z9 = t44 & y[12];
+    let z13 = t40 & y[5];
+    let z4 = t40 & y[1];
+    let t49 = z9 ^ z10;
+    let z3 = t43 & y[16];
+    let z12 = t43 & y[13];
+    let t48 = z5 ^ z13;
+    let z8 = t41 & y[10];
+    let t53 = z0 ^ z3;
+    let z7 = t45 & y[17];
+    let z16 = t45 & y[14];
+    let t50 = z2 ^ z12;
+    let z17 = t41 & y[8];
+    let t46 = z15 ^ z16;
+    let t52 = z7 ^ z8;
+    let t54 = z6 ^ z7;
+    let t55 = z16 ^ z17;
     [
-        t44 & y[15],
-        t37 & y[6],
-        t33 & y[0],
-        t43 & y[16],
-        t40 & y[1],
-        t29 & y[7],
-        t42 & y[11],
-        t45 & y[17],
-        t41 & y[10],
-        t44 & y[12],
-        t37 & y[3],
-        t33 & y[4],
-        t43 & y[13],
-        t40 & y[5],
-        t29 & y[2],
-        t42 & y[9],
-        t45 & y[14],
-        t41 & y[8],
+        z1, z3, z4, z12, z14, t46, t47, t48, t49, t50, t51, t52, t53, t54, t55,
     ]
 }
 
 // The affine map of the inverse byte.
 #[inline(always)]
 #[tactic(auto, unfolding(crate::specs::Circuit::join_planes))]
-fn join(z: [u8x16; 18]) -> Planes
-    ensures { result ≡ join_planes z }
+fn join(products: [u8x16; 15]) -> Planes
+    ensures { result ≡ join_planes products }
 {
+    let [z1, z3, z4, z12, z14, t46, t47, t48, t49, ..] = products;
+    let [.., t50, t51, t52, t53, t54, t55] = products;
     let ones = u8x16::splat(0xff);
-    let t51 = z[2] ^ z[5];
-    let t47 = z[10] ^ z[11];
-    let t49 = z[9] ^ z[10];
-    let t48 = z[5] ^ z[13];
-    let t53 = z[0] ^ z[3];
-    let t50 = z[2] ^ z[12];
-    let t46 = z[15] ^ z[16];
-    let t54 = z[6] ^ z[7];
-    let t52 = z[7] ^ z[8];
-    let t55 = z[16] ^ z[17];
-    let t56 = z[12] ^ t48;
+    let t56 = z12 ^ t48;
     let t57 = t50 ^ t53;
-    let t58 = z[4] ^ t46;
-    let t59 = z[3] ^ t54;
-    let t61 = z[14] ^ t57;
+    let t58 = z4 ^ t46;
+    let t59 = z3 ^ t54;
+    let t61 = z14 ^ t57;
     let t60 = t46 ^ t57;
     let t63 = t49 ^ t58;
-    let t64 = z[4] ^ t59;
+    let t64 = z4 ^ t59;
     let t62 = t52 ^ t58;
     let s7 = t48 ^ t60;
-    let t66 = z[1] ^ t63;
+    let t66 = z1 ^ t63;
     let t65 = t61 ^ t62;
     let s6 = t56 ^ t62;
     let s0 = t59 ^ t63;
