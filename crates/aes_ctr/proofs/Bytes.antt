@@ -6,7 +6,7 @@ use Rattle.std.proofs.lemmas.Nat.Bits.{bit_at_xor, bit_at-lt, same_from_bits, sa
 use Rattle.aes_ctr.specs.Field.{field_mul}
 use Rattle.aes_ctr.specs.Cipher.{mixed}
 use Rattle.aes_ctr.specs.InPlanes.{Eight, byte_of}
-use Rattle.aes_ctr.proofs.AllBytes.{doubled_bits, tripled_is}
+use Rattle.aes_ctr.proofs.AllBytes.{crossed, doubled_bits, tripled_is}
 use Rattle.aes_ctr.proofs.Lists.{below_eight}
 
 abbrev pub add : ℕ → ℕ → ℕ
@@ -46,9 +46,6 @@ unfolding byte_of
 byte_doubled f j =
     let b = bits f j in let x0 = bit_at_xor (f 0) (f 7) j in let x2 = bit_at_xor (f 2) (f 7) j in let x3 = bit_at_xor (f 3) (f 7) j in
     let sum = doubled_bits (byte_of f j) (byte-lt f j) in omega arith
-
-crossed : (a b c d : ℕ) → bit_xor (bit_xor a b) (bit_xor c d) ≡ bit_xor (bit_xor a c) (bit_xor b d)
-crossed a b c d = same_from_bits _ _ (λ p. simp bit_at_xor (omega arith))
 
 doubled_sum : (f g : ℕ → ℕ) (j : ℕ) → byte_of (doubled (λ p. bit_xor (f p) (g p))) j ≡ byte_of (λ p. bit_xor (doubled f p) (doubled g p)) j
 unfolding byte_of

@@ -1,7 +1,6 @@
 pub mod AllBytes
 pub mod Bytes
 pub mod Circuits
-pub mod Gates
 pub mod Lists
 pub mod Packing
 pub mod Rounds

@@ -4,3 +4,4 @@ pub mod Blocks
 pub mod Keyed
 pub mod InPlanes
 pub mod RoundKeys
+pub mod Circuit

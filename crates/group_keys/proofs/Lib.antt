@@ -1,4 +1,5 @@
 pub mod Copies
 pub mod Finding
+pub mod Judging
 pub mod Moments
 pub mod Rising

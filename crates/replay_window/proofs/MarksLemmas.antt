@@ -2,9 +2,9 @@
 use Rattle.std.proofs.Common.{◌≡◌, ◌≢◌, ℕ, ◌+◌, ◌-◌, ◌*◌, ◌/◌, ◌%◌, ◌^◌, ◌<◌, ◌≤◌, ◌⊎◌, inl, inr, min, true, false, List, length, get_or, refl, sym, ◌∙◌, ap, bit_and, bit_or, arith, eq-eqb, get_or-set_same, get_or-set_other}
 use Rattle.std.proofs.Math.Dec.{eqb}
 use Rattle.std.proofs.Math.ListN.{set}
-use Rattle.std.proofs.lemmas.Bool.Decides.{eqb_tells}
+use Rattle.std.proofs.lemmas.Bool.Decides.{eqb_tells, leb_tells}
 use Rattle.std.proofs.lemmas.Nat.{and_le_l}
-use Rattle.std.proofs.lemmas.Nat.Bits.{bit_at_and, bit_at_not, bit_at_set_same, bit_at_set_other, bit_at_mask_inside, bit_at_mask_below, bit_at_ones, bit_at_ones_above, bit_at-lt, ones_shl, ones_shr}
+use Rattle.std.proofs.lemmas.Nat.Bits.{bit_at-zero, bit_at_and, bit_at_not, bit_at_set_same, bit_at_set_other, bit_at_mask_inside, bit_at_mask_below, bit_at_ones, bit_at_ones_above, bit_at-lt, ones_shl, ones_shr}
 use Rattle.std.specs.Int.{w64, bit_at, bit_not}
 use Rattle.replay_window.specs.Marks.{is_marked}
 
@@ -113,3 +113,88 @@ without_above word low high i low_bit high_bit above bit =
 pub record IsClearedTo (old new : List ℕ) (first last block : ℕ) : Type 0 where
   pub cleared : (x : ℕ) → first ≤ x → x ≤ last → x < 64 * block → is_marked new x ≡ false
   pub kept : (x : ℕ) → x < first → last < x + 1024 → is_marked new x ≡ is_marked old x
+
+-- ---- the marks of a run of numbers, cleared
+
+-- the bits from low to high of the word of a block are cleared, and no others
+pub record ClearsWord (old new : List ℕ) (block low high : ℕ) : Type 0 where
+  pub cleared : (x : ℕ) → x / 64 % 16 ≡ block % 16 → low ≤ x % 64 → x % 64 ≤ high → is_marked new x ≡ false
+  pub other_words : (x : ℕ) → x / 64 % 16 ≢ block % 16 → is_marked new x ≡ is_marked old x
+  pub below : (x : ℕ) → x % 64 < low → is_marked new x ≡ is_marked old x
+  pub above : (x : ℕ) → high < x % 64 → is_marked new x ≡ is_marked old x
+
+-- a mark that isn't among those bits is kept
+kept_by_word : (old new : List ℕ) (block low high : ℕ) → ClearsWord old new block low high → (x : ℕ)
+    → (x / 64 % 16 ≡ block % 16 → low ≤ x % 64 → x % 64 ≤ high → ⊥) → is_marked new x ≡ is_marked old x
+kept_by_word old new block low high word x out =
+    elim (same_or_not (x / 64 % 16) (block % 16)) [
+      | inl same ↦ elim (leb_tells low (x % 64)) [
+        | inl from ↦ elim (leb_tells (x % 64) high) [
+          | inl to ↦ absurd (out same from.1 to.1)
+          | inr above ↦ word.above x above.1
+        ]
+        | inr below ↦ word.below x below.1
+      ]
+      | inr other ↦ word.other_words x other
+    ]
+
+-- the marks from first to last are cleared, and those that a window up to last keeps are as they were
+pub record IsCleared (old new : List ℕ) (first last : ℕ) : Type 0 where
+  pub cleared : (x : ℕ) → first ≤ x → x ≤ last → is_marked new x ≡ false
+  pub kept : (x : ℕ) → x < first → last < x + 1024 → is_marked new x ≡ is_marked old x
+
+-- numbers of one block
+pub in_one_block : (old new : List ℕ) (first last : ℕ) → first ≤ last → first / 64 ≡ last / 64
+    → ClearsWord old new (first / 64) (first % 64) (last % 64) → IsCleared old new first last
+in_one_block old new first last order same word = record {
+  cleared = λ x from to.
+      let here : x / 64 ≡ first / 64 = omega arith in
+      word.cleared x (ap (λ q. q % 16) here) (omega arith) (omega arith);
+  kept = λ x before near. kept_by_word old new (first / 64) (first % 64) (last % 64) word x (λ here from to. omega arith);
+}
+
+-- those of the first block
+pub from_first_block : (old new : List ℕ) (first last : ℕ) → first / 64 < last / 64
+    → ClearsWord old new (first / 64) (first % 64) 63 → IsClearedTo old new first last (first / 64 + 1)
+from_first_block old new first last apart word = record {
+  cleared = λ x from to below.
+      let here : x / 64 ≡ first / 64 = omega arith in
+      word.cleared x (ap (λ q. q % 16) here) (omega arith) (omega arith);
+  kept = λ x before near. kept_by_word old new (first / 64) (first % 64) 63 word x (λ here from to. omega arith);
+}
+
+-- and those of a block between
+pub over_block : (old words : List ℕ) (first last block : ℕ) → IsClearedTo old words first last block → block % 16 < length words
+    → first / 64 < block → block < last / 64 → IsClearedTo old (set words (block % 16) 0) first last (block + 1)
+over_block old words first last block before within after_first before_last = record {
+  cleared = λ x from to below.
+      elim (same_or_not (x / 64 % 16) (block % 16)) [
+        | inl here ↦ word_same words (block % 16) 0 x within here ∙ ap (λ b. eqb b 1) (bit_at-zero (x % 64))
+        | inr other ↦ (
+            let earlier : x / 64 ≢ block = λ same. other (ap (λ q. q % 16) same) in
+            word_other words (block % 16) 0 x other ∙ before.cleared x from to (omega arith)
+            )
+      ];
+  kept = λ x early near.
+      let other : x / 64 % 16 ≢ block % 16 = λ same. omega arith in
+      word_other words (block % 16) 0 x other ∙ before.kept x early near;
+}
+
+-- and those of the last block
+pub to_last_block : (old words new : List ℕ) (first last : ℕ) → IsClearedTo old words first last (last / 64) → first / 64 < last / 64
+    → ClearsWord words new (last / 64) 0 (last % 64) → IsCleared old new first last
+to_last_block old words new first last before apart word = record {
+  cleared = λ x from to.
+      elim (same_or_not (x / 64 % 16) (last / 64 % 16)) [
+        | inl here ↦ elim (leb_tells (x % 64) (last % 64)) [
+          | inl low ↦ word.cleared x here (omega arith) low.1
+          | inr high ↦ word.above x high.1 ∙ before.cleared x from to (omega (arith, high.1))
+        ]
+        | inr other ↦ (
+            let earlier : x / 64 ≢ last / 64 = λ same. other (ap (λ q. q % 16) same) in
+            word.other_words x other ∙ before.cleared x from to (omega arith)
+            )
+      ];
+  kept = λ x early near.
+      kept_by_word words new (last / 64) 0 (last % 64) word x (λ here from to. omega arith) ∙ before.kept x early near;
+}
