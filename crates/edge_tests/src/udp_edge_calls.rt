@@ -1,6 +1,4 @@
 //! Each call once over the system's own files, streams and sockets.
-ghost use Rattle.std.specs.Prelude.{◌≡◌, ◌<◌, ◌^◌, IsSome};
-
 use crate::steps::{Step, opens, play, write};
 use std::alloc::Global;
 use std::fmt::Display;
