@@ -1,5 +1,11 @@
-//! Folders, sinks and links in memory: each call once.
+//! Folders, streams and links, in memory and of the system: each call once.
 #![tactic(auto)]
 
 #[cfg(test)]
 mod mem_edge_calls;
+#[cfg(test)]
+mod steps;
+#[cfg(test)]
+mod streams;
+#[cfg(test)]
+mod udp_edge_calls;

@@ -1,12 +1,9 @@
 //! Each call once, its refusals, and the calls that are named to fail.
-ghost use Rattle.std.specs.Prelude.{IsSome, IfOk};
-ghost use Rattle.mem_edge.specs.MemoryLinks.{opened_by};
-
+use crate::steps::{Step, opens, play, write};
 use mem_edge::*;
 use std::alloc::{AllocError, Global};
-use std::process::Abort;
 use std::test::Fail;
-use ua_base::{Fate, Folder, Gate, Link, Opened, ReadEnd, Received, Sent, Sink, WriteEnd};
+use ua_base::{Fate, Folder, Gate, Link, Opened, ReadEnd, Received, Sent, WriteEnd};
 
 fn folder(alloc: Global, fails: &[u32]) -> Result<MemoryFolder, Fail> {
     let mut files = Vec::new(alloc);
@@ -20,20 +17,11 @@ fn folder(alloc: Global, fails: &[u32]) -> Result<MemoryFolder, Fail> {
     Ok(MemoryFolder::new(files, Vec::from_slice(alloc, fails)?))
 }
 
-fn opened_link(
-    rt: &impl Abort,
-    alloc: Global,
-    send_fails: &[u64],
-    receive_fails: &[u64],
-) -> Result<MemoryLink, AllocError>
-    ensures { IfOk result (λ link. IsSome (opened_by link)) }
-{
-    let sends = Vec::from_slice(alloc, send_fails)?;
-    let receives = Vec::from_slice(alloc, receive_fails)?;
-    let mut link = MemoryLink::new(alloc, Vec::new(alloc), sends, receives, false);
-    let opened = link.open(4840, &[]);
-    assert!(rt; opened == Opened::Done);
-    Ok(link)
+// A link with calls that fail.
+fn link(alloc: Global, sends: &[u64], receives: &[u64]) -> Result<MemoryLink, AllocError> {
+    let sends = Vec::from_slice(alloc, sends)?;
+    let receives = Vec::from_slice(alloc, receives)?;
+    Ok(MemoryLink::new(alloc, Vec::new(alloc), sends, receives, false))
 }
 
 #[test]
@@ -54,20 +42,20 @@ fn a_folder_reads_fails_and_refuses(rt: HostRuntime) -> Result<(), Fail> {
     let alloc = rt.alloc();
     let mut folder = folder(alloc, &[2, 4])?;
     let mut into = Vec::from_slice(alloc, b"before")?;
-    let got = folder.read_whole("a", 5, &mut into);
-    assert_eq!(rt; got, ReadEnd::Done);
-    assert_eq!(rt; into.as_slice(), b"12345".as_slice());
-    let got = folder.read_whole("a", 4, &mut into);
-    assert_eq!(rt; got, ReadEnd::Long { read: 5 });
-    let got = folder.read_whole("a", 5, &mut into);
-    assert_eq!(rt; got, ReadEnd::Failed, "the third read is named");
-    let got = folder.read_whole("none", 5, &mut into);
-    assert_eq!(rt; got, ReadEnd::Failed, "no such file");
-    let got = folder.read_whole("b", 0, &mut into);
-    assert_eq!(rt; got, ReadEnd::Failed, "the fifth read is named");
-    let got = folder.read_whole("b", 0, &mut into);
-    assert_eq!(rt; got, ReadEnd::Done);
-    assert_eq!(rt; into.as_slice(), b"".as_slice());
+    for (name, limit, want, bytes) in [
+        ("a", 5, ReadEnd::Done, b"12345".as_slice()),
+        ("a", 4, ReadEnd::Long { read: 5 }, b""),
+        // the third read is named
+        ("a", 5, ReadEnd::Failed, b""),
+        ("none", 5, ReadEnd::Failed, b""),
+        // the fifth read is named
+        ("b", 0, ReadEnd::Failed, b""),
+        ("b", 0, ReadEnd::Done, b""),
+    ] {
+        let got = folder.read_whole(name, limit, &mut into);
+        assert_eq!(rt; got, want);
+        assert!(rt; into.as_slice() == bytes);
+    }
     Ok(())
 }
 
@@ -81,62 +69,43 @@ fn a_sink_writes_and_fails(rt: HostRuntime) -> Result<(), Fail> {
         (b"c", WriteEnd::Done),
         (b"", WriteEnd::Done),
     ] {
-        let got = sink.write(bytes);
-        assert_eq!(rt; got, want);
+        write(&rt, &mut sink, bytes, want);
     }
     assert_eq!(rt; sink.bytes(), b"abc".as_slice());
-    let rest = vec![in alloc; 0u8; 4_194_301]?;
     let more = vec![in alloc; 0u8; 4_194_302]?;
-    let got = sink.write(&more);
-    assert_eq!(rt; got, WriteEnd::Failed, "past the room");
-    let got = sink.write(&rest);
-    assert_eq!(rt; got, WriteEnd::Done, "up to the room");
+    write(&rt, &mut sink, &more, WriteEnd::Failed);
+    write(&rt, &mut sink, &more[1..], WriteEnd::Done);
     assert_eq!(rt; sink.bytes().len(), 4_194_304);
     Ok(())
 }
 
 #[test]
 fn a_link_delivers_in_order(rt: HostRuntime) -> Result<(), Fail> {
-    let mut link = opened_link(&rt, rt.alloc(), &[1], &[1, 4])?;
-    let mut into = [0u8; 4];
-    for (datagram, want) in [
-        (b"one".as_slice(), Sent::Done),
-        (b"lost", Sent::Failed),
-        (b"three", Sent::Done),
-        (b"four", Sent::Done),
+    let mut link = link(rt.alloc(), &[1], &[1, 4])?;
+    opens(&rt, &mut link, 4840);
+    let steps = [
+        Step::Send(b"one", Sent::Done),
+        Step::Send(b"lost", Sent::Failed),
+        Step::Send(b"three", Sent::Done),
+        Step::Send(b"four", Sent::Done),
+        Step::Receive(4, Received::Datagram(3), b"one"),
+        Step::Receive(4, Received::Failed, b""),
+        Step::Receive(4, Received::Long(5), b""),
+        Step::Receive(4, Received::Datagram(4), b"four"),
+        Step::Receive(4, Received::Failed, b""),
+        Step::Receive(4, Received::Nothing, b""),
+        Step::Receive(4, Received::Nothing, b""),
+    ];
+    play(&rt, rt.alloc(), &mut link, &steps)?;
+    for (i, sent, received) in [
+        (0, Some(b"one".as_slice()), Some(b"one".as_slice())),
+        (1, Some(b"three"), Some(b"four")),
+        (2, Some(b"four"), None),
+        (3, None, None),
+        (u64::MAX, None, None),
     ] {
-        let got = link.send(datagram);
-        assert_eq!(rt; got, want);
-    }
-    for want in [
-        Received::Datagram(3),
-        Received::Failed,
-        Received::Long(5),
-        Received::Datagram(4),
-        Received::Failed,
-        Received::Nothing,
-        Received::Nothing,
-    ] {
-        let got = link.receive(&mut into);
-        assert_eq!(rt; got, want);
-    }
-    assert_eq!(rt; into.as_slice(), b"four".as_slice());
-    for (i, want) in [
-        (0, Some(b"one".as_slice())),
-        (1, Some(b"three")),
-        (2, Some(b"four")),
-        (3, None),
-        (u64::MAX, None),
-    ] {
-        assert_eq!(rt; link.sent(i), want);
-    }
-    for (i, want) in [
-        (0, Some(b"one".as_slice())),
-        (1, Some(b"four")),
-        (2, None),
-        (u64::MAX, None),
-    ] {
-        assert_eq!(rt; link.received(i), want);
+        assert_eq!(rt; link.sent(i), sent);
+        assert_eq!(rt; link.received(i), received);
     }
     Ok(())
 }
@@ -144,11 +113,11 @@ fn a_link_delivers_in_order(rt: HostRuntime) -> Result<(), Fail> {
 #[test]
 fn an_opening_empties_or_fails(rt: HostRuntime) -> Result<(), Fail> {
     let alloc = rt.alloc();
-    let mut link = opened_link(&rt, alloc, &[], &[])?;
-    let got = link.send(b"gone");
-    assert_eq!(rt; got, Sent::Done);
-    let got = link.open(0, &[(0, Fate::Drop), (1, Fate::Hold { after: 2 })]);
-    assert_eq!(rt; got, Opened::Done);
+    let mut link = link(alloc, &[], &[])?;
+    opens(&rt, &mut link, 4840);
+    play(&rt, alloc, &mut link, &[Step::Send(b"gone", Sent::Done)])?;
+    let opened = link.open(0, &[(0, Fate::Drop), (1, Fate::Hold { after: 2 })]);
+    assert!(rt; opened == Opened::Done);
     assert_eq!(rt; link.sent(0), None);
     let none = Vec::new(alloc);
     let mut closed = MemoryLink::new(alloc, Vec::new(alloc), none, Vec::new(alloc), true);

@@ -72,7 +72,10 @@ fn number(words: &[&str], at: usize) -> Result<u64, RowFault> {
     let Some(word) = words.get(at) else {
         return Err(RowFault::Number);
     };
-    word.parse::<u64>().map_err(|_| RowFault::Number)
+    match word.parse::<u64>() {
+        Ok(number) => Ok(number),
+        Err(_) => Err(RowFault::Number),
+    }
 }
 
 // A fate, and how many words it has.
@@ -98,9 +101,13 @@ fn fate(words: &[&str], at: usize) -> Result<(Fate, usize), RowFault> {
 
 // A word that is a text.
 fn text<'a>(word: &'a str) -> Result<&'a str, RowFault> {
-    let is_printed = matches!(word, "receive" | "failed" | "nothing");
-    if is_printed || !word.bytes().all(|byte| byte.is_ascii_alphanumeric()) {
+    if matches!(word, "receive" | "failed" | "nothing") {
         return Err(RowFault::Text);
+    }
+    for byte in word.bytes() {
+        if !byte.is_ascii_alphanumeric() {
+            return Err(RowFault::Text);
+        }
     }
     Ok(word)
 }
@@ -164,7 +171,7 @@ impl<'a> Row<'a> {
     // Sends the texts from a place up to the next word `receive`, and the place behind them.
     fn send_all(&mut self, words: &[&'a str], first: usize) -> Result<usize, RowFault> {
         let mut at = first;
-        for word in words.iter().skip(first) {
+        for word in &words[first.min(words.len())..] {
             if *word == "receive" {
                 return Ok(at);
             }

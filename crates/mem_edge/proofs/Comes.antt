@@ -10,7 +10,7 @@ use Rattle.std.proofs.Math.Seq.{drop-cons}
 use Rattle.std.proofs.lemmas.List.Elements.{filter_map-append}
 use Rattle.std.proofs.lemmas.List.{take_more}
 use Rattle.std.specs.declared.alloc.Global.{Global}
-use Rattle.ua_base.specs.Journal.{Entry, Sent, Got, LinkState, Tells, told_more}
+use Rattle.ua_base.specs.Journal.{Entry, Sent, Got, Long, LinkState, Tells, told_more}
 use Rattle.ua_base.specs.Net.{Receives}
 use Rattle.ua_base.specs.declared.link.Received.TheVariants as received
 use Rattle.mem_edge.specs.Contents.{bytes_of, injections}
@@ -147,10 +147,16 @@ told_waiting false journal waiting state is = cc
 pub waiting_taken : (shown : Place → List ℕ) (queue : List Place) (next : ℕ) (p : Place) → next < length queue → p ≡ get_or queue next p → map shown (drop next queue) ≡ shown p ∷ map shown (drop (next + 1) queue)
 waiting_taken shown queue next p lt is = ap (map shown) (drop-cons queue next p lt) ∙ rw (add-one, ← is) refl
 
+-- and is received, or dropped since it is too long
 pub tells_got : (tells : Bool) (journal now : List Entry) (waiting left : List (List ℕ)) (bytes : List ℕ) (n : ℕ) (into : List ℕ) → now ≡ journal ++ Got bytes ∷ [] → waiting ≡ bytes ∷ left → take n into ≡ bytes
     → Tells (state_of tells journal waiting) (state_of tells now left) (Receives (received.Datagram n) into)
 tells_got true journal now waiting left bytes n into is first same = (record { journal = journal; waiting = waiting }, refl, (rw same is, rw same first))
 tells_got false journal now waiting left bytes n into is first same = tt
+
+pub tells_long : (tells : Bool) (journal now : List Entry) (waiting left : List (List ℕ)) (bytes : List ℕ) (n : ℕ) (into : List ℕ) → now ≡ journal ++ Long (length bytes) ∷ [] → waiting ≡ bytes ∷ left → length bytes ≡ n
+    → Tells (state_of tells journal waiting) (state_of tells now left) (Receives (received.Long n) into)
+tells_long true journal now waiting left bytes n into is first len = (record { journal = journal; waiting = waiting }, refl, (is ∙ ap (λ (k : ℕ). journal ++ Long k ∷ []) len, bytes, len, first))
+tells_long false journal now waiting left bytes n into is first len = tt
 
 -- one more held datagram
 pub held_more : (places : List (Option ℕ)) (held : List (ℕ × ℕ)) (i : ℕ) (d : ℕ × ℕ) → i < length held

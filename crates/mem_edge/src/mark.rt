@@ -8,14 +8,14 @@ ghost use Rattle.mem_edge.specs.Marks.{entries, entry_of, EndsInNothings, IsMark
 ghost use Rattle.mem_edge.specs.declared.mark.Place.{Place as PlaceValue};
 
 /// Where a datagram is kept: its index among those that were sent, or among the injected ones.
-#[derive(Clone, Copy, Debug, PartialEq, Eq)]
+#[derive(Clone, Copy)]
 pub enum Place {
     Sent(usize),
     Injected(usize),
 }
 
 /// An answer other than Nothing, with the place of its datagram.
-#[derive(Clone, Copy, Debug, PartialEq, Eq)]
+#[derive(Clone, Copy)]
 pub enum Answer {
     Sent { index: usize },
     SendFailed,
@@ -25,7 +25,7 @@ pub enum Answer {
 }
 
 /// An answer, and how many answers Nothing came right after it.
-#[derive(Clone, Copy, Debug, PartialEq, Eq)]
+#[derive(Clone, Copy)]
 pub struct Mark {
     pub answer: Answer,
     pub nothings: u64,

@@ -16,7 +16,7 @@ pub enum Taken {
 }
 
 /// Reads to the end, and stops one byte past the limit. A read of nothing is the end.
-pub(crate) fn take_whole<R: Read>(reader: &mut R, limit: u64, into: &mut Vec<u8>) -> Taken
+pub fn take_whole<R: Read>(reader: &mut R, limit: u64, into: &mut Vec<u8>) -> Taken
     requires limit { limit < 2 ^ 64 - 1 }
     requires empty { into.old.items ≡ [] }
     ensures { TakesWhole result limit (R.remaining reader.old) into.new.items }
@@ -37,7 +37,7 @@ pub(crate) fn take_whole<R: Read>(reader: &mut R, limit: u64, into: &mut Vec<u8>
 }
 
 /// Writes all of the bytes. A write of nothing is a fault.
-pub(crate) fn write_whole<W: Write>(writer: &mut W, bytes: &[u8]) -> bool
+pub fn write_whole<W: Write>(writer: &mut W, bytes: &[u8]) -> bool
     ensures { WritesWhole result (W.contents writer.old) (W.contents writer.new) bytes.now }
 {
     let mut written = 0;

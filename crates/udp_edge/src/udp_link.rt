@@ -191,8 +191,9 @@ fn take(socket: &UdpSocket, buffer: &mut [u8], into: &mut [u8]) -> Received
     received(got, buffer, into)
 }
 
-// What the system answered to a receive, and the datagram that it put into the buffer.
-pub(crate) fn received(got: io::Result<usize>, buffer: &[u8], into: &mut [u8]) -> Received
+/// What the system answered to a receive, and the datagram that it put into the buffer: an end of the time that a
+/// receive waits is no fault.
+pub fn received(got: io::Result<usize>, buffer: &[u8], into: &mut [u8]) -> Received
     requires short { length buffer.now < 2 ^ 32 }
     requires count { IfOk got (λ count. count ≤ length buffer.now) }
     ensures { FitsBuffer result into.new }
@@ -208,8 +209,8 @@ pub(crate) fn received(got: io::Result<usize>, buffer: &[u8], into: &mut [u8]) -
     }
 }
 
-// What the system answered to a send of a datagram of this length.
-pub(crate) fn sent(got: io::Result<usize>, len: usize) -> Sent
+/// What the system answered to a send of a datagram of this length.
+pub fn sent(got: io::Result<usize>, len: usize) -> Sent
     ensures { result ≢ Sent.Memory }
 {
     match got {

@@ -8,7 +8,7 @@ use Rattle.mem_edge.specs.declared.mark.Mark.{Mark}
 use Rattle.mem_edge.specs.declared.mark.Answer.TheVariants as answer
 use Rattle.mem_edge.specs.Lines.{datagram_in}
 use Rattle.mem_edge.specs.Marks.{entries, EndsInNothings, IsMarkWithin, IsWithin}
-use Rattle.mem_edge.proofs.Comes.{told_journal, waiting_taken, tells_got}
+use Rattle.mem_edge.proofs.Comes.{told_journal, waiting_taken, tells_got, tells_long}
 use Rattle.mem_edge.proofs.Kept.{kept_empty, kept_got, kept_long, marked_more}
 use Rattle.mem_edge.proofs.line.Line.receive.Goals as goal
 
@@ -70,3 +70,70 @@ returns-clause-told c =
     tells_got s.tells _ _ _ _ _ _ _ (c.note-2.ensures.entry (datagram_in s) s.first)
     (waiting_taken (datagram_in s) s.queue.items s.next c.index-place.result.now (omega arith) c.index-place.ensures)
     (rw c.copy_from_slice.ensures.after (take-append_seam c.datagram-datagram.result.now _ ∙ (rw (c.deref.ensures.value, c.deref-2.ensures.value) at c.datagram-datagram.ensures.value)))
+
+pub invariant_of-self-else-not-count_nothing-clause-queued : goal.invariant_of-self-else-not-count_nothing-clause-queued
+invariant_of-self-else-not-count_nothing-clause-queued c = c.args.self.now.queued
+
+pub invariant_of-self-then-len-into-clause-queued : goal.invariant_of-self-then-len-into-clause-queued
+invariant_of-self-then-len-into-clause-queued c = c.args.self.now.queued
+
+pub invariant_of-self-2-clause-queued : goal.invariant_of-self-2-clause-queued
+invariant_of-self-2-clause-queued c = c.args.self.now.queued
+
+pub invariant_of-self-else-not-count_nothing-clause-taken : goal.invariant_of-self-else-not-count_nothing-clause-taken
+invariant_of-self-else-not-count_nothing-clause-taken c = c.args.self.now.taken
+
+pub invariant_of-self-then-len-into-clause-taken : goal.invariant_of-self-then-len-into-clause-taken
+invariant_of-self-then-len-into-clause-taken c = c.args.self.now.taken
+
+pub invariant_of-self-else-not-count_nothing-clause-numbered : goal.invariant_of-self-else-not-count_nothing-clause-numbered
+invariant_of-self-else-not-count_nothing-clause-numbered c = c.args.self.now.numbered
+
+pub invariant_of-self-then-len-into-clause-numbered : goal.invariant_of-self-then-len-into-clause-numbered
+invariant_of-self-then-len-into-clause-numbered c = c.args.self.now.numbered
+
+pub invariant_of-self-2-clause-numbered : goal.invariant_of-self-2-clause-numbered
+invariant_of-self-2-clause-numbered c = c.args.self.now.numbered
+
+pub invariant_of-self-else-not-count_nothing-clause-short : goal.invariant_of-self-else-not-count_nothing-clause-short
+invariant_of-self-else-not-count_nothing-clause-short c = c.args.self.now.short
+
+pub invariant_of-self-then-len-into-clause-short : goal.invariant_of-self-then-len-into-clause-short
+invariant_of-self-then-len-into-clause-short c = c.args.self.now.short
+
+pub invariant_of-self-2-clause-short : goal.invariant_of-self-2-clause-short
+invariant_of-self-2-clause-short c = c.args.self.now.short
+
+pub invariant_of-self-else-not-count_nothing-clause-short_injected : goal.invariant_of-self-else-not-count_nothing-clause-short_injected
+invariant_of-self-else-not-count_nothing-clause-short_injected c = c.args.self.now.short_injected
+
+pub invariant_of-self-then-len-into-clause-short_injected : goal.invariant_of-self-then-len-into-clause-short_injected
+invariant_of-self-then-len-into-clause-short_injected c = c.args.self.now.short_injected
+
+pub invariant_of-self-2-clause-short_injected : goal.invariant_of-self-2-clause-short_injected
+invariant_of-self-2-clause-short_injected c = c.args.self.now.short_injected
+
+pub invariant_of-self-then-len-into-clause-next_in : goal.invariant_of-self-then-len-into-clause-next_in
+invariant_of-self-then-len-into-clause-next_in c = omega arith
+
+pub invariant_of-self-2-clause-next_in : goal.invariant_of-self-2-clause-next_in
+invariant_of-self-2-clause-next_in c = omega arith
+
+pub invariant_of-self-then-len-into-clause-room : goal.invariant_of-self-then-len-into-clause-room
+invariant_of-self-then-len-into-clause-room c = omega arith
+
+pub invariant_of-self-2-clause-room : goal.invariant_of-self-2-clause-room
+invariant_of-self-2-clause-room c = omega arith
+
+pub invariant_of-self-then-len-into-clause-place_room : goal.invariant_of-self-then-len-into-clause-place_room
+invariant_of-self-then-len-into-clause-place_room c = omega arith
+
+pub invariant_of-self-2-clause-place_room : goal.invariant_of-self-2-clause-place_room
+invariant_of-self-2-clause-place_room c = omega arith
+
+pub returns-then-len-into-clause-told : goal.returns-then-len-into-clause-told
+returns-then-len-into-clause-told c =
+    let s = c.args.self.now in
+    tells_long s.tells _ _ _ _ _ _ c.args.into.now (c.note.ensures.entry (datagram_in s) s.first)
+    (waiting_taken (datagram_in s) s.queue.items s.next c.index-place.result.now (omega arith) c.index-place.ensures)
+    (omega (arith, ap (λ (l : List ℕ). length l) (rw (c.deref.ensures.value, c.deref-2.ensures.value) at c.datagram-datagram.ensures.value)))

@@ -1,0 +1,197 @@
+//! Each call once over the system's own files, streams and sockets.
+use crate::steps::{Step, opens, play, write};
+use std::alloc::Global;
+use std::fmt::Display;
+use std::fs;
+use std::io::{self, Error, ErrorKind, PipeWriter, Print, Read, Write};
+use std::net::{Ipv4Addr, SocketAddr, UdpSocket};
+use std::test::Fail;
+use std::time::Instant;
+use ua_base::{Fate, Folder, Link, Opened, ReadEnd, Received, Sent, WriteEnd};
+use udp_edge::{DirFolder, StdSink, UdpLink, received, sent};
+
+// What is written to a file of so many bytes.
+fn file(alloc: Global, len: usize) -> Result<Vec<u8>, Fail> {
+    let mut bytes = vec![in alloc; b'a'; len]?;
+    if len > 4_096 {
+        bytes[4_096] = b'b';
+        bytes[len - 1] = b'c';
+    }
+    Ok(bytes)
+}
+
+#[test]
+fn the_real_folder(rt: HostRuntime) -> Result<(), Fail> {
+    let mut folder = DirFolder::new(&rt);
+    let mut into = Vec::from_slice(rt.alloc(), b"before")?;
+    for (len, want) in [
+        (0, ReadEnd::Done),
+        (65_537, ReadEnd::Done),
+        (1_048_576, ReadEnd::Done),
+        (1_048_577, ReadEnd::Long { read: 1_048_577 }),
+    ] {
+        let bytes = file(rt.alloc(), len)?;
+        fs::write(&rt, "edge_tests_file", &bytes)?;
+        let got = folder.read_whole("edge_tests_file", 1_048_576, &mut into);
+        assert_eq!(rt; got, want);
+        assert!(rt; into.as_slice() == bytes.as_slice());
+    }
+    fs::remove_file(&rt, "edge_tests_file")?;
+    fs::create_dir(&rt, "edge_tests_folder")?;
+    for name in ["edge_tests_file", "edge_tests_folder"] {
+        let got = folder.read_whole(name, 5, &mut into);
+        assert_eq!(rt; got, ReadEnd::Failed);
+    }
+    fs::remove_dir(&rt, "edge_tests_folder")?;
+    Ok(())
+}
+
+// Writes to the one end of a pipe.
+#[derive(Drop)]
+struct ToPipe {
+    end: PipeWriter,
+}
+
+impl Print for ToPipe {
+    fn print<D: Display + Drop>(&self, _value: D) -> io::Result<()> {
+        Err(Error::from(ErrorKind::Unsupported))
+    }
+
+    fn println<D: Display + Drop>(&self, _value: D) -> io::Result<()> {
+        Err(Error::from(ErrorKind::Unsupported))
+    }
+
+    fn write_all(&self, bytes: &[u8]) -> io::Result<()> {
+        (&self.end).write_all(bytes)
+    }
+}
+
+#[test]
+fn the_standard_streams(rt: HostRuntime) {
+    let stderr = rt.stderr();
+    write(
+        &rt,
+        &mut StdSink::new(&stderr),
+        b"to standard error\n",
+        WriteEnd::Done,
+    );
+    write(
+        &rt,
+        &mut StdSink::new(&rt),
+        b"to standard output\n",
+        WriteEnd::Done,
+    );
+}
+
+#[test]
+fn a_pipe_until_it_is_closed(rt: HostRuntime) -> Result<(), Fail> {
+    let (mut reader, end) = io::pipe(&rt)?;
+    let to = ToPipe { end };
+    let mut sink = StdSink::new(&to);
+    write(&rt, &mut sink, b"12345", WriteEnd::Done);
+    let mut into = [0u8; 8];
+    let count = reader.read(&mut into)?;
+    assert_eq!(rt; &into[..count], b"12345".as_slice());
+    drop(reader);
+    write(&rt, &mut sink, b"12345", WriteEnd::Failed);
+    write(&rt, &mut sink, b"", WriteEnd::Done);
+    Ok(())
+}
+
+#[test]
+fn a_socket_gives_back_what_was_sent(rt: HostRuntime) -> Result<(), Fail> {
+    let alloc = rt.alloc();
+    let mut link = UdpLink::new(&rt, alloc);
+    opens(&rt, &mut link, 0);
+    let bytes = vec![in alloc; b'x'; 65_508]?;
+    let long = &bytes[..1_400];
+    let longest = &bytes[..65_507];
+    let steps = [
+        Step::Send(b"", Sent::Done),
+        Step::Receive(1_400, Received::Datagram(0), b""),
+        Step::Send(b"one", Sent::Done),
+        Step::Receive(1_400, Received::Datagram(3), b"one"),
+        Step::Send(long, Sent::Done),
+        Step::Receive(1_400, Received::Datagram(1_400), long),
+        Step::Send(long, Sent::Done),
+        Step::Receive(10, Received::Long(1_400), b""),
+        Step::Send(longest, Sent::Done),
+        Step::Receive(65_507, Received::Datagram(65_507), longest),
+        Step::Send(longest, Sent::Done),
+        Step::Receive(65_506, Received::Long(65_507), b""),
+        // longer than any datagram of the system
+        Step::Send(&bytes, Sent::Failed),
+    ];
+    play(&rt, alloc, &mut link, &steps)?;
+    let start = Instant::now(&rt)?;
+    play(
+        &rt,
+        alloc,
+        &mut link,
+        &[Step::Receive(1_400, Received::Nothing, b"")],
+    )?;
+    let waited = start.elapsed(&rt)?;
+    assert!(rt; waited.as_millis() < 1_000, "it waits 10 ms");
+    Ok(())
+}
+
+#[test]
+fn a_socket_knows_no_fates(rt: HostRuntime) -> Result<(), Fail> {
+    let mut link = UdpLink::new(&rt, rt.alloc());
+    let opened = link.open(0, &[(0, Fate::Drop), (1, Fate::Repeat { times: 2 })]);
+    assert!(rt; opened == Opened::Done);
+    let steps = [
+        Step::Send(b"a", Sent::Done),
+        Step::Send(b"bc", Sent::Done),
+        Step::Receive(8, Received::Datagram(1), b"a"),
+        Step::Receive(8, Received::Datagram(2), b"bc"),
+        Step::Receive(8, Received::Nothing, b""),
+    ];
+    play(&rt, rt.alloc(), &mut link, &steps)
+}
+
+#[test]
+fn answers_of_the_system_are_told(rt: HostRuntime) {
+    let mut into = [0u8; 4];
+    for (kind, want) in [
+        (ErrorKind::Other, Received::Failed),
+        (ErrorKind::Interrupted, Received::Failed),
+        (ErrorKind::WouldBlock, Received::Nothing),
+        (ErrorKind::TimedOut, Received::Nothing),
+    ] {
+        let got = received(Err(Error::from(kind)), b"12345", &mut into);
+        assert_eq!(rt; got, want);
+    }
+    let got = received(Ok(5), b"12345", &mut into);
+    assert_eq!(rt; got, Received::Long(5));
+    let got = received(Ok(4), b"12345", &mut into);
+    assert_eq!(rt; got, Received::Datagram(4));
+    assert_eq!(rt; &into, b"1234");
+    for (got, want) in [
+        (Ok(5), Sent::Done),
+        (Ok(4), Sent::Failed),
+        (Err(Error::from(ErrorKind::Other)), Sent::Failed),
+    ] {
+        assert_eq!(rt; sent(got, 5), want);
+    }
+}
+
+#[test]
+fn a_link_has_the_port_that_it_is_given_of_this_machine_alone(rt: HostRuntime) -> Result<(), Fail> {
+    let held = UdpSocket::bind(&rt, SocketAddr::from((Ipv4Addr::LOCALHOST, 0)))?;
+    let port = held.local_addr()?.port();
+    let mut link = UdpLink::new(&rt, rt.alloc());
+    let opened = link.open(port, &[]);
+    assert!(rt; opened == Opened::Failed, "another has the port");
+    drop(held);
+    let opened = link.open(port, &[]);
+    assert!(rt; opened == Opened::Done);
+    let opened = link.open(port, &[]);
+    assert!(rt; opened == Opened::Failed, "its own socket has the port");
+    let same = UdpSocket::bind(&rt, SocketAddr::from((Ipv4Addr::LOCALHOST, port)));
+    assert!(rt; same.is_err(), "the link has the port");
+    let beside = Ipv4Addr::new(127, 0, 0, 2);
+    let other = UdpSocket::bind(&rt, SocketAddr::from((beside, port)));
+    assert!(rt; other.is_ok(), "the link has 127.0.0.1 alone");
+    Ok(())
+}
