@@ -7,7 +7,7 @@ ghost use Rattle.row_words.specs.Belonging.{Belongs};
 ghost use Rattle.row_words.specs.Patches.{IsPatchOf};
 ghost use Rattle.row_words.specs.Props.{Belongs-prop};
 
-use case_lines::{Line, LineFault, kind_of, number, value_in};
+use case_lines::{Line, LineFault, kind_of, number, parted, value_in};
 use dataset_meta::{Field, Meta, Name32};
 use row_words::{Patch, Row};
 use std::alloc::Global;
@@ -134,13 +134,13 @@ impl Case {
 
     /// A change, INDEX=VALUE, and !STATUS behind it where the status isn't 0: its three parts.
     fn change(&self, alloc: Global, word: &str) -> Result<(u8, Value, u32), LineFault> {
-        let (index, value) = word.split_once('=').ok_or(LineFault::Missing)?;
+        let (index, value) = parted(word, '=')?;
         let index = number::<u8>(index)?;
         let fields = self.meta.fields();
         if usize::from(index) >= fields.len() {
             return Err(LineFault::Condition);
         }
-        let (value, status) = parted(value)?;
+        let (value, status) = with_status(value)?;
         let kind = fields[usize::from(index)].kind;
         let value = value_in(alloc, kind, &mut Line::new(value))?;
         Ok((index, value, status))
@@ -202,11 +202,27 @@ fn meta_of(fields: Vec<Field>, major: u32, minor: u32, quality: bool) -> Result<
     ensures fields { IfOk result (λ meta. meta.fields ≡ fields.items) }
     ensures quality { IfOk result (λ meta. meta.quality ≡ quality) }
 {
-    let name = Name32::new(b"demo").ok_or(LineFault::Condition)?;
-    match Meta::new(name, fields, major, minor, quality) {
+    match Meta::new(name_of("demo")?, fields, major, minor, quality) {
         Ok(meta) => Ok(meta),
         Err(_) => Err(LineFault::Condition),
     }
+}
+
+/// The name of a data set or a field.
+pub fn name_of(word: &str) -> Result<Name32, LineFault> {
+    match Name32::new(word.as_bytes()) {
+        Some(name) => Ok(name),
+        None => Err(LineFault::Condition),
+    }
+}
+
+/// A UInt32 field.
+pub fn number_field(name: &str) -> Result<Field, LineFault> {
+    Ok(Field {
+        name: name_of(name)?,
+        kind: Kind::UInt32,
+        cap: 0,
+    })
 }
 
 /// What the words of a line have spelled so far.
@@ -239,19 +255,17 @@ impl Spelled {
     }
 
     fn push_field(&mut self, alloc: Global, field: &str) -> Result<(), LineFault> {
-        let index = u8::try_from(self.fields.len()).map_err(|_| LineFault::Condition)?;
-        let (field, status) = parted(field)?;
+        let Ok(index) = u8::try_from(self.fields.len()) else {
+            return Err(LineFault::Condition);
+        };
+        let (field, status) = with_status(field)?;
         let (field, value) = match field.split_once('=') {
             Some((field, value)) => (field, Some(value)),
             None => (field, None),
         };
         let (kind, cap) = kind_and_cap(field)?;
-        let name = format!(in alloc; "f{index}")?;
-        self.fields.push(Field {
-            name: Name32::new(name.as_bytes()).ok_or(LineFault::Condition)?,
-            kind,
-            cap,
-        })?;
+        let name = name_of(format!(in alloc; "f{index}")?.as_str())?;
+        self.fields.push(Field { name, kind, cap })?;
         if let Some(value) = value {
             let value = value_in(alloc, kind, &mut Line::new(value))?;
             self.puts.push(Put {
@@ -268,7 +282,7 @@ impl Spelled {
 fn repeated(word: &str) -> Result<(u8, &str), LineFault> {
     match word.as_bytes() {
         [b'0'..=b'9', ..] => {
-            let (times, word) = word.split_once('*').ok_or(LineFault::Missing)?;
+            let (times, word) = parted(word, '*')?;
             Ok((number::<u8>(times)?, word))
         }
         _ => Ok((1, word)),
@@ -276,7 +290,7 @@ fn repeated(word: &str) -> Result<(u8, &str), LineFault> {
 }
 
 /// `WORD!STATUS`, or a word without a status, which is Good.
-fn parted(word: &str) -> Result<(&str, u32), LineFault> {
+fn with_status(word: &str) -> Result<(&str, u32), LineFault> {
     match word.split_once('!') {
         Some((word, status)) => Ok((word, Line::new(status).hex32()?)),
         None => Ok((word, 0)),
@@ -287,9 +301,8 @@ fn parted(word: &str) -> Result<(&str, u32), LineFault> {
 fn kind_and_cap(word: &str) -> Result<(Kind, u16), LineFault> {
     match word.split_once('[') {
         Some((kind, cap)) => {
-            let cap = cap.strip_suffix(']').ok_or(LineFault::Missing)?;
-            let cap = number::<u16>(cap)?;
-            Ok((kind_of(kind)?, cap))
+            let (cap, _) = parted(cap, ']')?;
+            Ok((kind_of(kind)?, number(cap)?))
         }
         None => Ok((kind_of(word)?, 0)),
     }

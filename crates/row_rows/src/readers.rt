@@ -5,15 +5,14 @@ ghost use Rattle.frame_codec.specs.Words.{IsFrameOf, IsKindOf};
 ghost use Rattle.dataset_reader.specs.Reader.{IsReaderOf};
 ghost use Rattle.dataset_reader.specs.Props.{IsReaderOf-prop};
 
-use crate::fields::{Case, Put, patch_of};
-use case_lines::{Answer, Line, LineFault};
-use dataset_meta::{Field, Name32};
+use crate::fields::{Case, Put, number_field, patch_of};
+use case_lines::{Answer, Line, LineFault, refused};
 use dataset_reader::{Numbering, Outcome, Reader, Took};
 use frame_codec::{Frame, FrameKind, read_frame};
 use pubsub_model::Why;
 use std::alloc::Global;
 use std::fmt::{self, Write};
-use ua_values::{Kind, Value};
+use ua_values::Value;
 
 /// The reader of the last line `reader`.
 #[derive(Drop)]
@@ -34,11 +33,7 @@ impl ReaderRows {
             _ => return Err(LineFault::Missing),
         };
         let mut fields = Vec::new(alloc);
-        fields.push(Field {
-            name: Name32::new(b"a").ok_or(LineFault::Condition)?,
-            kind: Kind::UInt32,
-            cap: 0,
-        })?;
+        fields.push(number_field("a")?)?;
         let case = Case::opening(fields, 1, 0, false)?;
         let reader = Reader::new(numbering);
         self.heard = Some(Heard { case, reader });
@@ -84,7 +79,7 @@ impl ReaderRows {
         let Some(heard) = &self.heard else {
             return Err(LineFault::Missing);
         };
-        Ok(Some(format!(in alloc; "{:?}", heard.reader.why())?))
+        refused(alloc, &heard.reader.why())
     }
 
     /// `breaks`: how many, and EXPECTED:GOT of the last eight, the oldest first

@@ -2,7 +2,7 @@
 //! are four or more, and without the zeros at the end, so
 //! that `0` is no word but zeros. A change is INDEX=VALUE!STATUS.
 use crate::fields::{Case, changes_of, patch_of};
-use case_lines::{Answer, Line};
+use case_lines::{Answer, Line, said, told};
 use key_delta::{apply, changed as changes};
 use row_words::{Patch, shape as shape_of};
 use std::alloc::Global;
@@ -11,13 +11,13 @@ use std::fmt;
 /// `words FIELDS`: the words of the row
 pub fn words(alloc: Global, line: &mut Line) -> Answer {
     let case = Case::read(alloc, line)?;
-    Ok(Some(format!(in alloc; "{}", ShownWords(&case.row.words))?))
+    told_words(alloc, &case.row.words)
 }
 
 /// `shape FIELDS`: the words of the shape
 pub fn shape(alloc: Global, line: &mut Line) -> Answer {
     let case = Case::read(alloc, line)?;
-    Ok(Some(format!(in alloc; "{}", ShownWords(&shape_of(&case.meta)))?))
+    told_words(alloc, &shape_of(&case.meta))
 }
 
 /// `set INDEX=VALUE | FIELDS`: the words after `set`; the field's status stays
@@ -26,7 +26,7 @@ pub fn set(alloc: Global, line: &mut Line) -> Answer {
     for put in &puts {
         case.set_value(put)?;
     }
-    Ok(Some(format!(in alloc; "{}", ShownWords(&case.row.words))?))
+    told_words(alloc, &case.row.words)
 }
 
 /// `status INDEX STATUS | FIELDS`: the words after `set_status`
@@ -35,7 +35,7 @@ pub fn status(alloc: Global, line: &mut Line) -> Answer {
     let (_, mut behind) = line.halves()?;
     let mut case = Case::read(alloc, &mut behind)?;
     case.set_status(index, status)?;
-    Ok(Some(format!(in alloc; "{}", ShownWords(&case.row.words))?))
+    told_words(alloc, &case.row.words)
 }
 
 /// `first COUNT | FIELDS`: the words of the row cut to its first fields
@@ -44,14 +44,14 @@ pub fn first(alloc: Global, line: &mut Line) -> Answer {
     let (_, mut behind) = line.halves()?;
     let case = Case::read(alloc, &mut behind)?;
     let row = case.first(alloc, usize::from(count))?;
-    Ok(Some(format!(in alloc; "{}", ShownWords(&row.words))?))
+    told_words(alloc, &row.words)
 }
 
 /// `put CHANGE .. | FIELDS`: mask and words of the patch with each change put into the empty patch in turn
 pub fn put(alloc: Global, line: &mut Line) -> Answer {
     let (case, puts) = changes_of(alloc, line)?;
     let patch = patch_of(&case.meta, &puts)?;
-    Ok(Some(format!(in alloc; "{}", ShownPatch(&patch))?))
+    told_patch(alloc, &patch)
 }
 
 /// `lay CHANGE .. | FIELDS`: the words of the row with that patch laid in
@@ -60,7 +60,7 @@ pub fn lay(alloc: Global, line: &mut Line) -> Answer {
     let patch = patch_of(&case.meta, &puts)?;
     let mut row = case.row;
     patch.lay(&case.meta, &mut row);
-    Ok(Some(format!(in alloc; "{}", ShownWords(&row.words))?))
+    told_words(alloc, &row.words)
 }
 
 /// `changed CHANGE .. | FIELDS`: mask and words of what `changed` answers between the row and the row with each change set;
@@ -72,9 +72,18 @@ pub fn changed(alloc: Global, line: &mut Line) -> Answer {
     let patch = changes(&case.meta, &old, &case.row);
     apply(&case.meta, &mut old, &patch);
     if old != case.row {
-        return Ok(Some(format!(in alloc; "another row")?));
+        return said(alloc, "another row");
     }
-    Ok(Some(format!(in alloc; "{}", ShownPatch(&patch))?))
+    told_patch(alloc, &patch)
+}
+
+fn told_words(alloc: Global, words: &[u64]) -> Answer {
+    told(alloc, &ShownWords(words))
+}
+
+/// A patch: its mask and its words.
+fn told_patch(alloc: Global, patch: &Patch) -> Answer {
+    Ok(Some(format!(in alloc; "{:x}: {}", patch.mask, ShownWords(&patch.row.words))?))
 }
 
 /// Words in hexadecimal digits.
@@ -142,15 +151,5 @@ impl Run {
             write!(f, "{times}*")?;
         }
         write!(f, "{:x}", self.word)
-    }
-}
-
-/// A patch: its mask and its words.
-#[derive(Clone, Copy)]
-struct ShownPatch<'a>(&'a Patch);
-
-impl fmt::Display for ShownPatch<'_> {
-    fn fmt<W: fmt::Write>(&self, f: &mut fmt::Formatter<W>) -> fmt::Result {
-        write!(f, "{:x}: {}", self.0.mask, ShownWords(&self.0.row.words))
     }
 }

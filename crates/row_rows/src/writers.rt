@@ -6,15 +6,15 @@ ghost use Rattle.dataset_writer.specs.Standing.{HoldsRowOf};
 ghost use Rattle.dataset_writer.specs.Props.{HoldsRowOf-prop};
 ghost use Rattle.frame_codec.specs.Words.{IsFrameOf};
 
-use crate::fields::{Case, Put};
-use case_lines::{Answer, Line, LineFault, number};
-use dataset_meta::{Field, Meta, Name32};
+use crate::fields::{Case, Put, number_field};
+use case_lines::{Answer, Line, LineFault, number, said};
+use dataset_meta::Meta;
 use dataset_writer::{Turn, Writer, WriterSettings};
 use frame_codec::{Frame, FrameKind};
 use row_words::{Patch, Row};
 use std::alloc::Global;
 use std::fmt::Write;
-use ua_values::{Kind, Value};
+use ua_values::Value;
 
 /// Turns that a writer has room for.
 const TURNS: u32 = 70_000;
@@ -38,11 +38,7 @@ impl WriterRows {
     pub fn data(&mut self, alloc: Global, line: &mut Line) -> Answer {
         let mut fields = Vec::new(alloc);
         for name in line.words() {
-            fields.push(Field {
-                name: Name32::new(name.as_bytes()).ok_or(LineFault::Condition)?,
-                kind: Kind::UInt32,
-                cap: 0,
-            })?;
+            fields.push(number_field(name)?)?;
         }
         self.next = Some(Case::opening(fields, 7, 3, false)?);
         Ok(None)
@@ -101,12 +97,13 @@ impl WriterRows {
         let Some(served) = &mut self.served else {
             return Err(LineFault::Missing);
         };
-        let mut quiet = true;
         for _ in 0..turns {
-            quiet &= served.turn(alloc, now, version, &values, false)?.as_str() == "quiet";
+            let answer = served.turn(alloc, now, version, &values, false)?;
+            if answer.as_str() != "quiet" {
+                return said(alloc, "no");
+            }
         }
-        let answer = if quiet { "yes" } else { "no" };
-        Ok(Some(format!(in alloc; "{answer}")?))
+        said(alloc, "yes")
     }
 
     /// `log`: PLACE:VERSION of each data frame
@@ -137,12 +134,14 @@ impl WriterRows {
 /// A value for each field, Good.
 fn values_of(alloc: Global, line: &Line) -> Result<Vec<Put>, LineFault> {
     let mut values = Vec::new(alloc);
-    for (index, word) in line.words().enumerate() {
+    let mut index = 0_u8;
+    for word in line.words() {
         values.push(Put {
-            index: u8::try_from(index).map_err(|_| LineFault::Condition)?,
-            value: Value::UInt32(number::<u32>(word)?),
+            index,
+            value: Value::UInt32(number(word)?),
             status: 0,
         })?;
+        index = index.saturating_add(1);
     }
     Ok(values)
 }
@@ -171,7 +170,7 @@ impl Served {
         let Case { meta, row } = &self.case;
         match self.writer.turn(meta, now, row, version, closing) {
             Turn::Send(frame) => frame_text(alloc, meta, &frame),
-            Turn::Quiet => Ok(format!(in alloc; "quiet")?),
+            Turn::Quiet => Ok(String::from_str(alloc, "quiet")?),
         }
     }
 }
@@ -185,7 +184,7 @@ fn frame_text(alloc: Global, meta: &Meta, frame: &Frame) -> Result<String, LineF
         FrameKind::Change(_) => "change",
         FrameKind::Alive => "alive",
     };
-    let mut text = format!(in alloc; "{kind}")?;
+    let mut text = String::from_str(alloc, kind)?;
     if let Some(number) = frame.number {
         write!(text, " {number}")?;
     }
