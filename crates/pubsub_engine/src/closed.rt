@@ -20,7 +20,7 @@ pub enum State {
 }
 
 /// The writer group, and its datagrams whose send was done.
-#[derive(Clone, Copy)]
+#[derive(Clone, Copy, Debug, PartialEq, Eq)]
 pub struct GroupEnd {
     pub state: State,
     pub sent: u64,
@@ -34,7 +34,7 @@ pub struct WriterEnd {
 }
 
 /// The read group, and the datagrams that it took.
-#[derive(Clone, Copy)]
+#[derive(Clone, Copy, Debug, PartialEq, Eq)]
 pub struct ReadGroupEnd {
     pub state: State,
     pub taken: u64,
@@ -42,7 +42,7 @@ pub struct ReadGroupEnd {
 
 /// A row that a reader holds, the number of the message that it was last made of, and the version that the writer's log has
 /// at that number.
-#[derive(Clone, Copy)]
+#[derive(Clone, Copy, Debug, PartialEq, Eq)]
 pub struct HeldEnd {
     pub number: Option<u16>,
     pub version: Option<u64>,
@@ -61,7 +61,7 @@ pub struct ReaderEnd {
 }
 
 /// Sends done and failed, datagrams received, receives failed, datagrams too long, and pumps that ended at their limit.
-#[derive(Clone, Copy)]
+#[derive(Clone, Copy, Debug, PartialEq, Eq)]
 pub struct LinkEnd {
     pub sent: u64,
     pub failed: u64,

@@ -6,7 +6,7 @@ ghost use Rattle.row_words.specs.Props.{Belongs-prop};
 use row_words::Row;
 
 /// A version of the data set with its row.
-#[derive(Clone, Copy)]
+#[derive(Clone, Copy, Debug, PartialEq, Eq)]
 pub struct Sampled {
     pub version: u64,
     pub row: Row,
