@@ -20,32 +20,31 @@ impl Bench {
     }
 
     pub fn answer(&mut self, text: &str) -> Answer {
-        if let Some(document) = text.strip_prefix("with ") {
-            self.document = String::from_str(self.alloc, document)?;
+        let mut line = Line::new(text);
+        let call = line.word()?;
+        if call == "with" {
+            self.document = String::from_str(self.alloc, line.rest())?;
             return Ok(None);
         }
-        Ok(Some(called(self.alloc, self.document.as_str(), text)?))
+        called(self.alloc, self.document.as_str(), text)
     }
 }
 
 /// What the call of a line answers, with this configuration.
-fn called(alloc: Global, document: &str, text: &str) -> Result<String, LineFault> {
+fn called(alloc: Global, document: &str, text: &str) -> Answer {
     let mut line = Line::new(text);
     let call = line.word()?;
     match call {
         "value" => values::value(alloc, &mut line),
-        "config" => configs::verdict(alloc, &mut line),
-        "values" => configs::values(alloc, &mut line),
+        "config" => configs::read(alloc, &mut line, false),
+        "values" => configs::read(alloc, &mut line, true),
         "built_in" => configs::built_in_values(alloc),
         "play" => scripts::read(alloc, document, &mut line, true),
         "run" => scripts::read(alloc, document, &mut line, false),
-        "generate" => work::generated(alloc, &mut line),
-        "ends" => work::ends(alloc, &mut line),
-        "reread" => work::reread(alloc, document, &mut line),
+        "generate" | "ends" | "reread" => work::told(alloc, document, call, &mut line),
         "words" => states::words(alloc),
         "names" | "id" | "below" | "states" => states::answer(alloc, call, &mut line),
-        "report" => reports::report(alloc, document, text),
-        "load" => reports::load(alloc, document, text),
+        "report" | "load" => reports::told(alloc, document, call, text),
         _ => Err(LineFault::Call),
     }
 }

@@ -8,6 +8,7 @@ mod configs;
 mod reports;
 mod scripts;
 mod states;
+mod texts;
 mod values;
 
 use crate::bench::Bench;

@@ -1,19 +1,18 @@
 //! Texts of values.
-use case_lines::{Line, LineFault, string_of};
+use case_lines::{Answer, Line, said, string_of};
 use config_tables::kind_named;
 use std::alloc::Global;
 use value_texts::{parse_value, value_text};
 
 /// `KIND CAP TEXT`: the text of the value that TEXT is a text of, or `none`
-pub fn value(alloc: Global, line: &mut Line) -> Result<String, LineFault> {
-    let (kind, cap) = (line.word()?, line.word()?);
-    let (Some(kind), Ok(cap)) = (kind_named(kind), cap.parse::<u16>()) else {
-        return Ok(String::from_str(alloc, "not a kind or cap")?);
+pub fn value(alloc: Global, line: &mut Line) -> Answer {
+    let (Some(kind), Ok(cap)) = (kind_named(line.word()?), line.u16()) else {
+        return said(alloc, "not a kind or cap");
     };
     let Some(value) = parse_value(kind, cap, &line.text(alloc)?) else {
-        return Ok(String::from_str(alloc, "none")?);
+        return said(alloc, "none");
     };
     let mut printed = Vec::new(alloc);
     value_text(&value, &mut printed)?;
-    string_of(printed)
+    Ok(Some(string_of(printed)?))
 }

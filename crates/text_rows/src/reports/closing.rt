@@ -3,13 +3,13 @@ ghost use Rattle.std.specs.Prelude.{◌≡◌, ◌+◌, ◌<◌, ◌++◌, IfOk,
 ghost use Rattle.ps_config.specs.declared.parts.ReaderPart.{ReaderPart};
 ghost use Rattle.ps_report.specs.Conditions.{IsClosedOf, HoldRows, writers_of, readers_of};
 
-use crate::reports::ends::{group, history, link, read_group, watch, writer};
+use crate::reports::ends::{End, link, watch};
 use crate::reports::held::reader;
 use crate::reports::pieces::Pieces;
 use case_lines::LineFault;
 use dataset_meta::Meta;
-use ps_config::{Config, GroupPart, ReadGroupPart, ReaderPart, WriterPart};
-use ps_report::{Closed, GroupEnd, History, Parts, ReadGroupEnd, ReaderEnd, WatchEnd, WriterEnd};
+use ps_config::{Config, GroupPart, ReadGroupPart, ReaderPart};
+use ps_report::{Closed, Parts, ReaderEnd, WatchEnd, WriterEnd};
 use std::alloc::Global;
 
 /// The session that the pieces tell of.
@@ -17,11 +17,13 @@ pub fn closed_of(alloc: Global, config: &Config, pieces: &mut Pieces) -> Result<
     ensures { IfOk result (IsClosedOf config.now) }
 {
     let sets = config.dataset.as_slice();
-    let histories = histories(alloc, sets, pieces)?;
-    let groups = groups(alloc, config.group.as_slice(), pieces)?;
-    let writers = writers(alloc, config.group.as_slice(), pieces)?;
-    let read_groups = read_groups(alloc, config.readgroup.as_slice(), pieces)?;
-    let readers = readers(alloc, sets, config.readgroup.as_slice(), pieces)?;
+    let group_parts = config.group.as_slice();
+    let read_group_parts = config.readgroup.as_slice();
+    let histories = ends(alloc, "history", sets.len(), pieces)?;
+    let groups = ends(alloc, "group", group_parts.len(), pieces)?;
+    let writers = writers(alloc, group_parts, pieces)?;
+    let read_groups = ends(alloc, "readgroup", read_group_parts.len(), pieces)?;
+    let readers = readers(alloc, sets, read_group_parts, pieces)?;
     let watches = watches(alloc, readers.as_slice(), pieces)?;
     let link = link(&mut pieces.piece("link")?)?;
     Ok(Closed {
@@ -35,28 +37,33 @@ pub fn closed_of(alloc: Global, config: &Config, pieces: &mut Pieces) -> Result<
     })
 }
 
-fn histories(alloc: Global, sets: &[Meta], pieces: &mut Pieces) -> Result<Parts<History>, LineFault>
-    ensures { IfOk result (λ ends. length ends ≡ length sets.now) }
+/// So many parts, whose pieces begin with this word.
+fn ends<T: End + Drop>(
+    alloc: Global,
+    word: &str,
+    count: usize,
+    pieces: &mut Pieces,
+) -> Result<Parts<T>, LineFault>
+    ensures { IfOk result (λ ends. length ends ≡ count) }
 {
     let mut ends = Vec::new(alloc);
-    for _set in sets {
-        ends.push(history(alloc, &pieces.piece("history")?)?)?;
-    }
+    push_ends(alloc, &mut ends, word, count, pieces)?;
     Ok(Parts::new(ends))
 }
 
-fn groups(
+fn push_ends<T: End + Drop>(
     alloc: Global,
-    parts: &[GroupPart],
+    ends: &mut Vec<T>,
+    word: &str,
+    count: usize,
     pieces: &mut Pieces,
-) -> Result<Parts<GroupEnd>, LineFault>
-    ensures { IfOk result (λ ends. length ends ≡ length parts.now) }
+) -> Result<(), LineFault>
+    ensures { OnOk result (length ends.new.items ≡ length ends.old.items + count) }
 {
-    let mut ends = Vec::new(alloc);
-    for _part in parts {
-        ends.push(group(&mut pieces.piece("group")?)?)?;
+    for _index in 0..count {
+        ends.push(T::read(alloc, &mut pieces.piece(word)?)?)?;
     }
-    Ok(Parts::new(ends))
+    Ok(())
 }
 
 /// The writers of all groups.
@@ -69,35 +76,8 @@ fn writers(
 {
     let mut ends = Vec::new(alloc);
     for group in groups {
-        push_writers(alloc, &mut ends, group.writer.as_slice(), pieces)?;
-    }
-    Ok(Parts::new(ends))
-}
-
-fn push_writers(
-    alloc: Global,
-    ends: &mut Vec<WriterEnd>,
-    parts: &[WriterPart],
-    pieces: &mut Pieces,
-) -> Result<(), LineFault>
-    ensures { OnOk result (length ends.new.items ≡ length ends.old.items + length parts.now) }
-{
-    for _part in parts {
-        ends.push(writer(alloc, &mut pieces.piece("writer")?)?)?;
-    }
-    Ok(())
-}
-
-fn read_groups(
-    alloc: Global,
-    parts: &[ReadGroupPart],
-    pieces: &mut Pieces,
-) -> Result<Parts<ReadGroupEnd>, LineFault>
-    ensures { IfOk result (λ ends. length ends ≡ length parts.now) }
-{
-    let mut ends = Vec::new(alloc);
-    for _part in parts {
-        ends.push(read_group(&mut pieces.piece("readgroup")?)?)?;
+        let count = group.writer.as_slice().len();
+        push_ends(alloc, &mut ends, "writer", count, pieces)?;
     }
     Ok(Parts::new(ends))
 }

@@ -1,65 +1,87 @@
 //! What the parts of a session were when it closed, each read from its piece.
 use arrayvec::ArrayVec;
-use case_lines::{Line, LineFault, number};
+use case_lines::{Line, LineFault, parted};
 use ps_report::{
     Break, GroupEnd, History, LinkEnd, Parts, ReadGroupEnd, State, WatchEnd, WriterEnd,
 };
 use std::alloc::Global;
-use std::str::FromStr;
 
-/// `T ..`
-pub fn history(alloc: Global, line: &Line) -> Result<History, LineFault> {
-    Ok(History {
-        threads: numbers(alloc, line)?,
-    })
+/// What a part of a session was.
+pub trait End: Drop {
+    /// By what its piece tells behind the first word.
+    fn read(alloc: Global, line: &mut Line) -> Result<Self, LineFault>;
 }
 
-/// `STATE SENT`
-pub fn group(line: &mut Line) -> Result<GroupEnd, LineFault> {
-    Ok(GroupEnd {
-        state: state(line)?,
-        sent: line.u64()?,
-    })
-}
-
-/// `STATE P=V ..`
-pub fn writer(alloc: Global, line: &mut Line) -> Result<WriterEnd, LineFault> {
-    let state = state(line)?;
-    let mut log = Vec::new(alloc);
-    for word in line.words() {
-        log.push(pair::<u64>(word, '=')?)?;
-    }
-    Ok(WriterEnd {
-        state,
-        log: Parts::new(log),
-    })
-}
-
-/// `STATE TAKEN CAUSE=K ..`
-pub fn read_group(line: &mut Line) -> Result<ReadGroupEnd, LineFault> {
-    let state = state(line)?;
-    let taken = line.u64()?;
-    let mut causes = [0; 20];
-    for word in line.words() {
-        let (cause, count) = pair::<u64>(word, '=')?;
-        if cause >= 20 {
-            return Err(LineFault::Number);
+impl End for History {
+    /// `T ..`
+    fn read(alloc: Global, line: &mut Line) -> Result<History, LineFault> {
+        let mut threads = Vec::new(alloc);
+        for word in line.words() {
+            threads.push(Line::new(word).u8()?)?;
         }
-        causes[cause as usize] = count;
+        Ok(History {
+            threads: Parts::new(threads),
+        })
     }
-    Ok(ReadGroupEnd {
-        state,
-        taken,
-        causes,
-    })
+}
+
+impl End for GroupEnd {
+    /// `STATE SENT`
+    fn read(_: Global, line: &mut Line) -> Result<GroupEnd, LineFault> {
+        Ok(GroupEnd {
+            state: state(line)?,
+            sent: line.u64()?,
+        })
+    }
+}
+
+impl End for WriterEnd {
+    /// `STATE P=V ..`
+    fn read(alloc: Global, line: &mut Line) -> Result<WriterEnd, LineFault> {
+        let state = state(line)?;
+        let mut log = Vec::new(alloc);
+        for word in line.words() {
+            log.push(pair(word)?)?;
+        }
+        Ok(WriterEnd {
+            state,
+            log: Parts::new(log),
+        })
+    }
+}
+
+impl End for ReadGroupEnd {
+    /// `STATE TAKEN CAUSE=K ..`
+    fn read(_: Global, line: &mut Line) -> Result<ReadGroupEnd, LineFault> {
+        let state = state(line)?;
+        let taken = line.u64()?;
+        let mut causes = [0; 20];
+        for word in line.words() {
+            let (cause, count) = pair(word)?;
+            if cause >= 20 {
+                return Err(LineFault::Number);
+            }
+            causes[cause as usize] = count;
+        }
+        Ok(ReadGroupEnd {
+            state,
+            taken,
+            causes,
+        })
+    }
 }
 
 /// `THREAD READER S ..`
 pub fn watch(alloc: Global, line: &mut Line) -> Result<WatchEnd, LineFault> {
+    let (thread, reader) = (line.u8()?, line.u8()?);
+    let mut counts = Vec::new(alloc);
+    for word in line.words() {
+        counts.push(Line::new(word).u64()?)?;
+    }
     Ok(WatchEnd {
-        thread: line.u8()?,
-        reader: line.u8()?,
-        counts: numbers(alloc, line)?,
+        thread,
+        reader,
+        counts: Parts::new(counts),
     })
 }
 
@@ -79,7 +101,8 @@ pub fn link(line: &mut Line) -> Result<LinkEnd, LineFault> {
 pub fn recent(line: &Line) -> Result<ArrayVec<Break, 8>, LineFault> {
     let mut breaks = ArrayVec::new();
     for word in line.words() {
-        let (expected, got) = pair::<u16>(word, '/')?;
+        let (expected, got) = parted(word, '/')?;
+        let (expected, got) = (Line::new(expected).u16()?, Line::new(got).u16()?);
         if breaks.is_full() {
             return Err(LineFault::Condition);
         }
@@ -99,24 +122,8 @@ pub fn state(line: &mut Line) -> Result<State, LineFault> {
     })
 }
 
-fn numbers<T: FromStr + Drop>(alloc: Global, line: &Line) -> Result<Parts<T>, LineFault>
-where
-    <T as FromStr>::Err: Drop,
-{
-    let mut numbers = Vec::new(alloc);
-    for word in line.words() {
-        numbers.push(number(word)?)?;
-    }
-    Ok(Parts::new(numbers))
-}
-
-/// Two numbers with a mark between them.
-fn pair<T: FromStr + Drop>(word: &str, mark: char) -> Result<(T, T), LineFault>
-where
-    <T as FromStr>::Err: Drop,
-{
-    let Some((first, second)) = word.split_once(mark) else {
-        return Err(LineFault::Missing);
-    };
-    Ok((number(first)?, number(second)?))
+/// `N=N`
+fn pair(word: &str) -> Result<(u64, u64), LineFault> {
+    let (first, second) = parted(word, '=')?;
+    Ok((Line::new(first).u64()?, Line::new(second).u64()?))
 }

@@ -52,14 +52,26 @@ fn held(sets: &[Meta], part: &ReaderPart, line: &mut Line) -> Result<HeldEnd, Li
     let Some(meta) = sets.get(usize::from(part.dataset)) else {
         return Err(LineFault::Condition);
     };
-    let number = line.number_or_dash::<u16>()?;
-    let version = line.number_or_dash::<u64>()?;
+    let (number, version) = number_and_version(line)?;
     let row = row(meta, line)?;
     Ok(HeldEnd {
         number,
         version,
         row,
     })
+}
+
+/// `N V`, each a dash where there is none
+fn number_and_version(line: &mut Line) -> Result<(Option<u16>, Option<u64>), LineFault> {
+    let number = match line.word()? {
+        "-" => None,
+        word => Some(Line::new(word).u16()?),
+    };
+    let version = match line.word()? {
+        "-" => None,
+        word => Some(Line::new(word).u64()?),
+    };
+    Ok((number, version))
 }
 
 /// A row by a word for each field.

@@ -1,101 +1,94 @@
 //! Lines of scripts as text.
-use case_lines::LineFault;
+use crate::texts::push_number;
+use case_lines::{Answer, LineFault};
 use ps_script::{Act, Line};
 use row_words::Patch;
 use std::alloc::Global;
-use std::fmt::{self, Write};
+use std::fmt::Write;
 use ua_base::Fate;
 
-/// A word, and behind it each of the lines.
-pub fn lines_shown(alloc: Global, word: &str, lines: &[Line]) -> Result<String, LineFault> {
+/// The answer of a word, and behind it each of the lines.
+pub fn lines_told(alloc: Global, word: &str, lines: &[Line]) -> Answer {
     let mut text = String::from_str(alloc, word)?;
     for line in lines {
-        write!(text, "; {}", ShownLine(line))?;
+        push_line(&mut text, line)?;
     }
-    Ok(text)
+    Ok(Some(text))
 }
 
 /// A line: its number, and what it does. Data sets, readers and components are numbers from 0.
-#[derive(Clone, Copy)]
-struct ShownLine<'a>(&'a Line);
-
-impl fmt::Display for ShownLine<'_> {
-    fn fmt<W: fmt::Write>(&self, f: &mut fmt::Formatter<W>) -> fmt::Result {
-        let at = self.0.at;
-        write!(f, "{at} ")?;
-        match &self.0.act {
-            Act::Write { thread, set, patch } => {
-                write!(f, "write {thread} {set} {}", ShownPatch(patch))
-            }
-            Act::Tick(ms) => write!(f, "tick {ms}"),
-            Act::Enable(id) => write!(f, "enable {id}"),
-            Act::Disable(id) => write!(f, "disable {id}"),
-            Act::Fated { k, fate } => write!(f, "fate {k} {}", ShownFate(*fate)),
-            Act::Watch {
-                thread,
-                reader,
-                times,
-            } => write!(f, "watch {thread} {reader} {times}"),
-            Act::Append { set } => write!(f, "append {set}"),
+fn push_line(text: &mut String, line: &Line) -> Result<(), LineFault> {
+    push_number(text, "; ", u64::from(line.at))?;
+    match &line.act {
+        Act::Write { thread, set, patch } => {
+            push_number(text, " write ", u64::from(*thread))?;
+            push_number(text, " ", u64::from(*set))?;
+            push_patch(text, patch)
         }
+        Act::Tick(ms) => push_number(text, " tick ", u64::from(*ms)),
+        Act::Enable(id) => push_number(text, " enable ", u64::from(*id)),
+        Act::Disable(id) => push_number(text, " disable ", u64::from(*id)),
+        Act::Fated { k, fate } => {
+            push_number(text, " fate ", *k)?;
+            push_fate(text, *fate)
+        }
+        Act::Watch {
+            thread,
+            reader,
+            times,
+        } => {
+            push_number(text, " watch ", u64::from(*thread))?;
+            push_number(text, " ", u64::from(*reader))?;
+            push_number(text, " ", u64::from(*times))
+        }
+        Act::Append { set } => push_number(text, " append ", u64::from(*set)),
     }
 }
 
 /// A patch: its mask, and the words that aren't zero, each with its place.
-#[derive(Clone, Copy)]
-struct ShownPatch<'a>(&'a Patch);
-
-impl fmt::Display for ShownPatch<'_> {
-    fn fmt<W: fmt::Write>(&self, f: &mut fmt::Formatter<W>) -> fmt::Result {
-        write!(f, "{:x}:", self.0.mask)?;
-        for (index, word) in self.0.row.words.iter().enumerate() {
-            if *word != 0 {
-                write!(f, " {index}={word:x}")?;
-            }
+fn push_patch(text: &mut String, patch: &Patch) -> Result<(), LineFault> {
+    write!(text, " {:x}:", patch.mask)?;
+    let words = &patch.row.words;
+    for index in 0..words.len() {
+        let word = words[index];
+        if word != 0 {
+            push_number(text, " ", index as u64)?;
+            write!(text, "={word:x}")?;
         }
-        Ok(())
+    }
+    Ok(())
+}
+
+fn push_fate(text: &mut String, fate: Fate) -> Result<(), LineFault> {
+    match fate {
+        Fate::Drop => Ok(text.push_str(" drop")?),
+        Fate::Repeat { times } => push_number(text, " repeat ", u64::from(times)),
+        Fate::Hold { after } => push_number(text, " hold ", after),
+        Fate::Again { after } => push_number(text, " again ", after),
     }
 }
 
-#[derive(Clone, Copy)]
-struct ShownFate(Fate);
-
-impl fmt::Display for ShownFate {
-    fn fmt<W: fmt::Write>(&self, f: &mut fmt::Formatter<W>) -> fmt::Result {
-        match self.0 {
-            Fate::Drop => f.write_str("drop"),
-            Fate::Repeat { times } => write!(f, "repeat {times}"),
-            Fate::Hold { after } => write!(f, "hold {after}"),
-            Fate::Again { after } => write!(f, "again {after}"),
+/// A line of generated work as a script spells it: a tick, or a write of one of the four fields of the built-in data set.
+pub fn push_spelled(text: &mut String, line: &Line) -> Result<(), LineFault> {
+    match &line.act {
+        Act::Write { thread, patch, .. } => {
+            push_number(text, "write ", u64::from(*thread))?;
+            push_field(text, patch)?;
         }
+        Act::Tick(ms) => push_number(text, "tick ", u64::from(*ms))?,
+        _ => return Err(LineFault::Condition),
     }
-}
-
-/// A line of generated work as a script spells it: a tick, or a write of one of the four fields of
-/// the built-in data set.
-#[derive(Clone, Copy)]
-pub struct SpelledLine<'a>(pub &'a Line);
-
-impl fmt::Display for SpelledLine<'_> {
-    fn fmt<W: fmt::Write>(&self, f: &mut fmt::Formatter<W>) -> fmt::Result {
-        match &self.0.act {
-            Act::Write { thread, patch, .. } => {
-                write!(f, "write {thread} demo ")?;
-                write_field(f, patch)
-            }
-            Act::Tick(ms) => write!(f, "tick {ms}"),
-            _ => f.write_str("#"),
-        }
-    }
+    text.push('\n')?;
+    Ok(())
 }
 
 /// The field that a patch of generated work changes.
-fn write_field<W: fmt::Write>(f: &mut fmt::Formatter<W>, patch: &Patch) -> fmt::Result {
+fn push_field(text: &mut String, patch: &Patch) -> Result<(), LineFault> {
     let words = &patch.row.words;
     match patch.mask {
-        1 => write!(f, "a={}", words[0]),
-        2 => write!(f, "b={}", words[1]),
-        4 => write!(f, "c={}", words[2]),
-        _ => write!(f, "d={}", words[3]),
+        1 => push_number(text, " demo a=", words[0]),
+        2 => push_number(text, " demo b=", words[1]),
+        4 => push_number(text, " demo c=", words[2]),
+        _ => push_number(text, " demo d=", words[3]),
     }
 }

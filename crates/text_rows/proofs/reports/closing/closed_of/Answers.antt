@@ -10,13 +10,13 @@ returns c =
     let config = c.args.config.now in
     let readers = c.in_ok-readers.readers in
     let rows : HoldRows config.dataset (readers_of config.readgroup) readers =
-    rw (c.as_slice-sets.ensures, c.as_slice-4.ensures) at c.in_ok-readers.ensures in
+    rw (c.as_slice-sets.ensures, c.as_slice-read_group_parts.ensures) at c.in_ok-readers.ensures in
     let all : length readers ≡ length (readers_of config.readgroup) = zip_length (HoldsRow config.dataset) (readers_of config.readgroup) readers rows in
     record {
       histories = c.in_ok-histories.ensures ∙ ap length c.as_slice-sets.ensures;
-      groups = c.in_ok-groups.ensures ∙ ap length c.as_slice.ensures;
-      writers = c.in_ok-writers.ensures ∙ ap (λ l. length (writers_of l)) c.as_slice-2.ensures;
-      read_groups = c.in_ok-read_groups.ensures ∙ ap length c.as_slice-3.ensures;
+      groups = c.in_ok-groups.ensures ∙ ap length c.as_slice-group_parts.ensures;
+      writers = c.in_ok-writers.ensures ∙ ap (λ l. length (writers_of l)) c.as_slice-group_parts.ensures;
+      read_groups = c.in_ok-read_groups.ensures ∙ ap length c.as_slice-read_group_parts.ensures;
       rows = rows;
-      watches = subst (λ n. All (λ (end : WatchEnd). end.reader < n) c.in_ok-watches.watches) (ap length c.as_slice-5.ensures ∙ all) c.in_ok-watches.ensures;
+      watches = subst (λ n. All (λ (end : WatchEnd). end.reader < n) c.in_ok-watches.watches) (ap length c.as_slice.ensures ∙ all) c.in_ok-watches.ensures;
     }

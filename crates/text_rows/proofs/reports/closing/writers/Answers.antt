@@ -13,5 +13,5 @@ loop-group-preserved c =
     let more : length (writers_of (take (i + 1) groups)) ≡ length (writers_of (take i groups)) + length own =
     ap length (lists_place_more (λ (group : GroupPart). group.writer) groups i c.group-item.result (omega arith) c.group-item.is)
     ∙ length-append (writers_of (take i groups)) own in
-    let pushed = rw c.as_slice.ensures at c.in_ok-push_writers.ensures in
+    let pushed = rw c.as_slice-count.ensures at c.in_ok-push_ends.ensures in
     omega arith
