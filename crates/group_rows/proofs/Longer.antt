@@ -1,13 +1,18 @@
 -- Groups where a data set has a field more.
 use Rattle.std.proofs.Common.{◌≡◌, ℕ, suc, ◌<◌, List, ◌∷◌, false, length, get_or, set, sym, ◌∙◌, subst, arith}
-use Rattle.std.specs.Prelude.{All}
+use Rattle.std.specs.Prelude.{◌≢◌, All}
+use Rattle.std.specs.List.{HoldsAt}
 use Rattle.std.proofs.lemmas.Bool.{true≢false}
 use Rattle.std.proofs.lemmas.List.{get_or-set_other, length-set}
 use Rattle.dataset_meta.specs.Metas.{MetaData}
+use Rattle.dataset_writer.specs.Standing.{HoldsRowOf}
 use Rattle.ps_config.specs.declared.parts.Config.{Config}
 use Rattle.ps_config.specs.Rooms.{is_fixed, lacks_room}
 use Rattle.writer_group.specs.declared.group.Group.{Group}
+use Rattle.writer_group.specs.Answering.{HasLived}
+use Rattle.writer_group.specs.Payloads.{meta_at, no_meta, no_writer, writer_at}
 use Rattle.writer_group.specs.Standing.{IsMadeFor, MayGoOn, metas_for}
+use Rattle.writer_group.specs.Turns.{settings_of}
 use Rattle.group_rows.specs.declared.turners.Turner.{Turner}
 use Rattle.group_rows.specs.Kept.{GrowsAt, IsTurner}
 
@@ -34,6 +39,34 @@ grown-own config old new turner group set is grows room dynamic same made goes_o
   };
   goes_on = goes_on is.goes_on;
 }
+
+-- a group whose writers are all of other data sets
+pub grown-others : (config : Config) (old new : List MetaData) (turner : Turner) (set : ℕ) → IsTurner config old turner → GrowsAt set old new
+    → lacks_room config.publisher.id new turner.part.now ≡ false → All (λ writer. writer.dataset ≢ set) turner.part.now.writer
+    → IsTurner config new turner
+grown-others config old new turner set is grows room none =
+    let part = turner.part.now in
+    let writers = turner.group.writers.items in
+    let same : (writer : ℕ) → writer < length part.writer → meta_at part new writer ≡ meta_at part old writer =
+    λ writer within. grows.others (writer_at part writer).dataset no_meta (none writer no_writer within) in
+    record {
+      good = is.good;
+      there = is.there;
+      part_is = is.part_is;
+      made = is.made;
+      metas_are = record {
+        count = grows.count ∙ is.metas_are.count;
+        fixed = λ fixed writer within. same writer within ∙ is.metas_are.fixed fixed writer within;
+        room = room;
+      };
+      goes_on = record {
+        left = is.goes_on.left;
+        holds = λ writer within. subst (λ m. HoldsAt (HoldsRowOf m) writers writer) (sym (same writer (omega (arith, within, is.made.writers))))
+            (is.goes_on.holds writer within);
+        lived = λ writer within. subst (λ m. HoldsAt (HasLived m (settings_of (writer_at part writer))) writers writer)
+            (sym (same writer (omega (arith, within, is.made.writers)))) (is.goes_on.lived writer within);
+      };
+    }
 
 -- of a list the first, and the others
 pub all-first : {X : Type 0} (P : X → Type 0) (x : X) (xs : List X) → All P (x ∷ xs) → P x

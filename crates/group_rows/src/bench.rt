@@ -10,7 +10,6 @@ use std::alloc::Global;
 /// All groups of a configuration.
 #[derive(Drop)]
 pub struct Bench<'c> {
-    alloc: Global,
     publishing: Publishing<'c>,
     takers: Vec<Taker<'c>>,
 }
@@ -21,30 +20,30 @@ impl<'c> Bench<'c> {
         requires { IsGood config.now }
     {
         Ok(Bench {
-            alloc,
             publishing: Publishing::new(alloc, config)?,
             takers: takers_of(alloc, config)?,
         })
     }
 
+    /// `CALL INDEX ..`, with the index of a data set, a group, a key group or a read group; `moment` is of all senders.
     pub fn answer(&mut self, line: &mut Line) -> Answer {
         let call = line.word()?;
-        let answer = match call {
-            "take" | "prefixes" | "bits" | "damaged" | "reader" | "on" | "expire" | "cut" => {
-                self.taken(call, line)?
-            }
-            _ => self.publishing.answer(call, line)?,
-        };
-        Ok(Some(answer))
+        if call == "moment" {
+            return self.publishing.moment(line.u64()?);
+        }
+        let index = usize::from(line.u8()?);
+        match self.publishing.answer(call, index, line)? {
+            Some(answer) => Ok(Some(answer)),
+            None => self.taken(call, index, line),
+        }
     }
 
     /// The calls of read groups.
-    fn taken(&mut self, call: &str, line: &mut Line) -> Result<String, LineFault> {
-        let index = usize::from(line.u8()?);
+    fn taken(&mut self, call: &str, index: usize, line: &mut Line) -> Answer {
         if index >= self.takers.len() {
             return Err(LineFault::Condition);
         }
         let taker = &mut self.takers[index];
-        taker.answer(self.alloc, self.publishing.made(), call, line)
+        taker.answer(self.publishing.made(), call, line)
     }
 }

@@ -20,15 +20,13 @@ pub struct Sets {
 
 /// `NAME KIND` or `NAME KIND CAP`
 pub fn field_of(line: &mut Line) -> Result<Field, LineFault> {
-    let Some(name) = Name32::new(line.word()?.as_bytes()) else {
-        return Err(LineFault::Condition);
-    };
+    let name = line.word()?;
     let kind = kind_of(line.word()?)?;
-    let cap = match line.optional() {
-        None => 0,
-        Some(word) => number::<u16>(word)?,
-    };
-    Ok(Field { name, kind, cap })
+    let cap = number::<u16>(line.optional().unwrap_or("0"))?;
+    match Name32::new(name.as_bytes()) {
+        Some(name) => Ok(Field { name, kind, cap }),
+        None => Err(LineFault::Condition),
+    }
 }
 
 /// The data sets and their rows, where this one has a field more.
@@ -61,11 +59,7 @@ pub fn grown_sets(
 fn copied_rows(alloc: Global, samples: &[Sampled]) -> Result<Vec<Sampled>, LineFault>
     ensures { IfOk result (λ copies. copies.items ≡ samples.now) }
 {
-    let mut copies = Vec::new(alloc);
-    for sample in samples {
-        copies.push(*sample)?;
-    }
-    Ok(copies)
+    Ok(Vec::from_slice(alloc, samples)?)
 }
 
 /// The data set with a field more, and a higher minor version.

@@ -3,6 +3,8 @@
 //! behind ` -> `. Lines that begin with `#`, and empty ones, are printed as they are.
 #![tactic(auto)]
 
+ghost use Rattle.writer_group.specs.Standing.{IsGood};
+
 mod bench;
 mod damage;
 mod groups;
@@ -17,6 +19,7 @@ mod turners;
 
 use crate::bench::Bench;
 use case_lines::{AnsweredLine, Line, LineFault, is_note};
+use ps_config::Config;
 use session_lines::config_of;
 use std::alloc::Global;
 use std::fmt::Write;
@@ -43,7 +46,6 @@ fn told(alloc: Global, cases: &str) -> Result<String, LineFault> {
             text.push_str(section)?;
             is_first = false;
         } else {
-            text.push_str("\nwith ")?;
             push_section(alloc, &mut text, section)?;
         }
     }
@@ -56,24 +58,42 @@ fn push_section(alloc: Global, text: &mut String, section: &str) -> Result<(), L
         Some(halves) => halves,
         None => (section, ""),
     };
+    text.push_str("\nwith ")?;
     text.push_str(document)?;
     let Ok(config) = config_of(alloc, document) else {
         text.push_str(" -> no configuration")?;
         return Ok(());
     };
-    let mut bench = Bench::new(alloc, &config)?;
+    push_cases(alloc, text, &config, cases)
+}
+
+/// The cases of one configuration.
+fn push_cases(
+    alloc: Global,
+    text: &mut String,
+    config: &Config,
+    cases: &str,
+) -> Result<(), LineFault>
+    requires { IsGood config.now }
+{
+    let mut bench = Bench::new(alloc, config)?;
     for line in cases.split('\n') {
-        text.push('\n')?;
-        let answer = if is_note(line) {
-            Ok(None)
-        } else {
-            bench.answer(&mut Line::new(line))
-        };
-        let told = AnsweredLine {
-            line,
-            answer: &answer,
-        };
-        write!(text, "{told}")?;
+        push_case(text, &mut bench, line)?;
     }
+    Ok(())
+}
+
+/// A line below the others, and its answer.
+fn push_case(text: &mut String, bench: &mut Bench<'_>, line: &str) -> Result<(), LineFault> {
+    let answer = if is_note(line) {
+        Ok(None)
+    } else {
+        bench.answer(&mut Line::new(line))
+    };
+    let told = AnsweredLine {
+        line,
+        answer: &answer,
+    };
+    write!(text, "\n{told}")?;
     Ok(())
 }

@@ -5,10 +5,10 @@ use crate::groups::{grown_turners, refresh_all, turners_of};
 use crate::growth::{field_of, grown_sets};
 use crate::senders::{has_turned, senders_of};
 use crate::sets::{copies, opening_rows, write};
-use crate::shown::yes_or_no;
+use crate::shown::{made_text, version_text};
 use crate::turners::{Turner, Turning};
-use case_lines::{Digits, Line, LineFault};
-use dataset_meta::Meta;
+use case_lines::{Answer, Line, LineFault, said, yes_or_no};
+use dataset_meta::{Field, Meta};
 use message_guard::Sender;
 use ps_config::Config;
 use std::alloc::Global;
@@ -70,33 +70,34 @@ impl<'c> Publishing<'c> {
         &self.made
     }
 
-    pub fn answer(&mut self, call: &str, line: &mut Line) -> Result<String, LineFault> {
+    /// The answer, or nothing where no call of the writers' side has this name.
+    pub fn answer(&mut self, call: &str, index: usize, line: &mut Line) -> Answer {
         match call {
-            "write" => self.write(line),
-            "append" => self.append(line),
-            "moment" => self.moment(line),
-            "spent" => self.spent(line),
-            "turn" => self.turn(line, false),
-            "closing" => self.turn(line, true),
-            "sizes" => self.sizes(line),
-            "due" => self.due(line),
-            "refresh" => self.refresh(line),
-            "log" => self.log(line),
-            _ => Err(LineFault::Call),
+            "turn" | "closing" | "sizes" => self.turn(call, index, line),
+            "write" => self.write(index, line),
+            "append" => self.append(index, line),
+            "spent" => self.spent(index),
+            "due" => self.due(index, line.u64()?),
+            "refresh" => self.refresh(index, line.u8()?),
+            "log" => self.log(index, line.u8()?),
+            _ => Ok(None),
         }
     }
 
     /// `SET INDEX:X ..`: fields of a data set get values, `INDEX:!S=X` with a status; tells the row's version
-    fn write(&mut self, line: &mut Line) -> Result<String, LineFault> {
-        let version = write(&self.metas, &mut self.rows, line)?;
-        Ok(format!(in self.alloc; "version {version}")?)
+    fn write(&mut self, set: usize, line: &Line) -> Answer {
+        let version = write(&self.metas, &mut self.rows, set, line)?;
+        version_text(self.alloc, version)
     }
 
     /// `SET NAME KIND`, or `SET NAME KIND CAP`: the data set has a field more, and its writers are fresh
-    fn append(&mut self, line: &mut Line) -> Result<String, LineFault> {
-        let set = usize::from(line.u8()?);
+    fn append(&mut self, set: usize, line: &mut Line) -> Answer {
         let field = field_of(line)?;
-        let answer = String::from_str(self.alloc, "done")?;
+        self.grow(set, field)?;
+        said(self.alloc, "done")
+    }
+
+    fn grow(&mut self, set: usize, field: Field) -> Result<(), LineFault> {
         let grown = grown_sets(self.alloc, &self.metas, &self.rows, set, field)?;
         let turners = mem::replace(&mut self.groups, Vec::new(self.alloc));
         self.groups = grown_turners(
@@ -109,22 +110,23 @@ impl<'c> Publishing<'c> {
         )?;
         self.rows = grown.rows;
         self.metas = grown.metas;
-        Ok(answer)
+        Ok(())
     }
 
     /// `NOW`: each sender turns to the moment, and where its token changed the writers of its groups are fresh
-    fn moment(&mut self, line: &mut Line) -> Result<String, LineFault> {
-        let now = line.u64()?;
-        let mut text = String::new(self.alloc);
+    pub fn moment(&mut self, now: u64) -> Answer {
+        let mut text = String::from_str(self.alloc, "new token")?;
+        let mut is_same = true;
         for index in 0..self.senders.len() {
             if self.turned_to(index, now) {
                 write!(text, " {index}")?;
+                is_same = false;
             }
         }
-        if text.is_empty() {
-            return Ok(String::from_str(self.alloc, "same tokens")?);
+        if is_same {
+            return said(self.alloc, "same tokens");
         }
-        Ok(format!(in self.alloc; "new token{text}")?)
+        Ok(Some(text))
     }
 
     /// Turns a sender to a moment; tells whether its token changed.
@@ -140,25 +142,23 @@ impl<'c> Publishing<'c> {
     }
 
     /// `KEYGROUP`: whether its sender is spent
-    fn spent(&self, line: &mut Line) -> Result<String, LineFault> {
-        match self.senders.get(usize::from(line.u8()?)) {
+    fn spent(&self, keygroup: usize) -> Answer {
+        match self.senders.get(keygroup) {
             Some(sender) => yes_or_no(self.alloc, sender.spent()),
             None => Err(LineFault::Condition),
         }
     }
 
     /// `GROUP NOW`: whether a turn is due
-    fn due(&self, line: &mut Line) -> Result<String, LineFault> {
-        let Some(group) = self.groups.get(usize::from(line.u8()?)) else {
-            return Err(LineFault::Condition);
-        };
-        yes_or_no(self.alloc, group.is_due(line.u64()?))
+    fn due(&self, index: usize, now: u64) -> Answer {
+        match self.groups.get(index) {
+            Some(group) => yes_or_no(self.alloc, group.is_due(now)),
+            None => Err(LineFault::Condition),
+        }
     }
 
     /// `GROUP WRITER`: place and version of each of its data frames
-    fn log(&self, line: &mut Line) -> Result<String, LineFault> {
-        let index = usize::from(line.u8()?);
-        let writer = line.u8()?;
+    fn log(&self, index: usize, writer: u8) -> Answer {
         if index >= self.groups.len() {
             return Err(LineFault::Condition);
         }
@@ -166,52 +166,35 @@ impl<'c> Publishing<'c> {
     }
 
     /// `GROUP WRITER`: makes a writer fresh
-    fn refresh(&mut self, line: &mut Line) -> Result<String, LineFault> {
-        let index = usize::from(line.u8()?);
-        let writer = line.u8()?;
+    fn refresh(&mut self, index: usize, writer: u8) -> Answer {
         if index >= self.groups.len() {
             return Err(LineFault::Condition);
         }
         self.groups[index].refresh(self.config, &self.metas, writer);
-        Ok(String::from_str(self.alloc, "done")?)
+        said(self.alloc, "done")
     }
 
-    /// `GROUP NOW ON`: the datagrams of a turn
-    fn turn(&mut self, line: &mut Line, closing: bool) -> Result<String, LineFault> {
-        let count = self.had_turn(line, closing)?;
-        let mut text = format!(in self.alloc; "made {count}")?;
-        for datagram in last(&self.made, count) {
-            write!(text, " {}", Digits(datagram))?;
-        }
-        Ok(text)
-    }
-
-    /// `GROUP NOW ON`: the lengths of the datagrams of a turn
-    fn sizes(&mut self, line: &mut Line) -> Result<String, LineFault> {
-        let count = self.had_turn(line, false)?;
-        let mut text = format!(in self.alloc; "made {count}")?;
-        for datagram in last(&self.made, count) {
-            write!(text, " {}", datagram.len())?;
-        }
-        Ok(text)
-    }
-
-    /// A turn; tells how many datagrams it made.
-    fn had_turn(&mut self, line: &mut Line, closing: bool) -> Result<u32, LineFault> {
-        let index = usize::from(line.u8()?);
+    /// `GROUP NOW ON`: the datagrams of a turn, which is the closing one or another, or their lengths
+    fn turn(&mut self, call: &str, index: usize, line: &mut Line) -> Answer {
         let now = line.u64()?;
         let on = switches(self.alloc, line.word()?)?;
         let turning = Turning {
             now,
             on: &on,
-            closing,
+            closing: call == "closing",
         };
+        let count = self.had_turn(index, &turning)?;
+        made_text(self.alloc, last(&self.made, count), call != "sizes")
+    }
+
+    /// A turn; tells how many datagrams it made.
+    fn had_turn(&mut self, index: usize, turning: &Turning<'_>) -> Result<u32, LineFault> {
         if index >= self.groups.len() {
             return Err(LineFault::Condition);
         }
         match self.groups[index].keygroup() {
-            None => self.open_turn(index, &turning),
-            Some(keygroup) => self.secured_turn(index, usize::from(keygroup), &turning),
+            None => self.open_turn(index, turning),
+            Some(keygroup) => self.secured_turn(index, usize::from(keygroup), turning),
         }
     }
 

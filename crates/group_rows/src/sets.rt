@@ -3,7 +3,7 @@ ghost use Rattle.std.specs.Prelude.{◌≡◌, ◌<◌, IfOk, length, slice_inde
 ghost use Rattle.row_words.specs.Belonging.{Belongs};
 ghost use Rattle.group_rows.specs.Kept.{AreRows};
 
-use case_lines::{Line, LineFault};
+use case_lines::{Line, LineFault, number, parted};
 use dataset_meta::{Field, Meta};
 use row_words::Row;
 use session_lines::set_field;
@@ -35,11 +35,7 @@ fn copy_of(alloc: Global, set: &Meta) -> Result<Meta, LineFault>
 pub fn copied_fields(alloc: Global, fields: &[Field]) -> Result<Vec<Field>, LineFault>
     ensures { IfOk result (λ copies. copies.items ≡ fields.now) }
 {
-    let mut copies = Vec::new(alloc);
-    for field in fields {
-        copies.push(*field)?;
-    }
-    Ok(copies)
+    Ok(Vec::from_slice(alloc, fields)?)
 }
 
 /// The opening row of each data set.
@@ -64,12 +60,16 @@ pub fn opening(meta: &Meta) -> Sampled
     }
 }
 
-/// `SET INDEX:X ..`: fields of a data set get values; tells the row's version
-pub fn write(sets: &[Meta], rows: &mut Vec<Sampled>, line: &mut Line) -> Result<u64, LineFault>
+/// `INDEX:X ..`: fields of a data set get values; tells the row's version
+pub fn write(
+    sets: &[Meta],
+    rows: &mut Vec<Sampled>,
+    set: usize,
+    line: &Line,
+) -> Result<u64, LineFault>
     requires { AreRows sets.now rows.old.items }
     ensures { AreRows sets.now rows.new.items }
 {
-    let set = usize::from(line.u8()?);
     if set >= sets.len() || set >= rows.len() {
         return Err(LineFault::Condition);
     }
@@ -111,12 +111,8 @@ fn set(meta: &Meta, row: &mut Row, word: &str) -> Result<(), LineFault>
     requires { Belongs meta.now row.old.words }
     ensures { Belongs meta.now row.new.words }
 {
-    let Some((index, text)) = word.split_once(':') else {
-        return Err(LineFault::Missing);
-    };
-    let Ok(index) = index.parse::<u8>() else {
-        return Err(LineFault::Number);
-    };
+    let (index, text) = parted(word, ':')?;
+    let index = number::<u8>(index)?;
     if usize::from(index) >= meta.fields().len() {
         return Err(LineFault::Condition);
     }

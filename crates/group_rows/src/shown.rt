@@ -3,14 +3,14 @@ ghost use Rattle.std.specs.Prelude.{◌≡◌, ◌<◌, IfOk, length};
 ghost use Rattle.dataset_reader.specs.Reader.{IsReaderOf};
 ghost use Rattle.row_words.specs.Belonging.{Belongs};
 
-use case_lines::{LineFault, string_of};
+use case_lines::{Answer, Digits, LineFault, Tally, string_of};
 use dataset_meta::Meta;
 use dataset_reader::{Reader, Why};
 use reader_group::{Refusal, Taken};
 use row_words::Row;
 use std::alloc::Global;
 use std::fmt::Write;
-use value_texts::value_text;
+use value_texts::{status_text, value_text};
 
 /// How many parts a datagram had, how many were given to readers, and how many of these were bad; or why it is refused.
 pub fn receipt_text(alloc: Global, receipt: &Result<Taken, Refusal>) -> Result<String, LineFault> {
@@ -23,20 +23,21 @@ pub fn receipt_text(alloc: Global, receipt: &Result<Taken, Refusal>) -> Result<S
     }
 }
 
-/// What an answer is counted as: `taken` where no part was bad, `bad` where one was, else the refusal without what it tells.
-pub fn receipt_name(alloc: Global, answer: &str) -> Result<String, LineFault> {
-    let word = match answer.split_once(' ') {
-        Some(("taken", told)) if told.ends_with(" 0") => "taken",
-        Some(("taken", _)) => "bad",
-        Some((word, _)) => word,
-        None => answer,
+/// Counts an answer: as `taken` where no part was bad, as `bad` where one was, else as the refusal without what it tells in braces.
+pub fn count(alloc: Global, tally: &mut Tally, answer: &str) -> Result<(), LineFault> {
+    let Some((word, told)) = answer.split_once(' ') else {
+        tally.add(alloc, answer, answer)?;
+        return Ok(());
     };
-    let end = if word.contains('(') && !word.ends_with(')') {
-        ")"
-    } else {
-        ""
-    };
-    Ok(format!(in alloc; "{word}{end}")?)
+    if word != "taken" {
+        let mut name = String::from_str(alloc, word)?;
+        name.push(')')?;
+        tally.add(alloc, name.as_str(), answer)?;
+        return Ok(());
+    }
+    let name = if told.ends_with(" 0") { "taken" } else { "bad" };
+    tally.add(alloc, name, answer)?;
+    Ok(())
 }
 
 /// What a reader holds, or why it waits, and its breaks.
@@ -55,60 +56,76 @@ fn held_text(alloc: Global, meta: &Meta, reader: &Reader) -> Result<String, Line
     requires { IsReaderOf meta.now reader.now }
 {
     let Some(row) = reader.row() else {
-        return Ok(format!(in alloc; "waits {}", why_word(reader.why()))?);
+        return Ok(String::from_str(alloc, waiting(reader.why()))?);
     };
-    let mut text = String::from_str(alloc, "holds ")?;
-    match reader.number() {
-        Some(number) => write!(text, "{number}:")?,
-        None => text.push_str("-:")?,
-    }
+    let mut fields = Vec::new(alloc);
     for index in 0..meta.fields().len() as u8 {
-        push_field(alloc, &mut text, meta, row, index)?;
+        push_field(&mut fields, meta, row, index)?;
     }
-    Ok(text)
+    let fields = string_of(fields)?;
+    match reader.number() {
+        Some(number) => Ok(format!(in alloc; "holds {number}:{fields}")?),
+        None => Ok(format!(in alloc; "holds -:{fields}")?),
+    }
 }
 
-fn push_field(
-    alloc: Global,
-    text: &mut String,
-    meta: &Meta,
-    row: &Row,
-    index: u8,
-) -> Result<(), LineFault>
+/// The text of a field, and its status in front of it where that isn't 0.
+fn push_field(text: &mut Vec<u8>, meta: &Meta, row: &Row, index: u8) -> Result<(), LineFault>
     requires belongs { Belongs meta.now row.now.words }
     requires index { index < length meta.now.fields }
 {
-    text.push(' ')?;
+    text.push(b' ')?;
     let status = row.status(meta, index);
     if status != 0 {
-        write!(text, "!0x{status:08x}=")?;
+        text.push(b'!')?;
+        status_text(status, text)?;
+        text.push(b'=')?;
     }
-    let mut bytes = Vec::new(alloc);
-    value_text(&row.field(meta, index), &mut bytes)?;
-    text.push_str(string_of(bytes)?.as_str())?;
+    value_text(&row.field(meta, index), text)?;
     Ok(())
 }
 
-fn why_word(why: Why) -> &'static str {
+fn waiting(why: Why) -> &'static str {
     match why {
-        Why::Start => "start",
-        Why::Gap => "gap",
-        Why::Timeout => "timeout",
-        Why::NewToken => "newtoken",
-        Why::Jump => "jump",
-        Why::Restarted => "restarted",
+        Why::Start => "waits start",
+        Why::Gap => "waits gap",
+        Why::Timeout => "waits timeout",
+        Why::NewToken => "waits newtoken",
+        Why::Jump => "waits jump",
+        Why::Restarted => "waits restarted",
     }
 }
 
-pub fn yes_or_no(alloc: Global, holds: bool) -> Result<String, LineFault> {
-    let answer = if holds { "yes" } else { "no" };
-    Ok(String::from_str(alloc, answer)?)
+/// The text, and behind it whether a reader is late, and whether it is ready.
+pub fn marked(mut text: String, is_late: bool, is_ready: bool) -> Answer {
+    if is_late {
+        text.push_str("; late")?;
+    }
+    if is_ready {
+        text.push_str("; ready")?;
+    }
+    Ok(Some(text))
+}
+
+/// How many datagrams a turn made, and they, or their lengths.
+pub fn made_text(alloc: Global, made: &[Vec<u8>], is_whole: bool) -> Answer {
+    let mut text = format!(in alloc; "made {}", made.len())?;
+    for datagram in made {
+        if is_whole {
+            write!(text, " {}", Digits(datagram))?;
+        } else {
+            write!(text, " {}", datagram.len())?;
+        }
+    }
+    Ok(Some(text))
+}
+
+pub fn version_text(alloc: Global, version: u64) -> Answer {
+    Ok(Some(format!(in alloc; "version {version}")?))
 }
 
 pub fn copied(alloc: Global, bytes: &[u8]) -> Result<Vec<u8>, LineFault>
     ensures { IfOk result (λ copy. copy.items ≡ bytes.now) }
 {
-    let mut copy = Vec::new(alloc);
-    copy.extend_from_slice(bytes)?;
-    Ok(copy)
+    Ok(Vec::from_slice(alloc, bytes)?)
 }

@@ -5,8 +5,8 @@ ghost use Rattle.writer_group.specs.Standing.{IsGood};
 use crate::damage::damaged;
 use crate::publishing::switches;
 use crate::runs::Runs;
-use crate::shown::{copied, reader_text, receipt_name, receipt_text};
-use case_lines::{Line, LineFault, Numbers, Tally};
+use crate::shown::{copied, count, marked, reader_text, receipt_text};
+use case_lines::{Answer, Line, LineFault, Numbers, Tally, number, said, told};
 use dataset_meta::Meta;
 use ps_config::{Config, ReadGroupPart, ReaderPart};
 use reader_group::ReaderGroup;
@@ -17,6 +17,7 @@ use std::marker::Model;
 /// A read group of a configuration.
 #[derive(Drop)]
 pub struct Taker<'c> {
+    alloc: Global,
     config: &'c Config,
     part: &'c ReadGroupPart,
     group: ReaderGroup,
@@ -58,6 +59,7 @@ impl<'c> Taker<'c> {
         };
         let on = vec![in alloc; true; part.reader.as_slice().len()]?;
         Ok(Taker {
+            alloc,
             config,
             part,
             group,
@@ -65,143 +67,113 @@ impl<'c> Taker<'c> {
         })
     }
 
-    pub fn answer(
-        &mut self,
-        alloc: Global,
-        made: &[Vec<u8>],
-        call: &str,
-        line: &mut Line,
-    ) -> Result<String, LineFault> {
+    pub fn answer(&mut self, made: &[Vec<u8>], call: &str, line: &mut Line) -> Answer {
         match call {
-            "take" => self.take(alloc, made, line),
-            "prefixes" => self.prefixes(alloc, made, line),
-            "bits" => self.bits(alloc, made, line),
-            "damaged" => self.damaged(alloc, made, line),
-            "reader" => self.reader(alloc, line),
-            "on" => self.switch(alloc, line),
-            "expire" => self.expire(alloc, line),
-            "cut" => self.cut(alloc, line),
+            "reader" => self.reader(line.u8()?),
+            "on" => self.switch(line.word()?),
+            "cut" => self.cut(line.u8()?, line.word()?),
+            _ => self.at_moment(line.u64()?, made, call, line),
+        }
+    }
+
+    /// `NOW`, a call at a moment: timers are looked at, or datagrams come
+    fn at_moment(&mut self, now: u64, made: &[Vec<u8>], call: &str, line: &mut Line) -> Answer {
+        match call {
+            "expire" => {
+                self.group.expire(now);
+                said(self.alloc, "done")
+            }
+            "damaged" => self.damaged(now, made, line),
+            _ => {
+                let bytes = datagram_of(self.alloc, made, line)?;
+                self.come(now, call, &bytes)
+            }
+        }
+    }
+
+    /// `NOW DATAGRAM`: the datagram comes, each beginning of it, or it with each of its bits altered
+    fn come(&mut self, now: u64, call: &str, bytes: &[u8]) -> Answer {
+        match call {
+            "take" => Ok(Some(self.given(now, bytes)?)),
+            "prefixes" => self.prefixes(now, bytes),
+            "bits" => self.bits(now, bytes),
             _ => Err(LineFault::Call),
         }
     }
 
-    /// `NOW DATAGRAM`: the datagram comes
-    fn take(
-        &mut self,
-        alloc: Global,
-        made: &[Vec<u8>],
-        line: &mut Line,
-    ) -> Result<String, LineFault> {
-        let now = line.u64()?;
-        let bytes = datagram_of(alloc, made, line)?;
-        self.given(alloc, now, bytes)
-    }
-
-    fn given(&mut self, alloc: Global, now: u64, mut bytes: Vec<u8>) -> Result<String, LineFault> {
+    /// These bytes come; it decrypts a copy of them.
+    fn given(&mut self, now: u64, bytes: &[u8]) -> Result<String, LineFault> {
+        let mut bytes = copied(self.alloc, bytes)?;
         let receipt = self.group.datagram(self.config, now, &self.on, &mut bytes);
-        receipt_text(alloc, &receipt)
+        receipt_text(self.alloc, &receipt)
     }
 
-    /// `NOW DATAGRAM`: the first bytes of the datagram come, from none to all but one
-    fn prefixes(
-        &mut self,
-        alloc: Global,
-        made: &[Vec<u8>],
-        line: &mut Line,
-    ) -> Result<String, LineFault> {
-        let now = line.u64()?;
-        let bytes = datagram_of(alloc, made, line)?;
-        let mut runs = Runs::new(alloc);
+    /// The first bytes of the datagram come, from none to all but one.
+    fn prefixes(&mut self, now: u64, bytes: &[u8]) -> Answer {
+        let mut runs = Runs::new(self.alloc);
         for end in 0..bytes.len() {
-            let answer = self.given(alloc, now, copied(alloc, &bytes[..end])?)?;
-            runs.add(end, answer)?;
+            let answer = self.given(now, &bytes[..end])?;
+            runs.add(answer)?;
         }
         runs.text()
     }
 
-    /// `NOW DATAGRAM`: the datagram comes with each of its bits altered in turn
-    fn bits(
-        &mut self,
-        alloc: Global,
-        made: &[Vec<u8>],
-        line: &mut Line,
-    ) -> Result<String, LineFault> {
-        let now = line.u64()?;
-        let bytes = datagram_of(alloc, made, line)?;
-        let mut runs = Runs::new(alloc);
+    /// The datagram comes with each of its bits altered in turn.
+    fn bits(&mut self, now: u64, bytes: &[u8]) -> Answer {
+        let mut runs = Runs::new(self.alloc);
         for at in 0..bytes.len() {
             for bit in 0u8..8 {
-                let mut altered = copied(alloc, &bytes)?;
+                let mut altered = copied(self.alloc, bytes)?;
                 altered[at] ^= 1 << bit;
-                let answer = self.given(alloc, now, altered)?;
-                runs.add(at.wrapping_mul(8).wrapping_add(usize::from(bit)), answer)?;
+                let answer = self.given(now, &altered)?;
+                runs.add(answer)?;
             }
         }
         runs.text()
     }
 
     /// `NOW SEED COUNT`: so many datagrams come, random ones and damaged ones of those that were made
-    fn damaged(
-        &mut self,
-        alloc: Global,
-        made: &[Vec<u8>],
-        line: &mut Line,
-    ) -> Result<String, LineFault> {
-        let now = line.u64()?;
+    fn damaged(&mut self, now: u64, made: &[Vec<u8>], line: &mut Line) -> Answer {
         let mut numbers = Numbers::new(line.u64()?);
-        let mut tally = Tally::new(alloc);
-        for _ in 0..line.u32()? {
-            let bytes = damaged(alloc, &mut numbers, made)?;
-            let answer = self.given(alloc, now, bytes)?;
-            let name = receipt_name(alloc, answer.as_str())?;
-            tally.add(alloc, name.as_str(), answer.as_str())?;
+        let times = line.u32()?;
+        let mut tally = Tally::new(self.alloc);
+        for _ in 0..times {
+            let bytes = damaged(self.alloc, &mut numbers, made)?;
+            let answer = self.given(now, &bytes)?;
+            count(self.alloc, &mut tally, answer.as_str())?;
         }
-        Ok(format!(in alloc; "{tally}")?)
+        told(self.alloc, &tally)
     }
 
     /// `READER`: what a reader holds, or why it waits, its breaks, and what the tree of states is told of it
-    fn reader(&self, alloc: Global, line: &mut Line) -> Result<String, LineFault> {
-        let index = line.u8()?;
+    fn reader(&self, index: u8) -> Answer {
         if usize::from(index) >= self.on.len() {
             return Err(LineFault::Condition);
         }
         let part = reader_at(self.part, index);
         let meta = meta_at(self.config, part.dataset);
-        let mut text = reader_text(alloc, meta, self.group.reader(index))?;
-        if self.group.is_late(index) {
-            text.push_str("; late")?;
-        }
-        if self.group.is_ready(index) {
-            text.push_str("; ready")?;
-        }
-        Ok(text)
+        let text = reader_text(self.alloc, meta, self.group.reader(index))?;
+        marked(text, self.group.is_late(index), self.group.is_ready(index))
     }
 
     /// `ON`: which readers are enabled
-    fn switch(&mut self, alloc: Global, line: &mut Line) -> Result<String, LineFault> {
-        let on = switches(alloc, line.word()?)?;
+    fn switch(&mut self, word: &str) -> Answer {
+        let on = switches(self.alloc, word)?;
         if on.len() != self.on.len() {
             return Err(LineFault::Condition);
         }
         self.on = on;
-        Ok(String::from_str(alloc, "done")?)
-    }
-
-    /// `NOW`: timers are looked at
-    fn expire(&mut self, alloc: Global, line: &mut Line) -> Result<String, LineFault> {
-        self.group.expire(line.u64()?);
-        Ok(String::from_str(alloc, "done")?)
+        said(self.alloc, "done")
     }
 
     /// `READER WHY`: cuts a reader
-    fn cut(&mut self, alloc: Global, line: &mut Line) -> Result<String, LineFault> {
-        let index = line.u8()?;
-        let why = why_of(line.word()?)?;
+    fn cut(&mut self, index: u8, word: &str) -> Answer {
+        let why = why_of(word)?;
         if usize::from(index) >= self.on.len() {
             return Err(LineFault::Condition);
         }
         self.group.cut(index, why);
-        Ok(String::from_str(alloc, "done")?)
+        said(self.alloc, "done")
     }
 }
 
@@ -229,13 +201,10 @@ fn meta_at(config: &Config, set: u8) -> &Meta
 /// `#K`, the K-th of the datagrams that were made, or its bytes.
 fn datagram_of(alloc: Global, made: &[Vec<u8>], line: &mut Line) -> Result<Vec<u8>, LineFault> {
     let text = line.rest();
-    let Some(number) = text.strip_prefix('#') else {
+    let Some(word) = text.strip_prefix('#') else {
         return Line::new(text).bytes(alloc);
     };
-    let Ok(number) = number.parse::<usize>() else {
-        return Err(LineFault::Number);
-    };
-    match made.get(number) {
+    match made.get(number::<usize>(word)?) {
         Some(bytes) => copied(alloc, bytes),
         None => Err(LineFault::Condition),
     }

@@ -4,7 +4,7 @@ ghost use Rattle.ps_config.specs.Headers.{is_secured};
 ghost use Rattle.writer_group.specs.Standing.{IsReserved, datagrams_in};
 
 use crate::shown::copied;
-use case_lines::LineFault;
+use case_lines::{Answer, LineFault};
 use dataset_meta::Meta;
 use message_guard::Sender;
 use ps_config::{Config, GroupPart, Security, is_fixed, lacks_room};
@@ -95,8 +95,7 @@ impl<'c> Turner<'c> {
             out,
         );
         self.left -= 1;
-        keep(alloc, out, count, kept)?;
-        Ok(count)
+        keep(alloc, out, count, kept)
     }
 
     /// A turn of a secured group, whose sender this is.
@@ -119,8 +118,10 @@ impl<'c> Turner<'c> {
         ensures sender { IsSender sender.new }
         ensures reserved { IsReserved out.new }
     {
-        let is_open = sender.spent() || !is_secured(self.part.security);
-        if is_open || !may_turn(self.part, self.left, turning.on) {
+        if sender.spent()
+            || !is_secured(self.part.security)
+            || !may_turn(self.part, self.left, turning.on)
+        {
             return Err(LineFault::Condition);
         }
         let count = self.group.tick(
@@ -134,8 +135,7 @@ impl<'c> Turner<'c> {
             out,
         );
         self.left -= 1;
-        keep(alloc, out, count, kept)?;
-        Ok(count)
+        keep(alloc, out, count, kept)
     }
 
     /// Makes all writers fresh where the key group is the group's.
@@ -143,7 +143,10 @@ impl<'c> Turner<'c> {
         requires { IsTurner config.now metas.now self.old }
         ensures { IsTurner config.now metas.now self.new }
     {
-        if self.part.keygroup.map(usize::from) != Some(keygroup) {
+        let Some(own) = self.part.keygroup else {
+            return;
+        };
+        if usize::from(own) != keygroup {
             return;
         }
         // a configuration has no more writers
@@ -194,13 +197,7 @@ impl<'c> Turner<'c> {
     }
 
     /// Place and version of each data frame of a writer.
-    pub fn log(
-        &self,
-        alloc: Global,
-        _config: &Config,
-        _metas: &[Meta],
-        index: u8,
-    ) -> Result<String, LineFault>
+    pub fn log(&self, alloc: Global, _config: &Config, _metas: &[Meta], index: u8) -> Answer
         requires { IsTurner _config.now _metas.now self.now }
     {
         if usize::from(index) >= self.part.writer.as_slice().len() {
@@ -210,7 +207,7 @@ impl<'c> Turner<'c> {
         for (place, version) in self.group.writer(index).log() {
             write!(text, " {place}={version}")?;
         }
-        Ok(text)
+        Ok(Some(text))
     }
 }
 
@@ -250,18 +247,18 @@ fn may_turn(part: &GroupPart, left: u32, on: &[bool]) -> bool
     left >= 1 && on.len() == part.writer.as_slice().len()
 }
 
-/// Puts the datagrams of a turn behind those that are kept.
+/// Puts the datagrams of a turn behind those that are kept; tells how many they are.
 fn keep(
     alloc: Global,
     out: &Datagrams,
     count: u32,
     kept: &mut Vec<Vec<u8>>,
-) -> Result<(), LineFault>
+) -> Result<u32, LineFault>
     requires reserved { IsReserved out.now }
     requires count { count ≡ length (datagrams_in out.now) }
 {
     for index in 0..count {
         kept.push(copied(alloc, out.get(index))?)?;
     }
-    Ok(())
+    Ok(count)
 }

@@ -7,7 +7,7 @@ pub written-requires : goal.written-requires
 written-requires c =
     let sets = c.args.sets.now in
     let rows = c.args.rows.now.items in
-    let i = c.from-set.result in
+    let i = c.args.set in
     let meta = c.meta_at.result.now in
     let old = c.sampled_at-old.result in
     subst (λ m. Belongs m old.row.words) (sym c.meta_at.ensures)
@@ -18,5 +18,5 @@ pub returns : goal.returns
 returns c =
     let sets = c.args.sets.now in
     let meta = c.meta_at.result.now in
-    zip-set (λ m s. Belongs m s.row.words) sets c.args.rows.now.items c.from-set.result meta _ c.requires (omega arith)
+    zip-set (λ m s. Belongs m s.row.words) sets c.args.rows.now.items c.args.set meta _ c.requires (omega arith)
     (subst (λ m. Belongs m c.in_ok-row.row.words) c.meta_at.ensures c.in_ok-row.ensures)

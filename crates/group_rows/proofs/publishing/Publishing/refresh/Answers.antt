@@ -6,11 +6,5 @@ use Rattle.group_rows.proofs.publishing.Publishing.refresh.Goals as goal
 pub invariant_of-self : goal.invariant_of-self
 invariant_of-self c =
     let own = c.self.inside in
-    turner-set own.config.now own.metas.items own.rows.items own.groups.items own.senders.items own.out c.from-index.result c.refresh.new.self
-    c.self.invariant (subst (λ m. IsTurner own.config.now m c.refresh.new.self) c.deref.ensures.value c.refresh.ensures)
-
-pub invariant_of-self-2 : goal.invariant_of-self-2
-invariant_of-self-2 c =
-    let own = c.self.inside in
-    turner-set own.config.now own.metas.items own.rows.items own.groups.items own.senders.items own.out c.from-index.result c.refresh.new.self
+    turner-set own.config.now own.metas.items own.rows.items own.groups.items own.senders.items own.out c.args.index c.refresh.new.self
     c.self.invariant (subst (λ m. IsTurner own.config.now m c.refresh.new.self) c.deref.ensures.value c.refresh.ensures)

@@ -1,7 +1,12 @@
 use Rattle.std.proofs.Common.{◌≡◌, sym, ap, ◌∙◌, length, arith}
 use Rattle.writer_group.specs.Standing.{metas_for}
-use Rattle.group_rows.proofs.Longer.{grown-own}
+use Rattle.group_rows.proofs.Longer.{grown-own, grown-others}
 use Rattle.group_rows.proofs.turners.Turner.grown.Goals as goal
+
+pub returns-then-writes_none : goal.returns-then-writes_none
+returns-then-writes_none c =
+    grown-others c.args.config.now c.args._old.now c.args.new.now c.args.self c.args.set c.requires.turner c.requires.grows
+    (sym c.lacks_room.ensures ∙ c.if-lacks_room.false) (c.writes_none.ensures c.if-writes_none.true)
 
 pub returns : goal.returns
 returns c =

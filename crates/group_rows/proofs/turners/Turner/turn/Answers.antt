@@ -2,13 +2,6 @@ use Rattle.std.proofs.Common.{◌-◌, refl}
 use Rattle.group_rows.proofs.Turns.{ticked}
 use Rattle.group_rows.proofs.turners.Turner.turn.Goals as goal
 
-pub returns-in_err-keep-clause-turner : goal.returns-in_err-keep-clause-turner
-returns-in_err-keep-clause-turner c =
-    let old = c.args.self.now in
-    let tick = c.tick-count.ensures in
-    ticked c.args.config.now c.args.metas.now old (record { part = old.part; group = c.tick-count.new.self; left = old.left - 1 }) c.requires.turner
-    (c.if-not-may_turn.ensures.left refl) refl refl tick.index tick.made tick.goes_on
-
 pub returns-clause-turner : goal.returns-clause-turner
 returns-clause-turner c =
     let old = c.args.self.now in
