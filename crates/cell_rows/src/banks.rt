@@ -1,8 +1,9 @@
 //! Cases of `cell_bank`.
-ghost use Rattle.std.specs.Prelude.{◌≡◌, ◌<◌, length};
+ghost use Rattle.std.specs.Prelude.{◌≡◌, ◌<◌, length, IfOk};
+ghost use Rattle.version_cell.specs.Sets.{cell_at, ArePassesOf};
 
 use crate::fields::{DataSets, patch_of};
-use crate::shown::{Answered, seen, text};
+use crate::shown::{Answered, done, given, seen, text, tried, version, written};
 use case_lines::{Line, LineFault};
 use cell_bank::{Bank, Passes};
 use dataset_meta::Meta;
@@ -54,73 +55,44 @@ impl BankCase {
         call: &str,
         line: &mut Line,
     ) -> Result<String, LineFault> {
+        let place = self.place(line)?;
+        match call {
+            "split" => self.split(alloc, place),
+            "join" => self.join(rt, alloc, place),
+            _ => self.step(rt, alloc, call, place, line),
+        }
+    }
+
+    /// The place of a set of passes.
+    fn place(&self, line: &mut Line) -> Result<usize, LineFault>
+        ensures { IfOk result (λ place. place < length self.now.hands) }
+    {
         let place = usize::from(line.u8()?);
         if place >= self.hands.len() {
             return Err(LineFault::Condition);
         }
-        match call {
-            "split" => return self.split(alloc, place),
-            "join" => return self.join(rt, alloc, place),
-            _ => {}
-        }
+        Ok(place)
+    }
+
+    /// A call that takes a step of the pass of one data set, or none.
+    fn step<R: Wait>(
+        &mut self,
+        rt: &R,
+        alloc: Global,
+        call: &str,
+        place: usize,
+        line: &mut Line,
+    ) -> Result<String, LineFault>
+        requires { place < length self.old.hands }
+    {
         let set = line.u8()?;
         if usize::from(set) >= self.metas.len() {
             return Err(LineFault::Condition);
         }
-        let answer = match call {
-            "show" => Answered::Seen,
-            "read" => Answered::Version(self.read(rt, place, set)),
-            "try_write" | "write" => self.write(rt, call, place, set, line)?,
-            _ => return Err(LineFault::Call),
-        };
-        self.seen(alloc, answer, place, set)
-    }
-
-    /// `show HAND SET`: what the pass has seen, with no step
-    fn seen(
-        &self,
-        alloc: Global,
-        answer: Answered,
-        place: usize,
-        set: u8,
-    ) -> Result<String, LineFault> {
-        if place >= self.hands.len() || usize::from(set) >= self.metas.len() {
-            return Err(LineFault::Condition);
-        }
-        let pass = self.hands[place].pass(set);
-        seen(alloc, answer, &self.metas[usize::from(set)], pass)
-    }
-
-    /// `read HAND SET`
-    fn read<R: Wait>(&mut self, rt: &R, place: usize, set: u8) -> u64
-        requires hand { place < length self.old.hands }
-        requires set { set < length self.old.metas }
-    {
+        let meta = &self.metas[usize::from(set)];
         let passes = &mut self.hands[place];
-        self.bank.read(rt, passes, set)
-    }
-
-    /// `try_write HAND SET INDEX=VALUE ..`, `write HAND SET INDEX=VALUE ..`
-    fn write<R: Wait>(
-        &mut self,
-        rt: &R,
-        call: &str,
-        place: usize,
-        set: u8,
-        line: &Line,
-    ) -> Result<Answered, LineFault>
-        requires hand { place < length self.old.hands }
-        requires set { set < length self.old.metas }
-    {
-        let patch = patch_of(&self.metas[usize::from(set)], line)?;
-        if self.hands[place].pass(set).author().is_none() {
-            return Err(LineFault::Condition);
-        }
-        let passes = &mut self.hands[place];
-        if call == "try_write" {
-            return Ok(Answered::Wrote(self.bank.try_write(rt, set, passes, &patch)));
-        }
-        Ok(Answered::Placed(self.bank.write(rt, set, passes, &patch)))
+        let answer = called(rt, &self.bank, meta, passes, set, call, line)?;
+        seen(alloc, &answer, meta, passes.pass(set))
     }
 
     /// `split HAND`: the place of the new set of passes
@@ -128,12 +100,12 @@ impl BankCase {
         requires { place < length self.old.hands }
     {
         let passes = &mut self.hands[place];
-        let Ok(given) = self.bank.split(alloc, passes) else {
+        let Ok(shared) = self.bank.split(alloc, passes) else {
             return Err(LineFault::Memory);
         };
         let new = self.hands.len();
-        self.hands.push(given)?;
-        text(alloc, Answered::Given(new))
+        self.hands.push(shared)?;
+        text(alloc, &given(new))
     }
 
     /// `join HAND`: takes in the last set of passes
@@ -146,6 +118,37 @@ impl BankCase {
         }
         let passes = &mut self.hands[place];
         self.bank.join(rt, passes, other);
-        text(alloc, Answered::Joined)
+        text(alloc, &done("joined"))
     }
+}
+
+/// `show HAND SET`, `read HAND SET`, `try_write HAND SET INDEX=VALUE ..`, `write HAND SET INDEX=VALUE ..`
+fn called<R: Wait>(
+    rt: &R,
+    bank: &Bank,
+    meta: &Meta,
+    passes: &mut Passes,
+    set: u8,
+    call: &str,
+    line: &Line,
+) -> Result<Answered, LineFault>
+    requires own { ArePassesOf bank.now passes.old }
+    requires set { set < length bank.now }
+    requires meta { meta.now ≡ (cell_at bank.now set).meta }
+    ensures own { ArePassesOf bank.now passes.new }
+{
+    match call {
+        "show" => return Ok(done("seen")),
+        "read" => return Ok(version(bank.read(rt, passes, set))),
+        "try_write" | "write" => {}
+        _ => return Err(LineFault::Call),
+    }
+    let patch = patch_of(meta, line)?;
+    if passes.pass(set).author().is_none() {
+        return Err(LineFault::Condition);
+    }
+    if call == "try_write" {
+        return Ok(tried(bank.try_write(rt, set, passes, &patch)));
+    }
+    Ok(written(bank.write(rt, set, passes, &patch)))
 }

@@ -1,9 +1,12 @@
 //! Cases of `version_cell`.
-ghost use Rattle.std.specs.Prelude.{◌≡◌, ◌<◌, length};
+ghost use Rattle.std.specs.Prelude.{◌≡◌, ◌<◌, length, IfOk, IsSome};
+ghost use Rattle.row_words.specs.Patches.{IsPatchOf};
+ghost use Rattle.version_cell.specs.Passes.{IsPassOf};
 
 use crate::fields::{DataSets, patch_of};
-use crate::shown::{Answered, seen};
+use crate::shown::{Answered, done, given, seen, tried, version, written};
 use case_lines::{Line, LineFault};
+use row_words::Patch;
 use std::alloc::Global;
 use std::marker::Model;
 use std::sync::Wait;
@@ -52,56 +55,47 @@ impl CellCase {
         call: &str,
         line: &mut Line,
     ) -> Result<String, LineFault> {
+        let place = self.place(line)?;
+        match call {
+            "split" => self.split(alloc, place),
+            "join" => self.join(rt, alloc, place),
+            _ => self.step(rt, alloc, call, place, line),
+        }
+    }
+
+    /// The place of a pass.
+    fn place(&self, line: &mut Line) -> Result<usize, LineFault>
+        ensures { IfOk result (λ place. place < length self.now.1) }
+    {
         let place = usize::from(line.u8()?);
         if place >= self.passes.len() {
             return Err(LineFault::Condition);
         }
-        let answer = match call {
-            "show" => Answered::Seen,
-            "read" => Answered::Version(self.read(rt, place)),
-            "try_write" | "write" => self.write(rt, call, place, line)?,
-            "split" => return self.split(alloc, place),
-            "join" => return self.join(rt, alloc, place),
-            _ => return Err(LineFault::Call),
-        };
-        self.seen(alloc, answer, place)
+        Ok(place)
     }
 
-    /// `show PASS`: what it has seen, with no step
-    fn seen(&self, alloc: Global, answer: Answered, place: usize) -> Result<String, LineFault> {
+    /// A call that takes a step of one pass, or none.
+    fn step<R: Wait>(
+        &mut self,
+        rt: &R,
+        alloc: Global,
+        call: &str,
+        place: usize,
+        line: &Line,
+    ) -> Result<String, LineFault>
+        requires { place < length self.old.1 }
+    {
+        let pass = &mut self.passes[place];
+        let answer = called(rt, &self.cell, pass, call, line)?;
+        seen(alloc, &answer, self.cell.meta(), pass)
+    }
+
+    /// What a pass has seen, with no step.
+    fn seen(&self, alloc: Global, answer: &Answered, place: usize) -> Result<String, LineFault> {
         if place >= self.passes.len() {
             return Err(LineFault::Condition);
         }
         seen(alloc, answer, self.cell.meta(), &self.passes[place])
-    }
-
-    /// `read PASS`
-    fn read<R: Wait>(&mut self, rt: &R, place: usize) -> u64
-        requires { place < length self.old.1 }
-    {
-        let pass = &mut self.passes[place];
-        self.cell.read(rt, pass)
-    }
-
-    /// `try_write PASS INDEX=VALUE ..`, `write PASS INDEX=VALUE ..`
-    fn write<R: Wait>(
-        &mut self,
-        rt: &R,
-        call: &str,
-        place: usize,
-        line: &Line,
-    ) -> Result<Answered, LineFault>
-        requires { place < length self.old.1 }
-    {
-        let patch = patch_of(self.cell.meta(), line)?;
-        if self.passes[place].author().is_none() {
-            return Err(LineFault::Condition);
-        }
-        let pass = &mut self.passes[place];
-        if call == "try_write" {
-            return Ok(Answered::Wrote(self.cell.try_write(rt, pass, &patch)));
-        }
-        Ok(Answered::Placed(self.cell.write(rt, pass, &patch)))
     }
 
     /// `split PASS`: the place of the new pass
@@ -109,10 +103,10 @@ impl CellCase {
         requires { place < length self.old.1 }
     {
         let pass = &mut self.passes[place];
-        let given = self.cell.split(pass);
+        let shared = self.cell.split(pass);
         let new = self.passes.len();
-        self.passes.push(given)?;
-        self.seen(alloc, Answered::Given(new), new)
+        self.passes.push(shared)?;
+        self.seen(alloc, &given(new), new)
     }
 
     /// `join PASS`: takes in the last pass
@@ -125,6 +119,63 @@ impl CellCase {
         }
         let pass = &mut self.passes[place];
         self.cell.join(rt, pass, other);
-        self.seen(alloc, Answered::Joined, place)
+        self.seen(alloc, &done("joined"), place)
     }
+}
+
+/// `show PASS`, `read PASS`, `try_write PASS INDEX=VALUE ..`, `write PASS INDEX=VALUE ..`
+fn called<R: Wait>(
+    rt: &R,
+    cell: &Cell,
+    pass: &mut Pass,
+    call: &str,
+    line: &Line,
+) -> Result<Answered, LineFault>
+    requires { IsPassOf cell.now pass.old }
+    ensures { IsPassOf cell.now pass.new }
+{
+    match call {
+        "show" => Ok(done("seen")),
+        "read" => Ok(version(cell.read(rt, pass))),
+        "try_write" | "write" => write(rt, cell, pass, call, line),
+        _ => Err(LineFault::Call),
+    }
+}
+
+fn write<R: Wait>(
+    rt: &R,
+    cell: &Cell,
+    pass: &mut Pass,
+    call: &str,
+    line: &Line,
+) -> Result<Answered, LineFault>
+    requires { IsPassOf cell.now pass.old }
+    ensures { IsPassOf cell.now pass.new }
+{
+    let patch = patch_of(cell.meta(), line)?;
+    if pass.author().is_none() {
+        return Err(LineFault::Condition);
+    }
+    if call == "try_write" {
+        return Ok(try_once(rt, cell, pass, &patch));
+    }
+    Ok(try_on(rt, cell, pass, &patch))
+}
+
+fn try_once<R: Wait>(rt: &R, cell: &Cell, pass: &mut Pass, patch: &Patch) -> Answered
+    requires own { IsPassOf cell.now pass.old }
+    requires numbered { IsSome pass.old.author }
+    requires patch { IsPatchOf cell.now.meta patch.now }
+    ensures { IsPassOf cell.now pass.new }
+{
+    tried(cell.try_write(rt, pass, patch))
+}
+
+fn try_on<R: Wait>(rt: &R, cell: &Cell, pass: &mut Pass, patch: &Patch) -> Answered
+    requires own { IsPassOf cell.now pass.old }
+    requires numbered { IsSome pass.old.author }
+    requires patch { IsPatchOf cell.now.meta patch.now }
+    ensures { IsPassOf cell.now pass.new }
+{
+    written(cell.write(rt, pass, patch))
 }

@@ -3,7 +3,7 @@ ghost use Rattle.std.specs.Prelude.{◌≡◌, ◌<◌, ◌^◌, IfOk, length, s
 ghost use Rattle.row_words.specs.Belonging.{Belongs};
 ghost use Rattle.row_words.specs.Patches.{IsPatchOf};
 
-use case_lines::{Line, LineFault, number};
+use case_lines::{Line, LineFault, number, parted};
 use dataset_meta::{Field, Meta, Name32};
 use row_words::{Patch, Row};
 use std::alloc::Global;
@@ -65,17 +65,23 @@ fn quotas_of(line: &mut Line) -> Result<[u64; 8], LineFault>
 fn meta_with(alloc: Global, count: u8) -> Result<Meta, LineFault> {
     let mut fields = Vec::new(alloc);
     for k in 0..count {
-        let name = format!(in alloc; "f{k}")?;
+        let name = name_of(format!(in alloc; "f{k}")?.as_str())?;
         fields.push(Field {
-            name: Name32::new(name.as_bytes()).ok_or(LineFault::Condition)?,
+            name,
             kind: Kind::UInt32,
             cap: 0,
         })?;
     }
-    let name = Name32::new(b"demo").ok_or(LineFault::Condition)?;
-    match Meta::new(name, fields, 1, 0, false) {
+    match Meta::new(name_of("demo")?, fields, 1, 0, false) {
         Ok(meta) => Ok(meta),
         Err(_) => Err(LineFault::Condition),
+    }
+}
+
+fn name_of(word: &str) -> Result<Name32, LineFault> {
+    match Name32::new(word.as_bytes()) {
+        Some(name) => Ok(name),
+        None => Err(LineFault::Condition),
     }
 }
 
@@ -95,9 +101,9 @@ fn put(meta: &Meta, patch: &mut Patch, word: &str) -> Result<(), LineFault>
     requires { IsPatchOf meta.now patch.old }
     ensures { IsPatchOf meta.now patch.new }
 {
-    let (index, value) = word.split_once('=').ok_or(LineFault::Missing)?;
+    let (index, value) = parted(word, '=')?;
     let index = number::<u8>(index)?;
-    let value = Value::UInt32(number::<u32>(value)?);
+    let value = Value::UInt32(number(value)?);
     let fields = meta.fields();
     if usize::from(index) >= fields.len() {
         return Err(LineFault::Condition);

@@ -2,56 +2,77 @@
 use case_lines::LineFault;
 use dataset_meta::Meta;
 use std::alloc::Global;
-use std::fmt;
 use std::fmt::Write;
 use version_cell::{Pass, Placed, Wrote};
 
-/// What a call has answered.
-#[derive(Clone, Copy, Drop)]
-pub enum Answered {
-    /// Nothing was called.
-    Seen,
-    /// A version, or how many stores there are.
-    Version(u64),
-    Wrote(Wrote),
-    Placed(Placed),
-    /// The place of what was split off.
-    Given(usize),
-    Joined,
-    Levelled,
+/// What a call has answered: a word, and its number where it has one.
+#[derive(Drop)]
+pub struct Answered {
+    word: &'static str,
+    number: Option<u64>,
 }
 
-impl fmt::Display for Answered {
-    fn fmt<W: fmt::Write>(&self, f: &mut fmt::Formatter<W>) -> fmt::Result {
-        match self {
-            Answered::Seen => write!(f, "seen"),
-            Answered::Version(version) => write!(f, "{version}"),
-            Answered::Wrote(Wrote::Wrote(version)) => write!(f, "Wrote {version}"),
-            Answered::Wrote(Wrote::Moved { version }) => write!(f, "Moved {version}"),
-            Answered::Wrote(Wrote::Full { quota }) => write!(f, "Full {quota}"),
-            Answered::Placed(Placed::Wrote(version)) => write!(f, "Wrote {version}"),
-            Answered::Placed(Placed::Full { quota }) => write!(f, "Full {quota}"),
-            Answered::Given(place) => write!(f, "given {place}"),
-            Answered::Joined => write!(f, "joined"),
-            Answered::Levelled => write!(f, "level"),
-        }
+/// A word: nothing was called, or the call answers nothing.
+pub fn done(word: &'static str) -> Answered {
+    Answered { word, number: None }
+}
+
+/// A word and a number.
+pub fn numbered(word: &'static str, number: u64) -> Answered {
+    Answered {
+        word,
+        number: Some(number),
+    }
+}
+
+/// A version, or how many stores there are.
+pub fn version(number: u64) -> Answered {
+    numbered("", number)
+}
+
+/// The place of what was split off.
+pub fn given(place: usize) -> Answered {
+    numbered("given ", place as u64)
+}
+
+/// The answer of `try_write`.
+pub fn tried(answer: Wrote) -> Answered {
+    match answer {
+        Wrote::Wrote(version) => numbered("Wrote ", version),
+        Wrote::Moved { version } => numbered("Moved ", version),
+        Wrote::Full { quota } => numbered("Full ", quota),
+    }
+}
+
+/// The answer of `write`.
+pub fn written(answer: Placed) -> Answered {
+    match answer {
+        Placed::Wrote(version) => numbered("Wrote ", version),
+        Placed::Full { quota } => numbered("Full ", quota),
     }
 }
 
 /// The answer alone.
-pub fn text(alloc: Global, answer: Answered) -> Result<String, LineFault> {
-    Ok(format!(in alloc; "{answer}")?)
+pub fn text(alloc: Global, answer: &Answered) -> Result<String, LineFault> {
+    let mut text = String::from_str(alloc, answer.word)?;
+    if let Some(number) = answer.number {
+        write!(text, "{number}")?;
+    }
+    Ok(text)
 }
 
 /// The answer, and behind it the version and the row that the pass has seen.
 pub fn seen(
     alloc: Global,
-    answer: Answered,
+    answer: &Answered,
     meta: &Meta,
     pass: &Pass,
 ) -> Result<String, LineFault> {
-    let mut text = format!(in alloc; "{answer} | {}:", pass.version())?;
-    for word in pass.row().words.iter().take(meta.fields().len()) {
+    let mut text = text(alloc, answer)?;
+    write!(text, " | {}:", pass.version())?;
+    let words = pass.row().words.as_slice();
+    let count = meta.fields().len().min(words.len());
+    for word in &words[..count] {
         write!(text, " {word}")?;
     }
     Ok(text)

@@ -1,8 +1,9 @@
 //! Cases of `target_cells`.
 ghost use Rattle.std.specs.Prelude.{◌≡◌, ◌<◌, All, IfOk, length};
+ghost use Rattle.version_cell.specs.Sets.{ArePassesOf};
 
 use crate::fields::{DataSets, row_of};
-use crate::shown::{Answered, seen, text};
+use crate::shown::{Answered, done, given, seen, text, version};
 use case_lines::{Line, LineFault, number};
 use dataset_meta::Meta;
 use std::alloc::Global;
@@ -90,32 +91,26 @@ impl TargetsCase {
         line: &mut Line,
     ) -> Result<String, LineFault> {
         if call == "store" {
-            let count = self.store(rt, line)?;
-            return text(alloc, Answered::Version(count));
+            return text(alloc, &version(self.store(rt, line)?));
         }
+        let place = self.place(line)?;
+        match call {
+            "split" => self.split(alloc, place),
+            "join" => self.join(rt, alloc, place),
+            "level" => self.level(rt, alloc, place),
+            _ => self.step(rt, alloc, call, place, line),
+        }
+    }
+
+    /// The place of a set of passes.
+    fn place(&self, line: &mut Line) -> Result<usize, LineFault>
+        ensures { IfOk result (λ place. place < length self.now.watches) }
+    {
         let place = usize::from(line.u8()?);
         if place >= self.watches.len() {
             return Err(LineFault::Condition);
         }
-        match call {
-            "split" => return self.split(alloc, place),
-            "join" => return self.join(rt, alloc, place),
-            "level" => {
-                self.level(rt, place);
-                return text(alloc, Answered::Levelled);
-            }
-            _ => {}
-        }
-        let reader = line.u8()?;
-        if usize::from(reader) >= self.readers.len() {
-            return Err(LineFault::Condition);
-        }
-        let answer = match call {
-            "look" => Answered::Version(self.look(rt, place, reader)),
-            "show" => Answered::Seen,
-            _ => return Err(LineFault::Call),
-        };
-        self.seen(alloc, answer, place, reader)
+        Ok(place)
     }
 
     /// `store READER INDEX=VALUE ..`: stores the opening row with the changes laid in
@@ -133,37 +128,34 @@ impl TargetsCase {
         Ok(self.targets.store(rt, &mut self.keeper, reader, &row))
     }
 
-    /// `show PLACE READER`: what the pass has seen, with no step
-    fn seen(
-        &self,
+    /// `show PLACE READER`, `look PLACE READER`
+    fn step<R: Wait>(
+        &mut self,
+        rt: &R,
         alloc: Global,
-        answer: Answered,
+        call: &str,
         place: usize,
-        reader: u8,
-    ) -> Result<String, LineFault> {
-        if place >= self.watches.len() || usize::from(reader) >= self.readers.len() {
+        line: &mut Line,
+    ) -> Result<String, LineFault>
+        requires { place < length self.old.watches }
+    {
+        let reader = line.u8()?;
+        if usize::from(reader) >= self.readers.len() {
             return Err(LineFault::Condition);
         }
-        let set = usize::from(self.readers[usize::from(reader)]);
-        let pass = self.watches[place].pass(reader);
-        seen(alloc, answer, &self.metas[set], pass)
-    }
-
-    /// `look PLACE READER`
-    fn look<R: Wait>(&mut self, rt: &R, place: usize, reader: u8) -> u64
-        requires watches { place < length self.old.watches }
-        requires reader { reader < length self.old.readers }
-    {
+        let meta = &self.metas[usize::from(self.readers[usize::from(reader)])];
         let passes = &mut self.watches[place];
-        self.targets.look(rt, passes, reader)
+        let answer = called(rt, &self.targets, passes, reader, call)?;
+        seen(alloc, &answer, meta, passes.pass(reader))
     }
 
     /// `level PLACE`
-    fn level<R: Wait>(&mut self, rt: &R, place: usize)
+    fn level<R: Wait>(&mut self, rt: &R, alloc: Global, place: usize) -> Result<String, LineFault>
         requires { place < length self.old.watches }
     {
         let passes = &mut self.watches[place];
         self.targets.level(rt, &mut self.keeper, passes);
+        text(alloc, &done("level"))
     }
 
     /// `split PLACE`: the place of the new set of passes
@@ -171,12 +163,12 @@ impl TargetsCase {
         requires { place < length self.old.watches }
     {
         let passes = &mut self.watches[place];
-        let Ok(given) = self.targets.split(alloc, passes) else {
+        let Ok(shared) = self.targets.split(alloc, passes) else {
             return Err(LineFault::Memory);
         };
         let new = self.watches.len();
-        self.watches.push(given)?;
-        text(alloc, Answered::Given(new))
+        self.watches.push(shared)?;
+        text(alloc, &given(new))
     }
 
     /// `join PLACE`: takes in the last set of passes
@@ -189,7 +181,25 @@ impl TargetsCase {
         }
         let passes = &mut self.watches[place];
         self.targets.join(rt, passes, other);
-        text(alloc, Answered::Joined)
+        text(alloc, &done("joined"))
+    }
+}
+
+fn called<R: Wait>(
+    rt: &R,
+    targets: &Targets,
+    passes: &mut Passes,
+    reader: u8,
+    call: &str,
+) -> Result<Answered, LineFault>
+    requires own { ArePassesOf targets.now.cells passes.old }
+    requires reader { reader < length targets.now.cells }
+    ensures own { ArePassesOf targets.now.cells passes.new }
+{
+    match call {
+        "look" => Ok(version(targets.look(rt, passes, reader))),
+        "show" => Ok(done("seen")),
+        _ => Err(LineFault::Call),
     }
 }
 

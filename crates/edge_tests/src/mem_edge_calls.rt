@@ -1,47 +1,57 @@
 //! Each call once, its refusals, and the calls that are named to fail.
-use crate::steps::{Step, opens, play, write};
+use crate::steps::{Step, opens, opens_with, play, read, refuses, same, write};
 use mem_edge::*;
-use std::alloc::{AllocError, Global};
-use std::test::Fail;
-use ua_base::{Fate, Folder, Gate, Link, Opened, ReadEnd, Received, Sent, WriteEnd};
+use std::alloc::Global;
+use std::process::Abort;
+use ua_base::{Fate, Gate, ReadEnd, Received, Sent, WriteEnd};
 
-fn folder(alloc: Global, fails: &[u32]) -> Result<MemoryFolder, Fail> {
+fn folder(rt: &impl Abort, alloc: Global, fails: &[u32]) -> MemoryFolder {
     let mut files = Vec::new(alloc);
     for (name, bytes) in [("a", b"12345".as_slice()), ("b", b""), ("a", b"later")] {
-        let name = Name::new(name.as_bytes()).ok_or("no name")?;
-        files
-            .push((name, Vec::from_slice(alloc, bytes)?))
-            .ok()
-            .ok_or("memory")?;
+        let name = Name::new(name.as_bytes()).expect(rt, "a name");
+        let bytes = Vec::from_slice(alloc, bytes).expect(rt, "memory");
+        files.push((name, bytes)).ok().expect(rt, "memory");
     }
-    Ok(MemoryFolder::new(files, Vec::from_slice(alloc, fails)?))
+    MemoryFolder::new(files, Vec::from_slice(alloc, fails).expect(rt, "memory"))
 }
 
-// A link with calls that fail.
-fn link(alloc: Global, sends: &[u64], receives: &[u64]) -> Result<MemoryLink, AllocError> {
-    let sends = Vec::from_slice(alloc, sends)?;
-    let receives = Vec::from_slice(alloc, receives)?;
-    Ok(MemoryLink::new(alloc, Vec::new(alloc), sends, receives, false))
+// A link with calls that fail: these sends and receives, or each opening.
+fn link(
+    rt: &impl Abort,
+    alloc: Global,
+    sends: &[u64],
+    receives: &[u64],
+    refuses: bool,
+) -> MemoryLink {
+    let sends = Vec::from_slice(alloc, sends).expect(rt, "memory");
+    let receives = Vec::from_slice(alloc, receives).expect(rt, "memory");
+    MemoryLink::new(alloc, Vec::new(alloc), sends, receives, refuses)
 }
 
 #[test]
-fn names_are_short_texts(rt: HostRuntime) -> Result<(), Fail> {
+fn names_are_short_texts(rt: HostRuntime) {
     let long = [b'x'; 256];
-    assert!(rt; Name::new(&long).is_none());
-    let name = Name::new(&long[1..]).ok_or("255 bytes")?;
-    assert_eq!(rt; name.as_bytes(), &long[1..]);
-    assert!(rt; Name::new(b"").is_some());
-    assert!(rt; Name::new("é".as_bytes()).is_some());
-    assert!(rt; Name::new(b"\xc3").is_none());
-    assert!(rt; Name::new(b"a\xff").is_none());
-    Ok(())
+    for (bytes, is_name) in [
+        (long.as_slice(), false),
+        (&long[1..], true),
+        (b"", true),
+        ("é".as_bytes(), true),
+        (b"\xc3", false),
+        (b"a\xff", false),
+    ] {
+        let holds = match Name::new(bytes) {
+            Some(name) => is_name && name.as_bytes() == bytes,
+            None => !is_name,
+        };
+        assert!(rt; holds);
+    }
 }
 
 #[test]
-fn a_folder_reads_fails_and_refuses(rt: HostRuntime) -> Result<(), Fail> {
+fn a_folder_reads_fails_and_refuses(rt: HostRuntime) {
     let alloc = rt.alloc();
-    let mut folder = folder(alloc, &[2, 4])?;
-    let mut into = Vec::from_slice(alloc, b"before")?;
+    let mut folder = folder(&rt, alloc, &[2, 4]);
+    let mut into = Vec::from_slice(alloc, b"before").expect(&rt, "memory");
     for (name, limit, want, bytes) in [
         ("a", 5, ReadEnd::Done, b"12345".as_slice()),
         ("a", 4, ReadEnd::Long { read: 5 }, b""),
@@ -52,17 +62,15 @@ fn a_folder_reads_fails_and_refuses(rt: HostRuntime) -> Result<(), Fail> {
         ("b", 0, ReadEnd::Failed, b""),
         ("b", 0, ReadEnd::Done, b""),
     ] {
-        let got = folder.read_whole(name, limit, &mut into);
-        assert_eq!(rt; got, want);
-        assert!(rt; into.as_slice() == bytes);
+        read(&rt, &mut folder, name, limit, &mut into, want, bytes);
     }
-    Ok(())
 }
 
 #[test]
-fn a_sink_writes_and_fails(rt: HostRuntime) -> Result<(), Fail> {
+fn a_sink_writes_and_fails(rt: HostRuntime) {
     let alloc = rt.alloc();
-    let mut sink = MemorySink::new(alloc, Vec::from_slice(alloc, &[1u32])?)?;
+    let fails = Vec::from_slice(alloc, &[1u32]).expect(&rt, "memory");
+    let mut sink = MemorySink::new(alloc, fails).expect(&rt, "memory");
     for (bytes, want) in [
         (b"ab".as_slice(), WriteEnd::Done),
         (b"lost", WriteEnd::Failed),
@@ -71,17 +79,16 @@ fn a_sink_writes_and_fails(rt: HostRuntime) -> Result<(), Fail> {
     ] {
         write(&rt, &mut sink, bytes, want);
     }
-    assert_eq!(rt; sink.bytes(), b"abc".as_slice());
-    let more = vec![in alloc; 0u8; 4_194_302]?;
+    assert!(rt; sink.bytes() == b"abc".as_slice());
+    let more = vec![in alloc; 0u8; 4_194_302].expect(&rt, "memory");
     write(&rt, &mut sink, &more, WriteEnd::Failed);
     write(&rt, &mut sink, &more[1..], WriteEnd::Done);
-    assert_eq!(rt; sink.bytes().len(), 4_194_304);
-    Ok(())
+    same(&rt, sink.bytes().len(), 4_194_304);
 }
 
 #[test]
-fn a_link_delivers_in_order(rt: HostRuntime) -> Result<(), Fail> {
-    let mut link = link(rt.alloc(), &[1], &[1, 4])?;
+fn a_link_delivers_in_order(rt: HostRuntime) {
+    let mut link = link(&rt, rt.alloc(), &[1], &[1, 4], false);
     opens(&rt, &mut link, 4840);
     let steps = [
         Step::Send(b"one", Sent::Done),
@@ -96,7 +103,7 @@ fn a_link_delivers_in_order(rt: HostRuntime) -> Result<(), Fail> {
         Step::Receive(4, Received::Nothing, b""),
         Step::Receive(4, Received::Nothing, b""),
     ];
-    play(&rt, rt.alloc(), &mut link, &steps)?;
+    play(&rt, rt.alloc(), &mut link, &steps);
     for (i, sent, received) in [
         (0, Some(b"one".as_slice()), Some(b"one".as_slice())),
         (1, Some(b"three"), Some(b"four")),
@@ -104,28 +111,26 @@ fn a_link_delivers_in_order(rt: HostRuntime) -> Result<(), Fail> {
         (3, None, None),
         (u64::MAX, None, None),
     ] {
-        assert_eq!(rt; link.sent(i), sent);
-        assert_eq!(rt; link.received(i), received);
+        assert!(rt; link.sent(i) == sent && link.received(i) == received);
     }
-    Ok(())
 }
 
 #[test]
-fn an_opening_empties_or_fails(rt: HostRuntime) -> Result<(), Fail> {
+fn an_opening_empties_or_fails(rt: HostRuntime) {
     let alloc = rt.alloc();
-    let mut link = link(alloc, &[], &[])?;
-    opens(&rt, &mut link, 4840);
-    play(&rt, alloc, &mut link, &[Step::Send(b"gone", Sent::Done)])?;
-    let opened = link.open(0, &[(0, Fate::Drop), (1, Fate::Hold { after: 2 })]);
-    assert!(rt; opened == Opened::Done);
-    assert_eq!(rt; link.sent(0), None);
-    let none = Vec::new(alloc);
-    let mut closed = MemoryLink::new(alloc, Vec::new(alloc), none, Vec::new(alloc), true);
-    for _ in 0..2 {
-        let got = closed.open(4840, &[]);
-        assert_eq!(rt; got, Opened::Failed);
-    }
-    Ok(())
+    let mut open = link(&rt, alloc, &[], &[], false);
+    opens(&rt, &mut open, 4840);
+    play(&rt, alloc, &mut open, &[Step::Send(b"gone", Sent::Done)]);
+    opens_with(
+        &rt,
+        &mut open,
+        0,
+        &[(0, Fate::Drop), (1, Fate::Hold { after: 2 })],
+    );
+    assert!(rt; open.sent(0).is_none());
+    let mut closed = link(&rt, alloc, &[], &[], true);
+    refuses(&rt, &mut closed, 4840);
+    refuses(&rt, &mut closed, 4840);
 }
 
 #[test]

@@ -1,10 +1,11 @@
-//! Calls of links and sinks, each with the answer that it is to give.
+//! Calls of folders, sinks and links, each with the answer that it is to give.
 ghost use Rattle.std.specs.Prelude.{IsSome};
+ghost use Rattle.ua_base.specs.Fates.{AreFates};
 
 use std::alloc::Global;
+use std::fmt::Debug;
 use std::process::Abort;
-use std::test::Fail;
-use ua_base::{Link, Opened, Received, Sent, Sink, WriteEnd};
+use ua_base::{Fate, Folder, Link, Opened, ReadEnd, Received, Sent, Sink, WriteEnd};
 
 /// More bytes than any datagram of the tests has.
 const MAX_BYTES: usize = 100_000;
@@ -21,27 +22,35 @@ pub(crate) enum Step<'a> {
 pub(crate) fn opens<L: Link>(rt: &impl Abort, link: &mut L, port: u16)
     ensures { IsSome (L.opened_with link.new) }
 {
-    let opened = link.open(port, &[]);
+    opens_with(rt, link, port, &[]);
+}
+
+/// Opens a link.
+pub(crate) fn opens_with<L: Link>(rt: &impl Abort, link: &mut L, port: u16, fates: &[(u64, Fate)])
+    requires { AreFates fates.now }
+    ensures { IsSome (L.opened_with link.new) }
+{
+    let opened = link.open(port, fates);
     assert!(rt; opened == Opened::Done);
 }
 
+/// Tries to open a link where the port can't be had.
+pub(crate) fn refuses<L: Link>(rt: &impl Abort, link: &mut L, port: u16) {
+    let opened = link.open(port, &[]);
+    assert!(rt; opened == Opened::Failed);
+}
+
 /// Makes the calls of a link that is open, one after another.
-pub(crate) fn play<L: Link>(
-    rt: &impl Abort,
-    alloc: Global,
-    link: &mut L,
-    steps: &[Step<'_>],
-) -> Result<(), Fail>
+pub(crate) fn play<L: Link>(rt: &impl Abort, alloc: Global, link: &mut L, steps: &[Step<'_>])
     requires { IsSome (L.opened_with link.old) }
     ensures { IsSome (L.opened_with link.new) }
 {
     for step in steps {
         match step {
             Step::Send(datagram, want) => send(rt, link, datagram, *want),
-            Step::Receive(room, want, bytes) => receive(rt, alloc, link, *room, *want, bytes)?,
+            Step::Receive(room, want, bytes) => receive(rt, alloc, link, *room, *want, bytes),
         }
     }
-    Ok(())
 }
 
 fn send<L: Link>(rt: &impl Abort, link: &mut L, datagram: &[u8], want: Sent)
@@ -50,7 +59,7 @@ fn send<L: Link>(rt: &impl Abort, link: &mut L, datagram: &[u8], want: Sent)
 {
     assert!(rt; datagram.len() < MAX_BYTES);
     let got = link.send(datagram);
-    assert_eq!(rt; got, want);
+    same(rt, got, want);
 }
 
 fn receive<L: Link>(
@@ -60,19 +69,38 @@ fn receive<L: Link>(
     room: usize,
     want: Received,
     bytes: &[u8],
-) -> Result<(), Fail>
+)
     requires { IsSome (L.opened_with link.old) }
     ensures { IsSome (L.opened_with link.new) }
 {
-    let mut into = vec![in alloc; 0u8; room]?;
+    let mut into = vec![in alloc; 0u8; room].expect(rt, "memory");
     let got = link.receive(&mut into);
-    assert_eq!(rt; got, want);
+    same(rt, got, want);
     assert!(rt; into.starts_with(bytes));
-    Ok(())
 }
 
 /// Writes once.
 pub(crate) fn write<S: Sink>(rt: &impl Abort, sink: &mut S, bytes: &[u8], want: WriteEnd) {
     let got = sink.write(bytes);
+    same(rt, got, want);
+}
+
+/// Reads a file, of which so many bytes are allowed, and these come.
+pub(crate) fn read<F: Folder>(
+    rt: &impl Abort,
+    folder: &mut F,
+    name: &str,
+    limit: u32,
+    into: &mut Vec<u8>,
+    want: ReadEnd,
+    bytes: &[u8],
+) {
+    let got = folder.read_whole(name, u64::from(limit), into);
+    same(rt, got, want);
+    assert!(rt; into.as_slice() == bytes);
+}
+
+/// What came is what was wanted.
+pub(crate) fn same<T: Copy + Debug + PartialEq>(rt: &impl Abort, got: T, want: T) {
     assert_eq!(rt; got, want);
 }

@@ -1,49 +1,53 @@
 //! Each call once over the system's own files, streams and sockets.
-use crate::steps::{Step, opens, play, write};
+use crate::steps::{Step, opens, opens_with, play, read, refuses, same, write};
 use std::alloc::Global;
 use std::fmt::Display;
 use std::fs;
 use std::io::{self, Error, ErrorKind, PipeWriter, Print, Read, Write};
 use std::net::{Ipv4Addr, SocketAddr, UdpSocket};
-use std::test::Fail;
+use std::process::Abort;
 use std::time::Instant;
-use ua_base::{Fate, Folder, Link, Opened, ReadEnd, Received, Sent, WriteEnd};
+use ua_base::{Fate, ReadEnd, Received, Sent, WriteEnd};
 use udp_edge::{DirFolder, StdSink, UdpLink, received, sent};
 
 // What is written to a file of so many bytes.
-fn file(alloc: Global, len: usize) -> Result<Vec<u8>, Fail> {
-    let mut bytes = vec![in alloc; b'a'; len]?;
+fn file(rt: &impl Abort, alloc: Global, len: usize) -> Vec<u8> {
+    let mut bytes = vec![in alloc; b'a'; len].expect(rt, "memory");
     if len > 4_096 {
         bytes[4_096] = b'b';
         bytes[len - 1] = b'c';
     }
-    Ok(bytes)
+    bytes
 }
 
 #[test]
-fn the_real_folder(rt: HostRuntime) -> Result<(), Fail> {
+fn the_real_folder(rt: HostRuntime) {
     let mut folder = DirFolder::new(&rt);
-    let mut into = Vec::from_slice(rt.alloc(), b"before")?;
+    let mut into = Vec::from_slice(rt.alloc(), b"before").expect(&rt, "memory");
     for (len, want) in [
         (0, ReadEnd::Done),
         (65_537, ReadEnd::Done),
         (1_048_576, ReadEnd::Done),
         (1_048_577, ReadEnd::Long { read: 1_048_577 }),
     ] {
-        let bytes = file(rt.alloc(), len)?;
-        fs::write(&rt, "edge_tests_file", &bytes)?;
-        let got = folder.read_whole("edge_tests_file", 1_048_576, &mut into);
-        assert_eq!(rt; got, want);
-        assert!(rt; into.as_slice() == bytes.as_slice());
+        let bytes = file(&rt, rt.alloc(), len);
+        fs::write(&rt, "edge_tests_file", &bytes).expect(&rt, "a write");
+        read(
+            &rt,
+            &mut folder,
+            "edge_tests_file",
+            1_048_576,
+            &mut into,
+            want,
+            &bytes,
+        );
     }
-    fs::remove_file(&rt, "edge_tests_file")?;
-    fs::create_dir(&rt, "edge_tests_folder")?;
+    fs::remove_file(&rt, "edge_tests_file").expect(&rt, "a file");
+    fs::create_dir(&rt, "edge_tests_folder").expect(&rt, "a folder");
     for name in ["edge_tests_file", "edge_tests_folder"] {
-        let got = folder.read_whole(name, 5, &mut into);
-        assert_eq!(rt; got, ReadEnd::Failed);
+        read(&rt, &mut folder, name, 5, &mut into, ReadEnd::Failed, b"");
     }
-    fs::remove_dir(&rt, "edge_tests_folder")?;
-    Ok(())
+    fs::remove_dir(&rt, "edge_tests_folder").expect(&rt, "a folder");
 }
 
 // Writes to the one end of a pipe.
@@ -84,26 +88,25 @@ fn the_standard_streams(rt: HostRuntime) {
 }
 
 #[test]
-fn a_pipe_until_it_is_closed(rt: HostRuntime) -> Result<(), Fail> {
-    let (mut reader, end) = io::pipe(&rt)?;
+fn a_pipe_until_it_is_closed(rt: HostRuntime) {
+    let (mut reader, end) = io::pipe(&rt).expect(&rt, "a pipe");
     let to = ToPipe { end };
     let mut sink = StdSink::new(&to);
     write(&rt, &mut sink, b"12345", WriteEnd::Done);
     let mut into = [0u8; 8];
-    let count = reader.read(&mut into)?;
-    assert_eq!(rt; &into[..count], b"12345".as_slice());
+    let count = reader.read(&mut into).expect(&rt, "a read");
+    assert!(rt; count == 5 && into.starts_with(b"12345"));
     drop(reader);
     write(&rt, &mut sink, b"12345", WriteEnd::Failed);
     write(&rt, &mut sink, b"", WriteEnd::Done);
-    Ok(())
 }
 
 #[test]
-fn a_socket_gives_back_what_was_sent(rt: HostRuntime) -> Result<(), Fail> {
+fn a_socket_gives_back_what_was_sent(rt: HostRuntime) {
     let alloc = rt.alloc();
     let mut link = UdpLink::new(&rt, alloc);
     opens(&rt, &mut link, 0);
-    let bytes = vec![in alloc; b'x'; 65_508]?;
+    let bytes = vec![in alloc; b'x'; 65_508].expect(&rt, "memory");
     let long = &bytes[..1_400];
     let longest = &bytes[..65_507];
     let steps = [
@@ -122,24 +125,28 @@ fn a_socket_gives_back_what_was_sent(rt: HostRuntime) -> Result<(), Fail> {
         // longer than any datagram of the system
         Step::Send(&bytes, Sent::Failed),
     ];
-    play(&rt, alloc, &mut link, &steps)?;
-    let start = Instant::now(&rt)?;
+    play(&rt, alloc, &mut link, &steps);
+    let start = Instant::now(&rt).expect(&rt, "a clock");
     play(
         &rt,
         alloc,
         &mut link,
         &[Step::Receive(1_400, Received::Nothing, b"")],
-    )?;
-    let waited = start.elapsed(&rt)?;
-    assert!(rt; waited.as_millis() < 1_000, "it waits 10 ms");
-    Ok(())
+    );
+    let waited = start.elapsed(&rt).expect(&rt, "a clock");
+    // it waits 10 ms
+    assert!(rt; waited.as_secs() == 0);
 }
 
 #[test]
-fn a_socket_knows_no_fates(rt: HostRuntime) -> Result<(), Fail> {
+fn a_socket_knows_no_fates(rt: HostRuntime) {
     let mut link = UdpLink::new(&rt, rt.alloc());
-    let opened = link.open(0, &[(0, Fate::Drop), (1, Fate::Repeat { times: 2 })]);
-    assert!(rt; opened == Opened::Done);
+    opens_with(
+        &rt,
+        &mut link,
+        0,
+        &[(0, Fate::Drop), (1, Fate::Repeat { times: 2 })],
+    );
     let steps = [
         Step::Send(b"a", Sent::Done),
         Step::Send(b"bc", Sent::Done),
@@ -147,7 +154,7 @@ fn a_socket_knows_no_fates(rt: HostRuntime) -> Result<(), Fail> {
         Step::Receive(8, Received::Datagram(2), b"bc"),
         Step::Receive(8, Received::Nothing, b""),
     ];
-    play(&rt, rt.alloc(), &mut link, &steps)
+    play(&rt, rt.alloc(), &mut link, &steps);
 }
 
 #[test]
@@ -160,38 +167,37 @@ fn answers_of_the_system_are_told(rt: HostRuntime) {
         (ErrorKind::TimedOut, Received::Nothing),
     ] {
         let got = received(Err(Error::from(kind)), b"12345", &mut into);
-        assert_eq!(rt; got, want);
+        same(&rt, got, want);
     }
     let got = received(Ok(5), b"12345", &mut into);
-    assert_eq!(rt; got, Received::Long(5));
+    same(&rt, got, Received::Long(5));
     let got = received(Ok(4), b"12345", &mut into);
-    assert_eq!(rt; got, Received::Datagram(4));
-    assert_eq!(rt; &into, b"1234");
-    for (got, want) in [
-        (Ok(5), Sent::Done),
-        (Ok(4), Sent::Failed),
-        (Err(Error::from(ErrorKind::Other)), Sent::Failed),
-    ] {
-        assert_eq!(rt; sent(got, 5), want);
-    }
+    same(&rt, got, Received::Datagram(4));
+    assert!(rt; &into == b"1234");
+    same(&rt, sent(Ok(5), 5), Sent::Done);
+    same(&rt, sent(Ok(4), 5), Sent::Failed);
+    let got = sent(Err(Error::from(ErrorKind::Other)), 5);
+    same(&rt, got, Sent::Failed);
 }
 
 #[test]
-fn a_link_has_the_port_that_it_is_given_of_this_machine_alone(rt: HostRuntime) -> Result<(), Fail> {
-    let held = UdpSocket::bind(&rt, SocketAddr::from((Ipv4Addr::LOCALHOST, 0)))?;
-    let port = held.local_addr()?.port();
+fn a_link_has_the_port_that_it_is_given_of_this_machine_alone(rt: HostRuntime) {
+    let any = SocketAddr::from((Ipv4Addr::LOCALHOST, 0));
+    let held = UdpSocket::bind(&rt, any).expect(&rt, "a socket");
+    let port = held.local_addr().expect(&rt, "an address").port();
     let mut link = UdpLink::new(&rt, rt.alloc());
-    let opened = link.open(port, &[]);
-    assert!(rt; opened == Opened::Failed, "another has the port");
+    // another has the port
+    refuses(&rt, &mut link, port);
     drop(held);
-    let opened = link.open(port, &[]);
-    assert!(rt; opened == Opened::Done);
-    let opened = link.open(port, &[]);
-    assert!(rt; opened == Opened::Failed, "its own socket has the port");
-    let same = UdpSocket::bind(&rt, SocketAddr::from((Ipv4Addr::LOCALHOST, port)));
-    assert!(rt; same.is_err(), "the link has the port");
-    let beside = Ipv4Addr::new(127, 0, 0, 2);
-    let other = UdpSocket::bind(&rt, SocketAddr::from((beside, port)));
-    assert!(rt; other.is_ok(), "the link has 127.0.0.1 alone");
-    Ok(())
+    opens(&rt, &mut link, port);
+    // its own socket has the port
+    refuses(&rt, &mut link, port);
+    // the link has the port, of 127.0.0.1 alone
+    for (address, is_free) in [
+        (Ipv4Addr::LOCALHOST, false),
+        (Ipv4Addr::new(127, 0, 0, 2), true),
+    ] {
+        let socket = UdpSocket::bind(&rt, SocketAddr::from((address, port)));
+        assert!(rt; socket.is_ok() == is_free);
+    }
 }
