@@ -1,5 +1,5 @@
 //! Datagrams over a socket of this machine.
-ghost use Rattle.std.specs.Prelude.{◌≡◌, ◌≢◌, ◌<◌, ◌≤◌, ◌^◌, IsTrue, IsSome, IfOk, Some, None, false, true, length, vec_len};
+ghost use Rattle.std.specs.Prelude.{◌≡◌, ◌≢◌, ◌<◌, ◌≤◌, ◌^◌, ℕ, IsTrue, IsSome, IfOk, Some, None, Ok, false, true, length, take, vec_len};
 ghost use Rattle.ua_base.specs.Cause.{HasCause, Rose, counted_if};
 ghost use Rattle.ua_base.specs.Fates.{AreFates};
 ghost use Rattle.ua_base.specs.Journal.{Tells};
@@ -196,7 +196,12 @@ fn take(socket: &UdpSocket, buffer: &mut [u8], into: &mut [u8]) -> Received
 pub fn received(got: io::Result<usize>, buffer: &[u8], into: &mut [u8]) -> Received
     requires short { length buffer.now < 2 ^ 32 }
     requires count { IfOk got (λ count. count ≤ length buffer.now) }
-    ensures { FitsBuffer result into.new }
+    ensures fits { FitsBuffer result into.new }
+    ensures datagram { (count : ℕ) → got ≡ Ok count → count ≤ length into.old
+        → result ≡ Received.Datagram count }
+    ensures bytes { (count : ℕ) → got ≡ Ok count → count ≤ length into.old
+        → take count into.new ≡ take count buffer.now }
+    ensures long { (count : ℕ) → got ≡ Ok count → length into.old < count → result ≡ Received.Long count }
 {
     match got {
         Ok(count) if count > into.len() => Received::Long(count as u32),
@@ -211,7 +216,9 @@ pub fn received(got: io::Result<usize>, buffer: &[u8], into: &mut [u8]) -> Recei
 
 /// What the system answered to a send of a datagram of this length.
 pub fn sent(got: io::Result<usize>, len: usize) -> Sent
-    ensures { result ≢ Sent.Memory }
+    ensures done { got ≡ Ok len → result ≡ Sent.Done }
+    ensures whole { result ≡ Sent.Done → got ≡ Ok len }
+    ensures free { result ≢ Sent.Memory }
 {
     match got {
         Ok(count) if count == len => Sent::Done,
