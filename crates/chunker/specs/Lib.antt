@@ -4,3 +4,4 @@ pub mod Joining
 pub mod Joiners
 pub mod Joins
 pub mod Spelling
+pub mod FaultTexts

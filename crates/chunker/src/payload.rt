@@ -5,6 +5,8 @@ ghost use Rattle.ua_binary.specs.Writing.{Writes};
 ghost use Rattle.chunker.specs.Spelling.{chunk_bytes, data_at, chunk_at, chunk_in, told, without_rest};
 ghost use Rattle.chunker.specs.declared.payload.ChunkFault.TheVariants as faults;
 
+use std::error::Error;
+use std::fmt;
 use ua_binary::{Cursor, Pen, Room, Short};
 
 /// How many bytes of a chunk's payload stand before its data.
@@ -31,6 +33,22 @@ pub enum ChunkFault {
     /// The length of ChunkData is below -1 (OPC 10000-6 section 5.2.2.7). It is judged before the bytes that it counts.
     BadLength,
 }
+
+impl fmt::Display for ChunkFault {
+    ghost use Rattle.std.specs.Prelude.{Some};
+    ghost use Rattle.chunker.specs.FaultTexts.{chunk_fault};
+
+    ghost output = { λ fault. Some (chunk_fault fault) };
+
+    fn fmt<W: fmt::Write>(&self, f: &mut fmt::Formatter<W>) -> fmt::Result {
+        f.write_str(match self {
+            ChunkFault::Short => "the bytes end before the chunk does",
+            ChunkFault::BadLength => "the length of the chunk's data is below -1",
+        })
+    }
+}
+
+impl Error for ChunkFault {}
 
 impl From<Short> for ChunkFault {
     ghost from_gives = { λ _ fault. fault ≡ faults.Short };

@@ -7,3 +7,4 @@ pub mod Faults
 pub mod Datagrams
 pub mod Held
 pub mod Calls
+pub mod FaultTexts

@@ -414,7 +414,7 @@ pub cut-whole : (meta : MetaData) (frame : Frame) → IsFrame meta frame → fra
 cut-whole meta frame is = ap (λ (content : Content). record { number = frame.number; major = frame.major; minor = frame.minor; content = content }) (content-whole meta frame.content is.content)
 
 pub grown-same : (meta : MetaData) → HasGrown meta meta
-grown-same meta = record { fields = sym (take_all (length meta.fields) meta.fields (omega arith)); quality = refl }
+grown-same meta = record { fields = sym (take_all (length meta.fields) meta.fields (omega arith)); quality = refl; major = refl }
 
 pub none-appended : (meta : MetaData) → appended meta meta ≡ []
 none-appended meta = drop_all (length meta.fields) meta.fields (omega arith)

@@ -9,3 +9,4 @@ pub mod Wire
 pub mod Refusals
 pub mod Begins
 pub mod Calls
+pub mod FaultTexts

@@ -1,3 +1,4 @@
 pub mod KeySets
 pub mod Faults
 pub mod Ring
+pub mod FaultTexts

@@ -8,6 +8,8 @@ ghost use Rattle.group_keys.specs.Faults.{IsFirstIndex, IsMisfit, IsNotAbove};
 use crate::KeySet;
 use arrayvec::ArrayVec;
 use std::alloc::AllocError;
+use std::error::Error;
+use std::fmt;
 
 /// Why a list of key sets is no ring. The least of these that holds is given.
 #[derive(Clone, Copy, Debug, PartialEq, Eq)]
@@ -21,6 +23,34 @@ pub enum RingFault {
     /// The first set whose encrypting key isn't as long as the ring wants.
     BadLength { index: u8 },
 }
+
+impl fmt::Display for RingFault {
+    ghost use Rattle.std.specs.Prelude.{Some};
+    ghost use Rattle.group_keys.specs.FaultTexts.{ring_fault};
+
+    ghost output = { λ fault. Some (ring_fault fault) };
+
+    fn fmt<W: fmt::Write>(&self, f: &mut fmt::Formatter<W>) -> fmt::Result {
+        match *self {
+            RingFault::NoKey => f.write_str("the ring has no key set: give it one"),
+            RingFault::NotRising { index } => {
+                write!(
+                    f,
+                    "key set {index} has a token or a moment that isn't above the one before: order them"
+                )
+            }
+            RingFault::FirstLate => f.write_str("the first key set isn't used from moment 0"),
+            RingFault::BadLength { index } => {
+                write!(
+                    f,
+                    "the encrypting key of key set {index} isn't as long as the policy wants"
+                )
+            }
+        }
+    }
+}
+
+impl Error for RingFault {}
 
 /// The key sets of a security group: at least one, with rising tokens and rising moments, the
 /// first of which is 0, and encrypting keys of one length.

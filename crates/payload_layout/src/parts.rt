@@ -7,6 +7,8 @@ ghost use Rattle.ua_binary.specs.Writing.{Puts, Writes};
 ghost use Rattle.payload_layout.specs.Payloads.{sizes_bytes, sizes_of, cut_by, frames_of, frame_at, HasBadSizes, IsWithin, StandBehind};
 
 use arrayvec::ArrayVec;
+use std::error::Error;
+use std::fmt;
 use ua_binary::{Pen, Room};
 
 /// Where a frame stands in a payload, in bytes from the payload's first.
@@ -23,6 +25,19 @@ pub type Parts = ArrayVec<Part, 255>;
 /// The sizes, or the frames that they tell of, pass the payload's end.
 #[derive(Clone, Copy, Debug, PartialEq, Eq)]
 pub struct BadSizes;
+
+impl fmt::Display for BadSizes {
+    ghost use Rattle.std.specs.Prelude.{Some};
+    ghost use Rattle.payload_layout.specs.FaultTexts.{bad_sizes};
+
+    ghost output = { λ _. Some bad_sizes };
+
+    fn fmt<W: fmt::Write>(&self, f: &mut fmt::Formatter<W>) -> fmt::Result {
+        f.write_str("the sizes of the frames pass the payload's end")
+    }
+}
+
+impl Error for BadSizes {}
 
 /// Writes the sizes of the frames of a payload, or nothing for one frame.
 pub fn write_sizes(pen: &mut Pen<'_>, sizes: &[u16]) -> Result<(), Room>

@@ -5,3 +5,4 @@ pub mod Spelling
 pub mod Types
 pub mod Wire
 pub mod Writing
+pub mod FaultTexts

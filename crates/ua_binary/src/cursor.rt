@@ -2,9 +2,25 @@
 ghost use Rattle.std.specs.Prelude.{◌≡◌, ◌≤◌, length, slice_get};
 ghost use Rattle.std.specs.Int.{w16, w32, w64};
 
+use std::error::Error;
+use std::fmt;
+
 /// Fewer bytes are left than are asked for.
 #[derive(Clone, Copy, Debug, PartialEq, Eq)]
 pub struct Short;
+
+impl fmt::Display for Short {
+    ghost use Rattle.std.specs.Prelude.{Some};
+    ghost use Rattle.ua_binary.specs.FaultTexts.{short};
+
+    ghost output = { λ _. Some short };
+
+    fn fmt<W: fmt::Write>(&self, f: &mut fmt::Formatter<W>) -> fmt::Result {
+        f.write_str("the bytes end too early: give the rest too")
+    }
+}
+
+impl Error for Short {}
 
 /// Bytes, of which those from `at` on are still to be read. Numbers are little-endian
 /// (OPC 10000-6 section 5.2.2.2).

@@ -2,9 +2,25 @@
 ghost use Rattle.std.specs.Prelude.{◌≡◌, ◌+◌, ◌≤◌, [], ◌∷◌, length};
 ghost use Rattle.std.specs.Int.{w16, w32, w64, to_le_bytes};
 
+use std::error::Error;
+use std::fmt;
+
 /// Fewer bytes are left than are to be written.
 #[derive(Clone, Copy, Debug, PartialEq, Eq)]
 pub struct Room;
+
+impl fmt::Display for Room {
+    ghost use Rattle.std.specs.Prelude.{Some};
+    ghost use Rattle.ua_binary.specs.FaultTexts.{room};
+
+    ghost output = { λ _. Some room };
+
+    fn fmt<W: fmt::Write>(&self, f: &mut fmt::Formatter<W>) -> fmt::Result {
+        f.write_str("there is no room for what is to be written: give more bytes")
+    }
+}
+
+impl Error for Room {}
 
 /// Bytes, of which those from `at` on are still to be written. Numbers are little-endian
 /// (OPC 10000-6 section 5.2.2.2).

@@ -6,3 +6,4 @@ pub mod Spelling
 pub mod Wire
 pub mod Reading
 pub mod Steps
+pub mod FaultTexts
