@@ -5,3 +5,9 @@ pub mod KeyLaws
 pub mod HistoryLaws
 pub mod ThreadLaws
 pub mod OrderLaws
+pub mod AnswerPlaces
+pub mod AnswerRows
+pub mod HeldRows
+pub mod BareRows
+pub mod LogVersions
+pub mod LoggedTurns

@@ -1,7 +1,8 @@
 -- Model frame, Published row: DataSetMessages with their places, and the rows that they publish (OPC 10000-14 7.2.4.5, DataSetMessage). Lists have the latest first.
 use Rattle.std.specs.Prelude.{ℕ, ◌-◌, ◌≤◌, ⊤, List, [], ◌∷◌, Bool, true, false}
 use Rattle.dataset_meta.specs.DataValues.{DataValue}
-use Rattle.dataset_meta.specs.Rows.{patched}
+use Rattle.dataset_meta.specs.Metas.{MetaData}
+use Rattle.dataset_meta.specs.Rows.{patched, row_cut, patch_cut}
 use Rattle.seq_number.specs.Numbers.{number_of_place}
 
 -- a DataSetMessage with its place in all that a writer sends: a key frame, a delta frame or a keep-alive
@@ -39,6 +40,12 @@ abbrev pub is_silent : PlacedFrame → Bool
 is_silent (Whole place row) = false
 is_silent (Change place patch) = false
 is_silent (Alive next) = true
+
+-- a frame cut to the fields of a shorter meta
+abbrev pub placed_cut : MetaData → PlacedFrame → PlacedFrame
+placed_cut short (Whole place row) = Whole place (row_cut short row)
+placed_cut short (Change place patch) = Change place (patch_cut short patch)
+placed_cut short (Alive next) = Alive next
 
 -- the row that a frame publishes behind a row
 abbrev pub publishes : List DataValue → PlacedFrame → List DataValue

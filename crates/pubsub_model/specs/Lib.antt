@@ -3,3 +3,4 @@ pub mod History
 pub mod Frames
 pub mod Cadence
 pub mod Records
+pub mod Answers

@@ -2,6 +2,7 @@
 #![tactic(auto)]
 
 mod laws;
+mod laws_of_answers;
 mod reading;
 
 pub use laws::{
@@ -10,5 +11,9 @@ pub use laws::{
     key_frames_alone, key_frames_come_in_time, legal_lists_have_a_place_for_each_patch,
     legal_rows_fit, one_thread_is_legal, records_are_held, turns_change_only_what_differs,
     versions_of_a_legal_history,
+};
+pub use laws_of_answers::{
+    a_held_row_was_sent, a_number_names_its_version, answers_have_places_of_their_span,
+    earlier_turns_had_rows_of_a_meta, logged_versions_never_fall,
 };
 pub use reading::{Break, Why};
