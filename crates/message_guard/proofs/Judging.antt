@@ -15,17 +15,7 @@ use Rattle.message_guard.specs.declared.mode.Mode.{Mode}
 use Rattle.message_guard.specs.declared.mode.Mode.TheVariants as modes
 use Rattle.uadp_header.specs.Headers.{SecurityValue}
 use Rattle.message_guard.specs.Protection.{keys_with, number_in}
-
--- where no refusal of the first list holds, the second is judged alone
-pub judged_behind : {X : Type 0} (xs ys : Refusals) (x : X) → judged {X = Unit {0}} xs tt ≡ Ok tt → judged (xs ++ ys) x ≡ judged ys x
-judged_behind [] ys x none = refl
-judged_behind ((true, fault) ∷ xs) ys x none = cc
-judged_behind ((false, fault) ∷ xs) ys x none = judged_behind xs ys x none
-
-pub judged_before : {X : Type 0} (xs ys : Refusals) (x : X) (fault : OpenFault) → judged {X = Unit {0}} xs tt ≡ Err fault → judged (xs ++ ys) x ≡ Err fault
-judged_before [] ys x fault some = cc
-judged_before ((true, first) ∷ xs) ys x fault some = cc
-judged_before ((false, first) ∷ xs) ys x fault some = judged_before xs ys x fault some
+use Rattle.message_guard.proofs.Judged.{judged-skip, judged-behind}
 
 -- what is answered of a number, by what its window says
 abbrev pub answer_of : {X : Type 0} → Seen → X → Result X OpenFault
@@ -41,10 +31,6 @@ by_number true false high x = refl
 by_number false true high x = refl
 by_number false false high x = refl
 
-pub skip : {X : Type 0} (test : Bool) (fault : OpenFault) (ys : Refusals) (x : X) → test ≡ false → judged ((test, fault) ∷ ys) x ≡ judged ys x
-skip true fault ys x e = cc
-skip false fault ys x e = refl
-
 -- a known token that isn't old and a right signature leave the number to be judged
 pub judged_by_number : {X : Type 0} (keys : List TokenKeys) (accepted : Accepted) (token number : ℕ) (datagram : List ℕ) (k : TokenKeys) (x : X)
     → keys_with keys token ≡ Some k → highest accepted ≤ token → is_signed (Some k) datagram ≡ true
@@ -58,9 +44,9 @@ judged_by_number keys accepted token number datagram k x known not_lower right =
     let by_taken : Refusals = (taken && not old, faults.Repeated) ∷ (old, faults.TooOld high) ∷ [] in
     let by_signature : Refusals = (not (is_signed (keys_with keys token) datagram), faults.BadSignature) ∷ by_taken in
     let by_token : Refusals = (nat_lt token (highest accepted), faults.OldToken token (highest accepted)) ∷ by_signature in
-    skip (is_none (keys_with keys token)) (faults.UnknownToken token) by_token x (ap is_none known)
-    ∙ skip (nat_lt token (highest accepted)) (faults.OldToken token (highest accepted)) by_signature x not_old
-    ∙ skip (not (is_signed (keys_with keys token) datagram)) faults.BadSignature by_taken x signed
+    judged-skip (is_none (keys_with keys token)) (faults.UnknownToken token) by_token x (ap is_none known)
+    ∙ judged-skip (nat_lt token (highest accepted)) (faults.OldToken token (highest accepted)) by_signature x not_old
+    ∙ judged-skip (not (is_signed (keys_with keys token) datagram)) faults.BadSignature by_taken x signed
     ∙ by_number old taken high x
 
 -- the same behind a security header that isn't refused
@@ -69,7 +55,7 @@ pub judged_secured : {X : Type 0} (keys : List TokenKeys) (accepted : Accepted) 
     → is_signed (Some k) datagram ≡ true → seen (numbers_of accepted part.token) (number_in part.nonce) ≡ s
     → judged (secured_refusals keys accepted part datagram payload) x ≡ answer_of s x
 judged_secured keys accepted part datagram payload k s x front known not_lower right says =
-    judged_behind (front_refusals part datagram payload) (token_refusals keys accepted part.token (number_in part.nonce) datagram) x front
+    judged-behind (front_refusals part datagram payload) (token_refusals keys accepted part.token (number_in part.nonce) datagram) x tt tt front
     ∙ judged_by_number keys accepted part.token (number_in part.nonce) datagram k x known not_lower right
     ∙ ap (λ (answer : Seen). answer_of answer x) says
 
@@ -79,6 +65,6 @@ pub verdict_secured : (mode : Mode) (keys : List TokenKeys) (accepted : Accepted
     → verdict mode keys accepted (Some part) datagram payload ≡ judged (secured_refusals keys accepted part datagram payload) (signed_pass part datagram)
 verdict_secured modes.None keys accepted part datagram payload secured fits = cc
 verdict_secured modes.Sign keys accepted part datagram payload secured fits =
-    skip (not (has_mode modes.Sign (Some part))) faults.ModeDiffers (secured_refusals keys accepted part datagram payload) (signed_pass part datagram) (ap not fits)
+    judged-skip (not (has_mode modes.Sign (Some part))) faults.ModeDiffers (secured_refusals keys accepted part datagram payload) (signed_pass part datagram) (ap not fits)
 verdict_secured modes.Encrypt keys accepted part datagram payload secured fits =
-    skip (not (has_mode modes.Encrypt (Some part))) faults.ModeDiffers (secured_refusals keys accepted part datagram payload) (signed_pass part datagram) (ap not fits)
+    judged-skip (not (has_mode modes.Encrypt (Some part))) faults.ModeDiffers (secured_refusals keys accepted part datagram payload) (signed_pass part datagram) (ap not fits)

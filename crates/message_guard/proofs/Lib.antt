@@ -8,3 +8,4 @@ pub mod Telling
 pub mod Once
 pub mod Rings
 pub mod Plain
+pub mod Judged

@@ -9,12 +9,12 @@ use Rattle.message_guard.specs.declared.pass.Pass1.{Pass1}
 use Rattle.message_guard.specs.Acceptance.{Accepted}
 use Rattle.message_guard.specs.Opening.{has_mode, open_pass, verdict, accepts, without_stream, opened}
 use Rattle.message_guard.specs.Protection.{keys_with, message_nonce}
-use Rattle.message_guard.proofs.Judging.{skip}
+use Rattle.message_guard.proofs.Judged.{judged-skip}
 
 pub open_is_passed : (keys : List TokenKeys) (accepted : Accepted) (security : Option SecurityValue) (datagram : List ℕ) (payload : ℕ) → has_mode modes.None security ≡ true
     → verdict modes.None keys accepted security datagram payload ≡ Ok (open_pass datagram)
 open_is_passed keys accepted None datagram payload fits = refl
-open_is_passed keys accepted (Some part) datagram payload fits = skip (not (has_mode modes.None (Some part))) faults.ModeDiffers [] (open_pass datagram) (ap not fits)
+open_is_passed keys accepted (Some part) datagram payload fits = judged-skip (not (has_mode modes.None (Some part))) faults.ModeDiffers [] (open_pass datagram) (ap not fits)
 
 no_stream : (keys : Option TokenKeys) (nonce : List ℕ) (first_block : ℕ) (bytes : List ℕ) → without_stream modes.None keys nonce first_block bytes ≡ bytes
 no_stream None nonce first_block bytes = refl

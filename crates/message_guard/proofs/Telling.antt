@@ -17,10 +17,7 @@ use Rattle.message_guard.specs.Modes.{is_secured}
 use Rattle.message_guard.specs.Opened.{IsPassed}
 use Rattle.message_guard.specs.Opening.{Refusals, has_mode, is_signed, secured_refusals, signed_pass, judged_by, verdict}
 use Rattle.message_guard.specs.Protection.{keys_with, number_in, body_of, signature_of}
-
-by_ok : {X : Type 0} (o : Option (Bool × OpenFault)) (x y : X) → judged_by o x ≡ Ok y → (o ≡ None) × (x ≡ y)
-by_ok None x y e = (refl, cc)
-by_ok (Some refusal) x y e = cc
+use Rattle.message_guard.proofs.Judged.{judged_by-ok}
 
 -- where none of the tests holds, each is false
 abbrev holds : Bool × OpenFault → Bool
@@ -86,7 +83,7 @@ passed_by : (mode : Mode) (keys : List TokenKeys) (accepted : Accepted) (part : 
     → judged_by (find holds ((not (has_mode mode (Some part)), faults.ModeDiffers) ∷ secured_refusals keys accepted part datagram payload)) (signed_pass part datagram) ≡ Ok pass
     → IsPassed mode keys accepted (Some part) datagram payload pass
 passed_by mode keys accepted part datagram payload pass ok =
-    let told = by_ok (find holds ((not (has_mode mode (Some part)), faults.ModeDiffers) ∷ secured_refusals keys accepted part datagram payload)) (signed_pass part datagram) pass ok in
+    let told = judged_by-ok (find holds ((not (has_mode mode (Some part)), faults.ModeDiffers) ∷ secured_refusals keys accepted part datagram payload)) (signed_pass part datagram) pass ok in
     subst (λ (p : Pass1). IsPassed mode keys accepted (Some part) datagram payload p) told.1
     (signed_by mode keys accepted part datagram payload (keys_with keys part.token) refl told.0)
 

@@ -12,6 +12,15 @@ use Rattle.message_guard.specs.Modes.{is_secured, encrypts, is_same}
 use Rattle.message_guard.specs.Protection.{keys_with, number_in, with_stream, body_of, signature_of, message_nonce}
 use Rattle.message_guard.specs.Acceptance.{Accepted, highest, numbers_of}
 
+-- the refusal of the first test that holds, or else the value
+abbrev pub judged_by : {F X : Type 0} → Option (Bool × F) → X → Result X F
+judged_by None x = Ok x
+judged_by (Some refusal) x = Err refusal.1
+
+-- tests in their order, each with the refusal where it holds: the first that holds is answered, or else the value
+abbrev pub judged : {F X : Type 0} → List (Bool × F) → X → Result X F
+judged list x = judged_by (find (λ test. test.0) list) x
+
 -- a test, and the refusal where it holds
 abbrev pub Refusals : Type 0
 Refusals = List (Bool × OpenFault)
@@ -71,14 +80,6 @@ signed_pass part datagram =
 abbrev pub pass_of : Mode → Option SecurityValue → List ℕ → Pass1
 pass_of mode None datagram = open_pass datagram
 pass_of mode (Some part) datagram = if is_secured mode then signed_pass part datagram else open_pass datagram
-
--- the first refusal whose test holds, or else the value
-abbrev pub judged_by : {X : Type 0} → Option (Bool × OpenFault) → X → Result X OpenFault
-judged_by None x = Ok x
-judged_by (Some refusal) x = Err refusal.1
-
-abbrev pub judged : {X : Type 0} → Refusals → X → Result X OpenFault
-judged list x = judged_by (find (λ (test : Bool × OpenFault). test.0) list) x
 
 -- what the guard answers
 abbrev pub verdict : Mode → List TokenKeys → Accepted → Option SecurityValue → List ℕ → ℕ → Result Pass1 OpenFault
