@@ -1,10 +1,11 @@
 //! What a configuration is refused for.
-ghost use Rattle.std.specs.Prelude.{◌≡◌, ◌==◌, find};
+ghost use Rattle.std.specs.Prelude.{◌≡◌, ◌==◌, find, Some};
 ghost use Rattle.config_tables.specs.FaultNumbers.{number_of, fault_name, is_same, all_faults};
 
+use std::error::Error;
 use std::fmt::{self, Display, Formatter, Write};
 
-/// What a configuration is refused for. The fault that stands first here is told.
+/// What a configuration is refused for. The fault that stands first here is told, by its name.
 #[derive(Clone, Copy, Debug, PartialEq, Eq)]
 pub enum Fault {
     /// The bytes are no TOML document.
@@ -180,7 +181,11 @@ impl Fault {
 }
 
 impl Display for Fault {
+    ghost output = { λ fault. Some (fault_name fault) };
+
     fn fmt<W: Write>(&self, f: &mut Formatter<W>) -> fmt::Result {
         f.write_str(self.name())
     }
 }
+
+impl Error for Fault {}

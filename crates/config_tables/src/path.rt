@@ -6,6 +6,7 @@ ghost use Rattle.arrayvec.specs.ArrayString.{array_string_len};
 use crate::place::Place;
 use arrayvec::ArrayString;
 use itoa::Buffer;
+use std::fmt::{self, Display, Formatter, Write};
 use std::marker::Model;
 
 /// Where a table stands, as in `dataset[2].field[3]`. It takes no memory of its own.
@@ -50,6 +51,16 @@ impl Path {
         ensures { result.now ≡ self.now }
     {
         self.text.as_str().as_bytes()
+    }
+}
+
+impl Display for Path {
+    ghost use Rattle.std.specs.Prelude.{Some};
+
+    ghost output = { λ path. Some path };
+
+    fn fmt<W: Write>(&self, f: &mut Formatter<W>) -> fmt::Result {
+        f.write_str(self.as_str())
     }
 }
 

@@ -2,6 +2,8 @@
 use Rattle.std.specs.Prelude.{ℕ, ◌≤◌, ◌==◌, Bool, true, false, replicate, Option, Some, None, if◌then◌else◌}
 use Rattle.uadp_header.specs.Headers.{PublisherValue, U8, U16, U32, U64, Text, IdsValue, NoIds, ChunkOf, SecurityValue, HeaderValue}
 use Rattle.uadp_header.specs.Spelling.{publisher_len}
+use Rattle.message_guard.specs.declared.mode.Mode.{Mode}
+use Rattle.message_guard.specs.declared.mode.Mode.TheVariants as modes
 use Rattle.config_tables.specs.declared.publisher.Publisher.{Publisher}
 use Rattle.config_tables.specs.declared.publisher.Publisher.TheVariants as publisher
 use Rattle.config_tables.specs.declared.words.Security.{Security}
@@ -28,6 +30,12 @@ abbrev pub is_encrypted : Security → Bool
 is_encrypted security.None = false
 is_encrypted security.Sign = false
 is_encrypted security.Encrypt = true
+
+-- what a guard does to the datagrams of a group with this security (OPC 10000-14, MessageSecurityMode)
+abbrev pub mode_of : Security → Mode
+mode_of security.None = modes.None
+mode_of security.Sign = modes.Sign
+mode_of security.Encrypt = modes.Encrypt
 
 -- signed, with a nonce of 8 bytes
 abbrev pub security_value : Security → Option SecurityValue

@@ -2,9 +2,10 @@
 ghost use Rattle.std.specs.Prelude.{◌≡◌, ◌≢◌, ◌≤◌, Some, IfSome, length};
 ghost use Rattle.uadp_header.specs.Headers.{publisher_in, ids_in, security_in, if_there, header_in};
 ghost use Rattle.uadp_header.specs.Spelling.{header_len, publisher_len, ids_len, security_len, len_if, IsShortText, AreIds, IsSendersSecurity, IsSenders};
-ghost use Rattle.ps_config.specs.Headers.{publisher_value, is_secured, is_encrypted, security_value, version_value, zero_if, ids_of, header_of, signature_len};
+ghost use Rattle.ps_config.specs.Headers.{publisher_value, is_secured, is_encrypted, mode_of, security_value, version_value, zero_if, ids_of, header_of, signature_len};
 
 use config_tables::{Publisher, Security};
+use message_guard::Mode;
 use std::str;
 use ua_values::Text;
 use uadp_header::{Header, Ids, PublisherId, SecurityPart};
@@ -134,6 +135,18 @@ fn is_encrypted(security: Security) -> bool
     ensures { result ≡ is_encrypted security }
 {
     matches!(security, Security::Encrypt)
+}
+
+/// What a guard does to the datagrams of a group with this security (OPC 10000-14,
+/// MessageSecurityMode).
+pub fn mode_of(security: Security) -> Mode
+    ensures { result ≡ mode_of security }
+{
+    match security {
+        Security::None => Mode::None,
+        Security::Sign => Mode::Sign,
+        Security::Encrypt => Mode::Encrypt,
+    }
 }
 
 /// The bytes of the signature behind a datagram's payload: 32, or none where nothing is signed.

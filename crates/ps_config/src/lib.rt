@@ -20,7 +20,7 @@ pub use built_in_config::built_in;
 pub use config_tables::{
     Fault, Layout, NumberingWord, Part, Path, Place, Policy, Publisher, Security,
 };
-pub use header::{HeaderSettings, header_size, publisher_id, signature_size};
+pub use header::{HeaderSettings, header_size, mode_of, publisher_id, signature_size};
 pub use laws::{
     a_group_with_room_has_room_for_a_keep_alive, an_accepted_configuration_is_sound,
     key_orders_are_the_rings, slots_are_those_of_the_layout, the_built_in_configuration_is_sound,

@@ -1,9 +1,8 @@
 -- The one value of a kind that a word may be the printed text of.
-use Rattle.std.proofs.Common.{◌≡◌, ◌≢◌, ℕ, ◌+◌, ◌*◌, ◌^◌, ◌<◌, ◌≤◌, List, [], ◌∷◌, ◌++◌, length, ℤ, Option, Some, None, Result, Ok, Err, refl, sym, ap, ◌∙◌, subst, arith}
+use Rattle.std.proofs.Common.{◌≡◌, ◌≢◌, ℕ, ◌*◌, ◌^◌, ◌<◌, ◌≤◌, List, ◌++◌, length, ℤ, Option, Some, None, Result, Ok, Err, sym, ap, ◌∙◌, subst, arith}
 use Rattle.std.specs.Fmt.{decimal, signed_decimal}
-use Rattle.std.specs.Int.{w8, w16, w32, w64}
 use Rattle.std.specs.Int.RustNames.{FitsSigned}
-use Rattle.std.specs.Option.{MatchOption, IsSomeAnd}
+use Rattle.std.specs.Option.{MatchOption}
 use Rattle.std.specs.Result.{result_ok}
 use Rattle.std.specs.Str.{IsUtf8}
 use Rattle.std.specs.Str.Parse.{ParsesUnsigned, ParsesSigned}
@@ -51,12 +50,6 @@ pub no_digits : (word : List ℕ) (r : Option (Bor (List ℕ))) (bytes : List �
 no_digits word r bytes was says is =
     let none : (rest : List ℕ) → word ≢ codes "0x" ++ rest = rw was at says in
     none (encode_lower bytes) is
-
-pub none_some : {X : Type 0} (o : Option X) (x : X) → o ≡ None → o ≡ Some x → ⊥
-none_some o x none some = let e : None ≡ Some x = sym none ∙ some in cc
-
-pub same_some : {X : Type 0} (o : Option X) (x y : X) → o ≡ Some x → o ≡ Some y → x ≡ y
-same_some o x y is so = let e : Some x ≡ Some y = sym is ∙ so in cc
 
 pub length_digits : (digits bytes : List ℕ) → digits ≡ encode_lower bytes → length digits ≡ 2 * length bytes
 length_digits digits bytes is = ap length is ∙ length-encode_with lower_digits bytes

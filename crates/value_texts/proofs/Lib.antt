@@ -1,3 +1,4 @@
+pub mod AsciiTexts
 pub mod Candidates
 pub mod Decimals
 pub mod OfKinds

@@ -1,10 +1,9 @@
 -- Texts of two values of one kind are equal only where the values are.
-use Rattle.std.proofs.Common.{◌≡◌, ◌≢◌, ℕ, ◌+◌, ◌%◌, ◌^◌, ◌<◌, ◌≤◌, Bool, true, false, List, [], ◌∷◌, ◌++◌, length, get_or, ℤ, Option, Some, None, unwrap_or, refl, sym, ap, ◌∙◌, subst, inl, inr, arith}
+use Rattle.std.proofs.Common.{◌≡◌, ◌≢◌, ℕ, ◌^◌, ◌<◌, Bool, true, false, List, [], length, get_or, Option, Some, unwrap_or, refl, sym, ap, ◌∙◌, subst, inl, inr, arith}
 use Rattle.std.specs.Prelude.{codes}
-use Rattle.std.specs.Fmt.{decimal, signed_decimal}
 use Rattle.std.specs.Int.{w8, w16, w32, w64, to_be_bytes, from_be_bytes}
 use Rattle.std.specs.Int.RustNames.{FitsSigned}
-use Rattle.std.specs.List.{All, flat_map}
+use Rattle.std.specs.List.{All}
 use Rattle.std.proofs.lemmas.Bool.{cases_lt}
 use Rattle.std.proofs.lemmas.Fmt.{decimal_injective, signed_decimal_injective}
 use Rattle.std.proofs.lemmas.List.{append_cancel_left, get_or_past}
@@ -13,7 +12,7 @@ use Rattle.std.proofs.lemmas.Nat.{from_be_bytes-to_be_bytes_4, from_be_bytes-to_
 use Rattle.hex.specs.Hex.{IsBytes, encode_lower, decode_of}
 use Rattle.hex.proofs.HexLemmas.{decode_of-encode_lower, decode_of-same}
 use Rattle.uuid.specs.Parts.{swap_fields}
-use Rattle.uuid.specs.Text.{hyphenated_text, lower, parsed}
+use Rattle.uuid.specs.Text.{lower, parsed}
 use Rattle.uuid.proofs.RoundTrips.{parses_hyphenated, swap_twice}
 use Rattle.ua_values.specs.declared.kind.Kind.{Kind}
 use Rattle.ua_values.specs.declared.kind.Kind.TheVariants as kinds

@@ -9,6 +9,6 @@ mod print;
 mod spelling;
 
 pub use decimal::decimal_number;
-pub use laws::{a_word_is_a_text_of_one_value, what_is_printed_is_a_text};
+pub use laws::{a_word_is_a_text_of_one_value, texts_are_ascii, what_is_printed_is_a_text};
 pub use parse::{parse_status, parse_value};
 pub use print::{status_text, value_text};

@@ -1,7 +1,5 @@
-use Rattle.std.proofs.Common.{◌≡◌, ℕ, ◌^◌, ◌<◌, Some, ap, subst, ◌∙◌, arith}
-use Rattle.std.specs.Fmt.{decimal, signed_decimal}
+use Rattle.std.proofs.Common.{◌≡◌, Some, ap, subst, ◌∙◌, arith}
 use Rattle.std.specs.Int.{w8, w16, w32, w64}
-use Rattle.std.specs.Int.RustNames.{FitsSigned}
 use Rattle.std.proofs.lemmas.Grind.{common_steps}
 use Rattle.ua_values.specs.declared.value.Value.TheVariants as values
 use Rattle.ua_values.specs.Values.{IsValue}

@@ -1,4 +1,3 @@
-use Rattle.std.proofs.Common.{◌≡◌, ◌∙◌}
 use Rattle.value_texts.proofs.Candidates.{written}
 use Rattle.value_texts.proofs.candidate.decoded.Goals as goal
 

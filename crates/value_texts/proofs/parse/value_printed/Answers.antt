@@ -1,16 +1,15 @@
 use Rattle.std.proofs.Common.{◌≡◌, Some, sym, subst, ap, ◌∙◌}
+use Rattle.std.proofs.lemmas.Option.{none-some, same_Some}
 use Rattle.std.proofs.lemmas.Bool.{false≢true}
-use Rattle.ua_values.specs.declared.value.Value.{Value}
 use Rattle.value_texts.specs.Texts.{value_text_of}
 use Rattle.value_texts.specs.Spelling.{IsTextOf}
-use Rattle.value_texts.proofs.Candidates.{none_some, same_some}
 use Rattle.value_texts.proofs.TextLaws.{printed_is_text, text_is_printed}
 use Rattle.value_texts.proofs.parse.value_printed.Goals as goal
 
 pub returns-in_err-value-clause-every : goal.returns-in_err-value-clause-every
 returns-in_err-value-clause-every c = λ value valid same is.
     let e = c.candidate.ensures value valid same (text_is_printed c.args.word.now value c.args.kind same c.requires is) in
-    absurd (none_some c.candidate.result value c.in_err-value.was e)
+    absurd (none-some value (sym c.in_err-value.was ∙ e))
 
 pub returns-then-is_printed_as-clause-found : goal.returns-then-is_printed_as-clause-found
 returns-then-is_printed_as-clause-found c =
@@ -19,11 +18,11 @@ returns-then-is_printed_as-clause-found c =
 pub returns-then-is_printed_as-clause-every : goal.returns-then-is_printed_as-clause-every
 returns-then-is_printed_as-clause-every c = λ value valid same is.
     let e = c.candidate.ensures value valid same (text_is_printed c.args.word.now value c.args.kind same c.requires is) in
-    ap Some (same_some c.candidate.result c.in_ok-value.value value c.in_ok-value.was e)
+    ap Some (same_Some c.in_ok-value.value value (sym c.in_ok-value.was ∙ e))
 
 pub returns-else-is_printed_as-clause-every : goal.returns-else-is_printed_as-clause-every
 returns-else-is_printed_as-clause-every c = λ value valid same is.
     let text = text_is_printed c.args.word.now value c.args.kind same c.requires is in
     let e = c.candidate.ensures value valid same text in
-    let v : value ≡ c.in_ok-value.value = same_some c.candidate.result value c.in_ok-value.value e c.in_ok-value.was in
+    let v : value ≡ c.in_ok-value.value = same_Some value c.in_ok-value.value (sym e ∙ c.in_ok-value.was) in
     absurd (false≢true (sym c.if-is_printed_as.false ∙ c.is_printed_as.ensures.printed.1 (text ∙ ap value_text_of v)))
