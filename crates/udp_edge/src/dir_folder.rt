@@ -1,5 +1,5 @@
 //! Files of the current folder.
-ghost use Rattle.std.specs.Prelude.{◌≡◌, ◌≢◌, ◌<◌, ◌-◌, ◌^◌, List, ℕ, true};
+ghost use Rattle.std.specs.Prelude.{◌≡◌, ◌≢◌, ◌<◌, ◌+◌, ◌-◌, ◌^◌, List, ℕ, length, true};
 ghost use Rattle.ua_base.specs.Cause.{HasCause, counted_if};
 ghost use Rattle.ua_base.specs.Files.{ReadGives};
 ghost use Rattle.udp_edge.specs.DirFolders.{told_file, faults_of};
@@ -37,7 +37,8 @@ impl<R: Files> Folder for DirFolder<'_, R> {
 
     ghost faults = { λ f. faults_of f };
 
-    /// Failed where the file can't be opened, or one of its reads answers an error.
+    /// Failed where the file can't be opened, or one of its reads answers an error. Behind Long the buffer holds as many
+    /// bytes as the limit and one more: those that show it.
     fn read_whole(&mut self, name: &str, limit: u64, into: &mut Vec<u8>) -> ReadEnd
         requires { limit < 2 ^ 64 - 1 }
 
@@ -45,6 +46,8 @@ impl<R: Files> Folder for DirFolder<'_, R> {
         ensures stands { (other : List ℕ) → told_file self.new other ≡ told_file self.old other }
         ensures cause { HasCause
             (faults_of self.old) (faults_of self.new) (result ≡ ReadEnd.Failed) }
+        ensures long { (read : ℕ) → result ≡ ReadEnd.Long read
+            → length into.new.items ≡ limit + 1 }
 
         ensures failed { result ≡ ReadEnd.Failed
             → faults_of self.new ≡ counted_if true (faults_of self.old) }
