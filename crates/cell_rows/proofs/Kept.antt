@@ -3,10 +3,10 @@ use Rattle.std.proofs.Common.{◌≡◌, ℕ, ◌<◌, List, [], ◌∷◌, ◌+
 use Rattle.std.specs.Prelude.{All}
 use Rattle.std.proofs.lemmas.List.{length-map, get_or-map, get_or_append_left, get_or_default}
 use Rattle.std.proofs.lemmas.List.Elements.{All-push}
-use Rattle.dataset_meta.specs.Metas.{MetaData}
+use Rattle.dataset_meta.specs.Metas.{MetaData, no_meta}
 use Rattle.version_cell.specs.Known.{Known}
 use Rattle.version_cell.specs.Cells.{CellData}
-use Rattle.version_cell.specs.Sets.{ArePassesOf, cell_at, no_cell, no_meta}
+use Rattle.version_cell.specs.Sets.{ArePassesOf, cell_at, no_cell}
 use Rattle.cell_bank.specs.Hands.{AreHands}
 use Rattle.target_cells.specs.Keeping.{metas_of}
 

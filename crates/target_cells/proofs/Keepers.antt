@@ -11,9 +11,9 @@ use Rattle.version_cell.specs.Terms.{quota, IsEntry, IsSole}
 use Rattle.version_cell.specs.Known.{Known}
 use Rattle.version_cell.specs.Cells.{CellData, terms_of}
 use Rattle.version_cell.specs.Passes.{SeesLawful, Adds, Joins, Tried, new_pass}
-use Rattle.version_cell.specs.Sets.{ArePassesOf, cell_at, no_cell, no_meta, new_passes, pass_at}
+use Rattle.version_cell.specs.Sets.{ArePassesOf, cell_at, no_cell, new_passes, pass_at}
 use Rattle.version_cell.proofs.Each.{new_at}
-use Rattle.dataset_meta.specs.Metas.{MetaData}
+use Rattle.dataset_meta.specs.Metas.{MetaData, no_meta}
 use Rattle.row_words.specs.Shapes.{shape_of}
 use Rattle.version_cell.specs.declared.rule.Entry.{Entry}
 use Rattle.version_cell.proofs.Logs.{longer_left, longer_right, whole}

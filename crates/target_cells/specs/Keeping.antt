@@ -1,14 +1,14 @@
 -- The cells of readers, in each of which the keeper has number 0 and is the only author.
-use Rattle.std.specs.Prelude.{◌≡◌, ℕ, ◌<◌, List, [], ◌∷◌, length, map, replicate, All, Some, slice_index_or}
-use Rattle.dataset_meta.specs.Metas.{MetaData}
+use Rattle.std.specs.Prelude.{◌≡◌, ℕ, ◌<◌, List, ◌∷◌, length, map, replicate, All, Some, slice_index_or}
+use Rattle.dataset_meta.specs.Metas.{MetaData, no_meta}
 use Rattle.row_words.specs.declared.patch.Patch.{Patch}
 use Rattle.row_words.specs.Belonging.{Belongs}
 use Rattle.row_words.specs.Patches.{patched_words}
 use Rattle.version_cell.specs.Terms.{IsSole}
 use Rattle.version_cell.specs.Known.{Known}
-use Rattle.version_cell.specs.Cells.{CellData}
+use Rattle.version_cell.specs.Cells.{CellData, IsCell}
 use Rattle.version_cell.specs.Passes.{SeesMore, SeesLawful}
-use Rattle.version_cell.specs.Sets.{no_meta, pass_at}
+use Rattle.version_cell.specs.Sets.{pass_at}
 
 -- the cells of the readers, and how many stores each may have
 pub record TargetsData : Type 0 where
@@ -26,6 +26,11 @@ keeper_quotas limit = limit ∷ replicate 7 0
 -- in each cell the keeper is the only author
 abbrev pub AreKept : TargetsData → Type 0
 AreKept targets = All (λ cell. cell.quotas ≡ keeper_quotas targets.limit) targets.cells
+
+-- each is a cell of a meta, and in each the keeper is the only author
+pub record AreSound (targets : TargetsData) : Type 0 where
+  pub cells : All IsCell targets.cells
+  pub kept : AreKept targets
 
 -- the passes have seen exactly what the keeper has, and what they had seen before is a beginning of it
 pub record IsLevel (keeper old new : Known) : Type 0 where

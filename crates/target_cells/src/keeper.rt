@@ -21,3 +21,22 @@ impl Model for Keeper {
 
     ghost invariant = { λ k. AreKeepers k.items.items };
 }
+
+impl Keeper {
+    ghost use Rattle.std.specs.Prelude.{◌≡◌, ◌<◌, length};
+    ghost use Rattle.version_cell.specs.Passes.{SeesLawful};
+    ghost use Rattle.version_cell.specs.Sets.{pass_at};
+    ghost use Rattle.target_cells.specs.Keeping.{IsKeeper};
+
+    /// The pass by which it stores a reader's rows: it has seen each store, and its row is the last one's.
+    pub fn pass(&self, reader: u8) -> &Pass
+        requires { reader < length self.now }
+        ensures pass { result.now ≡ pass_at self.entry.now reader }
+        ensures lawful { SeesLawful (pass_at self.entry.now reader) }
+        ensures keeper { IsKeeper (pass_at self.entry.now reader) }
+    {
+        let pass = &self.items[usize::from(reader)];
+        let _ = pass.row();
+        pass
+    }
+}

@@ -3,11 +3,12 @@ ghost use Rattle.std.specs.Prelude.{◌≡◌, ◌<◌, length, map, IfOk};
 ghost use Rattle.row_words.specs.Belonging.{Belongs};
 ghost use Rattle.version_cell.specs.Passes.{SeesLawful, SeesMore, Adds, shared_by};
 ghost use Rattle.version_cell.specs.Sets.{cell_at, pass_at, ArePassesOf, ChangesAt, EachSeesLawful, JoinEach};
-ghost use Rattle.target_cells.specs.Keeping.{AreLevel};
+ghost use Rattle.target_cells.specs.Keeping.{AreLevel, AreSound};
 
 use crate::keeper::Keeper;
 use crate::passes::Passes;
 use crate::storing::{level_each, store};
+use dataset_meta::Meta;
 use row_words::Row;
 use std::alloc::Global;
 use std::marker::Model;
@@ -24,16 +25,25 @@ pub struct Targets {
 }
 
 impl Model for Targets {
-    ghost use Rattle.target_cells.specs.Keeping.{TargetsData, AreKept};
+    ghost use Rattle.target_cells.specs.Keeping.{TargetsData, AreSound};
 
     ghost Value = { TargetsData };
 
     ghost view = { λ t. record { cells = t.cells.items; limit = t.limit } };
 
-    ghost invariant = { λ t. AreKept (record { cells = t.cells.items; limit = t.limit }) };
+    ghost invariant = { λ t. AreSound (record { cells = t.cells.items; limit = t.limit }) };
 }
 
 impl Targets {
+    /// The meta of a reader's rows.
+    pub fn meta(&self, reader: u8) -> &Meta
+        requires { reader < length self.now.cells }
+        ensures meta { result.now ≡ (cell_at self.now.cells reader).meta }
+        ensures sound { AreSound self.now }
+    {
+        self.cells[usize::from(reader)].meta()
+    }
+
     /// Stores the row that a reader holds, and answers how many stores of it there are now. The keeper has seen them all, since
     /// nobody else makes one.
     pub fn store<R: Wait>(&self, rt: &R, keeper: &mut Keeper, reader: u8, row: &Row) -> u64
@@ -47,6 +57,7 @@ impl Targets {
         ensures lawful { SeesLawful (pass_at keeper.new reader) }
         ensures others { ChangesAt reader keeper.old keeper.new }
         ensures own { ArePassesOf self.now.cells keeper.new }
+        ensures sound { AreSound self.now }
     {
         let pass = &mut keeper.items[usize::from(reader)];
         store(rt, &self.cells[usize::from(reader)], pass, row)
@@ -61,6 +72,7 @@ impl Targets {
         ensures lawful { SeesLawful (pass_at passes.new reader) }
         ensures others { ChangesAt reader passes.old passes.new }
         ensures own { ArePassesOf self.now.cells passes.new }
+        ensures sound { AreSound self.now }
     {
         let pass = &mut passes.items[usize::from(reader)];
         self.cells[usize::from(reader)].read(rt, pass)
@@ -74,6 +86,7 @@ impl Targets {
         ensures level { AreLevel keeper.old passes.old passes.new }
         ensures lawful { EachSeesLawful passes.new }
         ensures own { ArePassesOf self.now.cells passes.new }
+        ensures sound { AreSound self.now }
     {
         level_each(rt, &self.cells, &mut keeper.items, &mut passes.items);
     }
@@ -84,6 +97,7 @@ impl Targets {
         ensures same { passes.new ≡ passes.old }
         ensures given { IfOk result (λ given. given ≡ map shared_by passes.old) }
         ensures own { IfOk result (λ given. ArePassesOf self.now.cells given) }
+        ensures sound { AreSound self.now }
     {
         Ok(Passes {
             items: split_each(alloc, &self.cells, &mut passes.items)?,
@@ -97,6 +111,7 @@ impl Targets {
         ensures joins { JoinEach passes.old other passes.new }
         ensures lawful { EachSeesLawful passes.new }
         ensures own { ArePassesOf self.now.cells passes.new }
+        ensures sound { AreSound self.now }
     {
         join_each(rt, &self.cells, &mut passes.items, other.items);
     }

@@ -4,14 +4,14 @@ use Rattle.std.specs.Prelude.{All, Option, replicate, slice_index}
 use Rattle.std.specs.declared.alloc.Global.{Global}
 use Rattle.std.proofs.lemmas.List.{get_or-map, get_or-replicate, length-map}
 use Rattle.std.proofs.lemmas.List.Elements.{All-nil, All-cons, All-head, All-tail}
-use Rattle.dataset_meta.specs.Metas.{MetaData}
+use Rattle.dataset_meta.specs.Metas.{MetaData, no_meta}
 use Rattle.row_words.specs.declared.patch.Patch.{Patch}
 use Rattle.row_words.specs.Patches.{IsPatchOf}
 use Rattle.version_cell.specs.Cells.{CellData}
 use Rattle.version_cell.specs.Known.{Known}
 use Rattle.version_cell.specs.Cells.{IsCell}
 use Rattle.version_cell.specs.Passes.{shared_by}
-use Rattle.version_cell.specs.Sets.{ArePassesOf, cell_at, new_passes, no_cell, no_meta, pass_at}
+use Rattle.version_cell.specs.Sets.{ArePassesOf, cell_at, new_passes, no_cell, pass_at}
 use Rattle.version_cell.proofs.Each.{new_at, shared_own}
 use Rattle.cell_bank.specs.Hands.{AreHands}
 use Rattle.app_threads.specs.declared.item.Item.{Item}

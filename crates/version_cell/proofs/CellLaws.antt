@@ -30,12 +30,12 @@ terms_here c h = ap (λ l. take 8 c.terms ++ l) (sym h.shape) ∙ take-append-dr
 pub quotas_here : (terms quotas shape : List ℕ) → terms ≡ quotas ++ shape → length quotas ≡ 8 → take 8 terms ≡ quotas
 quotas_here terms quotas shape is eight = ap (take 8) is ∙ ap (λ (n : ℕ). take n (quotas ++ shape)) (sym eight) ∙ take-append_seam quotas shape
 
-pub has_terms : (c : CellInside) (quotas : List ℕ) (meta : MetaData) → c.terms ≡ quotas ++ shape_of meta → c.meta ≡ meta → length quotas ≡ 8 → length c.terms ≡ 24 → sum quotas < 2 ^ 63 → IsMeta c.meta.fields → HasTerms c
+pub has_terms : (c : CellInside) (quotas : List ℕ) (meta : MetaData) → c.terms ≡ quotas ++ shape_of meta → c.meta ≡ meta → length quotas ≡ 8 → length c.terms ≡ 24 → sum quotas < 2 ^ 63 → IsMeta meta.fields → HasTerms c
 has_terms c quotas meta is same eight wide small is_meta = record {
   wide = wide;
   shape = ap (drop 8) is ∙ ap (λ (n : ℕ). drop n (quotas ++ shape_of meta)) (sym eight) ∙ drop-append_seam quotas (shape_of meta) ∙ ap shape_of (sym same);
   small = subst (λ (qs : List ℕ). sum qs < 2 ^ 63) (sym (quotas_here c.terms quotas (shape_of meta) is eight)) small;
-  meta = is_meta;
+  meta = subst (λ (m : MetaData). IsMeta m.fields) (sym same) is_meta;
 }
 
 pub is_cell : (c : CellInside) → HasTerms c → IsCell (cell_by c)

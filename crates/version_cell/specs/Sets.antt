@@ -1,13 +1,9 @@
 -- Lists of cells, and of passes, one of each cell.
-use Rattle.std.specs.Prelude.{◌≡◌, ℕ, ◌<◌, false, List, [], length, map, Option, slice_index_or, slice_set}
-use Rattle.dataset_meta.specs.Metas.{MetaData, meta_of}
+use Rattle.std.specs.Prelude.{◌≡◌, ℕ, ◌<◌, List, [], length, map, Option, slice_index_or, slice_set}
+use Rattle.dataset_meta.specs.Metas.{no_meta}
 use Rattle.version_cell.specs.Known.{Known, no_table, nothing}
 use Rattle.version_cell.specs.Cells.{CellData}
 use Rattle.version_cell.specs.Passes.{IsPassOf, Joins, SeesLawful, new_pass}
-
--- stands where a list has no meta
-abbrev pub no_meta : MetaData
-no_meta = meta_of [] [] 0 0 false
 
 -- stands where a list has no cell
 abbrev pub no_cell : CellData

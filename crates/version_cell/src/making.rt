@@ -1,7 +1,6 @@
 //! The making of a cell, in which the eight numbers are given.
 ghost use Rattle.std.specs.Prelude.{◌≡◌, ℕ, ◌+◌, ◌<◌, ◌^◌, ◌++◌, length, sum, Some, None, IfSome, IfOk};
 ghost use Rattle.crossbeam_utils.specs.Seq.{cell_view};
-ghost use Rattle.dataset_meta.specs.Metas.{IsMeta};
 ghost use Rattle.version_cell.specs.Histories.{opening_words};
 ghost use Rattle.version_cell.specs.Views.{copied, joined, settled};
 ghost use Rattle.version_cell.specs.Rule.{spell};
@@ -14,7 +13,7 @@ use crate::pass::Pass;
 use crate::places::{Place, join_places, load_words};
 use crate::rule::{Copies, Enrolling};
 use crate::spelling::{spelled, terms_for};
-use dataset_meta::{Meta, fields_have_one_fault};
+use dataset_meta::Meta;
 use row_words::Row;
 use std::alloc::Global;
 use std::sync::Wait;
@@ -37,27 +36,9 @@ impl Cell {
         ensures numbered { IfOk result (λ made. AreNumbered made.0 made.2.items) }
     {
         let terms = terms_for(quotas, meta);
-        let meta = copy_of(alloc, meta)?;
+        let meta = meta.copy(alloc)?;
         let (words, first, passes) = begun(rt, alloc, &terms)?;
         Ok((Cell { words, meta, terms }, first, passes))
-    }
-}
-
-fn copy_of(alloc: Global, meta: &Meta) -> Result<Meta, NoMemory>
-    ensures same { IfOk result (λ copy. copy ≡ meta.now) }
-    ensures meta { IfOk result (λ copy. IsMeta copy.fields) }
-{
-    let fields = Vec::from_slice(alloc, meta.fields())?;
-    fields_have_one_fault();
-    match Meta::new(
-        *meta.name(),
-        fields,
-        meta.major(),
-        meta.minor(),
-        meta.quality(),
-    ) {
-        Ok(copy) => Ok(copy),
-        Err(_) => unreachable!(),
     }
 }
 
