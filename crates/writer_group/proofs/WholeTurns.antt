@@ -7,6 +7,7 @@ use Rattle.dataset_writer.specs.Standing.{IsWriter}
 use Rattle.message_guard.specs.Senders.{SenderState, IsSender}
 use Rattle.ps_config.specs.declared.parts.Config.{Config}
 use Rattle.ps_config.specs.declared.parts.GroupPart.{GroupPart}
+use Rattle.ps_config.specs.Headers.{mode_of}
 use Rattle.fixed_layout.specs.Slots.{Layout as SlotLayout}
 use Rattle.pubsub_model.specs.Cadence.{WriterDeed}
 use Rattle.writer_group.specs.declared.datagrams.Datagrams.{Datagrams}
@@ -23,7 +24,6 @@ use Rattle.writer_group.proofs.Joining.{made-count, advanced-sender}
 use Rattle.writer_group.proofs.TickLaws.{IsCargoOf, datagrams-same, deeds-after, made-after, payloads-of-loads, written-same}
 use Rattle.writer_group.proofs.TickSteps.{HasLoads, same-cargo, IsPartOf, at-part, loads-left, is-turn}
 use Rattle.std.specs.List.{HoldsAt}
-use Rattle.writer_group.specs.Envelopes.{mode_of}
 use Rattle.writer_group.proofs.LongestTurns.{none-longer}
 
 -- ---- the datagrams are those of the definition
