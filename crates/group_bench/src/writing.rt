@@ -75,7 +75,7 @@ fn begin(alloc: Global, config: &Config, changes: u8, turns: u32) -> Result<Run,
     let on = all_on(alloc, config)?;
     let even = rows_of(alloc, metas, 0)?;
     let odd = rows_of(alloc, metas, other)?;
-    let out = Datagrams::new(alloc, config)?;
+    let out = Datagrams::new(alloc)?;
     Ok(Run {
         group,
         sender,

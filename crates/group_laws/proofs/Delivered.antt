@@ -7,7 +7,7 @@ use Rattle.message_guard.specs.Acceptance.{Accepted, highest, numbers_of}
 use Rattle.message_guard.specs.declared.mode.Mode.{Mode}
 use Rattle.message_guard.specs.Senders.{SenderState}
 use Rattle.config_tables.specs.declared.words.Layout.TheVariants as layouts
-use Rattle.writer_group.specs.Envelopes.{mode_of}
+use Rattle.ps_config.specs.Headers.{mode_of}
 use Rattle.writer_group.specs.Payloads.{meta_at, payloads_of}
 use Rattle.writer_group.specs.Sealing.{Payload, Envelope, advanced_by, datagrams_from}
 use Rattle.writer_group.specs.Turns.{frames_in, made_in, frame_by}

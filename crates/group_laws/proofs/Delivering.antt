@@ -17,7 +17,7 @@ use Rattle.message_guard.specs.Senders.{SenderState}
 use Rattle.ps_config.specs.declared.parts.Config.{Config}
 use Rattle.ps_config.specs.declared.parts.GroupPart.{GroupPart}
 use Rattle.ps_config.specs.declared.parts.ReadGroupPart.{ReadGroupPart}
-use Rattle.writer_group.specs.Envelopes.{mode_of}
+use Rattle.ps_config.specs.Headers.{mode_of}
 use Rattle.writer_group.specs.Sealing.{AreWritten, envelope_with, Payload, Envelope, datagram_at, datagrams_from, header_at}
 use Rattle.reader_group.specs.Members.{Seat, MemberValue, new_member, seat_at}
 use Rattle.reader_group.specs.Opening.{Opened}

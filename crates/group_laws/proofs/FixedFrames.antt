@@ -11,7 +11,7 @@ use Rattle.std.proofs.lemmas.List.Kept.{AllPairs-cons}
 use Rattle.std.proofs.lemmas.Option.{slice_get-get_or}
 use Rattle.ua_binary.specs.Wire.{optional}
 use Rattle.dataset_meta.specs.DataValues.{DataValue}
-use Rattle.dataset_meta.specs.Metas.{MetaData}
+use Rattle.dataset_meta.specs.Metas.{MetaData, no_meta}
 use Rattle.dataset_meta.specs.Rows.{IsRow, differs}
 use Rattle.pubsub_model.specs.Frames.{PlacedFrame, Whole}
 use Rattle.pubsub_model.specs.Cadence.{Settings, WriterTurn, Answered, answer, cadence, change_answer, is_data, is_fresh, is_key, is_key_due, last_turn, next_place}
@@ -31,7 +31,7 @@ use Rattle.ps_config.specs.declared.parts.GroupPart.{GroupPart}
 use Rattle.ps_config.specs.declared.parts.WriterPart.{WriterPart}
 use Rattle.ps_config.specs.FixedSound.{IsFixedGroup, front_size, raw_size_of, writer_slot}
 use Rattle.ps_config.specs.Sound.{IsGroup}
-use Rattle.writer_group.specs.Payloads.{IsFrameIf, Spelled, size_of, spelled_by, carried_frame, laid_frame, raw_frame, writer_at, meta_at, no_meta, no_writer, slots_of}
+use Rattle.writer_group.specs.Payloads.{IsFrameIf, Spelled, size_of, spelled_by, carried_frame, laid_frame, raw_frame, writer_at, meta_at, no_writer, slots_of}
 use Rattle.writer_group.specs.Turns.{GroupDeed, TurnInput, answer_of, frame_of_writer, frames_from, list_of, settings_of, writer_past, answer_to}
 
 -- ---- a key frame at each turn

@@ -23,9 +23,9 @@ use Rattle.ps_config.specs.declared.header.HeaderSettings.{HeaderSettings}
 use Rattle.ps_config.specs.declared.parts.Config.{Config}
 use Rattle.ps_config.specs.declared.parts.GroupPart.{GroupPart}
 use Rattle.ps_config.specs.FixedSound.{IsFixedGroup, writer_slot}
-use Rattle.ps_config.specs.Headers.{is_secured, publisher_value, security_value}
+use Rattle.ps_config.specs.Headers.{is_secured, publisher_value, security_value, mode_of}
 use Rattle.ps_config.specs.Rooms.{header_settings, is_fixed}
-use Rattle.writer_group.specs.Envelopes.{Numbering, IsSecuredAs, mode_of, numbered_header}
+use Rattle.writer_group.specs.Envelopes.{Numbering, IsSecuredAs, numbered_header}
 use Rattle.writer_group.specs.Payloads.{Spelled, fixed_header, fixed_payloads, payloads_by, slots_of, writer_at, meta_at}
 use Rattle.writer_group.specs.Sealing.{AreWritten, envelope_with, Payload, header_at}
 use Rattle.writer_group.specs.Turns.{GroupDeed, TurnInput, envelope_of, frame_of_writer, frames_in, frames_from, made_in, turns_from, frame_by}

@@ -5,7 +5,7 @@ use Rattle.std.specs.Option.{option_map_or}
 use Rattle.std.specs.List.{flat_map}
 use Rattle.std.proofs.lemmas.List.Elements.{All-contains}
 use Rattle.std.proofs.lemmas.Option.{slice_get-get_or}
-use Rattle.dataset_meta.specs.Metas.{MetaData}
+use Rattle.dataset_meta.specs.Metas.{MetaData, no_meta}
 use Rattle.pubsub_model.specs.Frames.{PlacedFrame, Whole}
 use Rattle.pubsub_model.specs.Cadence.{WriterTurn, cadence, next_place}
 use Rattle.frame_codec.specs.Frames.{Frame, frame_cut}
@@ -19,7 +19,7 @@ use Rattle.ps_config.specs.FixedSound.{IsFixedGroup, writer_slot}
 use Rattle.ps_config.specs.Rooms.{is_fixed}
 use Rattle.ps_config.specs.Sound.{IsGroup}
 use Rattle.dataset_writer.specs.Turns.{model_settings}
-use Rattle.writer_group.specs.Payloads.{spelled_by, carried_frame, laid_frame, raw_frame, writer_at, meta_at, no_meta, no_writer}
+use Rattle.writer_group.specs.Payloads.{spelled_by, carried_frame, laid_frame, raw_frame, writer_at, meta_at, no_writer}
 use Rattle.writer_group.specs.Turns.{GroupDeed, TurnInput, answer_of, settings_of, writer_past, frame_by, turn_by, answer_to, answer_by}
 use Rattle.reader_group.specs.Members.{Seat, MemberValue}
 use Rattle.reader_group.specs.Opening.{Opened}

@@ -86,4 +86,4 @@ pub matched-meta : (config : Config) (readers : ReadGroupPart) (reader : ℕ) (g
     → (seat_at (setting_by config readers).seats reader).meta ≡ meta_at group config.dataset writer
 matched-meta config readers reader group writer is =
     ap (λ (s : Seat). s.meta) (seat-of config readers reader is.within)
-    ∙ ap (λ (dataset : ℕ). Rattle.std.specs.Prelude.slice_index_or config.dataset dataset Rattle.writer_group.specs.Payloads.no_meta) is.reads.dataset
+    ∙ ap (λ (dataset : ℕ). Rattle.std.specs.Prelude.slice_index_or config.dataset dataset Rattle.dataset_meta.specs.Metas.no_meta) is.reads.dataset

@@ -23,7 +23,8 @@ use Rattle.ps_config.specs.declared.parts.GroupPart.{GroupPart}
 use Rattle.ps_config.specs.declared.parts.ReadGroupPart.{ReadGroupPart}
 use Rattle.ps_config.specs.declared.parts.ReaderPart.{ReaderPart}
 use Rattle.ps_config.specs.Rooms.{chunk_room}
-use Rattle.writer_group.specs.Envelopes.{frame_room, mode_of}
+use Rattle.ps_config.specs.Headers.{mode_of}
+use Rattle.writer_group.specs.Envelopes.{frame_room}
 use Rattle.writer_group.specs.Payloads.{Spelled, size_of, chunk_payload, chunk_payloads, frames_payload, pack_payloads, payloads_by, payloads_of}
 use Rattle.writer_group.specs.Sealing.{AreWritten, Payload, advanced_by, datagram_at, datagrams_from, envelope_with, header_at}
 use Rattle.writer_group.specs.Turns.{GroupDeed, TurnInput, frames_in, made_in, turn_datagrams, turns_from}

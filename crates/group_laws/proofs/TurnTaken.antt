@@ -14,9 +14,9 @@ use Rattle.config_tables.specs.declared.words.Security.TheVariants as security
 use Rattle.ps_config.specs.declared.parts.Config.{Config}
 use Rattle.ps_config.specs.declared.parts.GroupPart.{GroupPart}
 use Rattle.ps_config.specs.declared.parts.ReadGroupPart.{ReadGroupPart}
-use Rattle.ps_config.specs.Headers.{is_secured}
+use Rattle.ps_config.specs.Headers.{is_secured, mode_of}
 use Rattle.ps_config.specs.Sound.{IsSound, IsGroup}
-use Rattle.writer_group.specs.Envelopes.{mode_of, Numbering}
+use Rattle.writer_group.specs.Envelopes.{Numbering}
 use Rattle.writer_group.specs.Sealing.{Payload, Envelope, envelope_with, advanced_by, header_at, datagram_at}
 use Rattle.reader_group.specs.Filter.{is_ours}
 use Rattle.reader_group.specs.Opening as readers

@@ -13,7 +13,7 @@ use Rattle.message_guard.specs.Senders.{SenderState}
 use Rattle.config_tables.specs.declared.words.Layout.{Layout}
 use Rattle.ps_config.specs.declared.parts.Config.{Config}
 use Rattle.ps_config.specs.declared.parts.GroupPart.{GroupPart}
-use Rattle.writer_group.specs.Envelopes.{mode_of}
+use Rattle.ps_config.specs.Headers.{mode_of}
 use Rattle.writer_group.specs.Payloads.{payloads_of}
 use Rattle.writer_group.specs.Sealing.{Payload, Envelope, advanced_by, header_at, open_datagram}
 use Rattle.writer_group.specs.Turns.{GroupDeed, TurnInput, envelope_of, frames_in}

@@ -4,13 +4,13 @@ use Rattle.std.specs.Prelude.{◌≢◌, All}
 use Rattle.std.specs.List.{HoldsAt}
 use Rattle.std.proofs.lemmas.Bool.{true≢false}
 use Rattle.std.proofs.lemmas.List.{get_or-set_other, length-set}
-use Rattle.dataset_meta.specs.Metas.{MetaData}
+use Rattle.dataset_meta.specs.Metas.{MetaData, no_meta}
 use Rattle.dataset_writer.specs.Standing.{HoldsRowOf}
 use Rattle.ps_config.specs.declared.parts.Config.{Config}
 use Rattle.ps_config.specs.Rooms.{is_fixed, lacks_room}
 use Rattle.writer_group.specs.declared.group.Group.{Group}
 use Rattle.writer_group.specs.Answering.{HasLived}
-use Rattle.writer_group.specs.Payloads.{meta_at, no_meta, no_writer, writer_at}
+use Rattle.writer_group.specs.Payloads.{meta_at, no_writer, writer_at}
 use Rattle.writer_group.specs.Standing.{IsMadeFor, MayGoOn, metas_for}
 use Rattle.writer_group.specs.Turns.{settings_of}
 use Rattle.group_rows.specs.declared.turners.Turner.{Turner}

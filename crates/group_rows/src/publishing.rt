@@ -50,7 +50,7 @@ impl<'c> Publishing<'c> {
         let rows = opening_rows(alloc, &metas)?;
         let groups = turners_of(alloc, config, &metas)?;
         let senders = senders_of(alloc, config.keygroup.as_slice())?;
-        let Ok(out) = Datagrams::new(alloc, config) else {
+        let Ok(out) = Datagrams::new(alloc) else {
             return Err(LineFault::Memory);
         };
         Ok(Publishing {

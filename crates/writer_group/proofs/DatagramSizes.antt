@@ -22,7 +22,7 @@ use Rattle.message_guard.specs.Protection.{message_nonce, with_stream}
 use Rattle.message_guard.specs.Senders.{SenderState, IsSender, sent}
 use Rattle.message_guard.proofs.Restoring.{length-nonce, length-with_stream}
 use Rattle.ps_config.proofs.HeaderSizes.{flag_most}
-use Rattle.writer_group.specs.Envelopes.{mode_of}
+use Rattle.ps_config.specs.Headers.{mode_of}
 use Rattle.writer_group.specs.Payloads.{Spelled, chunk_payload, chunk_payloads, frames_payload, pack_payloads, size_of}
 use Rattle.writer_group.specs.Posting.{joined}
 use Rattle.writer_group.specs.Sealing.{Envelope, Payload, advanced_by, datagram_at, datagrams_from, open_header, secured_header}

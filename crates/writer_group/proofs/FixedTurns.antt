@@ -6,7 +6,7 @@ use Rattle.std.proofs.lemmas.Bool.{cases_eq, cases_lt}
 use Rattle.std.proofs.lemmas.List.{get_or-map, length-map}
 use Rattle.std.proofs.lemmas.List.Elements.{All-map}
 use Rattle.std.proofs.lemmas.Option.{slice_get-get_or}
-use Rattle.dataset_meta.specs.Metas.{MetaData}
+use Rattle.dataset_meta.specs.Metas.{MetaData, no_meta}
 use Rattle.fixed_layout.specs.declared.slot.Slot.{Slot}
 use Rattle.fixed_layout.specs.Datagrams.{AreFrames, fixed_payload, slot_at}
 use Rattle.fixed_layout.specs.Spelling.{raw_size}
@@ -18,7 +18,7 @@ use Rattle.ps_config.specs.FixedSound.{IsFixedGroup, front_size, raw_size_of, wr
 use Rattle.ps_config.specs.Headers.{signature_len}
 use Rattle.ps_config.specs.Rooms.{is_fixed}
 use Rattle.writer_group.specs.Answering.{AreAnswers, IsAnswerOf}
-use Rattle.writer_group.specs.Payloads.{Spelled, fixed_header, meta_at, no_meta, no_writer, size_of, slots_of, writer_at, in_slots}
+use Rattle.writer_group.specs.Payloads.{Spelled, fixed_header, meta_at, no_writer, size_of, slots_of, writer_at, in_slots}
 
 abbrev in_slot : Spelled → ℕ × List ℕ
 in_slot frame = (frame.writer, frame.bytes)

@@ -34,3 +34,11 @@ pub mod TickSteps
 pub mod Totals
 pub mod TurnPlans
 pub mod WholeTurns
+pub mod SmallIds
+pub mod NamedPayloads
+pub mod WrittenHeaders
+pub mod AnswerFrames
+pub mod RisingFrames
+pub mod FewDatagrams
+pub mod SomeBytes
+pub mod Parts

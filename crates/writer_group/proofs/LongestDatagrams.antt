@@ -25,9 +25,9 @@ use Rattle.config_tables.specs.declared.words.Security.{Security}
 use Rattle.config_tables.specs.declared.words.Security.TheVariants as security
 use Rattle.ps_config.specs.declared.parts.Config.{Config}
 use Rattle.ps_config.specs.declared.parts.GroupPart.{GroupPart}
-use Rattle.ps_config.specs.Headers.{header_of, is_secured, signature_len}
+use Rattle.ps_config.specs.Headers.{header_of, is_secured, signature_len, mode_of}
 use Rattle.ps_config.specs.Rooms.{chunk_room, header_settings}
-use Rattle.writer_group.specs.Envelopes.{frame_room, mode_of}
+use Rattle.writer_group.specs.Envelopes.{frame_room}
 use Rattle.writer_group.specs.Payloads.{Spelled, chunk_payload, chunk_payloads, fixed_header, frames_payload, pack_payloads, size_of}
 use Rattle.writer_group.specs.Sealing.{Payload, advanced_by, datagram_at, datagrams_from, header_at, open_header, secured_header, envelope_with}
 use Rattle.writer_group.proofs.DatagramSizes.{length-sent}

@@ -3,7 +3,7 @@ use Rattle.std.proofs.Common.{◌≡◌, ℕ, ◌+◌, ◌<◌, ◌≤◌, Bool,
 use Rattle.std.specs.Prelude.{if◌then◌else◌}
 use Rattle.std.proofs.lemmas.List.{get_or_default}
 use Rattle.std.proofs.lemmas.Slice.Zip.{AllZip-long}
-use Rattle.dataset_meta.specs.Metas.{MetaData}
+use Rattle.dataset_meta.specs.Metas.{MetaData, no_meta}
 use Rattle.row_words.specs.Belonging.{Belongs}
 use Rattle.pubsub_model.specs.Cadence.{WriterDeed, WriterTurn}
 use Rattle.dataset_writer.specs.declared.writer.Writer.{Writer}
@@ -14,7 +14,7 @@ use Rattle.ps_config.specs.declared.parts.GroupPart.{GroupPart}
 use Rattle.ps_config.specs.declared.parts.WriterPart.{WriterPart}
 use Rattle.writer_group.specs.declared.sampled.Sampled.{Sampled}
 use Rattle.writer_group.specs.Answering.{AddsFrame, AreAnswers, HasAnswered, HasLived, MayAnswer}
-use Rattle.writer_group.specs.Payloads.{Spelled, meta_at, no_meta, no_writer, writer_at}
+use Rattle.writer_group.specs.Payloads.{Spelled, meta_at, no_writer, writer_at}
 use Rattle.writer_group.specs.Turns.{GroupDeed, Told, no_sample, settings_of, turn_if, turns_from, writer_past}
 use Rattle.writer_group.proofs.AnsweringLaws.{HaveSoFar, IsNext, length-turns, next-so-far, turn-at}
 use Rattle.writer_group.proofs.KeptWriters.{KeptSoFar, WentOn, answers-next, kept-next}

@@ -14,11 +14,11 @@ use Rattle.message_guard.proofs.Carrying.{front_is_senders}
 use Rattle.config_tables.specs.declared.words.Security.{Security}
 use Rattle.config_tables.specs.declared.words.Security.TheVariants as security
 use Rattle.ps_config.specs.declared.header.HeaderSettings.{HeaderSettings}
-use Rattle.ps_config.specs.Headers.{security_value}
+use Rattle.ps_config.specs.Headers.{security_value, mode_of}
 use Rattle.writer_group.specs.declared.laying.Cargo.{Cargo}
 use Rattle.writer_group.specs.declared.load.Load.{Load}
 use Rattle.writer_group.specs.declared.posting.Range.{Range}
-use Rattle.writer_group.specs.Envelopes.{IsSecuredAs, mode_of}
+use Rattle.writer_group.specs.Envelopes.{IsSecuredAs}
 use Rattle.writer_group.specs.Holding.{CargoValue, cargo_in, payload_in}
 use Rattle.writer_group.specs.Loading.{IsLoad}
 use Rattle.writer_group.specs.Posting.{MayPost, joined, made_of, ranges_of, secured_load}

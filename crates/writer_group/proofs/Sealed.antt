@@ -11,8 +11,8 @@ use Rattle.message_guard.specs.declared.mode.Mode.{Mode}
 use Rattle.message_guard.specs.Protection.{payload_in as payload_of}
 use Rattle.message_guard.specs.Senders.{MayProtect, SenderState, front_value, made_of as sealed_of, sent}
 use Rattle.message_guard.proofs.Carrying.{written_carries}
+use Rattle.ps_config.specs.Headers.{mode_of}
 use Rattle.writer_group.specs.declared.load.Load.{Load}
-use Rattle.writer_group.specs.Envelopes.{mode_of}
 use Rattle.writer_group.specs.Holding.{CargoValue, payload_in}
 use Rattle.writer_group.specs.Posting.{laid_load, load_header, secured_load}
 use Rattle.writer_group.specs.Sealing.{Envelope, secured_header}

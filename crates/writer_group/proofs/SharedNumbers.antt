@@ -13,7 +13,7 @@ use Rattle.message_guard.specs.Protection.{keys_in, payload_in}
 use Rattle.message_guard.specs.Senders.{SenderState, SenderStep, TurnTo, Front, Protect, turned, turned_by, advanced, front_value, sent, made_of, MayProtect, IsSender, AreAllowed, datagrams_of, HaveOtherNumbers}
 use Rattle.message_guard.proofs.Carrying.{written_carries}
 use Rattle.message_guard.proofs.Once.{numbered_once}
-use Rattle.writer_group.specs.Envelopes.{mode_of}
+use Rattle.ps_config.specs.Headers.{mode_of}
 use Rattle.writer_group.specs.Sealing.{Payload, Envelope, AreWritten, advanced_by, secured_header, datagram_at, datagrams_from}
 use Rattle.writer_group.specs.Sharing.{SenderUse, Moved, Made, AreUses, after_turn, datagrams_by}
 use Rattle.writer_group.proofs.Joining.{advanced-used}

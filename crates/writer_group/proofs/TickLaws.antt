@@ -14,9 +14,10 @@ use Rattle.payload_layout.specs.Packing.{packs_of}
 use Rattle.ps_config.specs.declared.parts.Config.{Config}
 use Rattle.ps_config.specs.declared.parts.GroupPart.{GroupPart}
 use Rattle.ps_config.specs.Rooms.{chunk_room, is_fixed}
+use Rattle.ps_config.specs.Headers.{mode_of}
 use Rattle.writer_group.specs.declared.load.Load.TheVariants as loads
 use Rattle.writer_group.specs.Answering.{deeds_with, with_turn}
-use Rattle.writer_group.specs.Envelopes.{frame_room, mode_of, number_if, numbered_header}
+use Rattle.writer_group.specs.Envelopes.{frame_room, number_if, numbered_header}
 use Rattle.writer_group.specs.Holding.{CargoValue, payload_in}
 use Rattle.writer_group.specs.Making.{loads_by}
 use Rattle.writer_group.specs.Payloads.{Spelled, fixed_header, pack_payloads, payloads_by, size_of, slots_of}

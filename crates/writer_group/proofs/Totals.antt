@@ -10,7 +10,7 @@ use Rattle.std.proofs.lemmas.List.Elements.{All-cons, All-head, All-tail}
 use Rattle.std.proofs.lemmas.List.FromFn.{length-map-range_with_len}
 use Rattle.std.proofs.lemmas.List.Sums.{sum_by-cons}
 use Rattle.std.proofs.lemmas.Option.{slice_get-get_or}
-use Rattle.dataset_meta.specs.Metas.{MetaData}
+use Rattle.dataset_meta.specs.Metas.{MetaData, no_meta}
 use Rattle.payload_layout.specs.Packing.{Packed, packs_of, pack_of, IsSound}
 use Rattle.payload_layout.proofs.Packs.{packs-frames, packs-sound}
 use Rattle.ps_config.specs.declared.parts.GroupPart.{GroupPart}
@@ -18,7 +18,7 @@ use Rattle.ps_config.specs.declared.parts.WriterPart.{WriterPart}
 use Rattle.ps_config.specs.Rooms.{datagrams_in, datagrams_of, is_fixed, largest_frame}
 use Rattle.writer_group.specs.declared.load.Load.TheVariants as loads
 use Rattle.writer_group.specs.Answering.{AreAnswers, IsAnswerOf}
-use Rattle.writer_group.specs.Payloads.{Spelled, meta_at, no_meta, no_writer, size_of, writer_at}
+use Rattle.writer_group.specs.Payloads.{Spelled, meta_at, no_writer, size_of, writer_at}
 use Rattle.writer_group.specs.Planning.{chunk_count, loads_from, pack_loads, planned}
 use Rattle.writer_group.proofs.Cutting.{chunk-more, chunk-some}
 use Rattle.writer_group.proofs.LoadPayloads.{first-size, planned-sized, rest-of}

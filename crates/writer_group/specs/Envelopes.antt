@@ -3,20 +3,11 @@ use Rattle.std.specs.Prelude.{◌≡◌, is_some, ℕ, ◌+◌, ◌-◌, Bool, [
 use Rattle.seq_number.specs.Numbers.{number_of_place}
 use Rattle.uadp_header.specs.Headers.{PublisherValue, IdsValue, SecurityValue, HeaderValue}
 use Rattle.uadp_header.specs.Spelling.{len_if, security_len}
-use Rattle.message_guard.specs.declared.mode.Mode.{Mode}
-use Rattle.message_guard.specs.declared.mode.Mode.TheVariants as modes
 use Rattle.config_tables.specs.declared.publisher.Publisher.{Publisher}
-use Rattle.config_tables.specs.declared.words.Security.{Security}
-use Rattle.config_tables.specs.declared.words.Security.TheVariants as security
 use Rattle.ps_config.specs.declared.header.HeaderSettings.{HeaderSettings}
 use Rattle.ps_config.specs.declared.parts.GroupPart.{GroupPart}
 use Rattle.ps_config.specs.Headers.{version_value, security_value, signature_len}
 use Rattle.ps_config.specs.Rooms.{frame_header}
-
-abbrev pub mode_of : Security → Mode
-mode_of security.None = modes.None
-mode_of security.Sign = modes.Sign
-mode_of security.Encrypt = modes.Encrypt
 
 -- a number that is carried, 16 bits of it, or none
 abbrev pub number_if : Bool → ℕ → Option ℕ

@@ -2,8 +2,11 @@
 use Rattle.std.specs.Prelude.{◌≡◌, ℕ, ◌+◌, ◌*◌, ◌≤◌, List, [], length, map, take, drop, All, Option, Some, None, slice_range, slice_index_or}
 use Rattle.std.specs.Int.{w16, to_le_bytes}
 use Rattle.std.specs.List.{flat_map}
+use Rattle.ua_binary.specs.declared.pen.Pen.{Pen}
 use Rattle.dataset_meta.specs.Metas.{MetaData}
-use Rattle.uadp_header.specs.Headers.{PublisherValue, SecurityValue, NoIds, publisher_in}
+use Rattle.uadp_header.specs.declared.header.Ids.{Ids}
+use Rattle.uadp_header.specs.declared.header.SecurityPart.{SecurityPart}
+use Rattle.uadp_header.specs.Headers.{PublisherValue, SecurityValue, HeaderValue, NoIds, if_there, ids_in, publisher_in, security_in}
 use Rattle.uadp_header.specs.Spelling.{publisher_len, IsPublisher, IsShortText}
 use Rattle.frame_codec.specs.declared.frame.Frame.{Frame as FrameWords}
 use Rattle.frame_codec.specs.Words.{frame_in}
@@ -18,7 +21,7 @@ use Rattle.writer_group.specs.declared.spelled.Frames.{Frames}
 use Rattle.writer_group.specs.declared.laying.Cargo.{Cargo}
 use Rattle.writer_group.specs.declared.load.Load.{Load}
 use Rattle.writer_group.specs.declared.load.Load.TheVariants as loads
-use Rattle.writer_group.specs.Envelopes.{Numbering}
+use Rattle.writer_group.specs.Envelopes.{Numbering, numbered_header}
 use Rattle.writer_group.specs.Sealing.{Payload, Envelope}
 use Rattle.writer_group.specs.Payloads.{Spelled, size_of, laid_frame, frames_payload, chunk_payload, in_slots}
 
@@ -29,6 +32,11 @@ envelope_in parts = record { publisher = publisher_in parts.publisher; settings 
 
 abbrev pub numbering_of : Envelope → ℕ → Option SecurityValue → Numbering
 numbering_of envelope index security = record { sequence = envelope.made + index; message = index + 1; security = security }
+
+-- the header of the turn's datagram with this index, these ids and this security header
+abbrev pub header_by : HeaderParts → ℕ → Option SecurityPart → Ids → HeaderValue
+header_by parts index security ids =
+    numbered_header (publisher_in parts.publisher) parts.settings (numbering_of (envelope_in parts) index (if_there security_in security)) (ids_in ids)
 
 -- a publisher's id that can be written
 pub record CanBeWritten (publisher : PublisherValue) : Type 0 where
@@ -46,8 +54,15 @@ spelled_at bytes frame = record {
   bytes = slice_range bytes frame.start frame.end;
 }
 
+abbrev pub all_spelled : List ℕ → List SpelledFrame → List Spelled
+all_spelled bytes frames = map (spelled_at bytes) frames
+
 abbrev pub frames_at : List ℕ → Frames → List Spelled
-frames_at bytes frames = map (spelled_at bytes) frames.list.items
+frames_at bytes frames = all_spelled bytes frames.list.items
+
+-- the bytes of frames one behind another
+abbrev pub all_bytes : List ℕ → List SpelledFrame → List ℕ
+all_bytes bytes frames = flat_map (λ frame. (spelled_at bytes frame).bytes) frames
 
 pub record IsWithin (end : ℕ) (frame : SpelledFrame) : Type 0 where
   pub rising : frame.start ≤ frame.end
@@ -110,3 +125,23 @@ abbrev pub payload_in : CargoValue → Load → Payload
 payload_in cargo (loads.Frames first count) = frames_payload (take count (drop first cargo.frames))
 payload_in cargo (loads.Chunk frame index) = chunk_load cargo.room (frame_at cargo frame) index
 payload_in cargo loads.Slots = slots_payload cargo
+
+-- what stands behind the header of the datagram with this load
+abbrev pub payload_by : Cargo → Load → List ℕ
+payload_by cargo load = (payload_in (cargo_in cargo) load).1
+
+-- the payloads of datagrams with these loads
+abbrev pub payloads_in : Cargo → List Load → List Payload
+payloads_in cargo loads = map (payload_in (cargo_in cargo)) loads
+
+-- what stands behind the header of a datagram with so many frames, from the one with this index on
+abbrev pub frames_by : Cargo → ℕ → ℕ → List ℕ
+frames_by cargo first count = (frames_payload (take count (drop first (cargo_in cargo).frames))).1
+
+-- what stands behind the header of a datagram with this chunk of this frame
+abbrev pub chunk_by : Cargo → ℕ → ℕ → List ℕ
+chunk_by cargo frame index = (chunk_load cargo.room (frame_at (cargo_in cargo) frame) index).1
+
+-- the pen has room for a header and what stands behind it
+abbrev pub HasRoom : Pen → List ℕ → List ℕ → Type 0
+HasRoom pen header payload = pen.at + length header + length payload ≤ length pen.bytes.now

@@ -26,9 +26,13 @@ use Rattle.writer_group.specs.Posting.{joined, ranges_of, made_of}
 use Rattle.writer_group.specs.Standing.{IsReserved, IsMadeFor, IsSenderFor, datagrams_in}
 use Rattle.writer_group.specs.Limits.{frames_bytes, most_datagrams, datagrams_bytes, buffer_bytes}
 
+-- what a dynamic turn plans for frames of these sizes
+abbrev pub planned_for : Publisher → GroupPart → List ℕ → List Load
+planned_for publisher part sizes = planned (frame_room publisher part) (chunk_room publisher part) sizes
+
 -- what a turn plans, by the layout, for frames of these sizes
 abbrev pub loads_by : Layout → Publisher → GroupPart → List ℕ → List Load
-loads_by layout.Dynamic publisher part sizes = planned (frame_room publisher part) (chunk_room publisher part) sizes
+loads_by layout.Dynamic publisher part sizes = planned_for publisher part sizes
 loads_by layout.Fixed publisher part sizes = if nat_lt 0 (length part.writer) then loads.Slots ∷ [] else []
 
 abbrev pub loads_for : Publisher → GroupPart → List ℕ → List Load

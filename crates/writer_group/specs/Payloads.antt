@@ -3,7 +3,7 @@ use Rattle.std.specs.Prelude.{ℕ, List, [], ◌∷◌, ◌++◌, length, map, n
 use Rattle.std.specs.Int.{w16, to_le_bytes}
 use Rattle.std.specs.List.{flat_map}
 use Rattle.dataset_meta.specs.declared.field.Field.{Field}
-use Rattle.dataset_meta.specs.Metas.{MetaData, meta_of}
+use Rattle.dataset_meta.specs.Metas.{MetaData, no_meta}
 use Rattle.uadp_header.specs.Headers.{NoIds, ListOf, ChunkOf}
 use Rattle.uadp_header.specs.Spelling.{header_len}
 use Rattle.pubsub_model.specs.Frames.{PlacedFrame, carried}
@@ -43,9 +43,6 @@ size_of frame = length frame.bytes
 
 abbrev pub no_writer : WriterPart
 no_writer = record { name = []; id = 0; dataset = 0; key_frame_count = 1; keep_alive = 0; first_number = 0; versions = false; offset = 0; size = 0 }
-
-abbrev pub no_meta : MetaData
-no_meta = meta_of [] [] 0 0 false
 
 abbrev pub writer_at : GroupPart → ℕ → WriterPart
 writer_at group writer = slice_index_or group.writer writer no_writer

@@ -17,10 +17,14 @@ chunk_loads room frame size = map (Chunk frame) (range_with_len 0 (chunk_count r
 abbrev pub pack_loads : ℕ → ℕ → Pack → ℕ → List Load
 pack_loads room first pack size = if pack.chunked then chunk_loads room first size else Frames first pack.count ∷ []
 
+-- the loads of a pack, of frames of these sizes
+abbrev pub pack_loads_of : ℕ → ℕ → Pack → List ℕ → List Load
+pack_loads_of room first pack sizes = pack_loads room first pack (slice_index_or sizes first 0)
+
 abbrev pub loads_from : ℕ → List ℕ → ℕ → List Pack → List Load
 loads_from room sizes first [] = []
 loads_from room sizes first (pack ∷ packs) =
-    pack_loads room first pack (slice_index_or sizes first 0) ++ loads_from room sizes (first + pack.count) packs
+    pack_loads_of room first pack sizes ++ loads_from room sizes (first + pack.count) packs
 
 -- the loads of frames of these sizes
 abbrev pub planned : ℕ → ℕ → List ℕ → List Load

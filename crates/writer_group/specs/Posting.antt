@@ -2,15 +2,17 @@
 use Rattle.std.specs.Prelude.{◌≡◌, ℕ, ◌+◌, ◌≤◌, List, [], ◌∷◌, ◌++◌, length, map, All, Option}
 use Rattle.uadp_header.specs.Spelling.{header_len, header_bytes}
 use Rattle.message_guard.specs.Senders.{SenderState}
-use Rattle.uadp_header.specs.Headers.{HeaderValue, SecurityValue, NoIds}
+use Rattle.uadp_header.specs.declared.header.SecurityPart.{SecurityPart}
+use Rattle.uadp_header.specs.Headers.{HeaderValue, SecurityValue, NoIds, if_there, security_in}
 use Rattle.ps_config.specs.Headers.{security_value}
 use Rattle.writer_group.specs.Envelopes.{numbered_header}
+use Rattle.writer_group.specs.declared.header_parts.HeaderParts.{HeaderParts}
 use Rattle.writer_group.specs.declared.laying.Cargo.{Cargo}
 use Rattle.writer_group.specs.declared.load.Load.{Load}
 use Rattle.writer_group.specs.declared.posting.Range.{Range}
-use Rattle.writer_group.specs.Holding.{CargoValue, CanBeWritten, cargo_in, payload_in, numbering_of}
+use Rattle.writer_group.specs.Holding.{CargoValue, CanBeWritten, cargo_in, envelope_in, payload_in, numbering_of}
 use Rattle.writer_group.specs.Loading.{IsCargo, IsLoad}
-use Rattle.writer_group.specs.Sealing.{Envelope, datagrams_from, open_datagram, secured_datagram}
+use Rattle.writer_group.specs.Sealing.{Envelope, datagrams_from, open_datagram, secured_datagram, secured_header}
 use Rattle.writer_group.specs.Limits.{most_datagrams}
 
 abbrev pub open_load : Envelope → ℕ → CargoValue → Load → List ℕ
@@ -54,3 +56,30 @@ abbrev pub ranges_of : ℕ → List (List ℕ) → List Range
 ranges_of start [] = []
 ranges_of start (datagram ∷ datagrams) =
     record { start = start; end = start + length datagram } ∷ ranges_of (start + length datagram) datagrams
+
+-- ---- the datagrams as the parts of their headers and what they carry stand in memory
+
+-- those with these loads
+abbrev pub made_by : HeaderParts → Option SenderState → Cargo → List Load → List (List ℕ)
+made_by parts sender cargo loads = made_of (envelope_in parts) sender (cargo_in cargo) loads
+
+-- the one with this index and load, under the front that the sender just gave, and its header
+abbrev pub secured_by : HeaderParts → SenderState → ℕ → Cargo → Load → List ℕ
+secured_by parts now index cargo load = secured_load (envelope_in parts) now index (cargo_in cargo) load
+
+abbrev pub secured_header_by : HeaderParts → SenderState → ℕ → Cargo → Load → HeaderValue
+secured_header_by parts now index cargo load = secured_header (envelope_in parts) now index (payload_in (cargo_in cargo) load).0
+
+-- the one with this index and load before its signature, its header, and the header's bytes
+abbrev pub laid_by : HeaderParts → ℕ → Cargo → Load → Option SecurityValue → List ℕ
+laid_by parts index cargo load security = laid_load (envelope_in parts) index (cargo_in cargo) load security
+
+abbrev pub load_header_by : HeaderParts → ℕ → Cargo → Load → Option SecurityValue → HeaderValue
+load_header_by parts index cargo load security = load_header (envelope_in parts) index (cargo_in cargo) load security
+
+abbrev pub header_laid_by : HeaderParts → ℕ → Cargo → Load → Option SecurityValue → List ℕ
+header_laid_by parts index cargo load security = header_bytes (load_header_by parts index cargo load security)
+
+-- what a security header says, if there is one
+abbrev pub security_of : Option SecurityPart → Option SecurityValue
+security_of security = if_there security_in security

@@ -5,10 +5,10 @@ use Rattle.uadp_header.specs.Spelling.{IsWritten, header_bytes}
 use Rattle.message_guard.specs.declared.mode.Mode.{Mode}
 use Rattle.message_guard.specs.Senders.{SenderState, advanced, front_value, sent}
 use Rattle.ps_config.specs.declared.header.HeaderSettings.{HeaderSettings}
-use Rattle.writer_group.specs.Envelopes.{mode_of, numbered_header}
+use Rattle.writer_group.specs.Envelopes.{numbered_header}
 use Rattle.ps_config.specs.declared.parts.Config.{Config}
 use Rattle.ps_config.specs.declared.parts.GroupPart.{GroupPart}
-use Rattle.ps_config.specs.Headers.{publisher_value}
+use Rattle.ps_config.specs.Headers.{publisher_value, mode_of}
 use Rattle.ps_config.specs.Rooms.{header_settings}
 
 -- the ids of a datagram's header, and what stands behind the header

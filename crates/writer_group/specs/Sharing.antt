@@ -1,8 +1,8 @@
 -- The groups that share a sender: what they do with it one after another, the first first, and the datagrams that come of it.
-use Rattle.std.specs.Prelude.{◌≡◌, ℕ, ◌+◌, ◌≤◌, List, [], ◌∷◌, ◌++◌, length, true, Some}
+use Rattle.std.specs.Prelude.{◌≡◌, ℕ, ◌+◌, ◌≤◌, List, [], ◌∷◌, ◌++◌, length, true, Some, AllPairs}
 use Rattle.message_guard.specs.Modes.{is_secured}
-use Rattle.message_guard.specs.Senders.{SenderState, turned}
-use Rattle.writer_group.specs.Envelopes.{mode_of}
+use Rattle.message_guard.specs.Senders.{SenderState, IsSender, HaveOtherNumbers, turned}
+use Rattle.ps_config.specs.Headers.{mode_of}
 use Rattle.writer_group.specs.Sealing.{Payload, Envelope, AreWritten, advanced_by, datagrams_from}
 
 -- the sender turns to a moment, or a group makes the datagrams of a turn
@@ -31,3 +31,7 @@ abbrev pub AreUses : SenderState → List SenderUse → Type 0
 AreUses s [] = Unit {0}
 AreUses s (Moved now ∷ uses) = AreUses (turned s now) uses
 AreUses s (Made envelope payloads ∷ uses) = CanMake s envelope payloads × AreUses (after_turn s envelope payloads) uses
+
+-- no two datagrams that come of it are read with the same token and number
+abbrev pub HaveNumbersOfTheirOwn : SenderState → List SenderUse → Type 0
+HaveNumbersOfTheirOwn s uses = IsSender s → AreUses s uses → AllPairs HaveOtherNumbers (datagrams_by s uses)

@@ -1,26 +1,27 @@
 -- Where a group stands after what it lived through, and the conditions of its turns.
-use Rattle.std.specs.Prelude.{◌≡◌, ◌≢◌, ℕ, ◌+◌, ◌-◌, ◌<◌, ◌≤◌, Bool, true, false, List, ◌∷◌, length, map, slice_range, All, Option, is_some, IfSome, vec_len, vec_capacity}
+use Rattle.std.specs.Prelude.{◌≡◌, ◌≢◌, ℕ, ◌+◌, ◌<◌, ◌≤◌, Bool, true, false, List, [], ◌∷◌, length, map, slice_range, All, Option, option_map, is_some, IfSome, vec_len, vec_capacity}
 use Rattle.std.specs.List.{HoldsAt, AllZip}
 use Rattle.seq_number.specs.Numbers.{number_of_place}
 use Rattle.dataset_meta.specs.Metas.{MetaData}
 use Rattle.row_words.specs.Belonging.{Belongs}
+use Rattle.dataset_writer.specs.declared.writer.Writer.{Writer}
 use Rattle.dataset_writer.specs.Standing.{IsWriter, HoldsRowOf}
 use Rattle.message_guard.specs.Senders.{SenderState, IsSender, numbers_left}
 use Rattle.ps_config.specs.declared.parts.Config.{Config}
 use Rattle.ps_config.specs.declared.parts.GroupPart.{GroupPart}
-use Rattle.ps_config.specs.Headers.{is_secured, signature_len}
+use Rattle.ps_config.specs.Headers.{is_secured, mode_of}
 use Rattle.ps_config.specs.Rooms.{is_fixed, lacks_room}
 use Rattle.ps_config.specs.Sound.{IsSound}
 use Rattle.ps_config.specs.FixedSound.{IsFixedSound}
-use Rattle.fixed_layout.specs.Slots.{layout_of}
 use Rattle.writer_group.specs.declared.datagrams.Datagrams.{Datagrams}
 use Rattle.writer_group.specs.declared.group.Group.{Group}
 use Rattle.writer_group.specs.declared.posting.Range.{Range}
 use Rattle.writer_group.specs.declared.sampled.Sampled.{Sampled}
 use Rattle.writer_group.specs.Answering.{HasLived}
-use Rattle.writer_group.specs.Payloads.{meta_at, writer_at, fixed_header, payloads_of, slots_of, IsFrameIf}
-use Rattle.writer_group.specs.Sealing.{AreWritten}
-use Rattle.writer_group.specs.Turns.{answer_by, GroupDeed, HadGroupTurn, told_of, writer_past, settings_of, made_in, last_moment, TurnInput, envelope_of, frames_in, turn_datagrams, turned}
+use Rattle.writer_group.specs.Payloads.{meta_at, writer_at, fixed_header, payloads_of, IsFrameIf}
+use Rattle.writer_group.specs.Sealing.{AreWritten, advanced_by}
+use Rattle.writer_group.specs.Setup.{AreSlotsOf}
+use Rattle.writer_group.specs.Turns.{answer_by, GroupDeed, HadGroupTurn, RefreshedWriter, is_due, told_of, writer_past, settings_of, made_in, last_moment, TurnInput, envelope_of, frames_in, turn_datagrams, turned}
 use Rattle.writer_group.specs.Limits.{frames_bytes, most_datagrams, buffer_bytes}
 
 -- ---- the datagrams in the buffer, of which the first 32,768 bytes are for the frames
@@ -46,8 +47,7 @@ pub record IsMadeFor (config : Config) (part : GroupPart) (group : Group) : Type
   pub interval : group.interval ≡ part.interval
   pub start : group.slots.start ≡ fixed_header config.publisher.id part
   pub writers : vec_len group.writers ≡ length part.writer
-  pub slots : is_fixed part.layout ≡ true → group.slots
-      ≡ layout_of (fixed_header config.publisher.id part) (part.max_size - signature_len part.security) (slots_of config part)
+  pub slots : AreSlotsOf config part group.slots
 
 -- where these deeds leave it; `metas` has for the index of each writer the meta of its turns since its last refresh
 pub record IsGroup (metas : ℕ → MetaData) (part : GroupPart) (past : List GroupDeed) (group : Group) : Type 0 where
@@ -130,3 +130,65 @@ pub record HasTicked (config : Config) (part : GroupPart) (past : List GroupDeed
   pub short : All (λ datagram. length datagram ≤ part.max_size) (turn_datagrams config part past input)
   pub answers : (writer : ℕ) → IsFrameIf (writer_at part writer) (meta_at part input.told.metas writer) (answer_by part past input writer)
   pub stands : IsGroup (metas_for part input.told.metas) part (HadGroupTurn (turned config part past input) ∷ past) after
+
+-- ---- the clauses of a group's calls, for the group with an index in the configuration
+
+-- it was made for this group
+abbrev pub IsMadeAt : Config → ℕ → Group → Type 0
+IsMadeAt config index group = HoldsAt (λ part. IsMadeFor config part group) config.group index
+
+-- it stands where no deed leaves it, whichever metas the first turns have
+abbrev pub IsFreshAt : Config → ℕ → Group → Type 0
+IsFreshAt config index group = HoldsAt (λ part. (metas : ℕ → MetaData) → IsGroup metas part [] group) config.group index
+
+-- its writers may have so many turns, of whichever metas
+abbrev pub MayTurnAt : Config → ℕ → ℕ → Group → Type 0
+MayTurnAt config index turns group = HoldsAt (λ part. (metas : ℕ → MetaData) → MayGoOn metas part turns group) config.group index
+
+-- this is its writer with this index: it stands where its own part of the group's deeds leaves it
+abbrev pub IsWriterIn : Group → ℕ → Writer → Type 0
+IsWriterIn group index writer =
+    (metas : ℕ → MetaData) (part : GroupPart) (past : List GroupDeed) → index < length part.writer → IsGroup metas part past group
+    → IsWriter (metas index) (settings_of (writer_at part index)) (writer_past index past) writer
+
+-- whichever group of whichever configuration it was made for, it still is
+abbrev pub IsStillMade : Group → Group → Type 0
+IsStillMade old new = (config : Config) (part : GroupPart) → IsMadeFor config part old → IsMadeFor config part new
+
+-- it stands after one deed more, a refresh of the writer with this index, whose meta may be another from now on
+abbrev pub IsRefreshed : ℕ → Group → Group → Type 0
+IsRefreshed index old new =
+    (metas others : ℕ → MetaData) (part : GroupPart) (past : List GroupDeed) → AreSameBut index (length part.writer) metas others
+    → IsGroup metas part past old → IsGroup others part (RefreshedWriter index ∷ past) new
+
+-- its writers may have as many turns as before the refresh of the writer with this index
+abbrev pub GoesOnRefreshed : ℕ → Group → Group → Type 0
+GoesOnRefreshed index old new =
+    (metas others : ℕ → MetaData) (part : GroupPart) (turns : ℕ) → AreSameBut index (writer_count old) metas others
+    → MayGoOn metas part turns old → MayGoOn others part turns new
+
+-- the truth value tells whether it is due at this moment
+abbrev pub TellsDue : Group → ℕ → Bool → Type 0
+TellsDue group now due =
+    (config : Config) (part : GroupPart) (metas : ℕ → MetaData) (past : List GroupDeed) → IsMadeFor config part group
+    → IsGroup metas part past group → due ≡ is_due part past now
+
+-- it may have a turn
+abbrev pub MayTickAt : Config → List MetaData → List Sampled → List Bool → Option SenderState → Group → Type 0
+MayTickAt config metas rows on sender group = HoldsAt (MayTick config metas rows on sender group) config.group (index_of group)
+
+-- it had a turn, behind whichever deeds left it as it was
+abbrev pub HasTickedAt : Config → TurnInput → Group → Group → Datagrams → Type 0
+HasTickedAt config input old new out =
+    HoldsAt (λ part. (past : List GroupDeed) → IsGroup (metas_for part input.told.metas) part past old → HasTicked config part past input new out)
+    config.group (index_of old)
+
+-- its writers may have one turn less, of the metas of this one
+abbrev pub GoesOnAt : Config → List MetaData → Group → Group → Type 0
+GoesOnAt config metas old new =
+    HoldsAt (λ part. (turns : ℕ) → MayGoOn (metas_for part metas) part (turns + 1) old → MayGoOn (metas_for part metas) part turns new) config.group (index_of old)
+
+-- its sender, if it has one, gave a front for each of so many datagrams
+abbrev pub IsSenderAfter : Config → ℕ → ℕ → Option SenderState → Option SenderState → Type 0
+IsSenderAfter config index count before after =
+    HoldsAt (λ part. after ≡ option_map (λ s. advanced_by (mode_of part.security) s count) before) config.group index

@@ -7,7 +7,6 @@ ghost use Rattle.writer_group.specs.Standing.{IsReserved, datagrams_in};
 use crate::load::Load;
 use crate::posting::Range;
 use crate::spelled::{FRAMES_BYTES, Frames};
-use ps_config::Config;
 use std::alloc::Global;
 use ua_base::NoMemory;
 
@@ -30,8 +29,8 @@ pub struct Datagrams {
 }
 
 impl Datagrams {
-    /// Reserves for the largest turn of any group of the configuration, which makes at most 1,024 datagrams.
-    pub fn new(alloc: Global, _config: &Config) -> Result<Datagrams, NoMemory>
+    /// Reserves for the largest turn of any group of any configuration, which makes at most 1,024 datagrams.
+    pub fn new(alloc: Global) -> Result<Datagrams, NoMemory>
         ensures reserved { IfOk result IsReserved }
         ensures none { IfOk result (λ out. datagrams_in out ≡ []) }
     {
@@ -54,8 +53,17 @@ impl Datagrams {
         &self.bytes[FRAMES_BYTES + range.start..FRAMES_BYTES + range.end]
     }
 
-    /// Forgets the last turn.
-    pub(crate) fn clear(&mut self)
+    /// Forgets the last turn: no datagram is left, until the next one.
+    pub fn clear(&mut self)
+        requires { IsReserved self.old }
+        ensures none { datagrams_in self.new ≡ [] }
+        ensures reserved { IsReserved self.new }
+    {
+        self.forget();
+    }
+
+    /// Forgets the last turn, with its frames and what its datagrams carried.
+    pub(crate) fn forget(&mut self)
         requires { IsReserved self.old }
         ensures reserved { IsReserved self.new }
         ensures frames { AreSpelledIn self.new.bytes.items self.new.frames }

@@ -1,20 +1,12 @@
 //! Groups of writers.
-ghost use Rattle.std.specs.Prelude.{◌≡◌, ◌≢◌, ◌<◌, ◌≤◌, ◌+◌, ◌∷◌, [], ℕ, List, IfOk, IfSome, length, option_map, slice_index_or};
-ghost use Rattle.std.specs.List.{HoldsAt};
-ghost use Rattle.dataset_meta.specs.Metas.{MetaData};
+ghost use Rattle.std.specs.Prelude.{◌≡◌, ◌<◌, ◌≤◌, List, IfOk, IfSome, length, slice_index_or};
 ghost use Rattle.message_guard.specs.Senders.{IsSender};
-ghost use Rattle.ps_config.specs.declared.parts.Config.{Config as ConfigValue};
-ghost use Rattle.ps_config.specs.declared.parts.GroupPart.{GroupPart as PartValue};
-ghost use Rattle.dataset_writer.specs.Standing.{IsWriter};
 ghost use Rattle.writer_group.specs.Limits.{most_datagrams};
-ghost use Rattle.writer_group.specs.Envelopes.{mode_of};
-ghost use Rattle.writer_group.specs.Payloads.{writer_at};
 ghost use Rattle.writer_group.specs.Lending.{lent_in, left_in};
-ghost use Rattle.writer_group.specs.Sealing.{advanced_by};
 ghost use Rattle.writer_group.specs.Answering.{HaveAnswered, MayAnswer, MayGo};
 ghost use Rattle.writer_group.specs.Making.{AreSpelled, passed, spelled_in};
-ghost use Rattle.writer_group.specs.Standing.{datagrams_in, index_of, writer_count, AreSameBut, IsMadeFor, IsGroup, MayGoOn, MayTick, HasTicked, IsGood, IsReserved, input_of, metas_for};
-ghost use Rattle.writer_group.specs.Turns.{GroupDeed, RefreshedWriter, is_due, settings_of, told_of, writer_past};
+ghost use Rattle.writer_group.specs.Standing.{datagrams_in, index_of, writer_count, GoesOnAt, GoesOnRefreshed, HasTickedAt, IsFreshAt, IsGood, IsMadeAt, IsRefreshed, IsReserved, IsSenderAfter, IsStillMade, IsWriterIn, MayTickAt, MayTurnAt, TellsDue, input_of};
+ghost use Rattle.writer_group.specs.Turns.{GroupDeed, told_of};
 
 use crate::answering::answer_all;
 use crate::datagrams::Datagrams;
@@ -49,12 +41,9 @@ impl Group {
         requires good { IsGood config.now }
         requires index { index < length config.now.group }
         ensures index { IfOk result (λ group. index_of group ≡ index) }
-        ensures made { IfOk result (λ group. HoldsAt (λ part. IsMadeFor config.now part group)
-            config.now.group index) }
-        ensures stands { IfOk result (λ group. HoldsAt (λ part. (metas : ℕ → MetaData)
-            → IsGroup metas part [] group) config.now.group index) }
-        ensures goes_on { IfOk result (λ group. HoldsAt (λ part. (metas : ℕ → MetaData)
-            → MayGoOn metas part turns group) config.now.group index) }
+        ensures made { IfOk result (IsMadeAt config.now index) }
+        ensures stands { IfOk result (IsFreshAt config.now index) }
+        ensures goes_on { IfOk result (MayTurnAt config.now index turns) }
     {
         let group = part_of(config, index);
         let writers = writers_of(alloc, group, turns)?;
@@ -71,9 +60,7 @@ impl Group {
     /// The writer with this index in the group.
     pub fn writer(&self, index: u8) -> &Writer
         requires { index < writer_count self.now }
-        ensures { (metas : ℕ → MetaData) (part : PartValue) (past : List GroupDeed)
-            → index < length part.writer → IsGroup metas part past self.now
-            → IsWriter (metas index) (settings_of (writer_at part index)) (writer_past index past) result.now }
+        ensures { IsWriterIn self.now index result.now }
     {
         &self.writers[usize::from(index)]
     }
@@ -82,24 +69,16 @@ impl Group {
     pub fn refresh(&mut self, index: u8)
         requires { index < writer_count self.old }
         ensures index { index_of self.new ≡ index_of self.old }
-        ensures made { (config : ConfigValue) (part : PartValue)
-            → IsMadeFor config part self.old → IsMadeFor config part self.new }
-        ensures stands { (metas others : ℕ → MetaData) (part : PartValue) (past : List GroupDeed)
-            → AreSameBut index (length part.writer) metas others
-            → IsGroup metas part past self.old
-            → IsGroup others part (RefreshedWriter index ∷ past) self.new }
-        ensures goes_on { (metas others : ℕ → MetaData) (part : PartValue) (turns : ℕ)
-            → AreSameBut index (writer_count self.old) metas others
-            → MayGoOn metas part turns self.old → MayGoOn others part turns self.new }
+        ensures made { IsStillMade self.old self.new }
+        ensures stands { IsRefreshed index self.old self.new }
+        ensures goes_on { GoesOnRefreshed index self.old self.new }
     {
         self.writers[usize::from(index)].refresh();
     }
 
     /// Whether the publishing interval has passed since the last turn that wasn't the closing one, or since moment 0.
     pub fn due(&self, now: u64) -> bool
-        ensures { (config : ConfigValue) (part : PartValue) (metas : ℕ → MetaData)
-            (past : List GroupDeed) → IsMadeFor config part self.now
-            → IsGroup metas part past self.now → result ≡ is_due part past now }
+        ensures { TellsDue self.now now result }
     {
         u64::from(self.interval) <= now.saturating_sub(self.turned_at)
     }
@@ -122,25 +101,19 @@ impl Group {
     ) -> u32
         requires good { IsGood config.now }
         requires index { index_of self.old < length config.now.group }
-        requires turn { HoldsAt (MayTick config.now metas.now rows.now on.now (lent_in sender) self.old)
-            config.now.group (index_of self.old) }
+        requires turn { MayTickAt config.now metas.now rows.now on.now (lent_in sender) self.old }
         requires reserved { IsReserved out.old }
-        ensures stands { HoldsAt (λ part. (past : List GroupDeed)
-            → IsGroup (metas_for part metas.now) part past self.old
-            → HasTicked config.now part past (input_of now closing metas.now rows.now on.now
-            (lent_in sender.entry)) self.new out.new) config.now.group (index_of self.old) }
-        ensures goes_on { HoldsAt (λ part. (turns : ℕ)
-            → MayGoOn (metas_for part metas.now) part (turns + 1) self.old
-            → MayGoOn (metas_for part metas.now) part turns self.new) config.now.group (index_of self.old) }
-        ensures made { HoldsAt (λ part. IsMadeFor config.now part self.new)
-            config.now.group (index_of self.old) }
+        ensures stands { HasTickedAt config.now
+            (input_of now closing metas.now rows.now on.now (lent_in sender.entry))
+            self.old self.new out.new }
+        ensures goes_on { GoesOnAt config.now metas.now self.old self.new }
+        ensures made { IsMadeAt config.now (index_of self.old) self.new }
         ensures index { index_of self.new ≡ index_of self.old }
         ensures count { result ≡ length (datagrams_in out.new) }
         ensures few { result ≤ most_datagrams }
         ensures sender_stays { IfSome (left_in sender.exit) IsSender }
-        ensures sender { HoldsAt (λ part. left_in sender.exit
-            ≡ option_map (λ s. advanced_by (mode_of part.security) s result) (lent_in sender.entry))
-            config.now.group (index_of self.old) }
+        ensures sender { IsSenderAfter config.now (index_of self.old) result (lent_in sender.entry)
+            (left_in sender.exit) }
         ensures reserved { IsReserved out.new }
     {
         let group = part_of(config, self.index);
@@ -179,7 +152,7 @@ impl Group {
         ensures rest { self.new ≡ record self.old { writers = self.new.writers } }
         ensures spelled { AreSpelled group.now metas.now out.new }
     {
-        out.clear();
+        out.forget();
         answer_all(
             &mut self.writers,
             group,

@@ -5,8 +5,8 @@ ghost use Rattle.uadp_header.specs.Headers.{header_in, publisher_in, ids_in, sec
 ghost use Rattle.uadp_header.specs.Spelling.{len_if, IsPublisher, AreIds, IsIds, IsSendersSecurity, IsWritten};
 ghost use Rattle.ps_config.specs.Headers.{publisher_value, version_value};
 ghost use Rattle.writer_group.specs.Limits.{most_datagrams};
-ghost use Rattle.writer_group.specs.Envelopes.{number_if, numbered_header};
-ghost use Rattle.writer_group.specs.Holding.{envelope_in, numbering_of, CanBeWritten};
+ghost use Rattle.writer_group.specs.Envelopes.{number_if};
+ghost use Rattle.writer_group.specs.Holding.{header_by, CanBeWritten};
 
 use ps_config::{HeaderSettings, Publisher, publisher_id};
 use uadp_header::{Header, Ids, PublisherId, SecurityPart};
@@ -46,10 +46,7 @@ impl<'a> HeaderParts<'a> {
         requires ids { AreIds (ids_in ids) }
         requires is_ids { IsIds (ids_in ids) }
         requires security { IfSome (if_there security_in security) IsSendersSecurity }
-        ensures header { header_in result
-            ≡ numbered_header (publisher_in self.now.publisher) self.now.settings
-            (numbering_of (envelope_in self.now) index (if_there security_in security.entry))
-            (ids_in ids.entry) }
+        ensures header { header_in result ≡ header_by self.now index security.entry ids.entry }
         ensures written { IsWritten (header_in result) }
     {
         Header {
@@ -63,14 +60,6 @@ impl<'a> HeaderParts<'a> {
             security: narrow(security),
         }
     }
-}
-
-/// Each datagram carries its group's id.
-fn group_in(id: u16) -> Option<u16>
-    ensures group { result ≡ Some id }
-    ensures small { IfSome result (λ n. n < 2 ^ 16) }
-{
-    Some(id)
 }
 
 /// A GroupVersion is carried where it isn't 0.
@@ -89,7 +78,21 @@ fn number_if(holds: bool, number: u16) -> Option<u16>
     if holds { Some(number) } else { None }
 }
 
-/// The same id: its number is of its type, and its text is UTF-8.
+// The functions from here on give back what they are given. They are for the prover alone, as are `numbers_are_narrow` of
+// answering.rt with what it calls, and `a_class_id_is_whole` of settings.rt. The prover knows the range of a value from its type
+// where the value stands by itself, as an argument or as what a `match` takes out, and not where it stands inside an `Option` or
+// a variant that comes from elsewhere. So each takes its value apart, and its contract keeps what is seen there: how many bits a
+// number has, that a text is UTF-8, how many bytes an id has.
+
+/// Each datagram carries its group's id.
+fn group_in(id: u16) -> Option<u16>
+    ensures group { result ≡ Some id }
+    ensures small { IfSome result (λ n. n < 2 ^ 16) }
+{
+    Some(id)
+}
+
+/// The publisher's id as it is: its number is of its type, and its text is UTF-8.
 fn judged(id: PublisherId<'_>) -> PublisherId<'_>
     ensures same { publisher_in result ≡ publisher_in id.entry }
     ensures known { IsPublisher (publisher_in result) }
@@ -103,7 +106,7 @@ fn judged(id: PublisherId<'_>) -> PublisherId<'_>
     }
 }
 
-/// The same class id, of 16 bytes.
+/// The class id as it is, of 16 bytes.
 pub(crate) fn whole(id: Option<[u8; 16]>) -> Option<[u8; 16]>
     ensures same { result ≡ id }
     ensures whole { IfSome result (λ guid. length guid ≡ 16) }
@@ -115,7 +118,7 @@ pub(crate) fn whole(id: Option<[u8; 16]>) -> Option<[u8; 16]>
     }
 }
 
-/// The same security header, whose token has 32 bits.
+/// The security header as it is, whose token has 32 bits.
 fn narrow(security: Option<SecurityPart<'_>>) -> Option<SecurityPart<'_>>
     ensures same { if_there security_in result ≡ if_there security_in security.entry }
     ensures narrow { IfSome (if_there security_in result) (λ s. s.token < 2 ^ 32) }

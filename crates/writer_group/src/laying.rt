@@ -1,13 +1,11 @@
 //! Laying out one datagram without its signature.
 ghost use Rattle.std.specs.Prelude.{◌≡◌, ◌<◌, ◌≤◌, ◌+◌, ◌-◌, ◌*◌, ◌++◌, ℕ, List, All, length, take, drop};
-ghost use Rattle.std.specs.List.{flat_map};
 ghost use Rattle.ua_binary.specs.Writing.{laid, Puts};
 ghost use Rattle.uadp_header.specs.Headers.{ChunkOf, header_in, ids_in};
 ghost use Rattle.uadp_header.specs.Spelling.{AreIds, IsIds, IsSenders, header_bytes};
 ghost use Rattle.payload_layout.specs.Payloads.{sizes_bytes};
 ghost use Rattle.chunker.specs.Spelling.{chunk_bytes, chunk_in};
-ghost use Rattle.writer_group.specs.Holding.{AreSpelledIn, frames_at, spelled_at, IsWithin, cargo_in, frame_at, chunk_load, payload_in};
-ghost use Rattle.writer_group.specs.Payloads.{frames_payload};
+ghost use Rattle.writer_group.specs.Holding.{spelled_at, HasRoom, IsWithin, all_bytes, cargo_in, chunk_by, frame_at, frames_by, payload_by, payload_in};
 ghost use Rattle.writer_group.specs.Loading.{IsCargo, IsLoad, HasHeaderOf};
 
 use crate::load::Load;
@@ -66,11 +64,11 @@ impl<'a> Cargo<'a> {
         requires senders { IsSenders (header_in header.now) }
         requires header { HasHeaderOf (cargo_in self.now) load (header_bytes (header_in header.now)) }
         requires room { at + length (header_bytes (header_in header.now))
-            + length (payload_in (cargo_in self.now) load).1 ≤ length free.old }
+            + length (payload_by self.now load) ≤ length free.old }
         ensures laid { free.new ≡ laid free.old at (header_bytes (header_in header.now)
-            ++ (payload_in (cargo_in self.now) load).1) }
+            ++ payload_by self.now load) }
         ensures payload { result.0 ≡ at + length (header_bytes (header_in header.now)) }
-        ensures end { result.1 ≡ result.0 + length (payload_in (cargo_in self.now) load).1 }
+        ensures end { result.1 ≡ result.0 + length (payload_by self.now load) }
     {
         let mut pen = Pen { bytes: free, at };
         let payload = self.put_datagram(&mut pen, header, load);
@@ -83,10 +81,9 @@ impl<'a> Cargo<'a> {
         requires load { IsLoad (cargo_in self.now) load }
         requires senders { IsSenders (header_in header.now) }
         requires header { HasHeaderOf (cargo_in self.now) load (header_bytes (header_in header.now)) }
-        requires room { pen.old.at + length (header_bytes (header_in header.now))
-            + length (payload_in (cargo_in self.now) load).1 ≤ length pen.old.bytes.now }
+        requires room { HasRoom pen.old (header_bytes (header_in header.now)) (payload_by self.now load) }
         ensures puts { Puts pen.old pen.new (header_bytes (header_in header.now)
-            ++ (payload_in (cargo_in self.now) load).1) }
+            ++ payload_by self.now load) }
         ensures payload { result ≡ pen.old.at + length (header_bytes (header_in header.now)) }
     {
         let start = pen.at;
@@ -102,9 +99,8 @@ impl<'a> Cargo<'a> {
         requires load { IsLoad (cargo_in self.now) load }
         requires header { HasHeaderOf (cargo_in self.now) load (take (pen.old.at - start) (drop start pen.old.bytes.now)) }
         requires start { start ≤ pen.old.at }
-        requires room { pen.old.at + length (payload_in (cargo_in self.now) load).1
-            ≤ length pen.old.bytes.now }
-        ensures { Puts pen.old pen.new (payload_in (cargo_in self.now) load).1 }
+        requires room { pen.old.at + length (payload_by self.now load) ≤ length pen.old.bytes.now }
+        ensures { Puts pen.old pen.new (payload_by self.now load) }
     {
         match load {
             Load::Frames { first, count } => self.put_frames(pen, first, count),
@@ -118,11 +114,9 @@ impl<'a> Cargo<'a> {
         requires cargo { IsCargo self.now }
         requires within { first + count ≤ length self.now.frames.now.list.items }
         requires few { count ≤ 16 }
-        requires room { pen.old.at
-            + length (frames_payload (take count (drop first (cargo_in self.now).frames))).1
+        requires room { pen.old.at + length (frames_by self.now first count)
             ≤ length pen.old.bytes.now }
-        ensures { Puts pen.old pen.new
-            (frames_payload (take count (drop first (cargo_in self.now).frames))).1 }
+        ensures { Puts pen.old pen.new (frames_by self.now first count) }
     {
         let first = usize::from(first);
         let end = first + usize::from(count);
@@ -136,11 +130,9 @@ impl<'a> Cargo<'a> {
         requires frame { frame < length self.now.frames.now.list.items }
         requires some { 1 ≤ self.now.room }
         requires index { index * self.now.room < length (frame_at (cargo_in self.now) frame).bytes }
-        requires room { pen.old.at
-            + length (chunk_load self.now.room (frame_at (cargo_in self.now) frame) index).1
+        requires room { pen.old.at + length (chunk_by self.now frame index)
             ≤ length pen.old.bytes.now }
-        ensures { Puts pen.old pen.new
-            (chunk_load self.now.room (frame_at (cargo_in self.now) frame) index).1 }
+        ensures { Puts pen.old pen.new (chunk_by self.now frame index) }
     {
         let frame = self.frame(frame);
         let message = &self.bytes[frame.start..frame.end];
@@ -200,10 +192,8 @@ fn put_chunk_payload(pen: &mut Pen<'_>, chunk: &ChunkPayload<'_>)
 /// Writes frames one behind another.
 fn put_all(pen: &mut Pen<'_>, bytes: &[u8], frames: &[SpelledFrame])
     requires within { All (IsWithin (length bytes.now)) frames.now }
-    requires room { pen.old.at + length (flat_map (λ frame. (spelled_at bytes.now frame).bytes) frames.now)
-        ≤ length pen.old.bytes.now }
-    ensures { Puts pen.old pen.new
-        (flat_map (λ frame. (spelled_at bytes.now frame).bytes) frames.now) }
+    requires room { pen.old.at + length (all_bytes bytes.now frames.now) ≤ length pen.old.bytes.now }
+    ensures { Puts pen.old pen.new (all_bytes bytes.now frames.now) }
 {
     for frame in frames {
         pen.put_bytes(&bytes[frame.start..frame.end]);

@@ -1,6 +1,6 @@
 //! Making the datagrams of a turn that was planned.
 ghost use Rattle.std.specs.Prelude.{◌≡◌, ◌≤◌, [], length, vec_capacity, None, Some};
-ghost use Rattle.writer_group.specs.Envelopes.{mode_of};
+ghost use Rattle.ps_config.specs.Headers.{mode_of};
 ghost use Rattle.writer_group.specs.Making.{IsFilled, IsPosted, MayFill, MayMake};
 ghost use Rattle.writer_group.specs.Sealing.{advanced_by};
 
@@ -10,10 +10,9 @@ use crate::header_parts::HeaderParts;
 use crate::laying::Cargo;
 use crate::load::Load;
 use crate::posting::{Range, post_open, post_secured};
-use crate::settings::mode_of;
 use crate::spelled::{FRAMES_BYTES, Frames};
 use message_guard::Sender;
-use ps_config::{Config, GroupPart, chunk_room};
+use ps_config::{Config, GroupPart, chunk_room, mode_of};
 
 impl Group {
     /// Makes the datagrams that were planned, behind the frames, without security.

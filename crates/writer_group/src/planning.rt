@@ -2,9 +2,8 @@
 ghost use Rattle.std.specs.Prelude.{◌≡◌, ◌<◌, ◌≤◌, ◌+◌, ◌++◌, ◌∷◌, [], false, length, slice_index_or, vec_len, vec_capacity};
 ghost use Rattle.payload_layout.specs.declared.packing.Pack.{Pack as AnyPack};
 ghost use Rattle.ps_config.specs.Rooms.{chunk_room, is_fixed};
-ghost use Rattle.writer_group.specs.Envelopes.{frame_room};
-ghost use Rattle.writer_group.specs.Making.{loads_for};
-ghost use Rattle.writer_group.specs.Planning.{chunk_count, chunk_loads, pack_loads, planned};
+ghost use Rattle.writer_group.specs.Making.{loads_for, planned_for};
+ghost use Rattle.writer_group.specs.Planning.{chunk_count, chunk_loads, pack_loads_of, planned};
 
 use crate::load::Load;
 use crate::settings::frame_room;
@@ -37,15 +36,13 @@ pub(crate) fn plan_loads(
     }
 }
 
-/// The same of a dynamic turn. Without frames nothing is planned.
+/// Pushes what each datagram of a dynamic turn carries; without frames nothing is planned.
 fn plan_frames(publisher: &Publisher, group: &GroupPart, sizes: &[u16], loads: &mut Vec<Load>)
     requires room { 1 ≤ chunk_room publisher.now group.now }
     requires few { length sizes.now ≤ 16 }
     requires empty { loads.old.items ≡ [] }
-    requires left { length (planned (frame_room publisher.now group.now) (chunk_room publisher.now group.now) sizes.now)
-        ≤ vec_capacity loads.old }
-    ensures planned { loads.new.items
-        ≡ planned (frame_room publisher.now group.now) (chunk_room publisher.now group.now) sizes.now }
+    requires left { length (planned_for publisher.now group.now sizes.now) ≤ vec_capacity loads.old }
+    ensures planned { loads.new.items ≡ planned_for publisher.now group.now sizes.now }
     ensures capacity { vec_capacity loads.old ≤ vec_capacity loads.new }
 {
     if sizes.is_empty() {
@@ -87,10 +84,9 @@ fn pack_at(packs: &Packs, index: usize) -> Pack
 fn push_pack(pack: Pack, first: u8, sizes: &[u16], room: u32, loads: &mut Vec<Load>)
     requires room { 1 ≤ room }
     requires first { first < length sizes.now }
-    requires left { vec_len loads.old + length (pack_loads room first pack (slice_index_or sizes.now first 0))
+    requires left { vec_len loads.old + length (pack_loads_of room first pack sizes.now)
         ≤ vec_capacity loads.old }
-    ensures pushed { loads.new.items ≡ loads.old.items
-        ++ pack_loads room first pack (slice_index_or sizes.now first 0) }
+    ensures pushed { loads.new.items ≡ loads.old.items ++ pack_loads_of room first pack sizes.now }
     ensures capacity { vec_capacity loads.old ≤ vec_capacity loads.new }
 {
     if pack.chunked {

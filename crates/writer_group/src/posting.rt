@@ -1,17 +1,17 @@
 //! Making a turn's datagrams, one behind another.
-ghost use Rattle.std.specs.Prelude.{◌≡◌, ◌<◌, ◌≤◌, ◌+◌, ◌++◌, ◌∷◌, [], true, false, IfSome, length, map, slice_index_or, vec_len, vec_capacity};
+ghost use Rattle.std.specs.Prelude.{◌≡◌, ◌<◌, ◌≤◌, ◌+◌, ◌++◌, ◌∷◌, [], true, false, IfSome, length, slice_index_or, vec_len, vec_capacity};
 ghost use Rattle.ua_binary.specs.Writing.{laid};
-ghost use Rattle.uadp_header.specs.Headers.{security_in, if_there};
-ghost use Rattle.uadp_header.specs.Spelling.{IsSendersSecurity, IsWritten, header_bytes};
+ghost use Rattle.uadp_header.specs.Spelling.{IsSendersSecurity, IsWritten};
 ghost use Rattle.message_guard.specs.Modes.{is_secured};
 ghost use Rattle.message_guard.specs.Senders.{IsSender, advanced};
+ghost use Rattle.ps_config.specs.Headers.{mode_of};
 ghost use Rattle.writer_group.specs.Limits.{most_datagrams};
 ghost use Rattle.writer_group.specs.declared.load.Load.{Load as AnyLoad};
-ghost use Rattle.writer_group.specs.Envelopes.{mode_of, IsSecuredAs};
-ghost use Rattle.writer_group.specs.Holding.{envelope_in, cargo_in, payload_in};
+ghost use Rattle.writer_group.specs.Envelopes.{IsSecuredAs};
+ghost use Rattle.writer_group.specs.Holding.{envelope_in, cargo_in, payload_in, payloads_in};
 ghost use Rattle.writer_group.specs.Numbers.{front_in};
-ghost use Rattle.writer_group.specs.Posting.{MayPost, open_load, secured_load, load_header, laid_load, made_of, joined, ranges_of};
-ghost use Rattle.writer_group.specs.Sealing.{AreWritten, advanced_by, open_header, secured_header};
+ghost use Rattle.writer_group.specs.Posting.{MayPost, header_laid_by, joined, laid_by, load_header_by, made_by, open_load, ranges_of, secured_by, secured_header_by, security_of};
+ghost use Rattle.writer_group.specs.Sealing.{AreWritten, advanced_by, open_header};
 
 use crate::front::Front;
 use crate::header_parts::HeaderParts;
@@ -42,14 +42,10 @@ pub(crate) fn post_open<'a>(
     requires unsecured { is_secured (mode_of parts.now.settings.security) ≡ false }
     requires empty { ranges.old.items ≡ [] }
     requires left { length loads.now ≤ vec_capacity ranges.old }
-    requires room { length (joined (made_of (envelope_in parts.now) None (cargo_in cargo.now) loads.now))
-        ≤ length free.old }
-    ensures laid { free.new ≡ laid free.old 0
-        (joined (made_of (envelope_in parts.now) None (cargo_in cargo.now) loads.now)) }
-    ensures ranges { ranges.new.items
-        ≡ ranges_of 0 (made_of (envelope_in parts.now) None (cargo_in cargo.now) loads.now) }
-    ensures written { AreWritten (envelope_in parts.now) None 0
-        (map (payload_in (cargo_in cargo.now)) loads.now) }
+    requires room { length (joined (made_by parts.now None cargo.now loads.now)) ≤ length free.old }
+    ensures laid { free.new ≡ laid free.old 0 (joined (made_by parts.now None cargo.now loads.now)) }
+    ensures ranges { ranges.new.items ≡ ranges_of 0 (made_by parts.now None cargo.now loads.now) }
+    ensures written { AreWritten (envelope_in parts.now) None 0 (payloads_in cargo.now loads.now) }
     ensures capacity { vec_capacity ranges.old ≤ vec_capacity ranges.new }
 {
     let mut start = 0;
@@ -78,14 +74,10 @@ pub(crate) fn post_secured<'a>(
     requires sender { IsSender sender.old }
     requires empty { ranges.old.items ≡ [] }
     requires left { length loads.now ≤ vec_capacity ranges.old }
-    requires room { length (joined (made_of (envelope_in parts.now) (Some sender.old) (cargo_in cargo.now) loads.now))
-        ≤ length free.old }
-    ensures laid { free.new ≡ laid free.old 0
-        (joined (made_of (envelope_in parts.now) (Some sender.old) (cargo_in cargo.now) loads.now)) }
-    ensures ranges { ranges.new.items
-        ≡ ranges_of 0 (made_of (envelope_in parts.now) (Some sender.old) (cargo_in cargo.now) loads.now) }
-    ensures written { AreWritten (envelope_in parts.now) (Some sender.old) 0
-        (map (payload_in (cargo_in cargo.now)) loads.now) }
+    requires room { length (joined (made_by parts.now (Some sender.old) cargo.now loads.now)) ≤ length free.old }
+    ensures laid { free.new ≡ laid free.old 0 (joined (made_by parts.now (Some sender.old) cargo.now loads.now)) }
+    ensures ranges { ranges.new.items ≡ ranges_of 0 (made_by parts.now (Some sender.old) cargo.now loads.now) }
+    ensures written { AreWritten (envelope_in parts.now) (Some sender.old) 0 (payloads_in cargo.now loads.now) }
     ensures capacity { vec_capacity ranges.old ≤ vec_capacity ranges.new }
     ensures sender { sender.new ≡ advanced_by mode sender.old (length loads.now) }
 {
@@ -160,14 +152,14 @@ fn secured_datagram<'a>(
     requires secured { is_secured mode ≡ true }
     requires numbers { sender.old.used < 4294967295 }
     requires sender { IsSender sender.old }
-    requires room { start + length (secured_load (envelope_in parts.now) (advanced mode sender.old)
-        index (cargo_in cargo.now) load) ≤ length free.old }
-    ensures laid { free.new ≡ laid free.old start (secured_load (envelope_in parts.now)
-        (advanced mode sender.old) index (cargo_in cargo.now) load) }
-    ensures header { IsWritten (secured_header (envelope_in parts.now) (advanced mode sender.old) index
-        (payload_in (cargo_in cargo.now) load).0) }
-    ensures end { result ≡ start + length (secured_load (envelope_in parts.now)
-        (advanced mode sender.old) index (cargo_in cargo.now) load) }
+    requires room { start + length (secured_by parts.now (advanced mode sender.old) index cargo.now load)
+        ≤ length free.old }
+    ensures laid { free.new ≡ laid free.old start
+        (secured_by parts.now (advanced mode sender.old) index cargo.now load) }
+    ensures header { IsWritten
+        (secured_header_by parts.now (advanced mode sender.old) index cargo.now load) }
+    ensures end { result ≡ start
+        + length (secured_by parts.now (advanced mode sender.old) index cargo.now load) }
     ensures sender { sender.new ≡ advanced mode sender.old }
 {
     let front = Front::next(sender, mode);
@@ -191,16 +183,15 @@ fn lay_fronted<'a>(
     requires post { MayPost (envelope_in parts.now) cargo.now (load ∷ []) }
     requires secured { IsSecuredAs parts.now.settings (Some (front_in front.now)) }
     requires senders { IsSendersSecurity (front_in front.now) }
-    requires room { start + length (laid_load (envelope_in parts.now) index (cargo_in cargo.now) load
-        (Some (front_in front.now))) ≤ length free.old }
-    ensures laid { free.new ≡ laid free.old start (laid_load (envelope_in parts.now) index
-        (cargo_in cargo.now) load (Some (front_in front.now))) }
-    ensures header { IsWritten (load_header (envelope_in parts.now) index (cargo_in cargo.now) load
-        (Some (front_in front.now))) }
-    ensures payload { result.0 ≡ start + length (header_bytes (load_header (envelope_in parts.now)
-        index (cargo_in cargo.now) load (Some (front_in front.now)))) }
-    ensures end { result.1 ≡ start + length (laid_load (envelope_in parts.now) index
-        (cargo_in cargo.now) load (Some (front_in front.now))) }
+    requires room { start + length (laid_by parts.now index cargo.now load (Some (front_in front.now)))
+        ≤ length free.old }
+    ensures laid { free.new ≡ laid free.old start
+        (laid_by parts.now index cargo.now load (Some (front_in front.now))) }
+    ensures header { IsWritten (load_header_by parts.now index cargo.now load (Some (front_in front.now))) }
+    ensures payload { result.0 ≡ start
+        + length (header_laid_by parts.now index cargo.now load (Some (front_in front.now))) }
+    ensures end { result.1 ≡ start
+        + length (laid_by parts.now index cargo.now load (Some (front_in front.now))) }
 {
     lay_out(parts, cargo, load, index, Some(front.part()), free, start)
 }
@@ -217,18 +208,18 @@ fn lay_out<'a>(
 ) -> (usize, usize)
     requires few { index < most_datagrams }
     requires post { MayPost (envelope_in parts.now) cargo.now (load ∷ []) }
-    requires secured { IsSecuredAs parts.now.settings (if_there security_in security) }
-    requires senders { IfSome (if_there security_in security) IsSendersSecurity }
-    requires room { start + length (laid_load (envelope_in parts.now) index (cargo_in cargo.now) load
-        (if_there security_in security)) ≤ length free.old }
-    ensures laid { free.new ≡ laid free.old start (laid_load (envelope_in parts.now) index
-        (cargo_in cargo.now) load (if_there security_in security.entry)) }
-    ensures header { IsWritten (load_header (envelope_in parts.now) index (cargo_in cargo.now) load
-        (if_there security_in security.entry)) }
-    ensures payload { result.0 ≡ start + length (header_bytes (load_header (envelope_in parts.now)
-        index (cargo_in cargo.now) load (if_there security_in security.entry))) }
-    ensures end { result.1 ≡ start + length (laid_load (envelope_in parts.now) index
-        (cargo_in cargo.now) load (if_there security_in security.entry)) }
+    requires secured { IsSecuredAs parts.now.settings (security_of security) }
+    requires senders { IfSome (security_of security) IsSendersSecurity }
+    requires room { start + length (laid_by parts.now index cargo.now load (security_of security))
+        ≤ length free.old }
+    ensures laid { free.new ≡ laid free.old start
+        (laid_by parts.now index cargo.now load (security_of security.entry)) }
+    ensures header { IsWritten
+        (load_header_by parts.now index cargo.now load (security_of security.entry)) }
+    ensures payload { result.0 ≡ start
+        + length (header_laid_by parts.now index cargo.now load (security_of security.entry)) }
+    ensures end { result.1 ≡ start
+        + length (laid_by parts.now index cargo.now load (security_of security.entry)) }
 {
     let header = parts.header(index, cargo.ids(load), security);
     cargo.lay(free, start, &header, load)

@@ -2,27 +2,16 @@
 ghost use Rattle.std.specs.Prelude.{◌≡◌, ◌≤◌, is_some, length};
 ghost use Rattle.ua_binary.specs.Wire.{flag};
 ghost use Rattle.uadp_header.specs.Spelling.{len_if};
-ghost use Rattle.writer_group.specs.Envelopes.{mode_of, frame_room};
+ghost use Rattle.writer_group.specs.Envelopes.{frame_room};
 ghost use Rattle.writer_group.specs.Payloads.{fixed_header};
 ghost use Rattle.writer_group.specs.Turns.{settings_of};
 
 use crate::header_parts::whole;
 use dataset_writer::WriterSettings;
-use message_guard::Mode;
-use ps_config::{GroupPart, Publisher, Security, WriterPart, header_size, signature_size};
+use ps_config::{GroupPart, Publisher, WriterPart, header_size, signature_size};
 
 /// The bytes of a payload header that lists one writer: a count and an id.
 const ONE_WRITER_BYTES: u32 = 3;
-
-pub(crate) fn mode_of(security: Security) -> Mode
-    ensures { result ≡ mode_of security }
-{
-    match security {
-        Security::None => Mode::None,
-        Security::Sign => Mode::Sign,
-        Security::Encrypt => Mode::Encrypt,
-    }
-}
 
 /// What a writer of the configuration is set to.
 pub(crate) fn settings_of(writer: &WriterPart) -> WriterSettings

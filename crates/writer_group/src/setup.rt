@@ -1,12 +1,10 @@
 //! What a group is made of.
-ghost use Rattle.std.specs.Prelude.{◌≡◌, ◌<◌, ◌≤◌, ◌-◌, [], true, All, IfOk, if◌then◌else◌, length, map};
-ghost use Rattle.fixed_layout.specs.Slots.{layout_of};
-ghost use Rattle.ps_config.specs.Headers.{signature_len};
+ghost use Rattle.std.specs.Prelude.{◌≡◌, ◌<◌, ◌≤◌, [], true, All, IfOk, if◌then◌else◌, length, map};
 ghost use Rattle.ps_config.specs.Rooms.{is_fixed};
 ghost use Rattle.ps_config.specs.Sound.{IsGroup as IsSoundGroup};
 ghost use Rattle.ps_config.specs.FixedSound.{IsFixedGroup, writer_slot};
 ghost use Rattle.writer_group.specs.Payloads.{fixed_header, slots_of};
-ghost use Rattle.writer_group.specs.Setup.{AreNew};
+ghost use Rattle.writer_group.specs.Setup.{AreNew, AreSlotsOf};
 
 use crate::settings::{fixed_header, settings_of};
 use arrayvec::ArrayVec;
@@ -40,9 +38,7 @@ pub(crate) fn slots_of(config: &Config, group: &GroupPart) -> Slots
     requires sound { IsSoundGroup config.now group.now }
     requires few { length group.now.writer ≤ 16 }
     ensures start { result.start ≡ fixed_header config.now.publisher.id group.now }
-    ensures slots { is_fixed group.now.layout ≡ true → result
-        ≡ layout_of (fixed_header config.now.publisher.id group.now)
-        (group.now.max_size - signature_len group.now.security) (slots_of config.now group.now) }
+    ensures slots { AreSlotsOf config.now group.now result }
 {
     let start = fixed_header(&config.publisher.id, group);
     let limit = group

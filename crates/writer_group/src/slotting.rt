@@ -1,10 +1,10 @@
 //! The payload of a fixed group's datagram.
-ghost use Rattle.std.specs.Prelude.{◌≡◌, ◌≤◌, ◌+◌, ◌-◌, ◌++◌, All, length, map, max, take};
+ghost use Rattle.std.specs.Prelude.{◌≡◌, ◌≤◌, ◌+◌, ◌-◌, ◌++◌, All, length, max, take};
 ghost use Rattle.ua_binary.specs.Writing.{Puts};
 ghost use Rattle.fixed_layout.specs.Slots.{end_of, AreApart};
-ghost use Rattle.fixed_layout.specs.Datagrams.{last_end, AreFrames, fixed_payload};
-ghost use Rattle.writer_group.specs.Holding.{frames_at, spelled_at, IsWithin};
-ghost use Rattle.writer_group.specs.Slotting.{placed_all};
+ghost use Rattle.fixed_layout.specs.Datagrams.{last_end, AreFrames};
+ghost use Rattle.writer_group.specs.Holding.{all_spelled, frames_at, IsWithin};
+ghost use Rattle.writer_group.specs.Slotting.{placed_all, slots_by};
 ghost use Rattle.writer_group.specs.Payloads.{in_slots};
 
 use crate::spelled::{Frames, SpelledFrame};
@@ -25,8 +25,7 @@ pub(crate) fn put_slots(
     requires frames { AreFrames slots.now.slots (in_slots (frames_at bytes.now frames.now)) }
     requires within { All (IsWithin (length bytes.now)) frames.now.list.items }
     requires room { pen.old.at + (last_end slots.now.slots - slots.now.start) ≤ length pen.old.bytes.now }
-    ensures { Puts pen.old pen.new (fixed_payload slots.now.start slots.now.slots
-        (in_slots (frames_at bytes.now frames.now))) }
+    ensures { Puts pen.old pen.new (slots_by slots.now (frames_at bytes.now frames.now)) }
 {
     let header = pen.at - start;
     let end = start + slots.end() as usize;
@@ -50,11 +49,11 @@ fn lay_slots(
 )
     requires header { header ≡ slots.now.start }
     requires apart { AreApart slots.now.start slots.now.slots }
-    requires frames { AreFrames slots.now.slots (in_slots (map (spelled_at bytes.now) frames.now)) }
+    requires frames { AreFrames slots.now.slots (in_slots (all_spelled bytes.now frames.now)) }
     requires within { All (IsWithin (length bytes.now)) frames.now }
     requires end { length datagram.old ≡ max slots.now.start (last_end slots.now.slots) }
     ensures { datagram.new ≡ take header datagram.old
-        ++ fixed_payload slots.now.start slots.now.slots (in_slots (map (spelled_at bytes.now) frames.now)) }
+        ++ slots_by slots.now (all_spelled bytes.now frames.now) }
 {
     datagram[header..].fill(0);
     place_frames(datagram, slots, bytes, frames);
@@ -62,11 +61,11 @@ fn lay_slots(
 
 /// Places each frame in its writer's slot.
 fn place_frames(datagram: &mut [u8], slots: &Slots, bytes: &[u8], frames: &[SpelledFrame])
-    requires frames { AreFrames slots.now.slots (in_slots (map (spelled_at bytes.now) frames.now)) }
+    requires frames { AreFrames slots.now.slots (in_slots (all_spelled bytes.now frames.now)) }
     requires within { All (IsWithin (length bytes.now)) frames.now }
     requires room { All (λ slot. end_of slot ≤ length datagram.old) slots.now.slots }
     ensures { datagram.new ≡ placed_all slots.now.slots datagram.old
-        (in_slots (map (spelled_at bytes.now) frames.now)) }
+        (in_slots (all_spelled bytes.now frames.now)) }
 {
     for frame in frames {
         slots.place(datagram, frame.writer, &bytes[frame.start..frame.end]);

@@ -4,7 +4,8 @@ use Rattle.uadp_header.specs.Headers.{SecurityValue}
 use Rattle.uadp_header.specs.Spelling.{IsSendersSecurity}
 use Rattle.message_guard.specs.Modes.{is_secured}
 use Rattle.message_guard.specs.Senders.{MayProtect, SenderState, advanced, front_value, made_of as sealed_of}
-use Rattle.writer_group.specs.Envelopes.{IsSecuredAs, mode_of}
+use Rattle.ps_config.specs.Headers.{mode_of}
+use Rattle.writer_group.specs.Envelopes.{IsSecuredAs}
 use Rattle.writer_group.specs.Holding.{cargo_in, envelope_in}
 use Rattle.writer_group.specs.Numbers.{front_in}
 use Rattle.writer_group.specs.Posting.{laid_load}

@@ -10,11 +10,11 @@ use Rattle.writer_group.proofs.SpelledOut.{WereSpelled, are-spelled, spelled-out
 use Rattle.writer_group.proofs.group.Group.answer.Goals as goal
 use Rattle.writer_group.proofs.group.Group.answer.Goals.{After-answer_all}
 
-spelled : (c : After-answer_all) → WereSpelled c.args.group.now c.args.metas.now c.args.on.now c.clear.new.self c.answer_all.new.bytes c.answer_all.new.frames
+spelled : (c : After-answer_all) → WereSpelled c.args.group.now c.args.metas.now c.args.on.now c.forget.new.self c.answer_all.new.bytes c.answer_all.new.frames
 spelled c = record {
-  reserved = c.clear.ensures.reserved;
-  no_loads = c.clear.ensures.loads;
-  no_ranges = c.clear.ensures.ranges;
+  reserved = c.forget.ensures.reserved;
+  no_loads = c.forget.ensures.loads;
+  no_ranges = c.forget.ensures.ranges;
   long = omega arith;
   on_are = c.requires.may.on_are;
   most = c.requires.may.few;
@@ -31,10 +31,10 @@ returns-clause-answered c = λ past.
     let r = (goal.at.returns-clause-answered c).After-answer_all in
     let told = told_of c.args.now c.args.closing c.args.metas.now c.args.rows.now in
     let were = spelled r in
-    let out = spelled_out c.clear.new.self c.answer_all.new.bytes c.answer_all.new.frames in
+    let out = spelled_out c.forget.new.self c.answer_all.new.bytes c.answer_all.new.frames in
     subst (λ (l : List Writer). HaveAnswered c.args.group.now told c.args.on.now past c.args.self.now.writers.items l (spelled_in out)) (sym (kept r))
     (subst (HaveAnswered c.args.group.now told c.args.on.now past c.args.self.now.writers.items c.answer_all.new.writers)
-    (sym (spelled-out c.args.group.now c.args.metas.now c.args.on.now c.clear.new.self c.answer_all.new.bytes c.answer_all.new.frames were))
+    (sym (spelled-out c.args.group.now c.args.metas.now c.args.on.now c.forget.new.self c.answer_all.new.bytes c.answer_all.new.frames were))
     (subst (λ (l : List Writer). HaveAnswered c.args.group.now told c.args.on.now past l c.answer_all.new.writers (frames_at c.answer_all.new.bytes c.answer_all.new.frames)) c.deref_mut.ensures.value
     (c.answer_all.ensures.answered past)))
 
@@ -47,4 +47,4 @@ returns-clause-goes_on c =
 pub returns-clause-spelled : goal.returns-clause-spelled
 returns-clause-spelled c =
     let r = (goal.at.returns-clause-spelled c).After-answer_all in
-    are-spelled c.args.group.now c.args.metas.now c.args.on.now c.clear.new.self c.answer_all.new.bytes c.answer_all.new.frames (spelled r)
+    are-spelled c.args.group.now c.args.metas.now c.args.on.now c.forget.new.self c.answer_all.new.bytes c.answer_all.new.frames (spelled r)

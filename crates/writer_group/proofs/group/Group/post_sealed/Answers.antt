@@ -1,7 +1,7 @@
+use Rattle.ps_config.specs.Headers.{mode_of}
 use Rattle.writer_group.proofs.PostLaws.{is-posted, may-fill}
 use Rattle.std.proofs.Common.{Some, length, ap, ◌∙◌, List}
 use Rattle.writer_group.specs.declared.load.Load.{Load}
-use Rattle.writer_group.specs.Envelopes.{mode_of}
 use Rattle.writer_group.specs.Sealing.{advanced_by}
 use Rattle.writer_group.proofs.group.Group.post_sealed.Goals as goal
 

@@ -1,9 +1,9 @@
 use Rattle.std.proofs.Common.{◌≡◌, refl, sym, ap, subst, ◌∙◌, arith, length, Option, Some}
 use Rattle.ps_config.proofs.Roomy.{chunk_roomy}
 use Rattle.ps_config.specs.declared.parts.GroupPart.{GroupPart}
+use Rattle.ps_config.specs.Headers.{mode_of}
 use Rattle.message_guard.specs.Senders.{SenderState}
 use Rattle.writer_group.specs.declared.datagrams.Datagrams.{Datagrams}
-use Rattle.writer_group.specs.Envelopes.{mode_of}
 use Rattle.writer_group.specs.Lending.{lent_in}
 use Rattle.writer_group.specs.Making.{IsPosted, MayMake}
 use Rattle.writer_group.specs.Sealing.{advanced_by}
