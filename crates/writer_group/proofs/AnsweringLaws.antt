@@ -9,10 +9,9 @@ use Rattle.frame_codec.specs.declared.frame.Frame.{Frame as FrameWords}
 use Rattle.frame_codec.specs.Frames.{Frame}
 use Rattle.frame_codec.specs.Words.{frame_in}
 use Rattle.pubsub_model.specs.Frames.{PlacedFrame}
-use Rattle.pubsub_model.specs.Cadence.{WriterTurn, WriterDeed, HadTurn, cadence}
+use Rattle.pubsub_model.specs.Cadence.{WriterTurn, WriterDeed}
 use Rattle.dataset_writer.specs.declared.writer.Writer.{Writer}
 use Rattle.dataset_writer.specs.Standing.{IsWriter}
-use Rattle.dataset_writer.specs.Turns.{model_settings, latest_answer}
 use Rattle.config_tables.specs.declared.words.Layout.{Layout}
 use Rattle.ps_config.specs.declared.parts.GroupPart.{GroupPart}
 use Rattle.ps_config.specs.declared.parts.WriterPart.{WriterPart}

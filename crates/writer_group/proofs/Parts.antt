@@ -1,5 +1,5 @@
 -- What holds of the group with an index, and what clauses say of it.
-use Rattle.std.proofs.Common.{ℕ, ◌<◌, sym, subst, length}
+use Rattle.std.proofs.Common.{ℕ, ◌<◌, subst, length}
 use Rattle.std.specs.List.{HoldsAt}
 use Rattle.std.proofs.lemmas.List.{get_or_default}
 use Rattle.ps_config.specs.declared.parts.Config.{Config}

@@ -1,5 +1,5 @@
 -- A whole turn: its datagrams are those of the definition, and where it leaves the group and the sender.
-use Rattle.std.proofs.Common.{◌≡◌, ℕ, ◌+◌, ◌%◌, ◌≤◌, Bool, List, [], ◌∷◌, length, map, get_or, refl, sym, ap, subst, ◌∙◌, arith, Option, Some, All}
+use Rattle.std.proofs.Common.{◌≡◌, ℕ, ◌+◌, ◌%◌, ◌≤◌, Bool, List, [], ◌∷◌, length, map, get_or, refl, sym, ap, subst, ◌∙◌, arith, Option, Some}
 use Rattle.std.specs.Prelude.{if◌then◌else◌}
 use Rattle.std.proofs.lemmas.List.{length-map}
 use Rattle.dataset_meta.specs.Metas.{MetaData}
@@ -16,7 +16,7 @@ use Rattle.writer_group.specs.declared.sampled.Sampled.{Sampled}
 use Rattle.writer_group.specs.Answering.{HaveAnswered, MayGo, StandAfter, AreAnswers}
 use Rattle.writer_group.specs.Holding.{CargoValue, payload_in}
 use Rattle.writer_group.specs.Making.{AreSpelled, cargo_with, loads_for, passed, spelled_in, IsPosted}
-use Rattle.writer_group.specs.Payloads.{meta_at, payloads_of, size_of, writer_at, Spelled}
+use Rattle.writer_group.specs.Payloads.{meta_at, payloads_of, size_of, writer_at}
 use Rattle.writer_group.specs.Sealing.{datagrams_from, AreWritten, Payload, advanced_by, envelope_with}
 use Rattle.writer_group.specs.Standing.{HasTicked, IsGroup, IsMadeFor, MayGoOn, datagrams_in, input_of, metas_for, MayTick, IsSenderFor}
 use Rattle.writer_group.specs.Turns.{GroupDeed, HadGroupTurn, TurnInput, envelope_of, frames_in, last_moment, made_in, settings_of, told_of, turn_datagrams, turned, turns_from}

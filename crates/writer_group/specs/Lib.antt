@@ -3,7 +3,6 @@ pub mod Turns
 pub mod Payloads
 pub mod Envelopes
 pub mod Sealing
-
 -- What the contracts of the public calls and the laws say beside it: where a group stands and what its turns ask, the limits, a writer's own part of
 -- a turn, a group's part of the configuration, a sender that may be lent, the groups that share one, and what headers and counts ask.
 pub mod Standing
@@ -13,7 +12,6 @@ pub mod Parts
 pub mod Lending
 pub mod Sharing
 pub mod Turning
-
 -- Inner machinery of the code's proofs, which no caller needs: what the buffer, the loads and the fronts in memory stand for, and the steps in which
 -- the datagrams are planned, laid and posted.
 pub mod Holding
