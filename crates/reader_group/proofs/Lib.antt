@@ -25,3 +25,7 @@ pub mod Chunking
 pub mod Taking
 pub mod BadParts
 pub mod Handing
+pub mod Numbered
+pub mod Signed
+pub mod Asked
+pub mod BytesLeft

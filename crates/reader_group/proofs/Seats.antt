@@ -4,12 +4,12 @@ use Rattle.std.specs.Prelude.{Contains}
 use Rattle.std.proofs.lemmas.List.{length-map, get_or-map, get_or_default}
 use Rattle.std.proofs.lemmas.List.Elements.{All-contains, Contains-get_or, at_from_Contains}
 use Rattle.std.proofs.lemmas.List.Folds.{length-flat_map-take}
-use Rattle.dataset_meta.specs.Metas.{MetaData}
+use Rattle.dataset_meta.specs.Metas.{MetaData, no_meta}
 use Rattle.ps_config.specs.declared.parts.Config.{Config}
 use Rattle.ps_config.specs.declared.parts.ReadGroupPart.{ReadGroupPart}
 use Rattle.ps_config.specs.declared.parts.ReaderPart.{ReaderPart}
 use Rattle.ps_config.specs.Sound.{IsSound, IsReadGroup, IsReader}
-use Rattle.reader_group.specs.Members.{seat_of, seat_at, no_meta, no_seat}
+use Rattle.reader_group.specs.Members.{seat_of, seat_at, no_seat}
 use Rattle.reader_group.specs.Settings.{seat_in, setting_by}
 
 pub few_readers : (config : Config) (group : ReadGroupPart) → IsSound config → Contains config.readgroup group → length group.reader ≤ 16

@@ -19,8 +19,8 @@ use Rattle.reader_group.specs.declared.refusal.Taken.{Taken}
 use Rattle.reader_group.specs.declared.tally.Tally.{Tally}
 use Rattle.reader_group.specs.Members.{MemberValue}
 use Rattle.reader_group.specs.Payloads.{Payload, part_count}
-use Rattle.reader_group.specs.Opening.{Opened, mode_of, verdict}
-use Rattle.reader_group.specs.Begun.{payload_held, Opens}
+use Rattle.reader_group.specs.Opening.{Opened, bytes_left, mode_of, verdict}
+use Rattle.reader_group.specs.Begun.{LeavesBytes, payload_held, Opens}
 use Rattle.reader_group.specs.Groups.{AreMembers, AreReaders, IsTallyOf, Stands, IsMadeOf, guard_of, members_of, index_of}
 use Rattle.reader_group.specs.Plain.{Setting, PlainGroup, Fed, Got, all_fed, feds, is_raised, receipt_of, stamp_by, taken_on, answer_on, answer, step, verdict_in}
 use Rattle.reader_group.specs.Settings.{setting_by, setting_of}
@@ -116,6 +116,15 @@ at_part config group part made is = setting-at config (index_of group) part made
 pub made_setup : (config : Config) (group : ReaderGroup) (part : ReadGroupPart) → IsMadeOf config group → part ≡ get_or config.readgroup (index_of group) part
     → setup_of (guard_of group) ≡ (setting_by config part).setup
 made_setup config group part made is = made.setup ∙ ap (λ (s : Setting). s.setup) (at_part config group part made is)
+
+-- what is left of the bytes, by the group's part and guard, is what is left of them by its setting
+pub bytes-are : (config : Config) (group : ReaderGroup) (part : ReadGroupPart) (plain : PlainGroup) (datagram bytes : List ℕ) → IsMadeOf config group → part ≡ get_or config.readgroup (index_of group) part
+    → Stands (setting_of config (index_of group)) plain group → LeavesBytes part (guard_of group) datagram bytes
+    → bytes ≡ bytes_left (setting_of config (index_of group)).group (setting_of config (index_of group)).setup plain.accepted datagram
+bytes-are config group part plain datagram bytes made is stands left =
+    left plain.accepted stands.guard
+    ∙ ap (λ (s : Setup). bytes_left part s plain.accepted datagram) (made_setup config group part made is)
+    ∙ ap (λ (t : Setting). bytes_left t.group t.setup plain.accepted datagram) (sym (at_part config group part made is))
 
 pub made_readers : (config : Config) (group : ReaderGroup) (part : ReadGroupPart) → IsMadeOf config group → part ≡ get_or config.readgroup (index_of group) part
     → AreReaders (setting_by config part).seats (members_of group)

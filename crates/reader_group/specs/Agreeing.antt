@@ -111,3 +111,7 @@ SecuredAgrees sent setting way events =
     is_secured setting.setup.mode ≡ true → goes_by_numbers way ≡ true → SendsRise sent → AllSent sent setting way events
     → IsWayOf setting way events → ChunksNear (marks setting way events)
     → MemberIs way (marks setting way events) (member_at (plain setting events).members way.index)
+
+-- the law, for whichever reader of whichever secured group
+abbrev pub EachSecuredAgrees : (ℕ → List (ℕ × ℕ)) → Type 0
+EachSecuredAgrees sent = (setting : Setting) (way : Way) (events : List Event) → SecuredAgrees sent setting way events

@@ -1,5 +1,5 @@
 -- Arrivals: what comes to a reader of a read group, told by whole lists. Lists have the latest first.
-use Rattle.std.specs.Prelude.{ℕ, ◌+◌, ◌%◌, List, [], ◌∷◌, filter_map, fold, Bool, true, false, not, ◌&&◌, ◌||◌, ◌==◌, Option, Some, None, is_some, option_map, Result, Ok, Err, slice_index_or, if◌then◌else◌}
+use Rattle.std.specs.Prelude.{◌≡◌, ℕ, ◌+◌, ◌%◌, List, [], ◌∷◌, filter_map, fold, Bool, true, false, not, ◌&&◌, ◌||◌, ◌==◌, Option, Some, None, is_some, option_map, Result, Ok, Err, slice_index_or, if◌then◌else◌}
 use Rattle.std.specs.Option.{option_map_or}
 use Rattle.dataset_meta.specs.Metas.{MetaData}
 use Rattle.pubsub_model.specs.declared.reading.Why.{Why}
@@ -25,7 +25,7 @@ use Rattle.reader_group.specs.Members.{Seat}
 use Rattle.reader_group.specs.SlotFrames.{slot_frame_at}
 use Rattle.reader_group.specs.Payloads.{Piece, Message, Chunked, Slotted, Missing, pieces}
 use Rattle.reader_group.specs.Opening.{Opened, verdict}
-use Rattle.reader_group.specs.Plain.{Setting, Event, Got, Expired, Stopped, is_raised, stamp_by}
+use Rattle.reader_group.specs.Plain.{Setting, Event, Got, Expired, Stopped, is_raised, plain, stamp_by}
 
 -- the pairs of token and number that the group has accepted
 abbrev pub accepted_with : Setting → Accepted → Result Opened Refusal → Accepted
@@ -39,6 +39,10 @@ accepted setting (Got moment on datagram ∷ before) =
     accepted_with setting so_far (verdict setting.group setting.setup so_far datagram)
 accepted setting (Expired moment ∷ before) = accepted setting before
 accepted setting (Stopped reader why ∷ before) = accepted setting before
+
+-- the pairs of the plain reading are those that the datagrams tell
+abbrev pub AreTold : Setting → List Event → Type 0
+AreTold setting events = (plain setting events).accepted ≡ accepted setting events
 
 -- a reader of the group, and the place that a message's number stands for in a datagram of a token and a number
 pub record Way : Type 0 where

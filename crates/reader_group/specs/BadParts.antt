@@ -21,3 +21,8 @@ abbrev pub BadPartLeaves : Seat → Receipt → MemberValue → Piece → Type 0
 BadPartLeaves seat receipt member piece =
     let after = piece_case seat receipt member piece in
     after.1 ≡ true → IsLeft piece member after.0
+
+-- a part that can't be read leaves its reader, whichever reader and part
+abbrev pub BadPartsLeave : Type 0
+BadPartsLeave =
+    (seat : Seat) (receipt : Receipt) (member : MemberValue) (piece : Piece) → BadPartLeaves seat receipt member piece

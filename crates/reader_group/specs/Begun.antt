@@ -1,10 +1,11 @@
 -- Steps of opening a datagram: what is known once its header is read, and once its messages are found.
-use Rattle.std.specs.Prelude.{◌≡◌, ⊤, ℕ, ◌*◌, ◌/◌, ◌≤◌, List, [], length, map, take, drop, zip, true, All, Result, Ok, Err, slice_range}
+use Rattle.std.specs.Prelude.{◌≡◌, ⊤, ℕ, ◌*◌, ◌/◌, ◌≤◌, List, [], length, map, take, drop, zip, true, All, Result, Ok, Err, OnErr, slice_range}
 use Rattle.uadp_header.specs.Headers.{IdsValue, NoIds, ListOf, ChunkOf, HeaderValue, ids_of}
 use Rattle.uadp_header.specs.Layout.{header_at}
 use Rattle.payload_layout.specs.Payloads.{frame_at, frames_of, IsWithin}
 use Rattle.message_guard.specs.Acceptance.{Accepted}
-use Rattle.message_guard.specs.Guards.{Setup}
+use Rattle.message_guard.specs.declared.guard.Guard.{Guard}
+use Rattle.message_guard.specs.Guards.{Setup, IsGuardOf, setup_of}
 use Rattle.message_guard.specs.Opening as guards
 use Rattle.config_tables.specs.declared.words.Layout.{Layout}
 use Rattle.config_tables.specs.declared.words.Layout.TheVariants as layouts
@@ -17,7 +18,7 @@ use Rattle.reader_group.specs.declared.refusal.Refusal.{Refusal}
 use Rattle.reader_group.specs.Filter.{is_ours}
 use Rattle.reader_group.specs.Payloads as payloads
 use Rattle.reader_group.specs.Payloads.{Payload, Slots, Messages}
-use Rattle.reader_group.specs.Opening.{Opened, verdict, payload_refusals, judged}
+use Rattle.reader_group.specs.Opening.{Opened, bytes_left, verdict, payload_refusals, judged}
 
 -- the ids of a header, of which a list was kept
 abbrev pub ids_carried : Carried → List ℕ → IdsValue
@@ -91,3 +92,25 @@ abbrev pub Opens : ReadGroupPart → Result Opened Refusal → Result Begun Refu
 Opens group answer (Ok begun) room bytes =
     answer ≡ Ok (record { pass = begun.pass; payload = payload_held group.layout begun room bytes })
 Opens group answer (Err refusal) room bytes = answer ≡ Err refusal
+
+-- whatever the guard has accepted, the datagram is judged as by the plain definition
+abbrev pub OpensBy : ReadGroupPart → Guard → List ℕ → Result Begun Refusal → Room → List ℕ → Type 0
+OpensBy group guard datagram result room bytes =
+    (accepted : Accepted) → IsGuardOf accepted guard
+    → Opens group (verdict group (setup_of guard) accepted datagram) result room bytes
+
+-- whatever the guard has accepted, these bytes are left of the datagram
+abbrev pub LeavesBytes : ReadGroupPart → Guard → List ℕ → List ℕ → Type 0
+LeavesBytes group guard datagram bytes =
+    (accepted : Accepted) → IsGuardOf accepted guard → bytes ≡ bytes_left group (setup_of guard) accepted datagram
+
+-- whatever the guard has accepted, the datagram is refused for its header, by the filter or by the guard, or its opening is begun
+abbrev pub BeginsBy : ReadGroupPart → Guard → List ℕ → Result Begun Refusal → Room → Type 0
+BeginsBy group guard datagram result room =
+    (accepted : Accepted) → IsGuardOf accepted guard → IsBegun group (setup_of guard) accepted datagram result room
+
+-- whatever the guard has accepted, a datagram that is refused before it is decrypted is left as it is
+abbrev pub LeavesRefused : ReadGroupPart → Guard → List ℕ → Result Begun Refusal → Type 0
+LeavesRefused group guard datagram result =
+    (accepted : Accepted) → IsGuardOf accepted guard
+    → OnErr result (bytes_left group (setup_of guard) accepted datagram ≡ datagram)

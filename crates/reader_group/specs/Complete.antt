@@ -84,3 +84,9 @@ abbrev pub WholeIsHeld : Setting → PlainGroup → ℕ → List Bool → List �
 WholeIsHeld setting group now on datagram k row =
     (brings : BringsWhole setting group on datagram k row)
     → HoldsFrame (seat_at setting.seats k).part.numbering brings.frame row (member_at (step setting group (Got now on datagram)).members k).kept
+
+-- a key frame that comes alone is held, whatever the group went through
+abbrev pub WholesAreHeld : Type 0
+WholesAreHeld =
+    (setting : Setting) (group : PlainGroup) (now : ℕ) (on : List Bool) (datagram : List ℕ) (reader : ℕ)
+    (row : List DataValue) → WholeIsHeld setting group now on datagram reader row

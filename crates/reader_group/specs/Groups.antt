@@ -1,17 +1,25 @@
 -- Which read group in memory has the plain reading of what befell it.
-use Rattle.std.specs.Prelude.{◌≡◌, ℕ, ◌<◌, List, length, sum_by, slice_set, slice_index_or}
+use Rattle.std.specs.Prelude.{◌≡◌, ℕ, ◌<◌, Bool, List, length, map, sum_by, slice_set, slice_index_or, Result}
 use Rattle.std.specs.List.{HoldsAt}
+use Rattle.dataset_reader.specs.declared.reader.Reader.{Reader}
+use Rattle.dataset_reader.specs.Reader.{IsReaderOf, kept_by}
 use Rattle.message_guard.specs.declared.guard.Guard.{Guard}
 use Rattle.message_guard.specs.Guards.{IsGuardOf, setup_of}
 use Rattle.ps_config.specs.declared.parts.Config.{Config}
+use Rattle.ps_config.specs.declared.parts.ReadGroupPart.{ReadGroupPart}
 use Rattle.ps_config.specs.Sound.{IsSound}
 use Rattle.reader_group.specs.declared.member.Member.{Member}
 use Rattle.reader_group.specs.declared.group.ReaderGroup.{ReaderGroup}
+use Rattle.reader_group.specs.declared.receipt.Receipt.{Receipt}
+use Rattle.reader_group.specs.declared.refusal.Refusal.{Refusal}
+use Rattle.reader_group.specs.declared.refusal.Taken.{Taken}
 use Rattle.reader_group.specs.declared.tally.Tally.{Tally}
 use Rattle.reader_group.specs.Members.{Seat, MemberValue, seat_at}
 use Rattle.reader_group.specs.MemberWords.{IsMemberOf, HoldsRowsOf}
-use Rattle.reader_group.specs.Plain.{Setting, PlainGroup, Fed, member_at}
-use Rattle.reader_group.specs.Settings.{setting_of}
+use Rattle.reader_group.specs.Payloads.{Payload}
+use Rattle.reader_group.specs.Opening.{bytes_left}
+use Rattle.reader_group.specs.Plain.{Setting, PlainGroup, Event, Fed, all_fed, answer, member_at, opening, step}
+use Rattle.reader_group.specs.Settings.{setting_by, setting_of}
 
 abbrev pub index_of : ReaderGroup → ℕ
 index_of group = group.index
@@ -40,10 +48,31 @@ pub record AreReaders (seats : List Seat) (members : List Member) : Type 0 where
 abbrev pub ChangesAt : ℕ → List Member → List Member → Type 0
 ChangesAt k old new = (d : Member) → new ≡ slice_set old k (slice_index_or new k d)
 
+-- the readers, in whichever seats, become f of them
+abbrev pub AllBecome : (List Seat → List MemberValue → List MemberValue) → List Member → List Member → Type 0
+AllBecome f old new =
+    (seats : List Seat) (values : List MemberValue) → AreMembers seats values old → AreMembers seats (f seats values) new
+
+-- each reader holds rows of its meta alone where it did before
+abbrev pub KeepReaders : List Member → List Member → Type 0
+KeepReaders old new = (seats : List Seat) → AreReaders seats old → AreReaders seats new
+
 -- the sums of what the readers were given
 pub record IsTallyOf (tally : Tally) (feds : List Fed) : Type 0 where
   pub matched : tally.matched ≡ sum_by (λ fed. fed.matched) feds
   pub bad : tally.bad ≡ sum_by (λ fed. fed.bad) feds
+
+-- the readers are fed a datagram with this payload as by the plain reading
+abbrev pub AreFedBy : List Seat → Receipt → Bool → List Bool → Payload → List Member → List Member → Type 0
+AreFedBy seats receipt raised on payload old new =
+    (values : List MemberValue) → AreMembers seats values old
+    → AreMembers seats (map (λ fed. fed.member) (all_fed seats values receipt raised on payload)) new
+
+-- the sums are those of the plain reading of a datagram with this payload
+abbrev pub AreTallied : List Seat → Receipt → Bool → List Bool → Payload → List Member → Tally → Type 0
+AreTallied seats receipt raised on payload old tally =
+    (values : List MemberValue) → AreMembers seats values old
+    → IsTallyOf tally (all_fed seats values receipt raised on payload)
 
 -- the group is where its plain reading is
 pub record Stands (setting : Setting) (plain : PlainGroup) (group : ReaderGroup) : Type 0 where
@@ -56,3 +85,64 @@ pub record IsMadeOf (config : Config) (group : ReaderGroup) : Type 0 where
   pub index : index_of group < length config.readgroup
   pub setup : setup_of (guard_of group) ≡ (setting_of config (index_of group)).setup
   pub readers : AreReaders (setting_of config (index_of group)).seats (members_of group)
+
+-- ---- what calls ensure
+
+-- a group that nothing befell
+abbrev pub IsOpening : Config → ℕ → ReaderGroup → Type 0
+IsOpening config index group = Stands (setting_of config index) (opening (setting_of config index)) group
+
+-- an event takes a group on as it takes its plain reading on
+abbrev pub TakesOn : Setting → Event → ReaderGroup → ReaderGroup → Type 0
+TakesOn setting event old new =
+    (plain : PlainGroup) → Stands setting plain old → Stands setting (step setting plain event) new
+
+-- an event takes a group of this configuration on as it takes its plain reading on
+abbrev pub StepsBy : Config → Event → ReaderGroup → ReaderGroup → Type 0
+StepsBy config event old new = TakesOn (setting_of config (index_of old)) event old new
+
+-- what a group of this configuration answers to a datagram is what its plain reading has
+abbrev pub IsAnswer : Config → ReaderGroup → ℕ → List Bool → List ℕ → Result Taken Refusal → Type 0
+IsAnswer config group now on datagram result =
+    (plain : PlainGroup) → Stands (setting_of config (index_of group)) plain group
+    → result ≡ answer (setting_of config (index_of group)) plain now on datagram
+
+-- what is left of the bytes of a datagram, by the group's plain reading
+abbrev pub AreLeft : Config → ReaderGroup → List ℕ → List ℕ → Type 0
+AreLeft config group datagram bytes =
+    (plain : PlainGroup) → Stands (setting_of config (index_of group)) plain group →
+    let setting = setting_of config (index_of group) in
+    bytes ≡ bytes_left setting.group setting.setup plain.accepted datagram
+
+-- what the reader at this index keeps is what the plain reading has
+abbrev pub IsKeptAt : ReaderGroup → ℕ → Reader → Type 0
+IsKeptAt group index reader =
+    (setting : Setting) (plain : PlainGroup) → Stands setting plain group
+    → kept_by (seat_at setting.seats index).meta.fields reader ≡ (member_at plain.members index).kept
+
+-- the reader at this index holds rows of its meta alone
+abbrev pub IsMadeAt : ReaderGroup → ℕ → Reader → Type 0
+IsMadeAt group index reader =
+    (config : Config) → IsMadeOf config group
+    → IsReaderOf (seat_at (setting_of config (index_of group)).seats index).meta reader
+
+-- whether the reader at this index is late is what the plain reading has
+abbrev pub IsLateAt : ReaderGroup → ℕ → Bool → Type 0
+IsLateAt group index late =
+    (setting : Setting) (plain : PlainGroup) → Stands setting plain group
+    → late ≡ (member_at plain.members index).late
+
+-- whether the reader at this index is ready is what the plain reading has
+abbrev pub IsReadyAt : ReaderGroup → ℕ → Bool → Type 0
+IsReadyAt group index ready =
+    (setting : Setting) (plain : PlainGroup) → Stands setting plain group
+    → ready ≡ (member_at plain.members index).ready
+
+-- the readers of a read group of any configuration, before anything
+abbrev pub AreNew : ReadGroupPart → List Member → Type 0
+AreNew group members =
+    (config : Config) → AreMembers (setting_by config group).seats (opening (setting_by config group)).members members
+
+-- the readers of a read group of any configuration hold rows of their metas alone
+abbrev pub AreReadersOf : ReadGroupPart → List Member → Type 0
+AreReadersOf group members = (config : Config) → AreReaders (setting_by config group).seats members

@@ -84,3 +84,19 @@ pub record HandsSlots (ids : IdsValue) (header : List ℕ) (slots : List Slot) (
 abbrev pub SlotsComeBack : IdsValue → List ℕ → List Slot → List (ℕ × List ℕ) → ReaderPart → Type 0
 SlotsComeBack ids header slots frames reader =
     AreApart (length header) slots → AreFrames slots frames → HandsSlots ids header slots frames reader
+
+-- a group that takes a spelled datagram hands its payload on, whichever group and datagram
+abbrev pub EachHandsOn : Type 0
+EachHandsOn =
+    (group : ReadGroupPart) (setup : Setup) (accepted : Accepted) (header : HeaderValue) (payload datagram : List ℕ)
+    → HandsOn group setup accepted header payload datagram
+
+-- whichever header and chunk
+abbrev pub EachChunkComesBack : Type 0
+EachChunkComesBack = (header : List ℕ) (writer : ℕ) (bytes : List ℕ) → ChunkComesBack header writer bytes
+
+-- whichever header, slots and frames, for whichever reader
+abbrev pub EachSlotComesBack : Type 0
+EachSlotComesBack =
+    (ids : IdsValue) (header : List ℕ) (slots : List Slot) (frames : List (ℕ × List ℕ)) (reader : ReaderPart)
+    → SlotsComeBack ids header slots frames reader

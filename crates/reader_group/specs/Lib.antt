@@ -15,3 +15,7 @@ pub mod Arrivals
 pub mod Agreeing
 pub mod BadParts
 pub mod Handing
+pub mod Numbered
+pub mod Signed
+pub mod Asked
+pub mod FaultTexts

@@ -1,15 +1,27 @@
 -- Which reader in memory has what a read group keeps for it.
-use Rattle.std.specs.Prelude.{◌≡◌, Bool}
+use Rattle.std.specs.Prelude.{◌≡◌, ℕ, ◌==◌, Bool, List, fold, Result}
+use Rattle.std.specs.List.{HoldsAt}
 use Rattle.dataset_meta.specs.Metas.{MetaData}
-use Rattle.frame_codec.specs.Words.{IsFrameOf}
+use Rattle.frame_codec.specs.declared.fault.FrameFault.{FrameFault}
+use Rattle.frame_codec.specs.Calls.{leaving}
+use Rattle.frame_codec.specs.Reading.{frame_at}
+use Rattle.frame_codec.specs.Words.{IsFrameOf, frame_in}
 use Rattle.receive_timer.specs.Told.{IsTimerOf}
-use Rattle.chunker.specs.Joiners.{IsJoinerOf}
+use Rattle.chunker.specs.Chunks.{Chunk}
+use Rattle.chunker.specs.declared.joiner.Joined.{Joined}
+use Rattle.chunker.specs.declared.joiner.Joiner.{Joiner}
+use Rattle.chunker.specs.Joiners.{IsJoinerOf, Meets}
+use Rattle.chunker.specs.Joining.{Joining, chunk_case, joined_bytes}
+use Rattle.chunker.specs.Joins.{numbered}
+use Rattle.ps_config.specs.declared.parts.ReaderPart.{ReaderPart}
 use Rattle.dataset_reader.specs.Reader.{kept_by, IsReaderOf}
 use Rattle.dataset_reader.specs.Reader as readers
 use Rattle.reader_group.specs.declared.member.Member.{Member}
+use Rattle.reader_group.specs.declared.receipt.Receipt.{Receipt}
 use Rattle.reader_group.specs.declared.tally.Tally.{Tally}
-use Rattle.reader_group.specs.Members.{Seat, MemberValue, numbering_of}
-use Rattle.reader_group.specs.Plain.{Fed}
+use Rattle.reader_group.specs.Members.{Seat, MemberValue, numbering_of, seat_of}
+use Rattle.reader_group.specs.Payloads.{Payload, Piece, Message, pieces}
+use Rattle.reader_group.specs.Plain.{Fed, fed_by, fed_if, fed_on, given, piece_case, read_case, unfed}
 
 pub record IsMemberOf (seat : Seat) (value : MemberValue) (member : Member) : Type 0 where
   pub kept : kept_by seat.meta.fields member.reader ≡ value.kept
@@ -38,3 +50,82 @@ pub record IsFed (seat : Seat) (fed : Fed) (member : Member) (tally : Tally) : T
   pub member_is : IsMemberOf seat fed.member member
   pub matched : tally.matched ≡ fed.matched
   pub bad : tally.bad ≡ fed.bad
+
+-- ---- what calls on a reader ensure
+
+-- what is kept for the reader, in whichever seat, becomes f of it
+abbrev pub Becomes : (Seat → MemberValue → MemberValue) → Member → Member → Type 0
+Becomes f old new = (seat : Seat) (value : MemberValue) → IsMemberOf seat value old → IsMemberOf seat (f seat value) new
+
+-- what is kept for the reader, in whichever seat, stays
+abbrev pub Stays : Member → Member → Type 0
+Stays old new = (seat : Seat) (value : MemberValue) → IsMemberOf seat value old → IsMemberOf seat value new
+
+-- what is kept for the reader at this index, in whichever seat, becomes f of it
+abbrev pub BecomesAt : (Seat → MemberValue → MemberValue) → ℕ → List Member → List Member → Type 0
+BecomesAt f index old new =
+    (seat : Seat) (value : MemberValue) → HoldsAt (IsMemberOf seat value) old index
+    → HoldsAt (IsMemberOf seat (f seat value)) new index
+
+-- the reader at this index holds rows of its meta alone where it did before
+abbrev pub KeepsRowsAt : ℕ → List Member → List Member → Type 0
+KeepsRowsAt index old new = (meta : MetaData) → HoldsAt (HoldsRowsOf meta) old index → HoldsAt (HoldsRowsOf meta) new index
+
+-- a datagram with this payload brings the reader at this index what the plain reading has
+abbrev pub IsFedAt : Seat → Receipt → Bool → Bool → Payload → ℕ → List Member → List Member → Type 0
+IsFedAt seat receipt raised enabled payload index old new =
+    (value : MemberValue) → HoldsAt (IsMemberOf seat value) old index
+    → HoldsAt (IsMemberOf seat (fed_by seat receipt raised enabled payload value).member) new index
+
+-- the counts are those of the plain reading of the reader at this index
+abbrev pub IsTalliedAt : Seat → Receipt → Bool → Bool → Payload → ℕ → List Member → Tally → Type 0
+IsTalliedAt seat receipt raised enabled payload index old tally =
+    (value : MemberValue) → HoldsAt (IsMemberOf seat value) old index
+    → Tells (fed_by seat receipt raised enabled payload value) tally
+
+-- a datagram with this payload brings the reader what the plain reading has
+abbrev pub IsFedBy : ReaderPart → MetaData → Receipt → Bool → Bool → Payload → Member → Member → Tally → Type 0
+IsFedBy part meta receipt raised enabled payload old new tally =
+    (value : MemberValue) → IsMemberOf (seat_of part meta) value old
+    → IsFed (seat_of part meta) (fed_by (seat_of part meta) receipt raised enabled payload value) new tally
+
+-- the reader is given its parts of a payload
+abbrev pub TakesParts : ReaderPart → MetaData → Receipt → Payload → Member → Member → Tally → Type 0
+TakesParts part meta receipt payload old new tally =
+    (value : MemberValue) → IsMemberOf (seat_of part meta) value old
+    → IsFed (seat_of part meta) (fold (fed_on (seat_of part meta) receipt) (unfed value) (pieces part payload)) new tally
+
+-- the reader is given a message, behind which its writer's id stands, where that is its own
+abbrev pub IsOffered : ReaderPart → MetaData → Receipt → ℕ × List ℕ → Member → Tally → Member → Tally → Type 0
+IsOffered part meta receipt listed old before new after =
+    (fed : Fed) → IsFed (seat_of part meta) fed old before
+    → IsFed (seat_of part meta) (fed_if (seat_of part meta) receipt (listed.0 == part.writer) fed (Message listed.1)) new after
+
+-- the reader is given this part, and the answer says whether it is bad
+abbrev pub FollowsPiece : ReaderPart → MetaData → Receipt → Piece → Member → Member → Bool → Type 0
+FollowsPiece part meta receipt piece old new is_bad =
+    (value : MemberValue) → IsMemberOf (seat_of part meta) value old
+    → Follows (seat_of part meta) (piece_case (seat_of part meta) receipt value piece) new is_bad
+
+-- the reader is given the message that was joined of its chunks, and the answer says whether it is bad
+abbrev pub FollowsJoined : MetaData → Receipt → Member → Member → Bool → Type 0
+FollowsJoined meta receipt old new is_bad =
+    (part : ReaderPart) (value : MemberValue) → IsMemberOf (seat_of part meta) value old
+    → Follows (seat_of part meta) (read_case (seat_of part meta) receipt value (frame_at meta (joined_bytes value.joining))) new is_bad
+
+-- the message that was joined of the reader's chunks is read over the frame that it keeps
+abbrev pub ReadsJoined : MetaData → Member → Result (Unit {0}) FrameFault → Member → Type 0
+ReadsJoined meta old result new =
+    (joining : Joining) → IsJoinerOf joining old.joiner
+    → leaving result (frame_in meta.fields new.frame) ≡ frame_at meta (joined_bytes joining)
+
+-- a chunk is laid in under its number
+abbrev pub IsLaidIn : Chunk → Joiner → Joiner → Joined → Type 0
+IsLaidIn chunk old new result =
+    (joining : Joining) → IsJoinerOf joining old → Meets (chunk_case joining (numbered chunk)) new result
+
+-- the reader is given the frame that it keeps
+abbrev pub IsGivenKept : MetaData → Receipt → Member → Member → Type 0
+IsGivenKept meta receipt old new =
+    (part : ReaderPart) (value : MemberValue) → IsMemberOf (seat_of part meta) value old
+    → IsMemberOf (seat_of part meta) (given (seat_of part meta) receipt value (frame_in meta.fields old.frame)) new

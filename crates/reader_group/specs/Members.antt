@@ -1,6 +1,6 @@
 -- What a read group keeps for each of its readers, and what befalls it beside messages.
 use Rattle.std.specs.Prelude.{ℕ, Bool, true, false, List, [], ◌∷◌, slice_index_or, if◌then◌else◌}
-use Rattle.dataset_meta.specs.Metas.{MetaData, meta_of}
+use Rattle.dataset_meta.specs.Metas.{MetaData, no_meta}
 use Rattle.pubsub_model.specs.declared.reading.Why.{Why}
 use Rattle.pubsub_model.specs.declared.reading.Why.TheVariants.{Timeout}
 use Rattle.dataset_reader.specs.Kept.{Kept, fresh, cut_kept}
@@ -23,9 +23,6 @@ abbrev pub seat_of : ReaderPart → MetaData → Seat
 seat_of part meta = record { part = part; meta = meta }
 
 -- where there is none
-abbrev pub no_meta : MetaData
-no_meta = meta_of [] [] 0 0 false
-
 abbrev pub no_seat : Seat
 no_seat = record {
   part = record {

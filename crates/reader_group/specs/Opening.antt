@@ -1,5 +1,5 @@
 -- What a read group makes of a datagram before a reader is given any of it: it is refused for the first of one list of tests that holds, or opened.
-use Rattle.std.specs.Prelude.{ℕ, ◌+◌, ◌-◌, ◌*◌, List, [], ◌∷◌, ◌++◌, length, map, take, drop, sum, find, Bool, false, not, ◌&&◌, nat_lt, Option, Some, None, Result, Ok, Err}
+use Rattle.std.specs.Prelude.{ℕ, ◌+◌, ◌-◌, ◌*◌, List, [], ◌∷◌, ◌++◌, length, map, take, drop, sum, find, Bool, false, not, ◌&&◌, nat_lt, Option, Some, None, Result, Ok, Err, if◌then◌else◌}
 use Rattle.uadp_header.specs.declared.fault.HeaderFault.{HeaderFault}
 use Rattle.uadp_header.specs.Headers.{IdsValue, NoIds, ListOf, ChunkOf, HeaderValue, ids_of}
 use Rattle.uadp_header.specs.Layout.{header_at}
@@ -11,6 +11,7 @@ use Rattle.message_guard.specs.declared.open_fault.OpenFault.{OpenFault}
 use Rattle.message_guard.specs.declared.pass.Pass1.{Pass1}
 use Rattle.message_guard.specs.Acceptance.{Accepted}
 use Rattle.message_guard.specs.Guards.{Setup}
+use Rattle.message_guard.specs.Modes.{encrypts}
 use Rattle.message_guard.specs.Opening as guards
 use Rattle.config_tables.specs.declared.words.Layout.{Layout}
 use Rattle.config_tables.specs.declared.words.Security.{Security}
@@ -93,3 +94,25 @@ verdict_of group setup accepted datagram (Ok read) =
 -- what the read group makes of a datagram
 abbrev pub verdict : ReadGroupPart → Setup → Accepted → List ℕ → Result Opened Refusal
 verdict group setup accepted datagram = verdict_of group setup accepted datagram (header_at datagram)
+
+-- the bytes of a datagram that the guard judged so: decrypted where its mode encrypts and it passes the datagram
+abbrev pub left_judged : Setup → ℕ → List ℕ → Result Pass1 OpenFault → List ℕ
+left_judged setup payload datagram (Err fault) = datagram
+left_judged setup payload datagram (Ok pass) =
+    if encrypts setup.mode
+    then guards.opened setup.mode setup.keys setup.first_block pass payload datagram
+    else datagram
+
+-- the bytes of a datagram whose header was read so
+abbrev pub left_read : ReadGroupPart → Setup → Accepted → List ℕ → Result (HeaderValue × List ℕ) HeaderFault → List ℕ
+left_read group setup accepted datagram (Err fault) = datagram
+left_read group setup accepted datagram (Ok read) =
+    let payload = length datagram - length read.1 in
+    if is_ours group read.0
+    then left_judged setup payload datagram (guards.verdict setup.mode setup.keys accepted read.0.security datagram payload)
+    else datagram
+
+-- What a datagram's bytes are once the group had it. Those of one that isn't encrypted, or is refused for its header, by the filter or by the guard, are as they
+-- came; else what stands between the header and the signature is decrypted, also where the datagram is refused for its payload then.
+abbrev pub bytes_left : ReadGroupPart → Setup → Accepted → List ℕ → List ℕ
+bytes_left group setup accepted datagram = left_read group setup accepted datagram (header_at datagram)

@@ -1,5 +1,6 @@
 -- What a configuration says of a read group.
 use Rattle.std.specs.Prelude.{ℕ, [], ◌∷◌, map, replicate, Option, Some, None, slice_index_or}
+use Rattle.dataset_meta.specs.Metas.{no_meta}
 use Rattle.message_guard.specs.declared.keys.TokenKeys.{TokenKeys}
 use Rattle.message_guard.specs.Guards.{Setup}
 use Rattle.message_guard.specs.Protection.{cipher_key, keys_in}
@@ -13,7 +14,7 @@ use Rattle.ps_config.specs.declared.parts.KeyGroupPart.{KeyGroupPart}
 use Rattle.ps_config.specs.declared.parts.ReadGroupPart.{ReadGroupPart}
 use Rattle.ps_config.specs.declared.parts.ReaderPart.{ReaderPart}
 use Rattle.ps_config.specs.Rings.{key_set}
-use Rattle.reader_group.specs.Members.{Seat, seat_of, no_meta}
+use Rattle.reader_group.specs.Members.{Seat, seat_of}
 use Rattle.reader_group.specs.Opening.{mode_of}
 use Rattle.reader_group.specs.Plain.{Setting}
 

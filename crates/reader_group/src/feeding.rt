@@ -1,15 +1,14 @@
 //! What a datagram brings the readers of a group.
-ghost use Rattle.std.specs.Prelude.{◌≡◌, ◌≤◌, ◌<◌, List, false, length, map, count_by, slice_index_or, Contains};
+ghost use Rattle.std.specs.Prelude.{◌≡◌, ◌≤◌, ◌<◌, false, length, count_by, slice_index_or, Contains};
 ghost use Rattle.std.specs.List.{HoldsAt};
-ghost use Rattle.dataset_meta.specs.Metas.{MetaData};
 ghost use Rattle.ps_config.specs.Sound.{IsSound};
-ghost use Rattle.reader_group.specs.Members.{Seat, MemberValue, seat_of, stopped, expired};
+ghost use Rattle.reader_group.specs.Members.{seat_of, stopped, expired};
 ghost use Rattle.reader_group.specs.Settings.{setting_by};
-ghost use Rattle.reader_group.specs.Groups.{AreMembers, AreReaders, IsTallyOf, ChangesAt};
-ghost use Rattle.reader_group.specs.MemberWords.{IsMemberOf, HoldsRowsOf, Tells};
+ghost use Rattle.reader_group.specs.Groups.{AreReaders, AllBecome, AreFedBy, AreTallied, KeepReaders, ChangesAt};
+ghost use Rattle.reader_group.specs.MemberWords.{HoldsRowsOf, BecomesAt, IsFedAt, IsTalliedAt, KeepsRowsAt};
 ghost use Rattle.reader_group.specs.Held.{payload_in};
 ghost use Rattle.reader_group.specs.Payloads.{part_count};
-ghost use Rattle.reader_group.specs.Plain.{all_fed, all_expired, fed_by, one_stopped};
+ghost use Rattle.reader_group.specs.Plain.{all_expired, one_stopped};
 
 use crate::member::Member;
 use crate::payload::Payload;
@@ -33,15 +32,10 @@ pub(crate) fn feed_all(
     requires group { Contains config.now.readgroup group.now }
     requires readers { AreReaders (setting_by config.now group.now).seats members.old }
     requires on { length on.now ≡ length members.old }
-    ensures members { (values : List MemberValue)
-        → AreMembers (setting_by config.now group.now).seats values members.old
-        → AreMembers (setting_by config.now group.now).seats
-        (map (λ fed. fed.member) (all_fed (setting_by config.now group.now).seats values receipt.now raised on.now
-        (payload_in payload.now))) members.new }
-    ensures tally { (values : List MemberValue)
-        → AreMembers (setting_by config.now group.now).seats values members.old
-        → IsTallyOf result (all_fed (setting_by config.now group.now).seats values receipt.now raised on.now
-        (payload_in payload.now)) }
+    ensures members { AreFedBy (setting_by config.now group.now).seats receipt.now raised on.now
+        (payload_in payload.now) members.old members.new }
+    ensures tally { AreTallied (setting_by config.now group.now).seats receipt.now raised on.now
+        (payload_in payload.now) members.old result }
     ensures readers { AreReaders (setting_by config.now group.now).seats members.new }
 {
     let mut tally = Tally::NONE;
@@ -91,15 +85,10 @@ fn feed_at(
 ) -> Tally
     requires index { index < length members.old }
     requires reader { HoldsAt (HoldsRowsOf meta.now) members.old index }
-    ensures member { (value : MemberValue)
-        → HoldsAt (IsMemberOf (seat_of part.now meta.now) value) members.old index
-        → HoldsAt (IsMemberOf (seat_of part.now meta.now)
-        (fed_by (seat_of part.now meta.now) receipt.now raised enabled (payload_in payload.now) value).member)
-        members.new index }
-    ensures tally { (value : MemberValue)
-        → HoldsAt (IsMemberOf (seat_of part.now meta.now) value) members.old index
-        → Tells (fed_by (seat_of part.now meta.now) receipt.now raised enabled (payload_in payload.now) value)
-        result }
+    ensures member { IsFedAt (seat_of part.now meta.now) receipt.now raised enabled
+        (payload_in payload.now) index members.old members.new }
+    ensures tally { IsTalliedAt (seat_of part.now meta.now) receipt.now raised enabled
+        (payload_in payload.now) index members.old result }
     ensures reader { HoldsAt (HoldsRowsOf meta.now) members.new index }
     ensures others { ChangesAt index members.old members.new }
     ensures count { length members.new ≡ length members.old }
@@ -112,10 +101,8 @@ fn feed_at(
 
 /// The timer of each reader is looked at.
 pub(crate) fn expire_all(members: &mut [Member], now: u64)
-    ensures members { (seats : List Seat) (values : List MemberValue) → AreMembers seats values members.old
-        → AreMembers seats (all_expired seats now values) members.new }
-    ensures readers { (seats : List Seat) → AreReaders seats members.old
-        → AreReaders seats members.new }
+    ensures members { AllBecome (λ seats values. all_expired seats now values) members.old members.new }
+    ensures readers { KeepReaders members.old members.new }
 {
     for index in 0..members.len() {
         expire_at(members, index, now);
@@ -124,11 +111,9 @@ pub(crate) fn expire_all(members: &mut [Member], now: u64)
 
 fn expire_at(members: &mut [Member], index: usize, now: u64)
     requires { index < length members.old }
-    ensures member { (seat : Seat) (value : MemberValue)
-        → HoldsAt (IsMemberOf seat value) members.old index
-        → HoldsAt (IsMemberOf seat (expired seat.part.timeout now value)) members.new index }
-    ensures reader { (meta : MetaData) → HoldsAt (HoldsRowsOf meta) members.old index
-        → HoldsAt (HoldsRowsOf meta) members.new index }
+    ensures member { BecomesAt (λ seat value. expired seat.part.timeout now value) index
+        members.old members.new }
+    ensures reader { KeepsRowsAt index members.old members.new }
     ensures others { ChangesAt index members.old members.new }
     ensures count { length members.new ≡ length members.old }
 {
@@ -139,21 +124,17 @@ fn expire_at(members: &mut [Member], index: usize, now: u64)
 /// One reader is cut by hand.
 pub(crate) fn stop_one(members: &mut [Member], index: usize, why: Why)
     requires { index < length members.old }
-    ensures members { (seats : List Seat) (values : List MemberValue) → AreMembers seats values members.old
-        → AreMembers seats (one_stopped seats index why values) members.new }
-    ensures readers { (seats : List Seat) → AreReaders seats members.old
-        → AreReaders seats members.new }
+    ensures members { AllBecome (λ seats values. one_stopped seats index why values)
+        members.old members.new }
+    ensures readers { KeepReaders members.old members.new }
 {
     stop_at(members, index, why);
 }
 
 fn stop_at(members: &mut [Member], index: usize, why: Why)
     requires { index < length members.old }
-    ensures member { (seat : Seat) (value : MemberValue)
-        → HoldsAt (IsMemberOf seat value) members.old index
-        → HoldsAt (IsMemberOf seat (stopped why value)) members.new index }
-    ensures reader { (meta : MetaData) → HoldsAt (HoldsRowsOf meta) members.old index
-        → HoldsAt (HoldsRowsOf meta) members.new index }
+    ensures member { BecomesAt (λ seat value. stopped why value) index members.old members.new }
+    ensures reader { KeepsRowsAt index members.old members.new }
     ensures others { ChangesAt index members.old members.new }
     ensures count { length members.new ≡ length members.old }
 {

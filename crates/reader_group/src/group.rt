@@ -2,9 +2,7 @@
 ghost use Rattle.std.specs.Prelude.{◌≡◌, ◌<◌, length, slice_index_or, IfOk};
 ghost use Rattle.ps_config.specs.declared.parts.Config.{Config as AnyConfig};
 ghost use Rattle.ps_config.specs.Sound.{IsSound};
-ghost use Rattle.reader_group.specs.Groups.{AreMembers, AreReaders};
-ghost use Rattle.reader_group.specs.Plain.{opening};
-ghost use Rattle.reader_group.specs.Settings.{setting_by};
+ghost use Rattle.reader_group.specs.Groups.{AreNew, AreReadersOf};
 
 use crate::feeding::{expire_all, feed_all, part_count, stop_one};
 use crate::guarding::{guard_of, stamp_of};
@@ -32,11 +30,8 @@ pub struct ReaderGroup {
 
 impl ReaderGroup {
     ghost use Rattle.std.specs.Prelude.{◌≡◌, ◌<◌, length, IfOk, OnErr};
-    ghost use Rattle.dataset_reader.specs.Reader.{kept_by, IsReaderOf};
-    ghost use Rattle.reader_group.specs.Members.{seat_at};
-    ghost use Rattle.reader_group.specs.Plain.{Setting, PlainGroup, Got, Expired, Stopped, member_at, step, answer};
-    ghost use Rattle.reader_group.specs.Settings.{setting_of};
-    ghost use Rattle.reader_group.specs.Groups.{Stands, IsMadeOf, index_of, reader_count, guard_of, members_of};
+    ghost use Rattle.reader_group.specs.Plain.{Setting, Got, Expired, Stopped};
+    ghost use Rattle.reader_group.specs.Groups.{IsOpening, TakesOn, StepsBy, IsAnswer, AreLeft, IsKeptAt, IsMadeAt, IsLateAt, IsReadyAt, IsMadeOf, index_of, reader_count, guard_of, members_of};
 
     /// The read group with this index, before anything.
     pub fn new(alloc: Global, config: &Config, index: u8) -> Result<ReaderGroup, NoMemory>
@@ -44,8 +39,7 @@ impl ReaderGroup {
         requires index { index < length config.now.readgroup }
         ensures made { IfOk result (IsMadeOf config.now) }
         ensures index { IfOk result (λ group. index_of group ≡ index) }
-        ensures opening { IfOk result (Stands (setting_of config.now index)
-            (opening (setting_of config.now index))) }
+        ensures opening { IfOk result (IsOpening config.now index) }
     {
         let part = part_at(config, index);
         let guard = guard_of(config, part);
@@ -61,8 +55,9 @@ impl ReaderGroup {
         })
     }
 
-    /// A datagram comes at this moment, in milliseconds, where these readers are enabled. It is decrypted in place. A datagram that
-    /// is refused changes nothing that any call shows, but the bytes.
+    /// A datagram comes at this moment, in milliseconds, where these readers are enabled. A datagram that is refused changes nothing
+    /// that any call shows, but the bytes. They are decrypted in place where the group's mode encrypts and neither the header, nor
+    /// the filter, nor the guard refuses the datagram; else they stay.
     pub fn datagram(
         &mut self,
         config: &Config,
@@ -72,13 +67,9 @@ impl ReaderGroup {
     ) -> Result<Taken, Refusal>
         requires made { IsMadeOf config.now self.old }
         requires on { length on.now ≡ reader_count self.old }
-        ensures step { (plain : PlainGroup)
-            → Stands (setting_of config.now (index_of self.old)) plain self.old
-            → Stands (setting_of config.now (index_of self.old))
-            (step (setting_of config.now (index_of self.old)) plain (Got now on.now bytes.old)) self.new }
-        ensures answer { (plain : PlainGroup)
-            → Stands (setting_of config.now (index_of self.old)) plain self.old
-            → result ≡ answer (setting_of config.now (index_of self.old)) plain now on.now bytes.old }
+        ensures step { StepsBy config.now (Got now on.now bytes.old) self.old self.new }
+        ensures answer { IsAnswer config.now self.old now on.now bytes.old result }
+        ensures bytes { AreLeft config.now self.old bytes.old bytes.new }
         ensures refused_guard { OnErr result (guard_of self.new ≡ guard_of self.old) }
         ensures refused_members { OnErr result (members_of self.new ≡ members_of self.old) }
         ensures made { IsMadeOf config.now self.new }
@@ -110,8 +101,7 @@ impl ReaderGroup {
 
     /// Cuts each reader whose timer has run out at this moment, in milliseconds. Such a reader is late, and isn't ready.
     pub fn expire(&mut self, now: u64)
-        ensures step { (setting : Setting) (plain : PlainGroup) → Stands setting plain self.old
-            → Stands setting (step setting plain (Expired now)) self.new }
+        ensures step { (setting : Setting) → TakesOn setting (Expired now) self.old self.new }
         ensures made { (config : AnyConfig) → IsMadeOf config self.old → IsMadeOf config self.new }
         ensures index { index_of self.new ≡ index_of self.old }
     {
@@ -122,8 +112,7 @@ impl ReaderGroup {
     /// ready. It stays late where a timeout made it so.
     pub fn cut(&mut self, index: u8, why: Why)
         requires { index < reader_count self.old }
-        ensures step { (setting : Setting) (plain : PlainGroup) → Stands setting plain self.old
-            → Stands setting (step setting plain (Stopped index why)) self.new }
+        ensures step { (setting : Setting) → TakesOn setting (Stopped index why) self.old self.new }
         ensures made { (config : AnyConfig) → IsMadeOf config self.old → IsMadeOf config self.new }
         ensures index { index_of self.new ≡ index_of self.old }
     {
@@ -133,11 +122,8 @@ impl ReaderGroup {
     /// The reader with this index in the group.
     pub fn reader(&self, index: u8) -> &Reader
         requires { index < reader_count self.now }
-        ensures kept { (setting : Setting) (plain : PlainGroup) → Stands setting plain self.now
-            → kept_by (seat_at setting.seats index).meta.fields result.now
-            ≡ (member_at plain.members index).kept }
-        ensures made { (config : AnyConfig) → IsMadeOf config self.now
-            → IsReaderOf (seat_at (setting_of config (index_of self.now)).seats index).meta result.now }
+        ensures kept { IsKeptAt self.now index result.now }
+        ensures made { IsMadeAt self.now index result.now }
     {
         &self.members[usize::from(index)].reader
     }
@@ -145,8 +131,7 @@ impl ReaderGroup {
     /// Whether a reader timed out, and no record and no keep-alive came since.
     pub fn is_late(&self, index: u8) -> bool
         requires { index < reader_count self.now }
-        ensures { (setting : Setting) (plain : PlainGroup) → Stands setting plain self.now
-            → result ≡ (member_at plain.members index).late }
+        ensures { IsLateAt self.now index result }
     {
         self.members[usize::from(index)].late
     }
@@ -154,8 +139,7 @@ impl ReaderGroup {
     /// Whether a reader held a row, with neither a timeout nor a call of `cut` since.
     pub fn is_ready(&self, index: u8) -> bool
         requires { index < reader_count self.now }
-        ensures { (setting : Setting) (plain : PlainGroup) → Stands setting plain self.now
-            → result ≡ (member_at plain.members index).ready }
+        ensures { IsReadyAt self.now index result }
     {
         self.members[usize::from(index)].ready
     }
@@ -170,11 +154,8 @@ fn part_at(config: &Config, index: u8) -> &ReadGroupPart
 
 // Its readers, before anything.
 fn new_members(alloc: Global, group: &ReadGroupPart) -> Result<Vec<Member>, NoMemory>
-    ensures members { IfOk result (λ made. (config : AnyConfig)
-        → AreMembers (setting_by config group.now).seats
-        (opening (setting_by config group.now)).members made.items) }
-    ensures readers { IfOk result (λ made. (config : AnyConfig)
-        → AreReaders (setting_by config group.now).seats made.items) }
+    ensures members { IfOk result (λ made. AreNew group.now made.items) }
+    ensures readers { IfOk result (λ made. AreReadersOf group.now made.items) }
 {
     let mut members = Vec::new(alloc);
     for reader in group.reader.as_slice() {

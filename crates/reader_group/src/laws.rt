@@ -1,58 +1,69 @@
 //! Laws of read groups, each the contract of a function that does nothing. The plain reading of what befell a group is `plain`, as
 //! the contracts of `ReaderGroup` say; lists of what befell it have the latest first.
-ghost use Rattle.std.specs.Prelude.{◌≡◌, ℕ, List, Bool};
-ghost use Rattle.dataset_meta.specs.DataValues.{DataValue};
-ghost use Rattle.uadp_header.specs.Headers.{HeaderValue, IdsValue};
-ghost use Rattle.fixed_layout.specs.declared.slot.Slot.{Slot};
-ghost use Rattle.message_guard.specs.Acceptance.{Accepted};
-ghost use Rattle.message_guard.specs.Guards.{Setup};
-ghost use Rattle.ps_config.specs.declared.parts.ReadGroupPart.{ReadGroupPart};
-ghost use Rattle.ps_config.specs.declared.parts.ReaderPart.{ReaderPart};
-ghost use Rattle.reader_group.specs.declared.receipt.Receipt.{Receipt};
-ghost use Rattle.reader_group.specs.Agreeing.{Agrees, NearByNumbers, SecuredAgrees};
-ghost use Rattle.reader_group.specs.Arrivals.{Way, accepted};
-ghost use Rattle.reader_group.specs.BadParts.{BadPartLeaves};
-ghost use Rattle.reader_group.specs.Complete.{WholeIsHeld};
-ghost use Rattle.reader_group.specs.Handing.{HandsOn, MessagesComeBack, ChunkComesBack, SlotsComeBack};
-ghost use Rattle.reader_group.specs.Members.{Seat, MemberValue};
-ghost use Rattle.reader_group.specs.Payloads.{Piece};
-ghost use Rattle.reader_group.specs.Plain.{Setting, PlainGroup, Event, plain};
-ghost use Rattle.reader_group.specs.Traces.{trimmed};
+ghost use Rattle.std.specs.Prelude.{ℕ, List};
+ghost use Rattle.reader_group.specs.Agreeing.{Agrees, NearByNumbers, EachSecuredAgrees};
+ghost use Rattle.reader_group.specs.Arrivals.{Way, AreTold};
+ghost use Rattle.reader_group.specs.Asked.{HasOtherPublisher, HasOtherGroup, HasOtherVersion, HasOtherClass, RefusesOthers, PassesAsked};
+ghost use Rattle.reader_group.specs.BadParts.{BadPartsLeave};
+ghost use Rattle.reader_group.specs.Complete.{WholesAreHeld};
+ghost use Rattle.reader_group.specs.Handing.{EachHandsOn, MessagesComeBack, EachChunkComesBack, EachSlotComesBack};
+ghost use Rattle.reader_group.specs.Numbered.{HaveTheirNumbers};
+ghost use Rattle.reader_group.specs.Plain.{Setting, Event};
+ghost use Rattle.reader_group.specs.Signed.{TakesSignedAlone};
+ghost use Rattle.reader_group.specs.Traces.{LeavesNoTrace};
 
 use dataset_reader::each_step_keeps_records;
+use message_guard::a_passed_datagram_is_signed_and_acceptable;
+
+/// A datagram is refused as another's where a header was read of it that carries another publisher than the read group asks for,
+/// or another group, version of the group or class id where it asks for one, or none of it; whichever keys the group has and
+/// whatever it accepted. One whose header carries all that is asked for isn't refused as another's.
+pub fn what_is_not_asked_for_is_not_ours()
+    ensures publisher { RefusesOthers HasOtherPublisher }
+    ensures group { RefusesOthers HasOtherGroup }
+    ensures version { RefusesOthers HasOtherVersion }
+    ensures class_id { RefusesOthers HasOtherClass }
+    ensures asked { PassesAsked }
+{}
+
+/// What a secured group takes is signed under a key of its ring.
+pub fn what_a_secured_group_takes_is_signed()
+    ensures { TakesSignedAlone }
+{
+    a_passed_datagram_is_signed_and_acceptable();
+}
 
 /// Datagrams that a read group refuses leave no trace: it is where it is without them.
 pub fn refused_datagrams_leave_no_trace()
-    ensures { (setting : Setting) (events : List Event)
-        → plain setting (trimmed setting events) ≡ plain setting events }
+    ensures { (setting : Setting) (events : List Event) → LeavesNoTrace setting events }
 {}
 
 /// A key frame that comes as the one part for an enabled reader, in a datagram that the group takes, is held: by numbers with
 /// its number where it may follow what came before, and with no numbering always.
 pub fn a_lone_key_frame_is_held()
-    ensures { (setting : Setting) (group : PlainGroup) (now : ℕ) (on : List Bool)
-        (datagram : List ℕ) (reader : ℕ) (row : List DataValue)
-        → WholeIsHeld setting group now on datagram reader row }
+    ensures { WholesAreHeld }
+{}
+
+/// Beside a row that a reader holds stands a number of 16 bits where it goes by the numbers of messages, and none where it has no
+/// numbering.
+pub fn each_held_row_has_its_number()
+    ensures { (setting : Setting) (events : List Event) → HaveTheirNumbers setting events }
 {}
 
 /// A part that can't be read leaves its reader, but for the message that chunks are joined to, and leaves that too where it is no
 /// chunk.
 pub fn a_bad_part_leaves_its_reader()
-    ensures { (seat : Seat) (receipt : Receipt) (member : MemberValue) (piece : Piece)
-        → BadPartLeaves seat receipt member piece }
+    ensures { BadPartsLeave }
 {}
 
 /// Of a datagram that a sender spelled, and protected where the group is secured, a group that takes it has for its readers what
 /// was spelled: with a list of ids the messages that were laid out, one for one and in order; with a chunk's id the chunk; and in a
 /// fixed layout for each reader what was laid at its slot, with zeros behind it.
 pub fn what_is_spelled_is_handed_on()
-    ensures payload { (group : ReadGroupPart) (setup : Setup) (accepted : Accepted) (header : HeaderValue)
-        (payload datagram : List ℕ) → HandsOn group setup accepted header payload datagram }
+    ensures payload { EachHandsOn }
     ensures messages { (header : List ℕ) (parts : List (ℕ × List ℕ)) → MessagesComeBack header parts }
-    ensures chunk { (header : List ℕ) (writer : ℕ) (bytes : List ℕ)
-        → ChunkComesBack header writer bytes }
-    ensures slots { (ids : IdsValue) (header : List ℕ) (slots : List Slot) (frames : List (ℕ × List ℕ))
-        (reader : ReaderPart) → SlotsComeBack ids header slots frames reader }
+    ensures chunk { EachChunkComesBack }
+    ensures slots { EachSlotComesBack }
 {}
 
 /// Places that rise with their numbers, and by at most as much, are near where the numbers are.
@@ -62,8 +73,7 @@ pub fn places_are_near_where_their_numbers_are()
 
 /// The pairs of token and number that a group has accepted are told by the datagrams alone.
 pub fn accepted_pairs_are_told_by_datagrams()
-    ensures { (setting : Setting) (events : List Event)
-        → (plain setting events).accepted ≡ accepted setting events }
+    ensures { (setting : Setting) (events : List Event) → AreTold setting events }
 {}
 
 /// Where places are near, each reader of the plain reading is what *Arrivals* and *Records* say of it.
@@ -76,8 +86,7 @@ pub fn near_readers_have_their_records()
 /// In a secured group the places of a reader that goes by numbers needn't be near, but for those of chunks: it is enough that they
 /// rise with the numbers that the sender gave its datagrams, under each token.
 pub fn secured_readers_have_their_records()
-    ensures { (sent : ℕ → List (ℕ × ℕ)) (setting : Setting) (way : Way) (events : List Event)
-        → SecuredAgrees sent setting way events }
+    ensures { (sent : ℕ → List (ℕ × ℕ)) → EachSecuredAgrees sent }
 {
     each_step_keeps_records();
 }

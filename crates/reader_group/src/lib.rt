@@ -20,9 +20,10 @@ mod tally;
 pub use group::ReaderGroup;
 pub use laws::{
     a_bad_part_leaves_its_reader, a_lone_key_frame_is_held, accepted_pairs_are_told_by_datagrams,
-    near_readers_have_their_records, places_are_near_where_their_numbers_are,
-    refused_datagrams_leave_no_trace, secured_readers_have_their_records,
-    what_is_spelled_is_handed_on,
+    each_held_row_has_its_number, near_readers_have_their_records,
+    places_are_near_where_their_numbers_are, refused_datagrams_leave_no_trace,
+    secured_readers_have_their_records, what_a_secured_group_takes_is_signed,
+    what_is_not_asked_for_is_not_ours, what_is_spelled_is_handed_on,
 };
 pub use receipt::Receipt;
 pub use refusal::{Refusal, Taken};

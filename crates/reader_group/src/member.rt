@@ -27,9 +27,9 @@ impl Member {
     ghost use Rattle.std.specs.Prelude.{◌≡◌};
     ghost use Rattle.dataset_meta.specs.Metas.{MetaData};
     ghost use Rattle.pubsub_model.specs.declared.reading.Why.TheVariants.{NewToken};
-    ghost use Rattle.reader_group.specs.Members.{Seat, MemberValue, seat_of, new_member, cut_member, stopped, expired, seen, noted};
+    ghost use Rattle.reader_group.specs.Members.{seat_of, new_member, cut_member, stopped, expired, seen, noted};
     ghost use Rattle.reader_group.specs.Plain.{cut_if};
-    ghost use Rattle.reader_group.specs.MemberWords.{IsMemberOf, HoldsRowsOf};
+    ghost use Rattle.reader_group.specs.MemberWords.{IsMemberOf, HoldsRowsOf, Becomes};
 
     /// Before anything.
     pub fn new(part: &ReaderPart) -> Member
@@ -53,8 +53,7 @@ impl Member {
 
     /// Cuts the reader, and forgets the chunks and when the last message came.
     pub fn cut(&mut self, why: Why)
-        ensures member { (seat : Seat) (member : MemberValue) → IsMemberOf seat member self.old
-            → IsMemberOf seat (cut_member why member) self.new }
+        ensures member { Becomes (λ seat value. cut_member why value) self.old self.new }
         ensures reader { (meta : MetaData) → HoldsRowsOf meta self.old → HoldsRowsOf meta self.new }
     {
         self.reader.cut(why);
@@ -64,8 +63,7 @@ impl Member {
 
     /// A cut by hand.
     pub fn stop(&mut self, why: Why)
-        ensures member { (seat : Seat) (member : MemberValue) → IsMemberOf seat member self.old
-            → IsMemberOf seat (stopped why member) self.new }
+        ensures member { Becomes (λ seat value. stopped why value) self.old self.new }
         ensures reader { (meta : MetaData) → HoldsRowsOf meta self.old → HoldsRowsOf meta self.new }
     {
         self.cut(why);
@@ -74,8 +72,7 @@ impl Member {
 
     /// A cut where the timer has run out.
     pub fn expire(&mut self, now: u64)
-        ensures member { (seat : Seat) (member : MemberValue) → IsMemberOf seat member self.old
-            → IsMemberOf seat (expired seat.part.timeout now member) self.new }
+        ensures member { Becomes (λ seat value. expired seat.part.timeout now value) self.old self.new }
         ensures reader { (meta : MetaData) → HoldsRowsOf meta self.old → HoldsRowsOf meta self.new }
     {
         if self.timer.due(now) {
@@ -87,8 +84,7 @@ impl Member {
 
     /// A higher token cuts it.
     pub fn cut_if_raised(&mut self, raised: bool)
-        ensures member { (seat : Seat) (member : MemberValue) → IsMemberOf seat member self.old
-            → IsMemberOf seat (cut_if raised NewToken member) self.new }
+        ensures member { Becomes (λ seat value. cut_if raised NewToken value) self.old self.new }
         ensures reader { (meta : MetaData) → HoldsRowsOf meta self.old → HoldsRowsOf meta self.new }
     {
         if raised {
@@ -98,8 +94,7 @@ impl Member {
 
     /// What the timer and the flags make of the reader's answer to a message that came at this moment.
     pub fn note(&mut self, now: u64, outcome: Outcome)
-        ensures member { (seat : Seat) (member : MemberValue) → IsMemberOf seat member self.old
-            → IsMemberOf seat (noted now outcome member) self.new }
+        ensures member { Becomes (λ seat value. noted now outcome value) self.old self.new }
         ensures reader { self.new.reader ≡ self.old.reader }
         ensures frame { self.new.frame ≡ self.old.frame }
     {
@@ -115,8 +110,7 @@ impl Member {
 
     // A message came.
     fn see(&mut self, now: u64)
-        ensures member { (seat : Seat) (member : MemberValue) → IsMemberOf seat member self.old
-            → IsMemberOf seat (seen now member) self.new }
+        ensures member { Becomes (λ seat value. seen now value) self.old self.new }
         ensures reader { self.new.reader ≡ self.old.reader }
         ensures frame { self.new.frame ≡ self.old.frame }
     {

@@ -1,12 +1,10 @@
 //! A datagram is refused, or opened.
-ghost use Rattle.std.specs.Prelude.{◌≡◌, ◌≤◌, ◌<◌, ◌+◌, ◌*◌, ◌/◌, ℕ, List, length, take, drop, IfOk, IfErr, OnOk, OnErr, All};
-ghost use Rattle.message_guard.specs.Guards.{IsGuardOf, IsPassOf, setup_of};
-ghost use Rattle.message_guard.specs.Opening.{opened};
+ghost use Rattle.std.specs.Prelude.{◌≡◌, ◌≤◌, length, IfOk};
+ghost use Rattle.message_guard.specs.Guards.{IsPassOf};
 ghost use Rattle.uadp_header.specs.Headers.{ListOf, ids_in};
 ghost use Rattle.uadp_header.specs.Spelling.{AreIds};
 ghost use Rattle.payload_layout.specs.Payloads.{IsWithin};
-ghost use Rattle.reader_group.specs.Opening.{verdict};
-ghost use Rattle.reader_group.specs.Begun.{ids_carried, IsBegun, FindsMessages, FindsListed, HasMessages, Opens, payload_held};
+ghost use Rattle.reader_group.specs.Begun.{ids_carried, FindsMessages, FindsListed, HasMessages, OpensBy, LeavesBytes, BeginsBy, LeavesRefused, payload_held};
 ghost use Rattle.reader_group.specs.Held.{payload_in};
 
 use crate::begun::{Begun, Carried};
@@ -26,17 +24,16 @@ pub(crate) struct Room {
     pub parts: Parts,
 }
 
-/// Opens a datagram: it is decrypted in place, and the places of its messages are found. A refusal may leave the bytes, and the
-/// room, changed.
+/// Opens a datagram: it is decrypted in place, and the places of its messages are found. A refusal may leave the room changed, and
+/// one for the payload comes once the bytes are decrypted.
 pub(crate) fn open(
     group: &ReadGroupPart,
     guard: &Guard,
     room: &mut Room,
     bytes: &mut [u8],
 ) -> Result<Begun, Refusal>
-    ensures verdict { (accepted : List (ℕ × ℕ)) → IsGuardOf accepted guard.now
-        → Opens group.now (verdict group.now (setup_of guard.now) accepted bytes.old)
-        result room.new bytes.new }
+    ensures verdict { OpensBy group.now guard.now bytes.old result room.new bytes.new }
+    ensures bytes { LeavesBytes group.now guard.now bytes.old bytes.new }
     ensures messages { IfOk result (λ begun. HasMessages group.now.layout begun room.new bytes.new) }
     ensures pass { IfOk result (λ begun. IsPassOf guard.now begun.pass) }
     ensures within { IfOk result (λ begun. begun.pass.end ≤ length bytes.new) }
@@ -59,8 +56,8 @@ fn begin(
     room: &mut Room,
     bytes: &[u8],
 ) -> Result<Begun, Refusal>
-    ensures verdict { (accepted : List (ℕ × ℕ)) → IsGuardOf accepted guard.now
-        → IsBegun group.now (setup_of guard.now) accepted bytes.now result room.new }
+    ensures verdict { BeginsBy group.now guard.now bytes.now result room.new }
+    ensures left { LeavesRefused group.now guard.now bytes.now result }
     ensures ids { IfOk result (λ begun. AreIds (ids_carried begun.carried room.new.ids.items)) }
     ensures pass { IfOk result (λ begun. IsPassOf guard.now begun.pass) }
     ensures within { IfOk result (λ begun. begun.pass.end ≤ length bytes.now) }

@@ -2,10 +2,9 @@
 ghost use Rattle.std.specs.Prelude.{◌≡◌, option_map};
 ghost use Rattle.std.specs.Option.{option_copied};
 ghost use Rattle.seq_number.specs.Numbers.{number_of_place};
-ghost use Rattle.chunker.specs.Joining.{Joining, chunk_of, chunk_case};
-ghost use Rattle.chunker.specs.Joins.{numbered};
-ghost use Rattle.chunker.specs.Joiners.{IsJoinerOf, Meets};
+ghost use Rattle.chunker.specs.Joining.{chunk_of};
 ghost use Rattle.fixed_layout.specs.Datagrams.{slot_of};
+ghost use Rattle.reader_group.specs.MemberWords.{IsLaidIn};
 ghost use Rattle.reader_group.specs.Payloads.{reader_slot};
 
 use crate::member::Member;
@@ -19,18 +18,15 @@ use frame_codec::{FrameFault, read_frame_into};
 use ps_config::ReaderPart;
 
 impl Member {
-    ghost use Rattle.std.specs.Prelude.{◌≡◌, ◌≤◌, ◌<◌, ◌+◌, ◌==◌, length, fold};
+    ghost use Rattle.std.specs.Prelude.{◌≡◌, ◌≤◌, ◌<◌, ◌+◌, length};
     ghost use Rattle.frame_codec.specs.Words.{frame_in};
     ghost use Rattle.frame_codec.specs.Calls.{leaving};
     ghost use Rattle.frame_codec.specs.Reading.{frame_at};
-    ghost use Rattle.chunker.specs.Joining.{joined_bytes};
     ghost use Rattle.ps_config.specs.declared.parts.ReaderPart.{ReaderPart as AnyPart};
-    ghost use Rattle.reader_group.specs.Members.{Seat, MemberValue, seat_of};
-    ghost use Rattle.reader_group.specs.Payloads.{Message, Chunked, pieces, slot_piece};
+    ghost use Rattle.reader_group.specs.Payloads.{Message, Chunked, slot_piece};
     ghost use Rattle.reader_group.specs.SlotFrames.{slot_frame_at};
     ghost use Rattle.reader_group.specs.Held.{payload_in, messages_in, listed_at};
-    ghost use Rattle.reader_group.specs.Plain.{Fed, given, read_case, piece_case, fed_if, fed_on, unfed, fed_by};
-    ghost use Rattle.reader_group.specs.MemberWords.{IsMemberOf, HoldsRowsOf, Follows, IsFed};
+    ghost use Rattle.reader_group.specs.MemberWords.{HoldsRowsOf, Stays, IsFedBy, TakesParts, IsOffered, FollowsPiece, FollowsJoined, ReadsJoined, IsGivenKept};
 
     /// What a datagram brings the reader: with a higher token a cut, and where it is enabled its parts.
     pub fn feed(
@@ -43,10 +39,8 @@ impl Member {
         payload: &Payload<'_>,
     ) -> Tally
         requires { HoldsRowsOf meta.now self.old }
-        ensures fed { (member : MemberValue) → IsMemberOf (seat_of part.now meta.now) member self.old
-            → IsFed (seat_of part.now meta.now)
-            (fed_by (seat_of part.now meta.now) receipt.now raised enabled (payload_in payload.now) member)
-            self.new result }
+        ensures fed { IsFedBy part.now meta.now receipt.now raised enabled (payload_in payload.now)
+            self.old self.new result }
         ensures reader { HoldsRowsOf meta.now self.new }
         ensures matched { result.matched ≤ 255 }
         ensures bad { result.bad ≤ 255 }
@@ -68,10 +62,8 @@ impl Member {
         payload: &Payload<'_>,
     ) -> Tally
         requires { HoldsRowsOf meta.now self.old }
-        ensures fed { (member : MemberValue) → IsMemberOf (seat_of part.now meta.now) member self.old
-            → IsFed (seat_of part.now meta.now)
-            (fold (fed_on (seat_of part.now meta.now) receipt.now) (unfed member)
-            (pieces part.now (payload_in payload.now))) self.new result }
+        ensures fed { TakesParts part.now meta.now receipt.now (payload_in payload.now)
+            self.old self.new result }
         ensures reader { HoldsRowsOf meta.now self.new }
         ensures matched { result.matched ≤ 255 }
         ensures bad { result.bad ≤ 255 }
@@ -95,10 +87,8 @@ impl Member {
         messages: &Messages<'_>,
     ) -> Tally
         requires { HoldsRowsOf meta.now self.old }
-        ensures fed { (member : MemberValue) → IsMemberOf (seat_of part.now meta.now) member self.old
-            → IsFed (seat_of part.now meta.now)
-            (fold (fed_on (seat_of part.now meta.now) receipt.now) (unfed member)
-            (pieces part.now (messages_in messages.now))) self.new result }
+        ensures fed { TakesParts part.now meta.now receipt.now (messages_in messages.now)
+            self.old self.new result }
         ensures reader { HoldsRowsOf meta.now self.new }
         ensures matched { result.matched ≤ 255 }
         ensures bad { result.bad ≤ 255 }
@@ -124,11 +114,8 @@ impl Member {
         requires index { index < length messages.now.parts.now }
         requires matched { tally.old.matched < 255 }
         requires bad { tally.old.bad < 255 }
-        ensures fed { (fed : Fed) → IsFed (seat_of part.now meta.now) fed self.old tally.old
-            → IsFed (seat_of part.now meta.now)
-            (fed_if (seat_of part.now meta.now) receipt.now
-            ((listed_at messages.now index).0 == part.now.writer) fed
-            (Message (listed_at messages.now index).1)) self.new tally.new }
+        ensures fed { IsOffered part.now meta.now receipt.now (listed_at messages.now index)
+            self.old tally.old self.new tally.new }
         ensures reader { HoldsRowsOf meta.now self.new }
         ensures matched { tally.new.matched ≤ tally.old.matched + 1 }
         ensures bad { tally.new.bad ≤ tally.old.bad + 1 }
@@ -143,9 +130,8 @@ impl Member {
     // What stands in the reader's slot; it is bad where the datagram ends before the slot does.
     fn slot(&mut self, part: &ReaderPart, meta: &Meta, receipt: &Receipt, datagram: &[u8]) -> bool
         requires { HoldsRowsOf meta.now self.old }
-        ensures case { (member : MemberValue) → IsMemberOf (seat_of part.now meta.now) member self.old
-            → Follows (seat_of part.now meta.now) (piece_case (seat_of part.now meta.now) receipt.now member
-            (slot_piece (slot_of datagram.now (reader_slot part.now)))) self.new result }
+        ensures case { FollowsPiece part.now meta.now receipt.now
+            (slot_piece (slot_of datagram.now (reader_slot part.now))) self.old self.new result }
         ensures reader { HoldsRowsOf meta.now self.new }
     {
         let Some(bytes) = slot_of(part, datagram) else {
@@ -163,8 +149,7 @@ impl Member {
     // Reads a slot over the frame that is kept.
     fn read_slot(&mut self, meta: &Meta, bytes: &[u8]) -> Result<(), FrameFault>
         requires { HoldsRowsOf meta.now self.old }
-        ensures member { (seat : Seat) (member : MemberValue)
-            → IsMemberOf seat member self.old → IsMemberOf seat member self.new }
+        ensures member { Stays self.old self.new }
         ensures answer { leaving result (frame_in meta.now.fields self.new.frame)
             ≡ slot_frame_at meta.now bytes.now }
         ensures reader { HoldsRowsOf meta.now self.new }
@@ -175,10 +160,8 @@ impl Member {
     // A message; the answer says whether it is bad.
     fn message(&mut self, meta: &Meta, receipt: &Receipt, bytes: &[u8]) -> bool
         requires { HoldsRowsOf meta.now self.old }
-        ensures case { (part : AnyPart) (member : MemberValue)
-            → IsMemberOf (seat_of part meta.now) member self.old
-            → Follows (seat_of part meta.now)
-            (piece_case (seat_of part meta.now) receipt.now member (Message bytes.now)) self.new result }
+        ensures case { (part : AnyPart)
+            → FollowsPiece part meta.now receipt.now (Message bytes.now) self.old self.new result }
         ensures reader { HoldsRowsOf meta.now self.new }
     {
         match self.read(meta, bytes) {
@@ -193,8 +176,7 @@ impl Member {
     // Reads a message over the frame that is kept.
     fn read(&mut self, meta: &Meta, bytes: &[u8]) -> Result<(), FrameFault>
         requires { HoldsRowsOf meta.now self.old }
-        ensures member { (seat : Seat) (member : MemberValue)
-            → IsMemberOf seat member self.old → IsMemberOf seat member self.new }
+        ensures member { Stays self.old self.new }
         ensures answer { leaving result (frame_in meta.now.fields self.new.frame)
             ≡ frame_at meta.now bytes.now }
         ensures reader { HoldsRowsOf meta.now self.new }
@@ -205,10 +187,8 @@ impl Member {
     // A chunk of a message, and the message where it is whole then.
     fn chunk(&mut self, meta: &Meta, receipt: &Receipt, bytes: &[u8]) -> bool
         requires { HoldsRowsOf meta.now self.old }
-        ensures case { (part : AnyPart) (member : MemberValue)
-            → IsMemberOf (seat_of part meta.now) member self.old
-            → Follows (seat_of part meta.now)
-            (piece_case (seat_of part meta.now) receipt.now member (Chunked bytes.now)) self.new result }
+        ensures case { (part : AnyPart)
+            → FollowsPiece part meta.now receipt.now (Chunked bytes.now) self.old self.new result }
         ensures reader { HoldsRowsOf meta.now self.new }
     {
         let Ok(chunk) = read_chunk(bytes) else {
@@ -230,11 +210,7 @@ impl Member {
     // The message that was joined.
     fn joined(&mut self, meta: &Meta, receipt: &Receipt) -> bool
         requires { HoldsRowsOf meta.now self.old }
-        ensures case { (part : AnyPart) (member : MemberValue)
-            → IsMemberOf (seat_of part meta.now) member self.old
-            → Follows (seat_of part meta.now)
-            (read_case (seat_of part meta.now) receipt.now member
-            (frame_at meta.now (joined_bytes member.joining))) self.new result }
+        ensures case { FollowsJoined meta.now receipt.now self.old self.new result }
         ensures reader { HoldsRowsOf meta.now self.new }
     {
         match self.read_joined(meta) {
@@ -249,11 +225,8 @@ impl Member {
     // Reads the message that was joined over the frame that is kept.
     fn read_joined(&mut self, meta: &Meta) -> Result<(), FrameFault>
         requires { HoldsRowsOf meta.now self.old }
-        ensures member { (seat : Seat) (member : MemberValue)
-            → IsMemberOf seat member self.old → IsMemberOf seat member self.new }
-        ensures answer { (joining : Joining) → IsJoinerOf joining self.old.joiner
-            → leaving result (frame_in meta.now.fields self.new.frame)
-            ≡ frame_at meta.now (joined_bytes joining) }
+        ensures member { Stays self.old self.new }
+        ensures answer { ReadsJoined meta.now self.old result self.new }
         ensures reader { HoldsRowsOf meta.now self.new }
     {
         read_frame_into(meta, self.joiner.bytes(), &mut self.frame)
@@ -262,10 +235,7 @@ impl Member {
     // The reader is given the frame that is kept.
     fn give_kept(&mut self, meta: &Meta, receipt: &Receipt)
         requires { HoldsRowsOf meta.now self.old }
-        ensures member { (part : AnyPart) (member : MemberValue)
-            → IsMemberOf (seat_of part meta.now) member self.old
-            → IsMemberOf (seat_of part meta.now)
-            (given (seat_of part meta.now) receipt.now member (frame_in meta.now.fields self.old.frame)) self.new }
+        ensures member { IsGivenKept meta.now receipt.now self.old self.new }
         ensures reader { HoldsRowsOf meta.now self.new }
     {
         carries_short(self.frame.number);
@@ -290,8 +260,7 @@ fn is_short(number: u16)
 
 // A chunk whose number is carried is laid in.
 fn lay(joiner: &mut Joiner, number: u16, offset: u32, total: u32, part: &[u8]) -> Joined
-    ensures { (kept : Joining) → IsJoinerOf kept joiner.old
-        → Meets (chunk_case kept (numbered (chunk_of number offset total part.now))) joiner.new result }
+    ensures { IsLaidIn (chunk_of number offset total part.now) joiner.old joiner.new result }
 {
     joiner.chunk(number, offset, total, part)
 }

@@ -4,6 +4,8 @@ ghost use Rattle.reader_group.specs.declared.refusal.Refusal.TheVariants as refu
 
 use message_guard::OpenFault;
 use payload_layout::BadSizes;
+use std::error::Error;
+use std::fmt;
 use uadp_header::HeaderFault;
 
 /// What became of the parts of a datagram that was taken. A part is a DataSetMessage, a chunk of one, or the slot of an enabled
@@ -33,6 +35,33 @@ pub enum Refusal {
     /// The sizes of its messages, or the messages that they tell of, pass its end, in a dynamic layout.
     BadSizes,
 }
+
+impl fmt::Display for Refusal {
+    ghost use Rattle.std.specs.Prelude.{Some};
+    ghost use Rattle.reader_group.specs.FaultTexts.{refusal};
+
+    ghost output = { λ r. Some (refusal r) };
+
+    fn fmt<W: fmt::Write>(&self, f: &mut fmt::Formatter<W>) -> fmt::Result {
+        match self {
+            Refusal::Header(fault) => write!(f, "no header was read: {fault}"),
+            Refusal::NotOurs => f.write_str(
+                "the publisher, the group, its version or the class id isn't the one that the read group asks for",
+            ),
+            Refusal::NoIds => {
+                f.write_str("there is no payload header, which a dynamic layout wants")
+            }
+            Refusal::Guard(_) => {
+                f.write_str("the datagram isn't secured as the read group asks for")
+            }
+            Refusal::BadSizes => f.write_str(
+                "the sizes of the messages, or the messages, pass the end of the datagram",
+            ),
+        }
+    }
+}
+
+impl Error for Refusal {}
 
 impl From<HeaderFault> for Refusal {
     ghost from_gives = { λ fault refusal. refusal ≡ refusals.Header fault };

@@ -8,7 +8,7 @@ use Rattle.reader_group.specs.Plain.{PlainGroup}
 use Rattle.reader_group.specs.Settings.{setting_by, setting_of}
 use Rattle.reader_group.proofs.Made.{part_contained}
 use Rattle.reader_group.proofs.Seats.{few_readers, seats-length}
-use Rattle.reader_group.proofs.Steps.{IsTaken, receipt_with, made_setup, made_readers, stands_part, taken_step, taken_answer}
+use Rattle.reader_group.proofs.Steps.{IsTaken, bytes-are, receipt_with, made_setup, made_readers, stands_part, taken_step, taken_answer}
 use Rattle.reader_group.proofs.group.ReaderGroup.datagram.Goals as goal
 use Rattle.reader_group.proofs.group.ReaderGroup.datagram.Goals.{After-part_count}
 
@@ -61,3 +61,11 @@ returns-clause-answer c = λ plain h.
     c.in_ok-begun.begun c.open.new.room c.accept-raised.result (receipt_with c.args.now c.stamp_of.result) (payload_in c.payload_held-payload.result) c.feed_all-tally.result
     (record { parts = c.part_count.result; matched = c.feed_all-tally.result.matched; bad = c.feed_all-tally.result.bad }) c.requires.made c.part_at-part.ensures (taken c plain h)
     c.part_count.ensures refl refl
+
+pub returns-in_err-begun-clause-bytes : goal.returns-in_err-begun-clause-bytes
+returns-in_err-begun-clause-bytes c = λ plain h.
+    bytes-are c.args.config.now c.args.self.now c.part_at-part.result.now plain c.args.bytes.now c.open.new.bytes c.requires.made c.part_at-part.ensures h c.in_err-begun.ensures.bytes
+
+pub returns-clause-bytes : goal.returns-clause-bytes
+returns-clause-bytes c = λ plain h.
+    bytes-are c.args.config.now c.args.self.now c.part_at-part.result.now plain c.args.bytes.now c.open.new.bytes c.requires.made c.part_at-part.ensures h c.in_ok-begun.ensures.bytes
