@@ -1,16 +1,21 @@
 -- What a guard keeps, and of which accepted pairs it is the guard.
-use Rattle.std.specs.Prelude.{◌≡◌, ℕ, ◌≤◌, Bool, true, false, nat_lt, List, [], ◌∷◌, Option, Some, None, is_some}
+use Rattle.std.specs.Prelude.{◌≡◌, ℕ, ◌≤◌, Bool, true, false, ◌&&◌, nat_lt, List, [], ◌∷◌, Option, Some, None, is_some, Result}
 use Rattle.std.specs.Borrow.{Bor}
+use Rattle.replay_window.specs.Taken.{seen}
 use Rattle.replay_window.specs.Window.{IsWindowOf, IsFresh}
+use Rattle.replay_window.specs.declared.seen.Seen.{Seen}
+use Rattle.replay_window.specs.declared.seen.Seen.TheVariants.{Fresh}
 use Rattle.replay_window.specs.declared.window.Window.{Window}
 use Rattle.uadp_header.specs.Headers.{SecurityValue, security_in}
 use Rattle.uadp_header.specs.declared.header.SecurityPart.{SecurityPart}
 use Rattle.message_guard.specs.declared.guard.Guard.{Guard}
 use Rattle.message_guard.specs.declared.keys.TokenKeys.{TokenKeys}
 use Rattle.message_guard.specs.declared.mode.Mode.{Mode}
+use Rattle.message_guard.specs.declared.open_fault.OpenFault.{OpenFault}
 use Rattle.message_guard.specs.declared.pass.Pass1.{Pass1}
 use Rattle.message_guard.specs.Modes.{is_secured}
-use Rattle.message_guard.specs.Acceptance.{Accepted, highest, numbers_of}
+use Rattle.message_guard.specs.Acceptance.{Accepted, AreAcceptable, highest, numbers_of, raises}
+use Rattle.message_guard.specs.Opening.{judged, secured_refusals, signed_pass, verdict, accepts, opened}
 use Rattle.message_guard.specs.Protection.{keys_with}
 
 -- what a security header that may be there says
@@ -49,6 +54,52 @@ pub record IsPassOf (guard : Guard) (pass : Pass1) : Type 0 where
   pub known : is_secured guard.mode ≡ true → is_some (keys_with guard.keys.items pass.token) ≡ true
   pub not_lower : is_secured guard.mode ≡ true → (high : ℕ) → high_of guard ≡ Some high → high ≤ pass.token
   pub fresh : is_secured guard.mode ≡ true → high_of guard ≡ Some pass.token → IsFresh (window_of guard) pass.number
+
+-- the guard answers its verdict, whatever was accepted before
+abbrev pub SaysVerdict : Guard → Option SecurityValue → List ℕ → ℕ → Result Pass1 OpenFault → Type 0
+SaysVerdict guard security datagram payload answer = (accepted : Accepted) → IsGuardOf accepted guard
+    → answer ≡ verdict (setup_of guard).mode (setup_of guard).keys accepted security datagram payload
+
+-- with this security header the guard answers by the refusals of a secured datagram, whatever was accepted before
+abbrev pub SaysSecured : Guard → SecurityValue → List ℕ → ℕ → Result Pass1 OpenFault → Type 0
+SaysSecured guard part datagram payload answer = (accepted : Accepted) → IsGuardOf accepted guard
+    → answer ≡ judged (secured_refusals (setup_of guard).keys accepted part datagram payload)
+    (signed_pass part datagram)
+
+-- what a guard of this setup makes of a datagram that it passed
+abbrev pub opened_by : Setup → Pass1 → ℕ → List ℕ → List ℕ
+opened_by setup pass payload datagram =
+    opened setup.mode setup.keys setup.first_block pass payload datagram
+
+-- the new guard has accepted the pass behind what the old one had
+abbrev pub HasAccepted : Guard → Pass1 → Guard → Type 0
+HasAccepted old pass new = (accepted : Accepted) → IsGuardOf accepted old
+    → IsGuardOf (accepts (setup_of old).mode pass accepted) new
+
+-- the answer tells whether the pass raises the token, whatever was accepted before
+abbrev pub TellsRaise : Guard → Pass1 → Bool → Type 0
+TellsRaise guard pass answer = (accepted : Accepted) → IsGuardOf accepted guard
+    → answer ≡ (is_secured (setup_of guard).mode && raises accepted pass.token)
+
+-- where all that was accepted was acceptable, so is the pass
+abbrev pub StaysAcceptable : Guard → Pass1 → Type 0
+StaysAcceptable guard pass = (accepted : Accepted) → IsGuardOf accepted guard
+    → AreAcceptable (setup_of guard).keys accepted
+    → AreAcceptable (setup_of guard).keys (accepts (setup_of guard).mode pass accepted)
+
+-- the token is the highest that was accepted, or 0
+abbrev pub IsHighest : Guard → ℕ → Type 0
+IsHighest guard token = (accepted : Accepted) → IsGuardOf accepted guard → token ≡ highest accepted
+
+-- the answer is what is to be said of a number under the token, whatever was accepted before
+abbrev pub SaysSeen : Guard → ℕ → ℕ → Seen → Type 0
+SaysSeen guard token number answer = (accepted : Accepted) → IsGuardOf accepted guard
+    → answer ≡ seen (numbers_of accepted token) number
+
+-- where the answer is Fresh under the highest token, the window has the number as fresh
+abbrev pub IsFreshIf : Guard → ℕ → ℕ → Seen → Type 0
+IsFreshIf guard token number answer = answer ≡ Fresh → high_of guard ≡ Some token
+    → IsFresh (window_of guard) number
 
 -- a token was accepted before, and this one is higher
 abbrev pub is_above : Option ℕ → ℕ → Bool

@@ -5,3 +5,5 @@ pub mod Opening
 pub mod Senders
 pub mod Guards
 pub mod Opened
+pub mod FaultTexts
+pub mod Laws

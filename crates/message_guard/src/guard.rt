@@ -1,15 +1,10 @@
-ghost use Rattle.std.specs.Prelude.{◌≡◌, ◌≢◌, ℕ, ◌+◌, ◌<◌, ◌≤◌, ◌&&◌, List, [], ◌∷◌, map, length, IfOk, OnOk, IsOk, true, false, Bool, Some};
+ghost use Rattle.std.specs.Prelude.{◌≡◌, ◌+◌, ◌<◌, ◌≤◌, [], map, length, IfOk, OnOk, Some, ℕ};
 ghost use Rattle.std.specs.Option.{option_copied};
-ghost use Rattle.replay_window.specs.Taken.{seen};
-ghost use Rattle.replay_window.specs.Window.{IsFresh};
-ghost use Rattle.replay_window.specs.declared.seen.Seen.TheVariants.{Fresh};
 ghost use Rattle.group_keys.specs.Ring.{key_sets};
 ghost use Rattle.uadp_header.specs.Headers.{security_in};
-ghost use Rattle.message_guard.specs.Modes.{is_secured};
 ghost use Rattle.message_guard.specs.Protection.{keys_in, keys_with};
-ghost use Rattle.message_guard.specs.Acceptance.{AreAcceptable, highest, numbers_of, raises};
-ghost use Rattle.message_guard.specs.Opening.{has_mode, is_signed, front_refusals, secured_refusals, judged, open_pass, signed_pass, verdict, accepts, opened};
-ghost use Rattle.message_guard.specs.Guards.{security_told, setup_of, high_of, window_of, is_above, IsGuardOf, IsPassOf};
+ghost use Rattle.message_guard.specs.Opening.{has_mode, is_signed, front_refusals, judged, open_pass, signed_pass};
+ghost use Rattle.message_guard.specs.Guards.{security_told, setup_of, high_of, is_above, opened_by, IsGuardOf, IsPassOf, SaysVerdict, SaysSecured, HasAccepted, TellsRaise, StaysAcceptable, IsHighest, SaysSeen, IsFreshIf};
 
 use crate::keys::{TokenKeys, message_nonce};
 use crate::sender::SIGNATURE_BYTES;
@@ -61,9 +56,8 @@ impl Guard {
         payload: usize,
     ) -> Result<Pass1, OpenFault>
         requires { payload ≤ length datagram.now }
-        ensures verdict { (accepted : List (ℕ × ℕ)) → IsGuardOf accepted self.now
-            → result ≡ verdict (setup_of self.now).mode (setup_of self.now).keys accepted
-            (security_told security.entry) datagram.now payload }
+        ensures verdict { SaysVerdict self.now (security_told security.entry)
+            datagram.now payload result }
         ensures pass { IfOk result (IsPassOf self.now) }
         ensures order { IfOk result (λ pass. payload ≤ pass.end) }
         ensures within { IfOk result (λ pass. pass.end ≤ length datagram.now) }
@@ -81,8 +75,7 @@ impl Guard {
     pub fn decrypt(&self, pass: &Pass1, datagram: &mut [u8], payload: usize)
         requires order { payload ≤ pass.now.end }
         requires within { pass.now.end ≤ length datagram.old }
-        ensures { datagram.new ≡ opened (setup_of self.now).mode (setup_of self.now).keys
-            (setup_of self.now).first_block pass.now payload datagram.old }
+        ensures { datagram.new ≡ opened_by (setup_of self.now) pass.now payload datagram.old }
     {
         if let Some(keys) = self.keys_with(pass.token) {
             let nonce = message_nonce(&pass.random, pass.number);
@@ -99,13 +92,9 @@ impl Guard {
     /// higher than each of them: then its number is the first of a new window. With the mode None nothing is accepted.
     pub fn accept(&mut self, pass: Pass1) -> bool
         requires { IsPassOf self.old pass }
-        ensures accepted { (accepted : List (ℕ × ℕ)) → IsGuardOf accepted self.old
-            → IsGuardOf (accepts (setup_of self.old).mode pass accepted) self.new }
-        ensures raised { (accepted : List (ℕ × ℕ)) → IsGuardOf accepted self.old
-            → result ≡ (is_secured (setup_of self.old).mode && raises accepted pass.token) }
-        ensures acceptable { (accepted : List (ℕ × ℕ)) → IsGuardOf accepted self.old
-            → AreAcceptable (setup_of self.old).keys accepted
-            → AreAcceptable (setup_of self.old).keys (accepts (setup_of self.old).mode pass accepted) }
+        ensures accepted { HasAccepted self.old pass self.new }
+        ensures raised { TellsRaise self.old pass result }
+        ensures acceptable { StaysAcceptable self.old pass }
         ensures setup { setup_of self.new ≡ setup_of self.old }
     {
         if !self.mode.is_secured() {
@@ -128,9 +117,7 @@ impl Guard {
         payload: usize,
     ) -> Result<Pass1, OpenFault>
         requires { payload ≤ length datagram.now }
-        ensures verdict { (accepted : List (ℕ × ℕ)) → IsGuardOf accepted self.now
-            → result ≡ judged (secured_refusals (setup_of self.now).keys accepted (security_in part.now)
-            datagram.now payload) (signed_pass (security_in part.now) datagram.now) }
+        ensures verdict { SaysSecured self.now (security_in part.now) datagram.now payload result }
         ensures pass { IfOk result (IsPassOf self.now) }
         ensures order { IfOk result (λ pass. payload ≤ pass.end) }
         ensures within { IfOk result (λ pass. pass.end ≤ length datagram.now) }
@@ -163,7 +150,7 @@ impl Guard {
 
     // The highest token accepted, or 0.
     fn highest(&self) -> u32
-        ensures value { (accepted : List (ℕ × ℕ)) → IsGuardOf accepted self.now → result ≡ highest accepted }
+        ensures value { IsHighest self.now result }
         ensures bound { (high : ℕ) → high_of self.now ≡ Some high → high ≡ result }
     {
         match self.high {
@@ -175,9 +162,8 @@ impl Guard {
     // What is to be said of a number under a token that isn't below the highest.
     fn seen(&self, token: u32, number: u32) -> Seen
         requires { (high : ℕ) → high_of self.now ≡ Some high → high ≤ token }
-        ensures value { (accepted : List (ℕ × ℕ)) → IsGuardOf accepted self.now
-            → result ≡ seen (numbers_of accepted token) number }
-        ensures fresh { result ≡ Fresh → high_of self.now ≡ Some token → IsFresh (window_of self.now) number }
+        ensures value { SaysSeen self.now token number result }
+        ensures fresh { IsFreshIf self.now token number result }
     {
         if self.high == Some(token) {
             self.window.test(number)

@@ -1,3 +1,5 @@
+//! Why a guard refuses a datagram.
+use std::error::Error;
 use std::fmt;
 
 /// Why a datagram is refused (OPC 10000-14 7.2.4.4, SecurityHeader). The first of these that holds is given.
@@ -26,18 +28,54 @@ pub enum OpenFault {
 }
 
 impl fmt::Display for OpenFault {
+    ghost use Rattle.std.specs.Prelude.{Some};
+    ghost use Rattle.message_guard.specs.FaultTexts.{open_fault};
+
+    ghost output = { λ fault. Some (open_fault fault) };
+
     fn fmt<W: fmt::Write>(&self, f: &mut fmt::Formatter<W>) -> fmt::Result {
-        f.write_str(match self {
-            OpenFault::ModeDiffers => "the security mode differs",
-            OpenFault::FooterOut => "a security footer isn't supported",
-            OpenFault::KeyResetOut => "a forced key reset isn't supported",
-            OpenFault::BadNonceLength { .. } => "the nonce hasn't 8 bytes",
-            OpenFault::Short => "there is no room for a signature",
-            OpenFault::UnknownToken { .. } => "the security token is unknown",
-            OpenFault::OldToken { .. } => "the security token is older than one accepted",
-            OpenFault::BadSignature => "the signature is wrong",
-            OpenFault::Repeated => "the message number was accepted before",
-            OpenFault::TooOld { .. } => "the message number is too old",
-        })
+        match *self {
+            OpenFault::ModeDiffers => f.write_str(
+                "the datagram isn't signed and encrypted as the security mode wants: give both sides the same mode",
+            ),
+            OpenFault::FooterOut => f.write_str(
+                "the datagram has a security footer, which isn't read: send without one",
+            ),
+            OpenFault::KeyResetOut => f.write_str(
+                "the sender asks for new keys, which isn't followed: configure its next key set",
+            ),
+            OpenFault::BadNonceLength { got } => {
+                write!(f, "the message nonce has {got} bytes: send with one of 8")
+            }
+            OpenFault::Short => f.write_str(
+                "fewer than 32 bytes come after the header: send with a signature of 32 bytes",
+            ),
+            OpenFault::UnknownToken { got } => {
+                write!(
+                    f,
+                    "no key set has security token {got}: add the sender's key set"
+                )
+            }
+            OpenFault::OldToken { got, high } => {
+                write!(
+                    f,
+                    "security token {got} is below {high}, which was accepted before: send with the keys of the higher one"
+                )
+            }
+            OpenFault::BadSignature => f.write_str(
+                "the last 32 bytes aren't the signature of those before: compare the signing keys of both sides",
+            ),
+            OpenFault::Repeated => f.write_str(
+                "a datagram with this token and number was accepted before: leave out the copy",
+            ),
+            OpenFault::TooOld { high } => {
+                write!(
+                    f,
+                    "the message number is 1,024 or more below {high}, the greatest accepted: send with a higher one"
+                )
+            }
+        }
     }
 }
+
+impl Error for OpenFault {}
