@@ -31,10 +31,11 @@ use Rattle.writer_group.specs.Turns.{GroupDeed, TurnInput, frames_in, made_in, t
 use Rattle.reader_group.specs.declared.refusal.Refusal.{Refusal}
 use Rattle.reader_group.specs.declared.refusal.Refusal.TheVariants as refusals
 use Rattle.reader_group.specs.Filter.{is_any_or, is_ours}
-use Rattle.reader_group.specs.Opening.{Opened, Refusals, decrypted, guard_refusals, judged, list_of, opened_as, payload_refusals, verdict}
+use Rattle.reader_group.specs.Opening.{Opened, Refusals, decrypted, guard_refusals, list_of, opened_as, payload_refusals, verdict}
 use Rattle.reader_group.specs.Payloads as readers
 use Rattle.reader_group.specs.Payloads.{Piece, Message, Chunked, payload_of, pieces}
-use Rattle.reader_group.proofs.Judged.{judged-value}
+use Rattle.message_guard.specs.Opening.{judged}
+use Rattle.message_guard.proofs.Judged.{judged-value}
 use Rattle.group_laws.specs.Matching.{IsGroupTurn}
 use Rattle.group_laws.proofs.Lists.{All-left, All-right}
 use Rattle.group_laws.proofs.OtherReaders.{no-writer-has}

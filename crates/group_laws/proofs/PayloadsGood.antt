@@ -20,7 +20,8 @@ use Rattle.config_tables.specs.declared.words.Layout.TheVariants as layouts
 use Rattle.writer_group.specs.Payloads.{Spelled, size_of, frames_payload, chunk_payload, chunk_payloads, pack_payloads}
 use Rattle.writer_group.specs.Sealing.{Payload}
 use Rattle.reader_group.specs.declared.refusal.Refusal.TheVariants as refusals
-use Rattle.reader_group.specs.Opening.{Opened, are_past, payload_refusals, judged}
+use Rattle.message_guard.specs.Opening.{judged}
+use Rattle.reader_group.specs.Opening.{Opened, are_past, payload_refusals}
 use Rattle.group_laws.proofs.DynamicPieces.{IsSmall, IsSmallPack, fitting, packs-readable}
 
 -- a header can name its ids, and a read group of the layout has nothing to refuse in it

@@ -13,9 +13,10 @@ use Rattle.message_guard.specs.Guards.{Setup}
 use Rattle.message_guard.specs.Modes.{is_secured}
 use Rattle.message_guard.specs.Opened.{MayOpen, sent_pass}
 use Rattle.message_guard.specs.Opening as guards
-use Rattle.message_guard.specs.Opening.{open_pass, signed_pass, pass_of, opened}
+use Rattle.message_guard.specs.Opening.{judged, open_pass, signed_pass, pass_of, opened}
 use Rattle.message_guard.specs.Protection.{keys_with, signature_of}
 use Rattle.message_guard.specs.Senders.{SenderState, IsSender, front_value, sent}
+use Rattle.message_guard.proofs.Judged.{judged-value, judged_as-before, judged_as-behind}
 use Rattle.message_guard.proofs.Plain.{open_is_passed, open_is_left}
 use Rattle.message_guard.proofs.Restoring.{sent_is_passed, payload_restored}
 use Rattle.config_tables.specs.declared.words.Layout.{Layout}
@@ -23,9 +24,8 @@ use Rattle.ps_config.specs.declared.parts.ReadGroupPart.{ReadGroupPart}
 use Rattle.reader_group.specs.declared.refusal.Refusal.{Refusal}
 use Rattle.reader_group.specs.declared.refusal.Refusal.TheVariants as refusals
 use Rattle.reader_group.specs.Filter.{is_ours}
-use Rattle.reader_group.specs.Opening.{Opened, Refusals, decrypted, guard_refusals, payload_refusals, list_of, judged, opened_as, verdict, verdict_of}
+use Rattle.reader_group.specs.Opening.{Opened, Refusals, decrypted, guard_refusals, payload_refusals, list_of, opened_as, verdict, verdict_of}
 use Rattle.reader_group.specs.Payloads.{payload_of}
-use Rattle.reader_group.proofs.Judged.{judged-guard, judged-passed}
 use Rattle.group_laws.specs.TurnOpened.{IsNumberRefusal}
 use Rattle.group_laws.proofs.Guarding.{sent-late, not-passed}
 use Rattle.group_laws.proofs.PayloadsGood.{IsGood}
@@ -68,7 +68,7 @@ refused-as group setup accepted header rest fault is ours refused =
     let at = length (header_bytes header) in
     let pass = pass_of setup.mode header.security datagram in
     verdict-written group setup accepted header rest is ∙ tests-ours group setup accepted datagram header at ours
-    ∙ judged-guard (guards.refusals setup.mode setup.keys accepted header.security datagram at) (payload_refusals group.layout header.ids (drop at (decrypted setup pass at datagram)))
+    ∙ judged_as-before refusals.Guard (guards.refusals setup.mode setup.keys accepted header.security datagram at) (payload_refusals group.layout header.ids (drop at (decrypted setup pass at datagram)))
     (opened_as group setup datagram header at) pass fault refused
 
 -- ---- where the guard passes it
@@ -89,13 +89,13 @@ passed-as group setup accepted header rest payload pass is ours good passed clea
     let G = guards.refusals setup.mode setup.keys accepted header.security datagram at in
     let P = payload_refusals group.layout header.ids (drop at (decrypted setup found at datagram)) in
     let x = opened_as group setup datagram header at in
-    let by_guard = judged-passed G P x found pass passed in
-    let same : found ≡ pass = by_guard.1 in
+    let by_guard = judged_as-behind refusals.Guard G P x found pass passed in
+    let same : found ≡ pass = judged-value G found pass passed in
     let clear_found : decrypted setup found at datagram ≡ front ++ payload = ap (λ (p : Pass1). decrypted setup p at datagram) same ∙ clear in
     let seam : drop at (front ++ payload) ≡ payload = drop_at front payload at refl in
     let opened_is : x ≡ opened_of group.layout header.ids pass at (front ++ payload) =
     ap (λ (bytes : List ℕ). opened_of group.layout header.ids found at bytes) clear_found ∙ ap (λ (p : Pass1). opened_of group.layout header.ids p at (front ++ payload)) same in
-    verdict-written group setup accepted header rest is ∙ tests-ours group setup accepted datagram header at ours ∙ by_guard.0
+    verdict-written group setup accepted header rest is ∙ tests-ours group setup accepted datagram header at ours ∙ by_guard
     ∙ ap (λ (bytes : List ℕ). judged (payload_refusals group.layout header.ids (drop at bytes)) x) clear_found
     ∙ ap (λ (bytes : List ℕ). judged (payload_refusals group.layout header.ids bytes) x) seam
     ∙ good.taken x ∙ ap Ok opened_is

@@ -7,6 +7,7 @@ use Rattle.uadp_header.specs.Headers.{PublisherValue, U8, U16, U32, U64, Text, H
 use Rattle.uadp_header.specs.Layout.{header_at}
 use Rattle.message_guard.specs.declared.open_fault.OpenFault.{OpenFault}
 use Rattle.message_guard.specs.Opening as guards
+use Rattle.message_guard.specs.Opening.{judged}
 use Rattle.config_tables.specs.declared.publisher.Publisher.{Publisher}
 use Rattle.config_tables.specs.declared.publisher.Publisher.TheVariants as publisher
 use Rattle.ps_config.specs.declared.parts.ReadGroupPart.{ReadGroupPart}
@@ -14,7 +15,7 @@ use Rattle.ps_config.specs.Headers.{publisher_value}
 use Rattle.reader_group.specs.declared.refusal.Refusal.{Refusal}
 use Rattle.reader_group.specs.declared.refusal.Refusal.TheVariants as refusals
 use Rattle.reader_group.specs.Filter.{is_publisher, is_any_or, has_class, is_ours}
-use Rattle.reader_group.specs.Opening.{Refusals, decrypted, guard_refusals, payload_refusals, judged, opened_as, verdict_of}
+use Rattle.reader_group.specs.Opening.{Refusals, decrypted, guard_refusals, payload_refusals, opened_as, verdict_of}
 use Rattle.reader_group.specs.Asked.{HasOtherPublisher, HasOtherGroup, HasOtherVersion, HasOtherClass, IsNotOurs, RefusesOthers, IsAskedFor, PassesAsked}
 
 -- ---- the tests of the filter, one by one

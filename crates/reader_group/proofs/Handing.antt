@@ -37,9 +37,10 @@ use Rattle.reader_group.specs.declared.refusal.Refusal.{Refusal}
 use Rattle.reader_group.specs.declared.refusal.Refusal.TheVariants as refusals
 use Rattle.reader_group.specs.Filter.{is_ours}
 use Rattle.reader_group.specs.Payloads.{Chunk, Messages, Slotted, payload_of, pieces, slot_piece, reader_slot}
-use Rattle.reader_group.specs.Opening.{Opened, Refusals, decrypted, list_of, judged, opened_as, verdict, verdict_of}
+use Rattle.reader_group.specs.Opening.{Opened, Refusals, decrypted, list_of, opened_as, verdict, verdict_of}
 use Rattle.reader_group.specs.Handing.{IsLaid, HasSpelled, HandsOn, MessagesComeBack, ChunkComesBack, HasSlotAt, in_slots, SlotsComeBack}
-use Rattle.reader_group.proofs.Judged.{ok_err, judged-value}
+use Rattle.message_guard.specs.Opening.{judged}
+use Rattle.message_guard.proofs.Judged.{ok_err, judged-value}
 use Rattle.reader_group.proofs.Opened.{behind_filter}
 
 -- ---- a datagram that is taken

@@ -3,7 +3,6 @@ pub mod Seats
 pub mod Brought
 pub mod Changing
 pub mod Made
-pub mod Judged
 pub mod Opened
 pub mod Parts
 pub mod Trimming

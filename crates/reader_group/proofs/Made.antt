@@ -22,7 +22,7 @@ use Rattle.reader_group.specs.declared.member.Member.{Member}
 use Rattle.reader_group.specs.Members.{Seat, seat_of, seat_at, no_seat, MemberValue, new_member}
 use Rattle.reader_group.specs.MemberWords.{HoldsRowsOf, IsMemberOf}
 use Rattle.reader_group.specs.Groups.{AreMembers, AreReaders}
-use Rattle.reader_group.specs.Opening.{mode_of}
+use Rattle.ps_config.specs.Headers.{mode_of}
 use Rattle.reader_group.specs.Plain.{opening}
 use Rattle.reader_group.proofs.Seats.{seats-length}
 use Rattle.reader_group.specs.Settings.{no_group, group_at, no_keygroup, keygroup_at, token_keys, setup_by, seat_in, setting_by, setting_of}

@@ -17,6 +17,8 @@ use Rattle.message_guard.specs.declared.pass.Pass1.{Pass1}
 use Rattle.message_guard.specs.Acceptance.{Accepted}
 use Rattle.message_guard.specs.Guards.{Setup, security_told}
 use Rattle.message_guard.specs.Opening as guards
+use Rattle.message_guard.specs.Opening.{judged}
+use Rattle.message_guard.proofs.Judged.{judged-value, judged_as-before, judged_as-behind}
 use Rattle.config_tables.specs.declared.words.Layout.{Layout}
 use Rattle.config_tables.specs.declared.words.Layout.TheVariants as layouts
 use Rattle.ps_config.specs.declared.parts.ReadGroupPart.{ReadGroupPart}
@@ -29,9 +31,8 @@ use Rattle.reader_group.specs.declared.refusal.Refusal.TheVariants as refusals
 use Rattle.reader_group.specs.Filter.{is_ours}
 use Rattle.reader_group.specs.Payloads as payloads
 use Rattle.reader_group.specs.Payloads.{Payload, dynamic_payload, payload_of}
-use Rattle.reader_group.specs.Opening.{Opened, Refusals, are_past, decrypted, guard_refusals, payload_refusals, list_of, judged, opened_as, verdict, verdict_of}
+use Rattle.reader_group.specs.Opening.{Opened, Refusals, are_past, decrypted, guard_refusals, payload_refusals, list_of, opened_as, verdict, verdict_of}
 use Rattle.reader_group.specs.Begun.{ids_carried, HasBegun, HasListed, HasFound, payload_in, Finds, FindsMessages, listed_in, payload_held, Opens}
-use Rattle.reader_group.proofs.Judged.{judged-guard, judged-passed}
 
 -- ---- the header
 
@@ -69,7 +70,7 @@ refused-guard group setup accepted datagram header payload fault read within our
     let pass = guards.pass_of setup.mode header.security datagram in
     verdict-read group setup accepted datagram header payload read within
     ∙ judged-filter (is_ours group header) (behind_filter group setup accepted datagram header payload) value ours
-    ∙ judged-guard (guards.refusals setup.mode setup.keys accepted header.security datagram payload)
+    ∙ judged_as-before refusals.Guard (guards.refusals setup.mode setup.keys accepted header.security datagram payload)
     (payload_refusals group.layout header.ids (drop payload (decrypted setup pass payload datagram))) value pass fault refused
 
 -- ---- the payload
@@ -114,15 +115,16 @@ judged-begun group setup accepted datagram begun kept order h =
     let payload = begun.payload in
     let found = guards.pass_of setup.mode header.security datagram in
     let value = opened_as group setup datagram header payload in
-    let passed = judged-passed (guards.refusals setup.mode setup.keys accepted header.security datagram payload)
+    let list = guards.refusals setup.mode setup.keys accepted header.security datagram payload in
+    let passed = judged_as-behind refusals.Guard list
     (payload_refusals group.layout header.ids (drop payload (decrypted setup found payload datagram))) value found begun.pass h.passed in
     let judged_with : Pass1 → IdsValue → Result Opened Refusal = λ pass ids.
     judged (payload_refusals group.layout ids (drop payload (decrypted setup pass payload datagram)))
     (opened_with pass (payload_of group.layout ids payload (decrypted setup pass payload datagram))) in
     verdict-read group setup accepted datagram header payload h.read h.within
     ∙ judged-filter (is_ours group header) (behind_filter group setup accepted datagram header payload) value h.ours
-    ∙ passed.0
-    ∙ ap (λ (pass : Pass1). judged_with pass header.ids) passed.1
+    ∙ passed
+    ∙ ap (λ (pass : Pass1). judged_with pass header.ids) (judged-value list found begun.pass h.passed)
     ∙ ap (λ (ids : IdsValue). judged_with begun.pass ids) (sym h.ids)
     ∙ ap (λ (l : List ℕ). judged (payload_refusals group.layout (ids_carried begun.carried kept) l)
     (opened_with begun.pass (payload_of group.layout (ids_carried begun.carried kept) payload (take begun.pass.end (is_opened setup begun datagram)))))

@@ -17,7 +17,7 @@ use Rattle.reader_group.specs.declared.refusal.Refusal.TheVariants as refusals
 use Rattle.reader_group.specs.Filter.{is_ours}
 use Rattle.reader_group.specs.Opening.{Opened, verdict, verdict_of, decrypted, guard_refusals, payload_refusals, opened_as}
 use Rattle.reader_group.specs.Signed.{IsSignedBy}
-use Rattle.reader_group.proofs.Judged.{judged-more, judged-open}
+use Rattle.message_guard.proofs.Judged.{judged-more, judged_as-front}
 
 -- the law of guards, as `message_guard` has it
 abbrev pub PassedLaw : Type 0
@@ -43,7 +43,7 @@ read-signed law group setup accepted datagram (Ok read) opened secured e =
     let last = payload_refusals group.layout read.0.ids (drop payload (decrypted setup pass payload datagram)) in
     let x = opened_as group setup datagram read.0 payload in
     let more = judged-more (not (is_ours group read.0)) refusals.NotOurs (guard_refusals list ++ last) x opened e in
-    let passed : guards.verdict setup.mode setup.keys accepted read.0.security datagram payload ≡ Ok pass = judged-open list last x opened pass more in
+    let passed : guards.verdict setup.mode setup.keys accepted read.0.security datagram payload ≡ Ok pass = judged_as-front refusals.Guard list last x opened pass more in
     let is = law setup.mode setup.keys accepted read.0.security datagram payload pass secured passed in
     record { signer = is.signer; one_of = found-in is.part.token setup.keys is.signer is.known; signature = is.signature }
 

@@ -9,6 +9,7 @@ use Rattle.message_guard.specs.Modes.{is_secured}
 use Rattle.message_guard.specs.Opening.{accepts}
 use Rattle.ps_config.specs.declared.parts.Config.{Config}
 use Rattle.ps_config.specs.declared.parts.ReadGroupPart.{ReadGroupPart}
+use Rattle.ps_config.specs.Headers.{mode_of}
 use Rattle.reader_group.specs.declared.begun.Begun.{Begun}
 use Rattle.reader_group.specs.declared.group.ReaderGroup.{ReaderGroup}
 use Rattle.reader_group.specs.declared.member.Member.{Member}
@@ -19,7 +20,7 @@ use Rattle.reader_group.specs.declared.refusal.Taken.{Taken}
 use Rattle.reader_group.specs.declared.tally.Tally.{Tally}
 use Rattle.reader_group.specs.Members.{MemberValue}
 use Rattle.reader_group.specs.Payloads.{Payload, part_count}
-use Rattle.reader_group.specs.Opening.{Opened, bytes_left, mode_of, verdict}
+use Rattle.reader_group.specs.Opening.{Opened, bytes_left, verdict}
 use Rattle.reader_group.specs.Begun.{LeavesBytes, payload_held, Opens}
 use Rattle.reader_group.specs.Groups.{AreMembers, AreReaders, IsTallyOf, Stands, IsMadeOf, guard_of, members_of, index_of}
 use Rattle.reader_group.specs.Plain.{Setting, PlainGroup, Fed, Got, all_fed, feds, is_raised, receipt_of, stamp_by, taken_on, answer_on, answer, step, verdict_in}

@@ -27,7 +27,7 @@ use Rattle.reader_group.specs.Opening.{Opened, opened_as, list_of, guard_refusal
 use Rattle.reader_group.specs.Arrivals.{Way, Mark, Arrived, Laid, goes_by_numbers, arrivals_in, item_of, piece_on, cut_on, taken_in, runs_out, marks, arrivals, accepted, accepted_with}
 use Rattle.reader_group.specs.Agreeing.{RiseTogether, AreWithin, numbers_in, places_in, stamp_pair}
 use Rattle.reader_group.specs.Plain.{Setting, Event, Got, Expired, Stopped}
-use Rattle.reader_group.proofs.Judged.{judged-open, judged-value, judged-more}
+use Rattle.message_guard.proofs.Judged.{judged-value, judged-more, judged_as-front}
 use Rattle.reader_group.proofs.Answered.{marked_if}
 use Rattle.reader_group.proofs.Pairs.{near-pairs}
 use Rattle.reader_group.proofs.KeptParts.{items_in, IsKept, keep-pieces}
@@ -85,7 +85,7 @@ verdict_on setting pairs datagram (Ok read) opened secured e =
     let G = guards.refusals setup.mode setup.keys pairs read.0.security datagram payload in
     let P = payload_refusals setting.group.layout read.0.ids (drop payload (decrypted setup pass payload datagram)) in
     let behind = judged-more (not (is_ours setting.group read.0)) refusals.NotOurs (guard_refusals G ++ P) value opened e in
-    let passed : guards.verdict setup.mode setup.keys pairs read.0.security datagram payload ≡ Ok pass = judged-open G P value opened pass behind in
+    let passed : guards.verdict setup.mode setup.keys pairs read.0.security datagram payload ≡ Ok pass = judged_as-front refusals.Guard G P value opened pass behind in
     let is : value ≡ opened = judged-value (list_of setting.group setup pairs datagram read.0 payload) value opened e in
     let acceptable = passed_acceptable setup.mode setup.keys pairs read.0.security datagram payload pass secured passed in
     let fresh = fresh_by (is_some (keys_with setup.keys pass.token)) (nat_lt pass.token (highest pairs)) (is_taken (numbers_of pairs pass.token) pass.number)

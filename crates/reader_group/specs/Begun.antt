@@ -7,6 +7,7 @@ use Rattle.message_guard.specs.Acceptance.{Accepted}
 use Rattle.message_guard.specs.declared.guard.Guard.{Guard}
 use Rattle.message_guard.specs.Guards.{Setup, IsGuardOf, setup_of}
 use Rattle.message_guard.specs.Opening as guards
+use Rattle.message_guard.specs.Opening.{judged}
 use Rattle.config_tables.specs.declared.words.Layout.{Layout}
 use Rattle.config_tables.specs.declared.words.Layout.TheVariants as layouts
 use Rattle.ps_config.specs.declared.parts.ReadGroupPart.{ReadGroupPart}
@@ -18,7 +19,7 @@ use Rattle.reader_group.specs.declared.refusal.Refusal.{Refusal}
 use Rattle.reader_group.specs.Filter.{is_ours}
 use Rattle.reader_group.specs.Payloads as payloads
 use Rattle.reader_group.specs.Payloads.{Payload, Slots, Messages}
-use Rattle.reader_group.specs.Opening.{Opened, bytes_left, verdict, payload_refusals, judged}
+use Rattle.reader_group.specs.Opening.{Opened, bytes_left, verdict, payload_refusals}
 
 -- the ids of a header, of which a list was kept
 abbrev pub ids_carried : Carried → List ℕ → IdsValue

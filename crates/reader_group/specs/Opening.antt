@@ -1,21 +1,18 @@
 -- What a read group makes of a datagram before a reader is given any of it: it is refused for the first of one list of tests that holds, or opened.
-use Rattle.std.specs.Prelude.{ℕ, ◌+◌, ◌-◌, ◌*◌, List, [], ◌∷◌, ◌++◌, length, map, take, drop, sum, find, Bool, false, not, ◌&&◌, nat_lt, Option, Some, None, Result, Ok, Err, if◌then◌else◌}
+use Rattle.std.specs.Prelude.{ℕ, ◌+◌, ◌-◌, ◌*◌, List, [], ◌∷◌, ◌++◌, length, map, take, drop, sum, Bool, false, not, ◌&&◌, nat_lt, Result, Ok, Err, if◌then◌else◌}
 use Rattle.uadp_header.specs.declared.fault.HeaderFault.{HeaderFault}
 use Rattle.uadp_header.specs.Headers.{IdsValue, NoIds, ListOf, ChunkOf, HeaderValue, ids_of}
 use Rattle.uadp_header.specs.Layout.{header_at}
 use Rattle.uadp_header.specs.Spelling.{has_ids}
 use Rattle.payload_layout.specs.Payloads.{sizes_of}
-use Rattle.message_guard.specs.declared.mode.Mode.{Mode}
-use Rattle.message_guard.specs.declared.mode.Mode.TheVariants as modes
 use Rattle.message_guard.specs.declared.open_fault.OpenFault.{OpenFault}
 use Rattle.message_guard.specs.declared.pass.Pass1.{Pass1}
 use Rattle.message_guard.specs.Acceptance.{Accepted}
 use Rattle.message_guard.specs.Guards.{Setup}
 use Rattle.message_guard.specs.Modes.{encrypts}
 use Rattle.message_guard.specs.Opening as guards
+use Rattle.message_guard.specs.Opening.{judged}
 use Rattle.config_tables.specs.declared.words.Layout.{Layout}
-use Rattle.config_tables.specs.declared.words.Security.{Security}
-use Rattle.config_tables.specs.declared.words.Security.TheVariants as security
 use Rattle.ps_config.specs.declared.parts.ReadGroupPart.{ReadGroupPart}
 use Rattle.ps_config.specs.Rooms.{is_fixed}
 use Rattle.reader_group.specs.declared.refusal.Refusal.{Refusal}
@@ -27,12 +24,6 @@ use Rattle.reader_group.specs.Payloads.{Payload, payload_of}
 pub record Opened : Type 0 where
   pub pass : Pass1
   pub payload : Payload
-
--- the guard's mode for a group's security; groups of writers have the same
-abbrev pub mode_of : Security → Mode
-mode_of security.None = modes.None
-mode_of security.Sign = modes.Sign
-mode_of security.Encrypt = modes.Encrypt
 
 -- the datagram decrypted, without its signature
 abbrev pub decrypted : Setup → Pass1 → ℕ → List ℕ → List ℕ
@@ -71,14 +62,6 @@ list_of group setup accepted datagram header payload =
     (not (is_ours group header), refusals.NotOurs)
     ∷ guard_refusals (guards.refusals setup.mode setup.keys accepted header.security datagram payload)
     ++ payload_refusals group.layout header.ids (drop payload (decrypted setup pass payload datagram))
-
--- the first refusal whose test holds, or else the value
-abbrev pub judged_by : {X : Type 0} → Option (Bool × Refusal) → X → Result X Refusal
-judged_by None x = Ok x
-judged_by (Some refusal) x = Err refusal.1
-
-abbrev pub judged : {X : Type 0} → Refusals → X → Result X Refusal
-judged list x = judged_by (find (λ (test : Bool × Refusal). test.0) list) x
 
 abbrev pub opened_as : ReadGroupPart → Setup → List ℕ → HeaderValue → ℕ → Opened
 opened_as group setup datagram header payload =

@@ -13,9 +13,9 @@ use Rattle.ps_config.specs.declared.parts.KeyPart.{KeyPart}
 use Rattle.ps_config.specs.declared.parts.KeyGroupPart.{KeyGroupPart}
 use Rattle.ps_config.specs.declared.parts.ReadGroupPart.{ReadGroupPart}
 use Rattle.ps_config.specs.declared.parts.ReaderPart.{ReaderPart}
+use Rattle.ps_config.specs.Headers.{mode_of}
 use Rattle.ps_config.specs.Rings.{key_set}
 use Rattle.reader_group.specs.Members.{Seat, seat_of}
-use Rattle.reader_group.specs.Opening.{mode_of}
 use Rattle.reader_group.specs.Plain.{Setting}
 
 -- where there is none

@@ -3,15 +3,15 @@ ghost use Rattle.std.specs.Prelude.{◌≡◌, ◌<◌, [], ◌∷◌, length, m
 ghost use Rattle.group_keys.specs.Ring.{key_sets};
 ghost use Rattle.message_guard.specs.Guards.{IsGuardOf, setup_of};
 ghost use Rattle.message_guard.specs.Protection.{keys_in};
+ghost use Rattle.ps_config.specs.Headers.{mode_of};
 ghost use Rattle.ps_config.specs.Sound.{IsSound};
-ghost use Rattle.reader_group.specs.Opening.{mode_of};
 ghost use Rattle.reader_group.specs.Plain.{stamp_by};
 ghost use Rattle.reader_group.specs.Settings.{no_keys, setup_by};
 
 use arrayvec::ArrayVec;
 use group_keys::{KeySet, Ring};
-use message_guard::{Guard, Mode};
-use ps_config::{Config, KeyGroupPart, ReadGroupPart, Security, ring_of};
+use message_guard::Guard;
+use ps_config::{Config, KeyGroupPart, ReadGroupPart, Security, mode_of, ring_of};
 
 /// The guard of a read group, by its key group if it has one.
 pub(crate) fn guard_of(config: &Config, group: &ReadGroupPart) -> Guard
@@ -45,16 +45,6 @@ fn keys_at(config: &Config, index: u8) -> &KeyGroupPart
     ensures { result.now ≡ slice_index_or config.now.keygroup index result.now }
 {
     &config.keygroup.as_slice()[usize::from(index)]
-}
-
-fn mode_of(security: Security) -> Mode
-    ensures { result ≡ mode_of security }
-{
-    match security {
-        Security::None => Mode::None,
-        Security::Sign => Mode::Sign,
-        Security::Encrypt => Mode::Encrypt,
-    }
 }
 
 // A ring for the guard of an unsecured group, which never uses it.

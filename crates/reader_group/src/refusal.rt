@@ -51,9 +51,7 @@ impl fmt::Display for Refusal {
             Refusal::NoIds => {
                 f.write_str("there is no payload header, which a dynamic layout wants")
             }
-            Refusal::Guard(_) => {
-                f.write_str("the datagram isn't secured as the read group asks for")
-            }
+            Refusal::Guard(fault) => write!(f, "{fault}"),
             Refusal::BadSizes => f.write_str(
                 "the sizes of the messages, or the messages, pass the end of the datagram",
             ),
