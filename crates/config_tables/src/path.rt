@@ -10,7 +10,7 @@ use std::fmt::{self, Display, Formatter, Write};
 use std::marker::Model;
 
 /// Where a table stands, as in `dataset[2].field[3]`. It takes no memory of its own.
-#[derive(Drop)]
+#[derive(Debug, Drop)]
 pub struct Path {
     text: ArrayString<64>,
 }

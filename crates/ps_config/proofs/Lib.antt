@@ -26,3 +26,4 @@ pub mod BuiltIn
 pub mod Rings
 pub mod KeyOrders
 pub mod Roomy
+pub mod OtherIds

@@ -1,3 +1,6 @@
+pub mod KeyTexts
+pub mod EndTexts
+pub mod Types
 pub mod Fields
 pub mod Settings
 pub mod Headers

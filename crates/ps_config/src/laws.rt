@@ -1,5 +1,5 @@
 //! Laws of configurations, each the contract of a function that does nothing.
-ghost use Rattle.std.specs.Prelude.{◌≡◌, ℕ, ◌+◌, ◌≤◌, List, length, All, Some, None, Ok};
+ghost use Rattle.std.specs.Prelude.{◌≡◌, ◌≢◌, ℕ, ◌+◌, ◌≤◌, List, length, slice_get, All, Some, None, Ok};
 ghost use Rattle.toml.specs.Data.{Members};
 ghost use Rattle.dataset_meta.specs.Metas.{MetaData};
 ghost use Rattle.config_tables.specs.declared.fault.Fault.{Fault};
@@ -10,6 +10,8 @@ ghost use Rattle.ps_config.specs.BuiltIn.{built_in_text, built_in_config};
 ghost use Rattle.ps_config.specs.Meaning.{IsRefusedBy, IsAccepted};
 ghost use Rattle.ps_config.specs.declared.parts.Config.{Config};
 ghost use Rattle.ps_config.specs.declared.parts.GroupPart.{GroupPart};
+ghost use Rattle.ps_config.specs.declared.parts.WriterPart.{WriterPart};
+ghost use Rattle.ps_config.specs.Types.{HasTypes};
 ghost use Rattle.ps_config.specs.Fields.{outer_tables};
 ghost use Rattle.ps_config.specs.FixedSound.{IsFixedSound};
 ghost use Rattle.ps_config.specs.Headers.{signature_len};
@@ -78,4 +80,17 @@ pub fn the_built_in_text_is_read()
 pub fn the_built_in_configuration_is_sound()
     ensures sound { IsSound built_in_config }
     ensures fixed { IsFixedSound built_in_config }
+    ensures types { HasTypes built_in_config }
+{}
+
+/// No other group has a group's id, and no writer of another group has a writer's id.
+pub fn no_other_group_has_its_ids()
+    ensures group { (config : Config) (index other : ℕ) (one part : GroupPart) → IsSound config
+        → slice_get config.group index ≡ Some one → slice_get config.group other ≡ Some part
+        → other ≢ index → part.id ≢ one.id }
+    ensures writers { (config : Config) (index other place : ℕ) (one part : GroupPart)
+        (writer : WriterPart) → IsSound config
+        → slice_get config.group index ≡ Some one → slice_get config.group other ≡ Some part
+        → other ≢ index → slice_get one.writer place ≡ Some writer
+        → All (λ another. another.id ≢ writer.id) part.writer }
 {}

@@ -112,6 +112,11 @@ impl Clone for KeyBytes {
 
 /// The length alone is shown.
 impl Debug for KeyBytes {
+    ghost use Rattle.std.specs.Prelude.{◌++◌, codes, length, Some};
+    ghost use Rattle.std.specs.Fmt.{decimal};
+
+    ghost debug_output = { λ k. Some (codes "KeyBytes(" ++ decimal (length k) ++ codes ")") };
+
     fn fmt<W: Write>(&self, f: &mut Formatter<W>) -> fmt::Result {
         write!(f, "KeyBytes({})", self.as_bytes().len())
     }
@@ -231,6 +236,11 @@ impl Clone for KeyPart {
 
 /// The keys aren't shown.
 impl Debug for KeyPart {
+    ghost use Rattle.std.specs.Prelude.{Some};
+    ghost use Rattle.ps_config.specs.KeyTexts.{key_part};
+
+    ghost debug_output = { λ key. Some (key_part key) };
+
     fn fmt<W: Write>(&self, f: &mut Formatter<W>) -> fmt::Result {
         write!(
             f,

@@ -1,5 +1,6 @@
 //! Reading a configuration.
 ghost use Rattle.std.specs.Prelude.{◌≡◌, Some, Ok, IfOk, IfErr};
+ghost use Rattle.ps_config.specs.Types.{HasTypes};
 ghost use Rattle.toml.specs.View.{table_view};
 ghost use Rattle.config_tables.specs.FaultNumbers.{number_of};
 ghost use Rattle.config_tables.specs.Paths.{path_text};
@@ -10,12 +11,15 @@ ghost use Rattle.ps_config.specs.FixedSound.{IsFixedSound};
 use crate::build::config_of;
 use crate::parts::Config;
 use crate::refusal::{first_large, table_refusal};
+use crate::types::a_configuration_has_its_types;
 use config_tables::{Fault, Path, Place, tables_of};
 use std::alloc::{AllocError, Global};
+use std::error::Error;
+use std::fmt::{self, Display, Formatter, Write};
 use toml::Table;
 
 /// Why there is no configuration.
-#[derive(Drop)]
+#[derive(Debug, Drop)]
 pub enum ConfigEnd {
     /// The number of the fault, and where it stands.
     Refused { code: u8, path: Path },
@@ -33,6 +37,24 @@ impl From<AllocError> for ConfigEnd {
     }
 }
 
+impl Display for ConfigEnd {
+    ghost use Rattle.std.specs.Prelude.{Some};
+    ghost use Rattle.ps_config.specs.EndTexts.{config_end};
+
+    ghost output = { λ end. Some (config_end end) };
+
+    fn fmt<W: Write>(&self, f: &mut Formatter<W>) -> fmt::Result {
+        match self {
+            ConfigEnd::Refused { code, path } => {
+                write!(f, "the configuration is refused: C{code} at {path}")
+            }
+            ConfigEnd::Memory => f.write_str("out of memory"),
+        }
+    }
+}
+
+impl Error for ConfigEnd {}
+
 /// The configuration that the bytes are.
 pub fn read_config(alloc: Global, bytes: &[u8]) -> Result<Config, ConfigEnd>
     ensures ok { IfOk result (λ config. configuration bytes.now ≡ Ok config) }
@@ -40,6 +62,8 @@ pub fn read_config(alloc: Global, bytes: &[u8]) -> Result<Config, ConfigEnd>
     // Numbers in range, references to what is there, ids that stand once, keys in order, room.
     ensures sound { IfOk result IsSound }
     ensures fixed { IfOk result IsFixedSound }
+    // What the types of its fields say, whatever was read.
+    ensures types { IfOk result HasTypes }
 {
     let document = match toml::table_from_slice(alloc, bytes) {
         Ok(document) => document,
@@ -58,6 +82,7 @@ fn judged(alloc: Global, document: &Table) -> Result<Config, ConfigEnd>
     ensures ok { IfOk result (λ config.
         judgement_of (Some (table_view document.now)) ≡ Ok config) }
     ensures refused { IfErr result (IsEnd (judgement_of (Some (table_view document.now)))) }
+    ensures types { IfOk result HasTypes }
 {
     let tables = tables_of(alloc, document)?;
     if let Some((fault, place)) = table_refusal(&tables) {
@@ -67,6 +92,7 @@ fn judged(alloc: Global, document: &Table) -> Result<Config, ConfigEnd>
     if let Some(place) = first_large(&tables, &config) {
         return Err(refused(Fault::FrameLarge, place));
     }
+    a_configuration_has_its_types(&config);
     Ok(config)
 }
 
