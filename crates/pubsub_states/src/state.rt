@@ -55,6 +55,11 @@ impl State {
 }
 
 impl Display for State {
+    ghost use Rattle.std.specs.Prelude.{Some};
+    ghost use Rattle.pubsub_states.specs.States.{word_of};
+
+    ghost output = { λ state. Some (word_of state) };
+
     fn fmt<W: Write>(&self, f: &mut Formatter<W>) -> fmt::Result {
         f.write_str(self.word())
     }
