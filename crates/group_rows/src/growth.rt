@@ -3,9 +3,9 @@ ghost use Rattle.std.specs.Prelude.{◌≡◌, ◌<◌, IfOk, length};
 ghost use Rattle.row_words.specs.Belonging.{Belongs};
 ghost use Rattle.group_rows.specs.Kept.{AreRows, GrowsAt};
 
-use crate::sets::{copied_fields, copies, meta_at, opening, sampled_at};
+use crate::sets::{meta_at, opening, sampled_at};
 use case_lines::{Line, LineFault, kind_of, number};
-use dataset_meta::{Field, Meta, Name32};
+use dataset_meta::{Field, Meta, Name32, copies};
 use row_words::Row;
 use std::alloc::Global;
 use ua_values::fits;
@@ -46,7 +46,9 @@ pub fn grown_sets(
     }
     let short = meta_at(sets, set);
     let old = sampled_at(samples, set);
-    let long = longer(alloc, short, field)?;
+    let Some(long) = short.grown(alloc, field)? else {
+        return Err(LineFault::Condition);
+    };
     let row = grown_row(short, &old.row, &long)?;
     let version = old.version;
     let mut metas = copies(alloc, sets)?;
@@ -60,17 +62,6 @@ fn copied_rows(alloc: Global, samples: &[Sampled]) -> Result<Vec<Sampled>, LineF
     ensures { IfOk result (λ copies. copies.items ≡ samples.now) }
 {
     Ok(Vec::from_slice(alloc, samples)?)
-}
-
-/// The data set with a field more, and a higher minor version.
-fn longer(alloc: Global, set: &Meta, field: Field) -> Result<Meta, LineFault> {
-    let mut fields = copied_fields(alloc, set.fields())?;
-    fields.push(field)?;
-    let minor = set.minor().wrapping_add(1);
-    match Meta::new(*set.name(), fields, set.major(), minor, set.quality()) {
-        Ok(longer) => Ok(longer),
-        Err(_) => Err(LineFault::Condition),
-    }
 }
 
 /// The row of the longer data set with the fields of a row of the shorter one.

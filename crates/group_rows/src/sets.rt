@@ -4,39 +4,11 @@ ghost use Rattle.row_words.specs.Belonging.{Belongs};
 ghost use Rattle.group_rows.specs.Kept.{AreRows};
 
 use case_lines::{Line, LineFault, number, parted};
-use dataset_meta::{Field, Meta};
+use dataset_meta::Meta;
 use row_words::Row;
 use session_lines::set_field;
 use std::alloc::Global;
 use writer_group::Sampled;
-
-/// The same data sets.
-pub fn copies(alloc: Global, sets: &[Meta]) -> Result<Vec<Meta>, LineFault>
-    ensures { IfOk result (λ copies. copies.items ≡ sets.now) }
-{
-    let mut copies = Vec::new(alloc);
-    for set in sets {
-        copies.push(copy_of(alloc, set)?)?;
-    }
-    Ok(copies)
-}
-
-fn copy_of(alloc: Global, set: &Meta) -> Result<Meta, LineFault>
-    ensures { IfOk result (λ copy. copy ≡ set.now) }
-{
-    let fields = copied_fields(alloc, set.fields())?;
-    let made = Meta::new(*set.name(), fields, set.major(), set.minor(), set.quality());
-    match made {
-        Ok(copy) => Ok(copy),
-        Err(_) => Err(LineFault::Condition),
-    }
-}
-
-pub fn copied_fields(alloc: Global, fields: &[Field]) -> Result<Vec<Field>, LineFault>
-    ensures { IfOk result (λ copies. copies.items ≡ fields.now) }
-{
-    Ok(Vec::from_slice(alloc, fields)?)
-}
 
 /// The opening row of each data set.
 pub fn opening_rows(alloc: Global, sets: &[Meta]) -> Result<Vec<Sampled>, LineFault>

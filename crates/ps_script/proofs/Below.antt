@@ -9,7 +9,7 @@ use Rattle.std.proofs.lemmas.List.{append-nil, append_assoc}
 use Rattle.std.proofs.lemmas.List.Folds.{prefix_len-append}
 use Rattle.std.proofs.lemmas.Option.{same_Some, none-some, cond_some}
 use Rattle.dataset_meta.specs.declared.field.Field.{Field}
-use Rattle.dataset_meta.specs.Metas.{MetaData}
+use Rattle.dataset_meta.specs.Metas.{MetaData, grown}
 use Rattle.ps_config.specs.declared.parts.Config.{Config}
 use Rattle.ps_script.specs.declared.fault.ScriptFault.{ScriptFault}
 use Rattle.ps_script.specs.declared.verbs.Verb.{Verb}
@@ -18,7 +18,7 @@ use Rattle.ps_script.specs.Texts.{word}
 use Rattle.ps_script.specs.Verbs.{verb_of}
 use Rattle.ps_script.specs.Names.{set_named}
 use Rattle.ps_script.specs.Values.{ValueReader}
-use Rattle.ps_script.specs.Past.{Done, field_of, grown, grown_at, grown_by, metas_after, done_with, after}
+use Rattle.ps_script.specs.Past.{Done, field_of, grown_at, grown_by, metas_after, done_with, after}
 use Rattle.ps_script.specs.Refusals.{fault_of}
 use Rattle.ps_script.specs.Acts.{next_number}
 use Rattle.ps_script.specs.Scripts.{judged_from, refused_or}

@@ -39,7 +39,7 @@ found_early : (p : ScriptFault → Bool) (xs ys : List ScriptFault) (f : ScriptF
 found_early p [] ys f e = let bad : ⊥ = cc in absurd bad
 found_early p (x ∷ xs) ys f e = found_step (p x) x f (find p xs) (find p (xs ++ ys)) (λ later. found_early p xs ys f later) e
 
-none_step : (v : Bool) (x : ScriptFault) (rest : Option ScriptFault) → cond v (Some x) rest ≡ None → (v ≡ false) × (rest ≡ None)
+pub none_step : (v : Bool) (x : ScriptFault) (rest : Option ScriptFault) → cond v (Some x) rest ≡ None → (v ≡ false) × (rest ≡ None)
 none_step true x rest e = let bad : ⊥ = cc in absurd bad
 none_step false x rest e = (refl, e)
 

@@ -11,7 +11,7 @@ use Rattle.std.proofs.lemmas.List.{length-drop}
 use Rattle.std.proofs.lemmas.List.Elements.{All-set}
 use Rattle.std.proofs.lemmas.Option.{cond_some, get_or_from_slice_get, slice_get-get_or, slice_get_within}
 use Rattle.dataset_meta.specs.declared.field.Field.{Field}
-use Rattle.dataset_meta.specs.Metas.{IsMeta, MetaData}
+use Rattle.dataset_meta.specs.Metas.{IsMeta, MetaData, grown}
 use Rattle.dataset_meta.specs.Names.{is_name}
 use Rattle.row_words.specs.declared.patch.Patch.{Patch}
 use Rattle.row_words.specs.Patches.{IsPatchOf}
@@ -35,7 +35,7 @@ use Rattle.ps_script.specs.Numbers.{at_least, number_within, is_number, number_a
 use Rattle.ps_script.specs.Names.{reader_names, component_named, reader_named, set_named}
 use Rattle.ps_script.specs.Values.{ValueReader}
 use Rattle.ps_script.specs.Fields.{is_field_word}
-use Rattle.ps_script.specs.Past.{Done, field_of, grown, metas_after, done_with}
+use Rattle.ps_script.specs.Past.{Done, field_of, metas_after, done_with}
 use Rattle.ps_script.specs.Faults.{count_of, field_words, has_shape, has_numbers, has_fate_number, has_name, has_bad_value_in, is_bad_value, is_on, is_bad_state, is_past_limit, is_early, is_bad_fate, is_meta, has_mute_writer, is_unfit, is_bad_growth, is_bad_append}
 use Rattle.ps_script.specs.Refusals.{stands, early_faults, faults, fault_of}
 use Rattle.ps_script.specs.Acts.{patch_of, write_at, fate_by, act_by}

@@ -5,13 +5,12 @@ use Rattle.std.proofs.lemmas.List.{take_all, take_more}
 use Rattle.std.proofs.lemmas.List.Sums.{sum_by_more, sum_by-take-le}
 use Rattle.std.proofs.lemmas.Option.{same_Some, none-some, slice_get_within, get_or_from_slice_get}
 use Rattle.dataset_meta.specs.declared.field.Field.{Field}
-use Rattle.dataset_meta.specs.Metas.{MetaData, meta_of}
+use Rattle.dataset_meta.specs.Metas.{MetaData, meta_of, grown}
 use Rattle.ps_config.specs.declared.parts.Config.{Config}
 use Rattle.ps_script.specs.declared.script.Line.{Line}
 use Rattle.ps_script.specs.declared.script.Act.{Act}
 use Rattle.ps_script.specs.declared.script.Act.TheVariants as act
 use Rattle.ps_script.specs.declared.script.Script.{Script}
-use Rattle.ps_script.specs.Past.{grown}
 use Rattle.ps_script.specs.Sessions.{is_append, appends_in, meta_behind, metas_from, metas_behind}
 use Rattle.ps_script.specs.Sound.{IsGrown, IsSetOf}
 

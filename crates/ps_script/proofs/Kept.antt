@@ -3,14 +3,14 @@ use Rattle.std.proofs.Common.{◌≡◌, ℕ, List, length, Option, Some, None, 
 use Rattle.std.specs.Prelude.{slice_get}
 use Rattle.std.proofs.Math.ListN.{length-set}
 use Rattle.dataset_meta.specs.declared.field.Field.{Field}
-use Rattle.dataset_meta.specs.Metas.{MetaData}
+use Rattle.dataset_meta.specs.Metas.{MetaData, grown}
 use Rattle.ps_config.specs.declared.parts.Config.{Config}
 use Rattle.ps_script.specs.declared.verbs.Verb.{Verb}
 use Rattle.ps_script.specs.declared.verbs.Verb.TheVariants as verb
 use Rattle.ps_script.specs.Texts.{word}
 use Rattle.ps_script.specs.Verbs.{verb_of}
 use Rattle.ps_script.specs.Names.{set_named}
-use Rattle.ps_script.specs.Past.{Done, field_of, grown, grown_at, grown_by, metas_after, done_with, after}
+use Rattle.ps_script.specs.Past.{Done, field_of, grown_at, grown_by, metas_after, done_with, after}
 
 grown_at_kept : (metas : List MetaData) (set : ℕ) (field : Field) (meta : Option MetaData) → length (grown_at metas set field meta) ≡ length metas
 grown_at_kept metas set field None = refl

@@ -2,12 +2,14 @@ pub mod Pieces
 pub mod Taken
 pub mod MetaTest
 pub mod Finding
+pub mod FirstFault
 pub mod Judging
 pub mod Demo
 pub mod Counts
 pub mod Kept
 pub mod Said
 pub mod Growth
+pub mod Mute
 pub mod Reading
 pub mod Acting
 pub mod Heads

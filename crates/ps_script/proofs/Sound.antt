@@ -243,6 +243,7 @@ grown_of set lines configured full m is = record {
   grown = record {
     fields = sym (ap (λ (fs : List Field). take (length configured.fields) fs) m.below.fields ∙ take_at configured.fields m.below.more (length configured.fields) refl);
     quality = sym m.below.quality;
+    major = sym m.below.major;
   };
   is_meta = is;
 }

@@ -9,7 +9,7 @@ use Rattle.std.proofs.lemmas.List.Elements.{All-set}
 use Rattle.std.proofs.lemmas.List.Sums.{sum_by_push, fold_push}
 use Rattle.std.proofs.lemmas.Option.{same_Some, slice_get_within}
 use Rattle.dataset_meta.specs.declared.field.Field.{Field}
-use Rattle.dataset_meta.specs.Metas.{IsMeta, MetaData, meta_of}
+use Rattle.dataset_meta.specs.Metas.{IsMeta, MetaData, meta_of, grown}
 use Rattle.ps_config.specs.declared.parts.Config.{Config}
 use Rattle.ps_config.specs.declared.parts.GroupPart.{GroupPart}
 use Rattle.ps_config.specs.Rooms.{lacks_room}
@@ -17,7 +17,7 @@ use Rattle.ps_config.specs.Sound.{component_names}
 use Rattle.ps_script.specs.declared.script.Line.{Line}
 use Rattle.ps_script.specs.declared.script.Act.{Act}
 use Rattle.ps_script.specs.declared.script.Act.TheVariants as act
-use Rattle.ps_script.specs.Past.{Done, grown}
+use Rattle.ps_script.specs.Past.{Done}
 use Rattle.ps_script.specs.Sessions.{is_append, appends_in, meta_behind, metas_from, metas_behind, enabled_by, is_enabled}
 use Rattle.ps_script.specs.Sound.{FitConfig}
 use Rattle.ps_script.proofs.Below.{Below}

@@ -206,7 +206,7 @@ stays_grown lines none =
       major = refl;
       minor = same demo.minor;
       count = same (length demo.fields);
-      grown = record { fields = sym (take_all (length demo.fields) demo.fields all); quality = refl };
+      grown = record { fields = sym (take_all (length demo.fields) demo.fields all); quality = refl; major = refl };
       is_meta = demo_meta;
     }
   where

@@ -1,10 +1,10 @@
 -- The faults of a line, each by itself. `done` is what the lines before it have done.
-use Rattle.std.specs.Prelude.{◌≡◌, IsTrue, ℕ, ◌==◌, Bool, true, false, ◌&&◌, ◌||◌, not, nat_lt, nat_le, List, [], ◌∷◌, ◌++◌, length, take, drop, slice_get, slice_index_or, Option, Some, None, is_some, is_none, option_and_then, unwrap_or}
+use Rattle.std.specs.Prelude.{◌≡◌, IsTrue, ℕ, ◌==◌, Bool, true, false, ◌&&◌, ◌||◌, not, nat_lt, nat_le, List, [], ◌∷◌, ◌++◌, length, take, drop, slice_get, slice_index_or, Option, Some, None, is_some, is_none, option_and_then, unwrap_or, All}
 use Rattle.std.specs.List.{list_any, list_all, range_with_len}
 use Rattle.std.specs.Option.{option_map_or}
 use Rattle.dataset_meta.specs.declared.field.Field.{Field}
 use Rattle.dataset_meta.specs.Fields.{has_cap}
-use Rattle.dataset_meta.specs.Metas.{MetaData, names, words_of as row_words_of}
+use Rattle.dataset_meta.specs.Metas.{MetaData, grown, names, words_of as row_words_of}
 use Rattle.dataset_meta.specs.Names.{is_name}
 use Rattle.config_tables.specs.Words.{kind_named}
 use Rattle.ps_config.specs.declared.parts.Config.{Config}
@@ -21,7 +21,7 @@ use Rattle.ps_script.specs.Numbers.{is_number, number_at}
 use Rattle.ps_script.specs.Names.{component_named, reader_named, set_named}
 use Rattle.ps_script.specs.Values.{ValueReader}
 use Rattle.ps_script.specs.Fields.{is_field_word, has_bad_field, change_of}
-use Rattle.ps_script.specs.Past.{Done, field_of, grown, metas_after, done_with}
+use Rattle.ps_script.specs.Past.{Done, field_of, metas_after, done_with}
 
 -- BadText: a byte outside 20 to 7e, in a comment too
 abbrev pub is_bad_byte : ℕ → Bool
@@ -167,6 +167,11 @@ is_meta fields =
 abbrev pub has_mute_writer : ℕ → GroupPart → Bool
 has_mute_writer set group =
     list_any (λ writer. writer.dataset == set && (not writer.versions || is_fixed group.layout)) group.writer
+
+-- each writer of the data set tells of its versions, and is of a dynamic group
+abbrev pub CanTellOf : ℕ → GroupPart → Type 0
+CanTellOf set group =
+    All (λ writer. writer.dataset ≡ set → (writer.versions ≡ true) × (is_fixed group.layout ≡ false)) group.writer
 
 -- no name, fields that make no meta, or a minor version that is its type's last
 abbrev pub is_unfit : List ℕ → MetaData → Bool

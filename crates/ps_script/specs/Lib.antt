@@ -1,6 +1,7 @@
 pub mod Texts
 pub mod Verbs
 pub mod FaultNumbers
+pub mod FaultTexts
 pub mod Numbers
 pub mod Whole
 pub mod Names
@@ -14,7 +15,9 @@ pub mod Faults
 pub mod Refusals
 pub mod Acts
 pub mod Scripts
+pub mod Meaning
 pub mod Writes
+pub mod Answered
 pub mod Sessions
 pub mod Sound
 pub mod Generated

@@ -2,7 +2,7 @@
 use Rattle.std.specs.Prelude.{ℕ, ◌+◌, Bool, true, false, List, [], ◌∷◌, ◌++◌, replicate, slice_get, slice_set, Option, Some, None, unwrap_or}
 use Rattle.ua_values.specs.declared.kind.Kind.TheVariants.{Boolean}
 use Rattle.dataset_meta.specs.declared.field.Field.{Field}
-use Rattle.dataset_meta.specs.Metas.{MetaData, meta_of}
+use Rattle.dataset_meta.specs.Metas.{MetaData, grown}
 use Rattle.config_tables.specs.Words.{kind_named}
 use Rattle.ps_config.specs.declared.parts.Config.{Config}
 use Rattle.ps_script.specs.declared.verbs.Verb.{Verb}
@@ -54,10 +54,6 @@ field_of line = record {
   kind = unwrap_or (kind_named (word 3 line)) Boolean;
   cap = number_at 1 256 (word 4 line);
 }
-
--- a data set with one field more: its minor version rises by one
-abbrev pub grown : MetaData → Field → MetaData
-grown meta field = meta_of meta.name (meta.fields ++ field ∷ []) meta.major (meta.minor + 1) meta.quality
 
 abbrev pub grown_at : List MetaData → ℕ → Field → Option MetaData → List MetaData
 grown_at metas set field None = metas

@@ -1,5 +1,5 @@
 -- Accepted script: what a text means, or the first line that has a fault, and of its faults the least.
-use Rattle.std.specs.Prelude.{◌≡◌, ℕ, Bool, true, false, List, [], ◌∷◌, Option, Some, None, Result, Ok, Err, ⊤}
+use Rattle.std.specs.Prelude.{◌≡◌, ℕ, Bool, true, false, List, [], ◌∷◌, Option, Some, None, Result, Ok, Err, IfOk, IfErr, ⊤}
 use Rattle.dataset_meta.specs.Metas.{MetaData}
 use Rattle.ps_config.specs.declared.parts.Config.{Config}
 use Rattle.ps_script.specs.declared.fault.ScriptFault.{ScriptFault}
@@ -51,6 +51,16 @@ IsEndOf judgement (Refused line fault) = judgement ≡ Err (line, fault)
 -- what an end other than a script says
 abbrev pub IsEnd : Result Script (ℕ × ScriptFault) → ScriptEnd → Type 0
 IsEnd judgement end = IsEndOf judgement end
+
+-- a result that is a script is the one that the bytes are
+abbrev pub IsScriptOf : Config → List ℕ → Bool → Result Script ScriptEnd → Type 0
+IsScriptOf config bytes plain result =
+    (reader : ValueReader) → IfOk result (λ found. script reader config bytes plain ≡ Ok found)
+
+-- a result that is an end tells what refuses the bytes, unless memory ran out
+abbrev pub IsRefusalOf : Config → List ℕ → Bool → Result Script ScriptEnd → Type 0
+IsRefusalOf config bytes plain result =
+    (reader : ValueReader) → IfErr result (IsEnd (script reader config bytes plain))
 
 -- what a line gives: the first of its faults, or what is done then
 abbrev pub Steps : ValueReader → Config → Bool → Done → Done → List ℕ → Option ScriptFault → Type 0

@@ -1,11 +1,10 @@
 //! What lines without a fault mean.
-ghost use Rattle.std.specs.Prelude.{◌≡◌, ◌≤◌, ◌++◌, [], OnOk, length, unwrap_or, option_and_then, IfOk};
+ghost use Rattle.std.specs.Prelude.{◌≡◌, ◌≤◌, ◌++◌, [], OnOk, length, unwrap_or};
 ghost use Rattle.ps_script.specs.Verbs.{verb_of, fate_of};
-ghost use Rattle.ps_script.specs.Texts.{word, lines_of};
+ghost use Rattle.ps_script.specs.Answered.{IsActOf, IsWriteOf, MeansLines};
 ghost use Rattle.ps_script.specs.Names.{reader_named, set_named};
-ghost use Rattle.ps_script.specs.Values.{ValueReader};
 ghost use Rattle.ps_script.specs.Given.{HasNames};
-ghost use Rattle.ps_script.specs.Acts.{write_at, fate_by, with_act, act_of, acts_from};
+ghost use Rattle.ps_script.specs.Acts.{fate_by, with_act};
 ghost use Rattle.ps_script.specs.declared.verbs.FateWord.TheVariants.{Drop};
 
 use crate::changes::patch_of;
@@ -29,8 +28,7 @@ pub(crate) fn lines_of(
 ) -> Result<Vec<Line>, AllocError>
     requires names { HasNames given.now }
     requires few { length metas.now ≤ 8 }
-    ensures { (reader : ValueReader) → IfOk result (λ lines. lines.items
-        ≡ acts_from reader given.now.config.now metas.now 1 (lines_of bytes.now)) }
+    ensures { MeansLines given.now metas.now bytes.now result }
 {
     let mut lines = Vec::new(alloc);
     let mut number = 1u32;
@@ -62,7 +60,7 @@ pub(crate) fn add_line(lines: &mut Vec<Line>, at: u32, act: Option<Act>) -> Resu
 pub(crate) fn act_of(given: &Given, metas: &[Meta], line: &[u8]) -> Option<Act>
     requires names { HasNames given.now }
     requires few { length metas.now ≤ 8 }
-    ensures { (reader : ValueReader) → result ≡ act_of reader given.now.config.now metas.now line.now }
+    ensures { IsActOf given.now metas.now line.now result }
 {
     match Verb::of(line)? {
         Verb::Write => write_of(metas, line),
@@ -86,9 +84,7 @@ pub(crate) fn act_of(given: &Given, metas: &[Meta], line: &[u8]) -> Option<Act>
 
 fn write_of(metas: &[Meta], line: &[u8]) -> Option<Act>
     requires { length metas.now ≤ 8 }
-    ensures { (reader : ValueReader) → result
-        ≡ option_and_then (write_at reader metas.now line.now)
-        (set_named metas.now (word 2 line.now)) }
+    ensures { IsWriteOf metas.now line.now result }
 {
     let set = set_named(metas, word(line, 2))?;
     let meta = meta_at(metas, set)?;

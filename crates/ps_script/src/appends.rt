@@ -5,15 +5,14 @@ ghost use Rattle.dataset_meta.specs.Names.{is_name};
 ghost use Rattle.ps_config.specs.Rooms.{is_fixed, lacks_room};
 ghost use Rattle.ps_script.specs.declared.verbs.Verb.TheVariants as verbs;
 ghost use Rattle.ps_script.specs.Texts.{word};
-ghost use Rattle.ps_script.specs.Past.{done_by, field_of, grown, done_with};
+ghost use Rattle.ps_script.specs.Past.{done_by, field_of, done_with};
 ghost use Rattle.ps_script.specs.Faults.{is_meta, has_mute_writer, is_bad_append, IsGrowth, Appends};
 
-use crate::laws::fields_make_a_meta_exactly_by_the_test;
 use crate::names::{kind_spelled, set_named};
 use crate::numbers::number_at;
 use crate::past::Past;
 use crate::texts::word;
-use dataset_meta::{Field, Meta, Name32, fields_have_one_fault};
+use dataset_meta::{Field, Meta, Name32};
 use ps_config::{Config, GroupPart, Layout, lacks_room};
 use std::alloc::{AllocError, Global};
 use ua_values::Kind;
@@ -52,23 +51,12 @@ fn grown(alloc: Global, meta: &Meta, line: &[u8]) -> Result<Option<Meta>, AllocE
     let Some(name) = Name32::new(word(line, 2)) else {
         return Ok(None);
     };
-    let Some(minor) = meta.minor().checked_add(1) else {
-        return Ok(None);
-    };
     let field = Field {
         name,
         kind: kind_spelled(word(line, 3)).unwrap_or(Kind::Boolean),
         cap: number_at(word(line, 4), 1, 256) as u16,
     };
-    let mut fields = Vec::with_capacity(alloc, meta.fields().len() + 1)?;
-    fields.extend_from_slice(meta.fields())?;
-    fields.push(field)?;
-    fields_have_one_fault();
-    fields_make_a_meta_exactly_by_the_test();
-    match Meta::new(*meta.name(), fields, meta.major(), minor, meta.quality()) {
-        Ok(meta) => Ok(Some(meta)),
-        Err(_) => Ok(None),
-    }
+    meta.grown(alloc, field)
 }
 
 /// Some writer of the data set can't tell of a new field.

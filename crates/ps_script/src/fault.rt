@@ -1,7 +1,8 @@
 //! What a script is refused for.
-ghost use Rattle.std.specs.Prelude.{◌≡◌};
+ghost use Rattle.std.specs.Prelude.{◌≡◌, Some};
 ghost use Rattle.ps_script.specs.FaultNumbers.{number_of, fault_name};
 
+use std::error::Error;
 use std::fmt::{self, Display, Formatter, Write};
 
 /// What a line of a script is refused for. The fault that stands first here is told.
@@ -76,7 +77,11 @@ impl ScriptFault {
 }
 
 impl Display for ScriptFault {
+    ghost output = { λ fault. Some (fault_name fault) };
+
     fn fmt<W: Write>(&self, f: &mut Formatter<W>) -> fmt::Result {
         f.write_str(self.name())
     }
 }
+
+impl Error for ScriptFault {}

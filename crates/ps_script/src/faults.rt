@@ -1,13 +1,12 @@
 //! The faults of a line that need what the lines before it have done.
-ghost use Rattle.std.specs.Prelude.{◌≡◌, ◌==◌, false, option_copied, IfSome};
+ghost use Rattle.std.specs.Prelude.{◌≡◌, ◌==◌, option_copied};
 ghost use Rattle.std.specs.List.{list_any};
-ghost use Rattle.std.specs.Option.{option_map_or};
 ghost use Rattle.ps_script.specs.Verbs.{verb_of, fate_of};
-ghost use Rattle.ps_script.specs.Texts.{word};
+ghost use Rattle.ps_script.specs.Answered.{IsBadWrite};
 ghost use Rattle.ps_script.specs.Values.{ValueReader};
 ghost use Rattle.ps_script.specs.Past.{done_by};
 ghost use Rattle.ps_script.specs.Given.{HasNames};
-ghost use Rattle.ps_script.specs.Faults.{has_name, has_unknown_name, meta_named, is_bad_field, has_bad_value_in, is_bad_value, is_on, is_bad_state, is_past_limit, is_early, is_bad_fate};
+ghost use Rattle.ps_script.specs.Faults.{has_name, has_unknown_name, meta_named, is_bad_field, is_bad_value, is_on, is_bad_state, is_past_limit, is_early, is_bad_fate};
 
 use crate::changes::{has_bad_field, has_bad_value};
 use crate::names::{kind_spelled, named, set_named};
@@ -97,8 +96,7 @@ pub(crate) fn is_bad_value(past: &Past, line: &[u8], verb: Option<Verb>) -> bool
 
 /// A field word of a line `write` gives its field no value or no status.
 fn has_bad_write(past: &Past, line: &[u8]) -> bool
-    ensures { (reader : ValueReader) → result ≡ option_map_or (has_bad_value_in reader line.now)
-        (meta_named (done_by past.now).metas (word 2 line.now)) false }
+    ensures { IsBadWrite past.now line.now result }
 {
     match meta_named(&past.metas, word(line, 2)) {
         Some(meta) => has_bad_value(meta, line),

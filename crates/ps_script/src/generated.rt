@@ -7,9 +7,8 @@ ghost use Rattle.ps_script.specs.Sound.{IsScript};
 
 use crate::acts::add_line;
 use crate::laws::{a_patch_is_the_words_of_what_it_stands_for, generated_work_is_sound};
-use crate::past::copies;
 use crate::script::{Act, Line, Script};
-use dataset_meta::Meta;
+use dataset_meta::{Meta, copies};
 use ps_config::{Parts, built_in};
 use row_words::Patch;
 use std::alloc::Global;

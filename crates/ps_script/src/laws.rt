@@ -1,21 +1,24 @@
 //! Laws of scripts, each the contract of a function that does nothing.
-ghost use Rattle.std.specs.Prelude.{◌≡◌, ◌↔◌, ◌≤◌, ◌<◌, ◌+◌, ◌*◌, ◌++◌, ◌∷◌, [], ℕ, Bool, false, List, length, take, slice_get, All, Some, Ok, IfSome, IsTrue};
+ghost use Rattle.std.specs.Prelude.{◌≡◌, ◌↔◌, ◌≤◌, ◌<◌, ◌+◌, ◌*◌, ◌++◌, ◌∷◌, [], ℕ, Bool, false, List, length, take, slice_get, All, Some, Ok, Err, IsOk, IfSome, IsTrue};
+ghost use Rattle.std.specs.List.{list_any};
 ghost use Rattle.ua_values.specs.declared.kind.Kind.{Kind};
 ghost use Rattle.ua_values.specs.declared.value.Value.{Value};
 ghost use Rattle.dataset_meta.specs.declared.field.Field.{Field};
-ghost use Rattle.dataset_meta.specs.Metas.{IsMeta, MetaData};
+ghost use Rattle.dataset_meta.specs.Metas.{IsMeta, MetaData, grown};
 ghost use Rattle.row_words.specs.declared.patch.Patch.{Patch as PatchValue};
 ghost use Rattle.row_words.specs.Patches.{IsPatchOf, patch_in, spelled_patch};
 ghost use Rattle.ua_base.specs.declared.link.Fate.{Fate as FateValue};
 ghost use Rattle.ps_config.specs.declared.parts.Config.{Config as ConfigValue};
+ghost use Rattle.ps_config.specs.declared.parts.GroupPart.{GroupPart};
 ghost use Rattle.ps_config.specs.BuiltIn.{built_in_config};
 ghost use Rattle.ps_config.specs.Sound.{IsSound};
+ghost use Rattle.ps_script.specs.declared.fault.ScriptFault.{ScriptFault as Fault};
 ghost use Rattle.ps_script.specs.declared.script.Act.TheVariants as act;
 ghost use Rattle.ps_script.specs.declared.script.Line.{Line as LineValue};
 ghost use Rattle.ps_script.specs.declared.script.Script.{Script as ScriptValue};
-ghost use Rattle.ps_script.specs.Faults.{is_meta};
+ghost use Rattle.ps_script.specs.Faults.{CanTellOf, has_mute_writer, is_meta};
 ghost use Rattle.ps_script.specs.Generated.{generated};
-ghost use Rattle.ps_script.specs.Past.{grown};
+ghost use Rattle.ps_script.specs.Meaning.{IsAccepted, IsRefusedBy};
 ghost use Rattle.ps_script.specs.Scripts.{script};
 ghost use Rattle.ps_script.specs.Sessions.{is_append, is_write, appends_in, fates_of, gives_fate, meta_behind, metas_behind, moment_after, patches_of, writes_in};
 ghost use Rattle.ps_script.specs.Sound.{IsScript, IsSetOf};
@@ -61,6 +64,29 @@ pub fn an_accepted_script_is_sound()
         → fates_of found.lines ≡ [] }
 {}
 
+/// A script is refused exactly by the first line at which a fault stands and by the first of that
+/// line's faults, and accepted exactly where no fault stands at any line.
+pub fn the_first_line_with_a_fault_is_told()
+    ensures refused { (reader : ValueReader) (config : ConfigValue) (bytes : List ℕ) (plain : Bool)
+        (line : ℕ) (fault : Fault) → script reader config bytes plain ≡ Err (line, fault)
+        → IsRefusedBy reader config plain bytes line fault }
+    ensures told { (reader : ValueReader) (config : ConfigValue) (bytes : List ℕ) (plain : Bool)
+        (line : ℕ) (fault : Fault) → IsRefusedBy reader config plain bytes line fault
+        → script reader config bytes plain ≡ Err (line, fault) }
+    ensures accepted { (reader : ValueReader) (config : ConfigValue) (bytes : List ℕ) (plain : Bool)
+        (found : ScriptValue) → script reader config bytes plain ≡ Ok found
+        → IsAccepted reader config plain bytes }
+    ensures untold { (reader : ValueReader) (config : ConfigValue) (bytes : List ℕ) (plain : Bool)
+        → IsAccepted reader config plain bytes → IsOk (script reader config bytes plain) }
+{}
+
+/// No group has a writer that can't tell of a new field of a data set exactly where all its writers
+/// can.
+pub fn writers_can_tell_where_none_is_mute()
+    ensures { (set : ℕ) (groups : List GroupPart)
+        → (list_any (has_mute_writer set) groups ≡ false) ↔ All (CanTellOf set) groups }
+{}
+
 /// What holds of every accepted script holds of generated work, for the built-in configuration.
 pub fn generated_work_is_sound()
     ensures { (n : ℕ) → n ≤ 1024 → IsScript built_in_config (generated n) }
@@ -69,38 +95,41 @@ pub fn generated_work_is_sound()
 /// A data set is the configured one before the first line, and the script's, with all its fields,
 /// behind the last. Among all data sets behind some lines it stands in its place.
 pub fn data_sets_begin_as_configured()
-    ensures first { (config : ConfigValue) (script : ScriptValue) (set : ℕ) (configured full : MetaData)
-        → IsSetOf config script set configured full
+    ensures first { (config : ConfigValue) (script : ScriptValue) (set : ℕ)
+        (configured full : MetaData) → IsSetOf config script set configured full
         → meta_behind set configured full [] ≡ configured }
-    ensures last { (config : ConfigValue) (script : ScriptValue) (set : ℕ) (configured full : MetaData)
-        → IsSetOf config script set configured full
+    ensures last { (config : ConfigValue) (script : ScriptValue) (set : ℕ)
+        (configured full : MetaData) → IsSetOf config script set configured full
         → meta_behind set configured full script.lines ≡ full }
-    ensures each { (config : ConfigValue) (script : ScriptValue) (set : ℕ) (configured full : MetaData)
-        (lines : List LineValue) → IsSetOf config script set configured full
+    ensures each { (config : ConfigValue) (script : ScriptValue) (set : ℕ)
+        (configured full : MetaData) (lines : List LineValue)
+        → IsSetOf config script set configured full
         → slice_get (metas_behind config.dataset script.metas lines) set
         ≡ Some (meta_behind set configured full lines) }
 {}
 
-/// A line that appends to a data set gives it one field more, and a minor version that is one higher.
-/// No other line changes it.
+/// A line that appends to a data set gives it one field more, and a minor version that is one
+/// higher. No other line changes it.
 pub fn data_sets_grow_by_appended_fields_alone()
     ensures there { (config : ConfigValue) (script : ScriptValue) (set k : ℕ)
         (configured full : MetaData) (line : LineValue) → IsSetOf config script set configured full
         → slice_get script.lines k ≡ Some line → line.act ≡ act.Append set
         → length configured.fields + appends_in set (take k script.lines) < length full.fields }
-    ensures append { (set k : ℕ) (configured full : MetaData) (lines : List LineValue) (line : LineValue)
-        (field : Field) → slice_get lines k ≡ Some line → line.act ≡ act.Append set
-        → slice_get full.fields (length configured.fields + appends_in set (take k lines)) ≡ Some field
+    ensures append { (set k : ℕ) (configured full : MetaData) (lines : List LineValue)
+        (line : LineValue) (field : Field) → slice_get lines k ≡ Some line
+        → line.act ≡ act.Append set
+        → slice_get full.fields (length configured.fields + appends_in set (take k lines))
+        ≡ Some field
         → meta_behind set configured full (take (k + 1) lines)
         ≡ grown (meta_behind set configured full (take k lines)) field }
-    ensures other { (set k : ℕ) (configured full : MetaData) (lines : List LineValue) (line : LineValue)
-        → slice_get lines k ≡ Some line → is_append set line.act ≡ false
+    ensures other { (set k : ℕ) (configured full : MetaData) (lines : List LineValue)
+        (line : LineValue) → slice_get lines k ≡ Some line → is_append set line.act ≡ false
         → meta_behind set configured full (take (k + 1) lines)
         ≡ meta_behind set configured full (take k lines) }
 {}
 
-/// A thread writes as many patches to a data set as there are such lines, in the order of these, each a
-/// patch of the data set with all its fields.
+/// A thread writes as many patches to a data set as there are such lines, in the order of these, each
+/// a patch of the data set with all its fields.
 pub fn written_patches_are_of_their_data_set()
     ensures each { (config : ConfigValue) (script : ScriptValue) (thread set : ℕ) (full : MetaData)
         → IsScript config script → slice_get script.metas set ≡ Some full
@@ -116,8 +145,8 @@ pub fn written_patches_are_of_their_data_set()
         → patches_of thread set (lines ++ line ∷ []) ≡ patches_of thread set lines }
 {}
 
-/// A line that gives a datagram its fate adds it behind those of the lines before. No other line gives
-/// any.
+/// A line that gives a datagram its fate adds it behind those of the lines before. No other line
+/// gives any.
 pub fn fates_come_in_the_order_of_lines()
     ensures none { fates_of [] ≡ [] }
     ensures fate { (number at : ℕ) (fate : FateValue) (lines : List LineValue)
@@ -127,8 +156,8 @@ pub fn fates_come_in_the_order_of_lines()
         → fates_of (lines ++ line ∷ []) ≡ fates_of lines }
 {}
 
-/// Moments don't fall, a tick comes as many milliseconds after the one before as its line says, and a
-/// script takes 4,096 hours at most.
+/// Moments don't fall, a tick comes as many milliseconds after the one before as its line says, and
+/// a script takes 4,096 hours at most.
 pub fn time_rises_by_ticks()
     ensures later { (lines more : List LineValue)
         → moment_after lines ≤ moment_after (lines ++ more) }

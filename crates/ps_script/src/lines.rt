@@ -1,11 +1,9 @@
 //! Lines, each judged and read before the next.
 ghost use Rattle.std.specs.Prelude.{◌≡◌, ◌≤◌, [], length, IfOk};
 ghost use Rattle.ps_config.specs.Sound.{IsSound};
-ghost use Rattle.ps_script.specs.Values.{ValueReader};
+ghost use Rattle.ps_script.specs.Answered.{StepsBy, ReadsBy};
 ghost use Rattle.ps_script.specs.Past.{done_by, nothing_done};
 ghost use Rattle.ps_script.specs.Given.{HasNames};
-ghost use Rattle.ps_script.specs.Scripts.{Steps};
-ghost use Rattle.ps_script.specs.Writes.{Reads};
 
 use crate::acts::{act_of, add_line};
 use crate::fault::ScriptFault;
@@ -52,12 +50,8 @@ impl Reading {
         requires names { HasNames given.now }
         requires few { length self.old.past.metas.items ≤ 8 }
         ensures kept { length self.new.past.metas.items ≡ length self.old.past.metas.items }
-        ensures steps { (reader : ValueReader) → IfOk result
-            (Steps reader given.now.config.now given.now.plain (done_by self.old.past)
-            (done_by self.new.past) line.now) }
-        ensures lines { (reader : ValueReader) → IfOk result
-            (Reads reader given.now.config.now self.new.past.metas.items number line.now
-            self.old.lines.items self.new.lines.items) }
+        ensures steps { StepsBy given.now self.old.past self.new.past line.now result }
+        ensures lines { ReadsBy given.now number line.now self.old.lines.items self.new result }
     {
         if is_idle_line(line) {
             return Ok(None);
@@ -89,12 +83,8 @@ impl Reading {
         requires names { HasNames given.now }
         requires few { length self.old.past.metas.items ≤ 8 }
         ensures kept { length self.new.past.metas.items ≡ length self.old.past.metas.items }
-        ensures steps { (reader : ValueReader) → IfOk result
-            (Steps reader given.now.config.now given.now.plain (done_by self.old.past)
-            (done_by self.new.past) line.now) }
-        ensures lines { (reader : ValueReader) → IfOk result
-            (Reads reader given.now.config.now self.new.past.metas.items number line.now
-            self.old.lines.items self.new.lines.items) }
+        ensures steps { StepsBy given.now self.old.past self.new.past line.now result }
+        ensures lines { ReadsBy given.now number line.now self.old.lines.items self.new result }
     {
         let fault = step(alloc, given, &mut self.past, line)?;
         if fault.is_none() {

@@ -14,7 +14,7 @@ use crate::numbers::number_at;
 use crate::shapes::LAST_DATAGRAM;
 use crate::texts::word;
 use crate::verbs::Verb;
-use dataset_meta::{Meta, Name32, fields_have_one_fault};
+use dataset_meta::{Meta, Name32, copies};
 use ps_config::Config;
 use std::alloc::{AllocError, Global};
 
@@ -116,33 +116,5 @@ impl Past {
             Some(Verb::Append) | None => {}
         }
         Ok(())
-    }
-}
-
-/// The same data sets.
-pub(crate) fn copies(alloc: Global, metas: &[Meta]) -> Result<Vec<Meta>, AllocError>
-    ensures { IfOk result (λ copies. copies.items ≡ metas.now) }
-{
-    let mut copies = Vec::with_capacity(alloc, metas.len())?;
-    for meta in metas {
-        copies.push(copy_of(alloc, meta)?)?;
-    }
-    Ok(copies)
-}
-
-fn copy_of(alloc: Global, meta: &Meta) -> Result<Meta, AllocError>
-    ensures { IfOk result (λ copy. copy ≡ meta.now) }
-{
-    let fields = Vec::from_slice(alloc, meta.fields())?;
-    fields_have_one_fault();
-    match Meta::new(
-        *meta.name(),
-        fields,
-        meta.major(),
-        meta.minor(),
-        meta.quality(),
-    ) {
-        Ok(copy) => Ok(copy),
-        Err(_) => unreachable!(),
     }
 }

@@ -1,12 +1,9 @@
 //! Reading a script.
-ghost use Rattle.std.specs.Prelude.{◌≡◌, ◌≤◌, [], false, length, Ok, IfOk, IfErr};
+ghost use Rattle.std.specs.Prelude.{◌≡◌, ◌≤◌, [], false, length, IfOk};
 ghost use Rattle.ps_config.specs.Sound.{IsSound};
-ghost use Rattle.ps_script.specs.Values.{ValueReader};
-ghost use Rattle.ps_script.specs.Past.{done_by};
+ghost use Rattle.ps_script.specs.Answered.{AreReadLines, HasDone, HasRead, IsEndAt, MeansLines};
 ghost use Rattle.ps_script.specs.Given.{HasNames};
-ghost use Rattle.ps_script.specs.Texts.{lines_of};
-ghost use Rattle.ps_script.specs.Acts.{acts_from};
-ghost use Rattle.ps_script.specs.Scripts.{judged, script, IsEnd, IsEndOf};
+ghost use Rattle.ps_script.specs.Scripts.{IsScriptOf, IsRefusalOf};
 ghost use Rattle.ps_script.specs.Sessions.{fates_of};
 ghost use Rattle.ps_script.specs.Sound.{IsScript};
 
@@ -19,6 +16,8 @@ use crate::script::{Line, Script};
 use crate::texts::cut;
 use ps_config::{Config, Parts};
 use std::alloc::{AllocError, Global};
+use std::error::Error;
+use std::fmt::{self, Display, Formatter, Write};
 
 /// Why there is no script.
 #[derive(Clone, Copy, Debug, PartialEq, Eq)]
@@ -28,6 +27,22 @@ pub enum ScriptEnd {
     /// Memory ran out.
     Memory,
 }
+
+impl Display for ScriptEnd {
+    ghost use Rattle.std.specs.Prelude.{Some};
+    ghost use Rattle.ps_script.specs.FaultTexts.{script_end};
+
+    ghost output = { λ end. Some (script_end end) };
+
+    fn fmt<W: Write>(&self, f: &mut Formatter<W>) -> fmt::Result {
+        match *self {
+            ScriptEnd::Refused { line, fault } => write!(f, "line {line}: {fault}"),
+            ScriptEnd::Memory => f.write_str("out of memory"),
+        }
+    }
+}
+
+impl Error for ScriptEnd {}
 
 impl From<AllocError> for ScriptEnd {
     ghost use Rattle.std.specs.Prelude.{◌≡◌};
@@ -49,10 +64,8 @@ pub fn read_script(
     plain: bool,
 ) -> Result<Script, ScriptEnd>
     requires { IsSound config.now }
-    ensures ok { (reader : ValueReader) → IfOk result (λ found.
-        script reader config.now bytes.now plain ≡ Ok found) }
-    ensures refused { (reader : ValueReader)
-        → IfErr result (IsEnd (script reader config.now bytes.now plain)) }
+    ensures ok { IsScriptOf config.now bytes.now plain result }
+    ensures refused { IsRefusalOf config.now bytes.now plain result }
     // What lines name is there, patches are of their data sets, numbers and counts are in range.
     ensures sound { IfOk result (IsScript config.now) }
     ensures fateless { IfOk result (λ found. plain ≡ false → fates_of found.lines ≡ []) }
@@ -67,10 +80,8 @@ pub fn read_script(
 #[tactic(auto, using(crate::proofs::Reading::ended, crate::proofs::Reading::accepted), unfolding(crate::specs::Scripts::script_with))]
 fn read(alloc: Global, config: &Config, bytes: &[u8], plain: bool) -> Result<Script, ScriptEnd>
     requires { IsSound config.now }
-    ensures ok { (reader : ValueReader) → IfOk result (λ found.
-        script reader config.now bytes.now plain ≡ Ok found) }
-    ensures refused { (reader : ValueReader)
-        → IfErr result (IsEnd (script reader config.now bytes.now plain)) }
+    ensures ok { IsScriptOf config.now bytes.now plain result }
+    ensures refused { IsRefusalOf config.now bytes.now plain result }
 {
     let given = Given::new(alloc, config, plain)?;
     let reading = match judged(alloc, &given, bytes) {
@@ -98,10 +109,8 @@ fn whole_lines(
 ) -> Result<Vec<Line>, AllocError>
     requires names { HasNames given.now }
     requires few { length past.now.metas.items ≤ 8 }
-    requires read { (reader : ValueReader) → past.now.appends ≡ 0 → lines.items
-        ≡ acts_from reader given.now.config.now past.now.metas.items 1 (lines_of bytes.now) }
-    ensures { (reader : ValueReader) → IfOk result (λ lines. lines.items
-        ≡ acts_from reader given.now.config.now past.now.metas.items 1 (lines_of bytes.now)) }
+    requires read { AreReadLines given.now past.now bytes.now lines.items }
+    ensures { MeansLines given.now past.now.metas.items bytes.now result }
 {
     if past.appends == 0 {
         return Ok(lines);
@@ -114,14 +123,10 @@ fn whole_lines(
 #[tactic(auto, using(crate::proofs::Judging::judged_next, crate::proofs::Judging::judged_fault, crate::proofs::Judging::judged_end, crate::proofs::Kept::after_kept), unfolding(crate::specs::Scripts::judged, crate::specs::Past::nothing_done))]
 fn judged(alloc: Global, given: &Given, bytes: &[u8]) -> Result<Reading, ScriptEnd>
     requires { HasNames given.now }
-    ensures ok { (reader : ValueReader) → IfOk result (λ reading.
-        judged reader given.now.config.now given.now.plain bytes.now ≡ Ok (done_by reading.past)) }
+    ensures ok { HasDone given.now bytes.now result }
     ensures few { IfOk result (λ reading. length reading.past.metas.items ≤ 8) }
-    ensures lines { (reader : ValueReader) → IfOk result (λ reading. reading.past.appends ≡ 0
-        → reading.lines.items
-        ≡ acts_from reader given.now.config.now reading.past.metas.items 1 (lines_of bytes.now)) }
-    ensures refused { (reader : ValueReader)
-        → IfErr result (IsEndOf (judged reader given.now.config.now given.now.plain bytes.now)) }
+    ensures lines { HasRead given.now bytes.now result }
+    ensures refused { IsEndAt given.now bytes.now result }
 {
     let mut reading = Reading::new(alloc, given.config, bytes)?;
     let mut number = 1u32;

@@ -2,12 +2,12 @@
 ghost use Rattle.std.specs.Prelude.{◌≡◌, ◌≢◌, ◌<◌, ◌≤◌, false, length, Some, None, IfOk, IfNone};
 ghost use Rattle.ps_script.specs.declared.fault.ScriptFault.TheVariants.{BadAppend};
 ghost use Rattle.ps_script.specs.Verbs.{verb_of};
-ghost use Rattle.ps_script.specs.Values.{ValueReader};
+ghost use Rattle.ps_script.specs.Answered.{IsEarlyFault, StepsBy, TellsFault};
 ghost use Rattle.ps_script.specs.Past.{done_by, after};
 ghost use Rattle.ps_script.specs.Faults.{is_past_limit};
 ghost use Rattle.ps_script.specs.Given.{HasNames};
-ghost use Rattle.ps_script.specs.Refusals.{stands, early_faults, first_of};
-ghost use Rattle.ps_script.specs.Scripts.{Steps, Passes};
+ghost use Rattle.ps_script.specs.Refusals.{early_faults};
+ghost use Rattle.ps_script.specs.Scripts.{Passes};
 
 use crate::appends::append;
 use crate::fault::ScriptFault;
@@ -44,9 +44,7 @@ pub(crate) fn step(
 ) -> Result<Option<ScriptFault>, AllocError>
     requires { HasNames given.now }
     ensures kept { length past.new.metas.items ≡ length past.old.metas.items }
-    ensures steps { (reader : ValueReader) → IfOk result
-        (Steps reader given.now.config.now given.now.plain (done_by past.old) (done_by past.new)
-        line.now) }
+    ensures steps { StepsBy given.now past.old past.new line.now result }
 {
     let verb = Verb::of(line);
     match early_fault(given, past, line, verb) {
@@ -97,9 +95,7 @@ fn pass(
 fn early_fault(given: &Given, past: &Past, line: &[u8], verb: Option<Verb>) -> Option<ScriptFault>
     requires names { HasNames given.now }
     requires verb { verb ≡ verb_of line.now }
-    ensures { (reader : ValueReader)
-        → result ≡ first_of reader early_faults given.now.config.now given.now.plain
-        (done_by past.now) line.now }
+    ensures { IsEarlyFault given.now past.now line.now result }
 {
     for fault in early_faults() {
         if stands(*fault, given, past, line, verb) {
@@ -122,9 +118,7 @@ fn stands(fault: ScriptFault, given: &Given, past: &Past, line: &[u8], verb: Opt
     requires names { HasNames given.now }
     requires verb { verb ≡ verb_of line.now }
     requires early { fault ≢ BadAppend }
-    ensures { (reader : ValueReader)
-        → result ≡ stands reader fault given.now.config.now given.now.plain (done_by past.now)
-        line.now }
+    ensures { TellsFault fault given.now past.now line.now result }
 {
     match fault {
         ScriptFault::BadText => is_bad_text(line),

@@ -1,11 +1,10 @@
 //! Lines `write`, judged and read at once. What is amiss with one that isn't read so is told
 //! elsewhere.
-ghost use Rattle.std.specs.Prelude.{◌≡◌, ◌<◌, ◌≤◌, true, length, Bool, IfSome};
-ghost use Rattle.ps_config.specs.declared.parts.Config.{Config as ConfigValue};
+ghost use Rattle.std.specs.Prelude.{◌≡◌, ◌<◌, ◌≤◌, true, length, IfSome};
 ghost use Rattle.ps_script.specs.Texts.{words_of};
-ghost use Rattle.ps_script.specs.Past.{done_by};
+ghost use Rattle.ps_script.specs.Answered.{IsFaultlessWrite};
 ghost use Rattle.ps_script.specs.Values.{ValueReader};
-ghost use Rattle.ps_script.specs.Writes.{BeginsWrite, GivesPatch, IsEmptyPatch, IsSoundWrite};
+ghost use Rattle.ps_script.specs.Writes.{BeginsWrite, GivesPatch, IsEmptyPatch};
 
 use crate::changes::change_of;
 use crate::faults::MOST_WRITES;
@@ -41,9 +40,7 @@ struct WriteHead<'a> {
 pub(crate) fn sound_write(past: &Past, line: &[u8], patch: &mut Patch) -> Option<Target>
     requires few { length past.now.metas.items ≤ 8 }
     requires empty { IsEmptyPatch patch.old }
-    ensures sound { (reader : ValueReader) (config : ConfigValue) (plain : Bool)
-        → IfSome result (λ target. IsSoundWrite reader config plain (done_by past.now) line.now
-        target.thread target.set patch.new) }
+    ensures sound { IsFaultlessWrite past.now line.now patch.new result }
     ensures few { IfSome result (λ target. past.now.writes < 32768) }
 {
     if is_bad_text(line) || is_long(line) || MOST_WRITES <= past.writes {

@@ -19,12 +19,12 @@ grown_row-requires c =
 pub returns-clause-grows : goal.returns-clause-grows
 returns-clause-grows c =
     let sets = c.args.sets.now in
-    subst (λ metas. GrowsAt c.args.set sets (set metas c.args.set c.in_ok-long.long)) (sym c.in_ok-metas.ensures) (grows sets c.args.set c.in_ok-long.long)
+    subst (λ metas. GrowsAt c.args.set sets (set metas c.args.set c.in-Some.long)) (sym c.in_ok-metas.ensures) (grows sets c.args.set c.in-Some.long)
 
 pub returns-clause-rows : goal.returns-clause-rows
 returns-clause-rows c =
     let k = c.args.set in
-    let long = c.in_ok-long.long in
+    let long = c.in-Some.long in
     let row : Sampled = record { row = c.in_ok-row.row; version = c.sampled_at-old.result.version } in
     subst (λ metas. AreRows (set metas k long) (set c.in_ok-rows.rows.items k row)) (sym c.in_ok-metas.ensures)
     (subst (λ rows. AreRows (set c.args.sets.now k long) (set rows k row)) (sym (c.in_ok-rows.ensures ∙ c.deref.ensures.value))
