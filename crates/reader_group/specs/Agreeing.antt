@@ -71,7 +71,7 @@ numbers_in pairs = map (λ (pair : ℕ × ℕ). pair.0) pairs
 abbrev pub places_in : List (ℕ × ℕ) → List ℕ
 places_in pairs = map (λ (pair : ℕ × ℕ). pair.1) pairs
 
--- the law of pairs
+-- places that rise with their numbers, and by at most as much, are near where the numbers are
 abbrev pub NearByNumbers : List (ℕ × ℕ) → Type 0
 NearByNumbers pairs = RiseTogether pairs → AreWithin (numbers_in pairs) → IsNear (places_in pairs)
 
@@ -99,19 +99,19 @@ pub record IsWayOf (setting : Setting) (way : Way) (events : List Event) : Type 
   pub numbers : IsWay way
   pub restarts : AreRestarts events
 
--- the law: where places are near, a reader of the plain reading is what *Arrivals* and *Records* say
+-- where places are near, a reader of the plain reading is what *Arrivals* and *Records* say
 abbrev pub Agrees : Setting → Way → List Event → Type 0
 Agrees setting way events =
     IsWayOf setting way events → NearBy (goes_by_numbers way) (arrivals setting way events) → ChunksNear (marks setting way events)
     → MemberIs way (marks setting way events) (member_at (plain setting events).members way.index)
 
--- the law for a reader of a secured group that goes by numbers: without a premise on places but those of chunks
+-- a reader of a secured group that goes by numbers is what *Arrivals* and *Records* say, with no premise on places but on those of chunks
 abbrev pub SecuredAgrees : (ℕ → List (ℕ × ℕ)) → Setting → Way → List Event → Type 0
 SecuredAgrees sent setting way events =
     is_secured setting.setup.mode ≡ true → goes_by_numbers way ≡ true → SendsRise sent → AllSent sent setting way events
     → IsWayOf setting way events → ChunksNear (marks setting way events)
     → MemberIs way (marks setting way events) (member_at (plain setting events).members way.index)
 
--- the law, for whichever reader of whichever secured group
+-- each reader of a secured group that goes by numbers is what *Arrivals* and *Records* say, whatever befell the group
 abbrev pub EachSecuredAgrees : (ℕ → List (ℕ × ℕ)) → Type 0
 EachSecuredAgrees sent = (setting : Setting) (way : Way) (events : List Event) → SecuredAgrees sent setting way events

@@ -16,7 +16,7 @@ pub record IsLeft (piece : Piece) (before after : MemberValue) : Type 0 where
   pub rest : after ≡ record before { joining = after.joining }
   pub joining : is_chunk piece ≡ false → after.joining ≡ before.joining
 
--- the law
+-- a part that can't be read leaves its reader
 abbrev pub BadPartLeaves : Seat → Receipt → MemberValue → Piece → Type 0
 BadPartLeaves seat receipt member piece =
     let after = piece_case seat receipt member piece in

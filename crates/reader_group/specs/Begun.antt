@@ -74,7 +74,7 @@ FindsMessages layout carried payload old new (Ok done) = Finds layout carried pa
 FindsMessages layout carried payload old new (Err refusal) =
     (x : Opened) → judged (payload_refusals layout (ids_carried carried old.ids.items) payload) x ≡ Err refusal
 
--- the same, where a list of ids tells of messages
+-- where a list of ids tells of messages, none of the payload's refusals holds, and the messages are found
 abbrev pub FindsListed : List ℕ → Room → Room → Result (Unit {0}) Refusal → Type 0
 FindsListed payload old new result = FindsMessages layouts.Dynamic carrieds.List payload old new result
 

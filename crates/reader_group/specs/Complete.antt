@@ -79,7 +79,7 @@ pub record HoldsFrame (word : NumberingWord) (frame : Frame) (row : List DataVal
   pub row_is : kept.row ≡ Some row
   pub number_is : HasNumber word kept.number frame
 
--- the law: the reader holds the row then
+-- a key frame that comes as the one part for an enabled reader, in a datagram that is taken, is held
 abbrev pub WholeIsHeld : Setting → PlainGroup → ℕ → List Bool → List ℕ → ℕ → List DataValue → Type 0
 WholeIsHeld setting group now on datagram k row =
     (brings : BringsWhole setting group on datagram k row)

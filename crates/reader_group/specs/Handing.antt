@@ -45,20 +45,20 @@ pub record HasSpelled (group : ReadGroupPart) (header : HeaderValue) (payload : 
   pub ours : is_ours group header ≡ true
   pub payload_is : opened.payload ≡ payload_of group.layout header.ids (length (header_bytes header)) (header_bytes header ++ payload)
 
--- the law
+-- a group that takes a spelled datagram has of it what was spelled
 abbrev pub HandsOn : ReadGroupPart → Setup → Accepted → HeaderValue → List ℕ → List ℕ → Type 0
 HandsOn group setup accepted header payload datagram =
     IsSpelled setup header payload datagram → (opened : Opened)
     → verdict group setup accepted datagram ≡ Ok opened → HasSpelled group header payload opened
 
--- the law of messages, each with the id of its writer
+-- messages that were laid out with the ids of their writers are what a dynamic payload has, one for one and in order
 abbrev pub MessagesComeBack : List ℕ → List (ℕ × List ℕ) → Type 0
 MessagesComeBack header parts =
     All (λ id. id < 2 ^ 16) (ids_in parts) → AreShort (frames_in parts)
     → payload_of layouts.Dynamic (ListOf (flat_map (to_le_bytes w16) (ids_in parts))) (length header) (header ++ layout.dynamic_payload (frames_in parts))
     ≡ Messages parts
 
--- the law of a chunk
+-- a chunk that was laid out with its writer's id is what a dynamic payload has
 abbrev pub ChunkComesBack : List ℕ → ℕ → List ℕ → Type 0
 ChunkComesBack header writer bytes =
     payload_of layouts.Dynamic (ChunkOf writer) (length header) (header ++ bytes) ≡ Chunk writer bytes
@@ -80,7 +80,7 @@ pub record HandsSlots (ids : IdsValue) (header : List ℕ) (slots : List Slot) (
   pub free : (index : ℕ) → HasSlotAt slots index reader → All (λ frame. frame.0 ≢ index) frames
       → pieces reader (in_slots ids header slots frames) ≡ Slotted (replicate reader.size 0) ∷ []
 
--- the law of slots
+-- for a reader a fixed payload has what was laid out at the reader's slot
 abbrev pub SlotsComeBack : IdsValue → List ℕ → List Slot → List (ℕ × List ℕ) → ReaderPart → Type 0
 SlotsComeBack ids header slots frames reader =
     AreApart (length header) slots → AreFrames slots frames → HandsSlots ids header slots frames reader
@@ -91,11 +91,11 @@ EachHandsOn =
     (group : ReadGroupPart) (setup : Setup) (accepted : Accepted) (header : HeaderValue) (payload datagram : List ℕ)
     → HandsOn group setup accepted header payload datagram
 
--- whichever header and chunk
+-- each chunk that was laid out with its writer's id is what a dynamic payload has
 abbrev pub EachChunkComesBack : Type 0
 EachChunkComesBack = (header : List ℕ) (writer : ℕ) (bytes : List ℕ) → ChunkComesBack header writer bytes
 
--- whichever header, slots and frames, for whichever reader
+-- for each reader a fixed payload has what was laid out at the reader's slot
 abbrev pub EachSlotComesBack : Type 0
 EachSlotComesBack =
     (ids : IdsValue) (header : List ℕ) (slots : List Slot) (frames : List (ℕ × List ℕ)) (reader : ReaderPart)
