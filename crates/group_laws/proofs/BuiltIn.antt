@@ -1,15 +1,13 @@
 -- The built-in configuration meets what the laws ask for.
-use Rattle.std.proofs.Common.{◌≡◌, refl, sym, subst, arith, inl, ◌<◌, ◌≤◌, Contains, length, List, Option, None}
+use Rattle.std.proofs.Common.{◌≡◌, refl, sym, subst, arith, inl, ◌<◌, ◌≤◌, Contains, length, List, Option, None, IfSome}
 use Rattle.message_guard.specs.Senders.{SenderState}
 use Rattle.ps_config.specs.BuiltIn.{built_in_config, built_in_group, built_in_read_group, built_in_reader, built_in_writer}
 use Rattle.ps_config.proofs.BuiltIn.{built_in_sound}
 use Rattle.writer_group.specs.Payloads.{payloads_of}
-use Rattle.writer_group.specs.Sealing.{AreWritten}
-use Rattle.writer_group.specs.Turns.{GroupDeed, TurnInput, envelope_of, frames_in, made_in}
+use Rattle.writer_group.specs.Turning.{CanGiveFronts, HasHeaderTypes}
+use Rattle.writer_group.specs.Turns.{GroupDeed, TurnInput, frames_in}
 use Rattle.group_laws.specs.Matching.{IsMatched, IsMatchedTo, IsGroupTurn, MaySend}
-use Rattle.group_laws.proofs.Headers.{HasItsTypes, headers-written}
-use Rattle.group_laws.proofs.TurnLaws.{payloads-good, turn-small}
-use Rattle.group_laws.proofs.Writers.{group-sound}
+use Rattle.writer_group.proofs.WrittenHeaders.{turn-written}
 
 built-in-groups : IsMatched built_in_config built_in_group built_in_read_group
 unfolding built_in_config built_in_group built_in_read_group
@@ -23,7 +21,7 @@ built-in-matched = record {
   reads = record { within = omega arith; id = refl; dataset = refl; offset = λ fixed. refl; size = λ fixed. refl };
 }
 
-built-in-types : HasItsTypes built_in_config built_in_group
+built-in-types : HasHeaderTypes built_in_config built_in_group
 unfolding built_in_config built_in_group
 built-in-types = record { publisher = omega arith; version = omega arith; class_id = tt }
 
@@ -46,9 +44,5 @@ built-in-turn past input few none = record {
   on = let one = one-writer in omega (arith, few, one);
   sender = let count = length (payloads_of built_in_config built_in_group (frames_in built_in_group past input)) in
       subst (λ (s : Option SenderState). MaySend built_in_config built_in_group count s) (sym none) (built-in-sends count);
-  written = let is = group-sound built_in_config built_in_group built_in_sound built-in-there in
-      let payloads = payloads_of built_in_config built_in_group (frames_in built_in_group past input) in
-      subst (λ (s : Option SenderState). AreWritten (envelope_of built_in_config built_in_group past) s 0 payloads) (sym none)
-      (headers-written built_in_config built_in_group (made_in past) 0 payloads built_in_sound.publisher is built-in-types
-      (payloads-good built_in_group.layout built_in_config built_in_group (frames_in built_in_group past input) is (turn-small built_in_config built_in_group past input is)));
+  written = turn-written built_in_config built_in_group past input built_in_sound built-in-there built-in-types (subst (λ (s : Option SenderState). IfSome s CanGiveFronts) (sym none) tt);
 }

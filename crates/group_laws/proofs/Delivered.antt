@@ -23,9 +23,9 @@ use Rattle.group_laws.proofs.FixedReading.{fixed-read}
 use Rattle.group_laws.proofs.OtherReaders.{others-none}
 use Rattle.group_laws.proofs.PartsReading.{Part, fed-parts, none-read, one-by-one, parts_for, pieces-of}
 use Rattle.group_laws.proofs.PayloadsGood.{IsGood}
-use Rattle.group_laws.proofs.TurnLaws.{AreOne, payloads-good, turn-many, turn-small}
+use Rattle.writer_group.proofs.SmallIds.{turn-small, group-sound}
+use Rattle.group_laws.proofs.TurnLaws.{AreOne, payloads-good, turn-many}
 use Rattle.group_laws.proofs.TurnTaken.{advanced-keys, advanced-used}
-use Rattle.group_laws.proofs.Writers.{group-sound}
 
 received-opened : (setting : Setting) (deliveries : List Delivery) (opened : List Opened) → length deliveries ≡ length opened → map (λ (a : Received). a.opened) (received setting deliveries opened) ≡ opened
 received-opened setting [] [] same = refl

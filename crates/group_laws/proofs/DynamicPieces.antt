@@ -5,14 +5,14 @@ use Rattle.std.specs.Int.{w16, to_le_bytes}
 use Rattle.std.specs.List.{flat_map}
 use Rattle.std.proofs.lemmas.Bool.{le-leb, leb-true}
 use Rattle.std.proofs.lemmas.Bool.Decides.{nat_tests}
-use Rattle.std.proofs.lemmas.List.Elements.{All-cons, All-head, All-tail, All-weaker, All-map, All-nil}
+use Rattle.std.proofs.lemmas.List.Elements.{All-head, All-tail, All-weaker, All-map}
 use Rattle.std.proofs.lemmas.List.Folds.{flat_map-map}
 use Rattle.uadp_header.specs.Headers.{ids_of}
 use Rattle.uadp_header.proofs.IdLaws.{ids-again}
 use Rattle.payload_layout.specs.Packing.{Packed, IsSound, packs_of, payload_size, fits}
 use Rattle.payload_layout.specs.Payloads.{AreShort, parts_of, ids_in, frames_in, dynamic_payload}
 use Rattle.payload_layout.proofs.Again.{parts-again}
-use Rattle.payload_layout.proofs.Packs.{packs-frames, packs-sound}
+use Rattle.payload_layout.proofs.Packs.{packs-frames}
 use Rattle.chunker.specs.Chunks.{Chunk, cuts}
 use Rattle.chunker.specs.Spelling.{chunk_bytes}
 use Rattle.ps_config.specs.declared.parts.ReaderPart.{ReaderPart}
@@ -21,6 +21,7 @@ use Rattle.writer_group.specs.Sealing.{Payload}
 use Rattle.reader_group.specs.Payloads as readers
 use Rattle.reader_group.specs.Payloads.{Piece, Message, Chunked, pieces}
 use Rattle.group_laws.specs.TurnPieces.{frame_pieces}
+use Rattle.writer_group.proofs.SmallIds.{IsSmall, IsSmallPack, packs-readable}
 use Rattle.group_laws.proofs.Lists.{flat_map-flat_map, flat_map-agree, All-below_sum}
 
 -- what a frame has for the reader of this id
@@ -99,10 +100,6 @@ brought-cut reader frame_room room frame large =
 
 -- ---- a pack
 
--- its ids and its frames' sizes are of 16 bits
-pub record IsSmall (frame : Spelled) : Type 0 where
-  pub id : frame.id < 2 ^ 16
-
 pub fitting : (room : ℕ) (frames : List Spelled) → fits size_of room frames ≡ true → All (λ frame. size_of frame ≤ room) frames
 fitting room frames e =
     let within : payload_size size_of frames + 2 * (length frames - 1) ≤ room = leb-true (payload_size size_of frames + 2 * (length frames - 1)) room (left _ _ e) in
@@ -134,30 +131,6 @@ brought-pack reader frame_room room pack true is short ids sound =
     ∙ ap (λ (frames : List Spelled). flat_map (own reader.writer frame_room room) frames) (sym alone.1)
 
 -- ---- all packs
-
-packs-small : (packs : List (Packed Spelled)) → All IsSmall (flat_map (λ pack. pack.frames) packs) → All (λ pack. All IsSmall pack.frames) packs
-packs-small [] all = All-nil (λ (pack : Packed Spelled). All IsSmall pack.frames)
-packs-small (pack ∷ packs) all =
-    let parts = All-parts IsSmall pack.frames (flat_map (λ (p : Packed Spelled). p.frames) packs) all in
-    All-cons (λ (pack : Packed Spelled). All IsSmall pack.frames) pack packs parts.0 (packs-small packs parts.1)
-  where
-    All-parts : {X : Type 0} (P : X → Type 0) (xs ys : List X) → All P (xs ++ ys) → All P xs × All P ys
-    All-parts P [] ys all = (All-nil P, all)
-    All-parts P (x ∷ xs) ys all =
-        let rest = All-parts P xs ys (All-tail P x (xs ++ ys) all) in (All-cons P x xs (All-head P x (xs ++ ys) all) rest.0, rest.1)
-
-pub record IsSmallPack (frame_room : ℕ) (pack : Packed Spelled) : Type 0 where
-  pub small : All IsSmall pack.frames
-  pub sound : IsSound size_of frame_room pack
-
-both : (frame_room : ℕ) (packs : List (Packed Spelled)) → All (λ pack. All IsSmall pack.frames) packs → All (IsSound size_of frame_room) packs → All (IsSmallPack frame_room) packs
-both frame_room packs small sound = λ k d below. record { small = small k d below; sound = sound k d below }
-
-pub packs-readable : (frame_room : ℕ) (frames : List Spelled) → All IsSmall frames → All (IsSmallPack frame_room) (packs_of size_of frame_room frames)
-packs-readable frame_room frames small =
-    both frame_room (packs_of size_of frame_room frames)
-    (packs-small (packs_of size_of frame_room frames) (subst (λ (l : List Spelled). All IsSmall l) (sym (packs-frames size_of frame_room frames)) small))
-    (packs-sound size_of frame_room frames)
 
 pub brought-all : (reader : ReaderPart) (frame_room room : ℕ) (frames : List Spelled) → frame_room < 65536 → All IsSmall frames
     → flat_map (brought reader) (flat_map (pack_payloads room) (packs_of size_of frame_room frames)) ≡ flat_map (own reader.writer frame_room room) frames

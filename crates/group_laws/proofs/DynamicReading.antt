@@ -39,7 +39,7 @@ use Rattle.group_laws.specs.TurnReading.{Received, fed_all, frame_answered, fram
 use Rattle.group_laws.proofs.ChunkReading.{IsMessage, cut-given}
 use Rattle.group_laws.proofs.PartsReading.{Part, part_on, parts_for, fed-parts, pieces-of, receipts-of, none-read, message-given, as-chunks}
 use Rattle.group_laws.proofs.TurnLaws.{dynamic-turn}
-use Rattle.group_laws.proofs.Writers.{group-sound}
+use Rattle.writer_group.proofs.SmallIds.{group-sound}
 
 -- ---- the frame that is answered
 

@@ -7,7 +7,6 @@ use Rattle.std.specs.List.{position_or_len}
 use Rattle.std.proofs.lemmas.Bool.{cases_lt, le-leb}
 use Rattle.std.proofs.lemmas.List.{get_or-map, length-map}
 use Rattle.std.proofs.lemmas.List.Elements.{All-cons, All-nil, All-map, All-append}
-use Rattle.std.proofs.lemmas.List.Kept.{AllPairs-cons}
 use Rattle.std.proofs.lemmas.Option.{slice_get-get_or}
 use Rattle.ua_binary.specs.Wire.{optional}
 use Rattle.dataset_meta.specs.DataValues.{DataValue}
@@ -33,6 +32,7 @@ use Rattle.ps_config.specs.FixedSound.{IsFixedGroup, front_size, raw_size_of, wr
 use Rattle.ps_config.specs.Sound.{IsGroup}
 use Rattle.writer_group.specs.Payloads.{IsFrameIf, Spelled, size_of, spelled_by, carried_frame, laid_frame, raw_frame, writer_at, meta_at, no_writer, slots_of}
 use Rattle.writer_group.specs.Turns.{GroupDeed, TurnInput, answer_of, frame_of_writer, frames_from, list_of, settings_of, writer_past, answer_to}
+use Rattle.writer_group.proofs.RisingFrames.{IsFrom, RisesTo}
 
 -- ---- a key frame at each turn
 
@@ -135,12 +135,6 @@ module _ (config : Config) (group : GroupPart) (past : List GroupDeed) (input : 
 
 -- ---- of a writer one at most
 
-abbrev pub IsFrom : ℕ → Spelled → Type 0
-IsFrom from frame = from ≤ frame.writer
-
-abbrev pub RisesTo : Spelled → Spelled → Type 0
-RisesTo one other = one.writer < other.writer
-
 answer-from : (group : GroupPart) (metas : List MetaData) (writer : ℕ) (answer : Option PlacedFrame) (low : ℕ) → low ≤ writer → All (IsFrom low) (list_of (option_map (spelled_by group metas writer) answer))
 answer-from group metas writer None low le = All-nil (IsFrom low)
 answer-from group metas writer (Some placed) low le = All-cons (IsFrom low) (spelled_by group metas writer placed) [] le (All-nil (IsFrom low))
@@ -154,18 +148,6 @@ frames-low group metas past from low [] le = All-nil (IsFrom low)
 frames-low group metas past from low (took ∷ tooks) le =
     All-append (IsFrom low) (list_of (frame_of_writer group metas past from took)) (frames_from group metas past (from + 1) tooks) (took-from group metas past from took low le)
     (frames-low group metas past (from + 1) low tooks (omega (arith, le)))
-
-answer-rise : (group : GroupPart) (metas : List MetaData) (from : ℕ) (answer : Option PlacedFrame) (later : List Spelled) → All (IsFrom (from + 1)) later → AllPairs RisesTo later
-    → AllPairs RisesTo (list_of (option_map (spelled_by group metas from) answer) ++ later)
-answer-rise group metas from None later all rise = rise
-answer-rise group metas from (Some placed) later all rise =
-    AllPairs-cons RisesTo (spelled_by group metas from placed) later (λ k d below. let h = all k d below in omega (arith, h)) rise
-
-pub frames-rise : (group : GroupPart) (metas : List MetaData) (past : List GroupDeed) (from : ℕ) (tooks : List (Option WriterTurn)) → AllPairs RisesTo (frames_from group metas past from tooks)
-frames-rise group metas past from [] = λ i j d less below. absurd (omega (arith, below))
-frames-rise group metas past from (None ∷ tooks) = frames-rise group metas past (from + 1) tooks
-frames-rise group metas past from (Some turn ∷ tooks) =
-    answer-rise group metas from (answer_of group past from turn) (frames_from group metas past (from + 1) tooks) (frames-low group metas past (from + 1) (from + 1) tooks (omega arith)) (frames-rise group metas past (from + 1) tooks)
 
 abbrev pub in_slot : Spelled → ℕ × List ℕ
 in_slot frame = (frame.writer, frame.bytes)

@@ -38,9 +38,10 @@ use Rattle.group_laws.specs.Matching.{ReadsWriter, IsSenderOf, IsGroupTurn, MayS
 use Rattle.group_laws.specs.TurnOpened.{sender_at, opened_from, turn_opened}
 use Rattle.group_laws.specs.TurnPieces.{fixed_pieces, turn_pieces, writer_pieces}
 use Rattle.group_laws.specs.TurnReading.{IsFixedTurn}
-use Rattle.group_laws.proofs.FixedFrames.{IsAnswered, IsSlotted, are-frames, frames-rise, frames-slotted, has-frame, has-none, in_slot, own-slot}
+use Rattle.writer_group.proofs.RisingFrames.{frames-rise}
+use Rattle.group_laws.proofs.FixedFrames.{IsAnswered, IsSlotted, are-frames, frames-slotted, has-frame, has-none, in_slot, own-slot}
 use Rattle.group_laws.proofs.TurnTaken.{advanced-random}
-use Rattle.group_laws.proofs.Writers.{group-sound}
+use Rattle.writer_group.proofs.SmallIds.{group-sound}
 
 -- ---- the header is as long as the slots leave room for
 

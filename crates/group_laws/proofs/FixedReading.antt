@@ -36,7 +36,7 @@ use Rattle.group_laws.proofs.FixedPieces.{fixed-turn}
 use Rattle.group_laws.proofs.Members.{joining-given}
 use Rattle.group_laws.proofs.PartsReading.{Part, part_on, parts_for, fed-parts, pieces-of, receipts-of, one-part}
 use Rattle.group_laws.proofs.SlotReading.{good-row, raw-read, zeros-read}
-use Rattle.group_laws.proofs.Writers.{group-sound}
+use Rattle.writer_group.proofs.SmallIds.{group-sound}
 
 -- a slot that is read as a frame, and one that isn't
 

@@ -1,7 +1,6 @@
 pub mod Lists
 pub mod DynamicPieces
 pub mod Guarding
-pub mod Headers
 pub mod PayloadsGood
 pub mod Taking
 pub mod Writers
@@ -26,3 +25,5 @@ pub mod RingSenders
 pub mod OtherReaders
 pub mod OtherGroups
 pub mod BuiltIn
+pub mod Ticking
+pub mod Meeting

@@ -4,6 +4,7 @@ use Rattle.std.specs.Prelude.{◌==◌, bytes_eq, if◌then◌else◌}
 use Rattle.std.proofs.lemmas.Bool.{eq-eqb}
 use Rattle.std.proofs.lemmas.List.{get_or-map}
 use Rattle.std.proofs.lemmas.Slice.Eq.{bytes_eq-Decides}
+use Rattle.dataset_meta.specs.Metas.{MetaData}
 use Rattle.uadp_header.specs.Headers.{IdsValue}
 use Rattle.config_tables.specs.declared.publisher.Publisher.{Publisher}
 use Rattle.config_tables.specs.declared.publisher.Publisher.TheVariants as publishers
@@ -17,7 +18,7 @@ use Rattle.writer_group.specs.Payloads.{meta_at}
 use Rattle.reader_group.specs.Filter.{has_class, is_any_or, is_carried, is_ours, is_publisher}
 use Rattle.reader_group.specs.Members.{Seat, no_seat, seat_at}
 use Rattle.reader_group.specs.Settings.{seat_in, setting_by}
-use Rattle.group_laws.specs.Matching.{IsMatched, IsMatchedTo, ReadsWriter, reader_at}
+use Rattle.group_laws.specs.Matching.{IsMatched, IsMatchedTo, ReadsFrames, ReadsWriter, reader_at}
 
 -- ---- the filter asks for what each header of the group tells
 
@@ -87,3 +88,8 @@ pub matched-meta : (config : Config) (readers : ReadGroupPart) (reader : ℕ) (g
 matched-meta config readers reader group writer is =
     ap (λ (s : Seat). s.meta) (seat-of config readers reader is.within)
     ∙ ap (λ (dataset : ℕ). Rattle.std.specs.Prelude.slice_index_or config.dataset dataset Rattle.dataset_meta.specs.Metas.no_meta) is.reads.dataset
+
+-- a meta that the frames of a writer can be read with has the major version that they have
+pub its-major : (group : GroupPart) (metas : List MetaData) (writer : ℕ) (meta : MetaData) → ReadsFrames group metas writer meta → meta.major ≡ (meta_at group metas writer).major
+its-major group metas writer meta (inl same) = ap (λ (m : MetaData). m.major) same
+its-major group metas writer meta (inr grown) = grown.fields.major

@@ -40,9 +40,7 @@ use Rattle.group_laws.specs.Matching.{IsGroupTurn}
 use Rattle.group_laws.proofs.Lists.{All-left, All-right}
 use Rattle.group_laws.proofs.OtherReaders.{no-writer-has}
 use Rattle.group_laws.proofs.Taking.{behind, rest_of, sent-split, tests, verdict-written}
-use Rattle.group_laws.proofs.TurnFrames.{frames-by}
-use Rattle.group_laws.proofs.TurnLaws.{turn-small}
-use Rattle.group_laws.proofs.Writers.{group-sound}
+use Rattle.writer_group.proofs.SmallIds.{frames-by, turn-small, group-sound}
 
 -- ---- a datagram of a turn begins with a header of its group, and has the ids of one of the payloads
 

@@ -21,9 +21,8 @@ use Rattle.group_laws.specs.Matching.{IsGroupTurn}
 use Rattle.group_laws.specs.TurnOpened.{opened_from, turn_opened}
 use Rattle.group_laws.specs.TurnPieces.{frame_pieces}
 use Rattle.group_laws.proofs.DynamicPieces.{own, brought-all}
-use Rattle.group_laws.proofs.TurnFrames.{frames-by}
-use Rattle.group_laws.proofs.TurnLaws.{opened-brings, room-small, turn-small}
-use Rattle.group_laws.proofs.Writers.{id_at, group-sound}
+use Rattle.writer_group.proofs.SmallIds.{frames-by, turn-small, id_at, group-sound}
+use Rattle.group_laws.proofs.TurnLaws.{opened-brings, room-small}
 
 none-own : (id frame_room room : ℕ) (frames : List Spelled) → All (λ frame. frame.id ≢ id) frames → flat_map (own id frame_room room) frames ≡ []
 none-own id frame_room room [] all = refl

@@ -22,7 +22,8 @@ use Rattle.writer_group.specs.Sealing.{Payload}
 use Rattle.reader_group.specs.declared.refusal.Refusal.TheVariants as refusals
 use Rattle.message_guard.specs.Opening.{judged}
 use Rattle.reader_group.specs.Opening.{Opened, are_past, payload_refusals}
-use Rattle.group_laws.proofs.DynamicPieces.{IsSmall, IsSmallPack, fitting, packs-readable}
+use Rattle.writer_group.proofs.SmallIds.{IsSmall, IsSmallPack, packs-readable}
+use Rattle.group_laws.proofs.DynamicPieces.{fitting}
 
 -- a header can name its ids, and a read group of the layout has nothing to refuse in it
 pub record IsGood (layout : Layout) (payload : Payload) : Type 0 where

@@ -1,10 +1,9 @@
 -- The frames of a turn: what the writer of an id has among them.
-use Rattle.std.proofs.Common.{◌≡◌, ◌≢◌, refl, ap, ◌∙◌, arith, ℕ, zero, suc, ◌+◌, ◌<◌, ◌^◌, Bool, true, false, List, [], ◌∷◌, ◌++◌, append-nil, All, Option, Some, None, option_map}
+use Rattle.std.proofs.Common.{◌≡◌, ◌≢◌, refl, ap, ◌∙◌, arith, ℕ, zero, suc, ◌+◌, ◌<◌, Bool, true, false, List, [], ◌∷◌, ◌++◌, append-nil, Option, Some, None, option_map}
 use Rattle.std.specs.Prelude.{◌==◌, slice_index_or, if◌then◌else◌}
 use Rattle.std.specs.List.{flat_map}
 use Rattle.std.proofs.lemmas.Bool.{eq-eqb, ne_eqb}
 use Rattle.std.proofs.lemmas.List.Concat.{flat_map-append}
-use Rattle.std.proofs.lemmas.List.Elements.{All-cons, All-nil, All-append}
 use Rattle.dataset_meta.specs.Metas.{MetaData}
 use Rattle.pubsub_model.specs.Frames.{PlacedFrame}
 use Rattle.pubsub_model.specs.Cadence.{WriterTurn}
@@ -13,29 +12,8 @@ use Rattle.writer_group.specs.Payloads.{Spelled, spelled_by}
 use Rattle.writer_group.specs.Turns.{GroupDeed, answer_of, frame_of_writer, frames_from, list_of}
 use Rattle.reader_group.specs.Payloads.{Piece}
 use Rattle.group_laws.specs.TurnPieces.{frame_pieces}
-use Rattle.group_laws.proofs.DynamicPieces.{own, IsSmall}
-use Rattle.group_laws.proofs.Writers.{id_at}
-
--- each is of its writer
-
-pub record IsBy (group : GroupPart) (frame : Spelled) : Type 0 where
-  pub id : frame.id ≡ id_at group frame.writer
-
-frame-by : (group : GroupPart) (metas : List MetaData) (writer : ℕ) (answer : Option PlacedFrame) → All (IsBy group) (list_of (option_map (spelled_by group metas writer) answer))
-frame-by group metas writer None = All-nil (IsBy group)
-frame-by group metas writer (Some placed) = All-cons (IsBy group) (spelled_by group metas writer placed) [] (record { id = refl }) (All-nil (IsBy group))
-
-took-by : (group : GroupPart) (metas : List MetaData) (past : List GroupDeed) (writer : ℕ) (took : Option WriterTurn) → All (IsBy group) (list_of (frame_of_writer group metas past writer took))
-took-by group metas past writer None = All-nil (IsBy group)
-took-by group metas past writer (Some turn) = frame-by group metas writer (answer_of group past writer turn)
-
-pub frames-by : (group : GroupPart) (metas : List MetaData) (past : List GroupDeed) (from : ℕ) (tooks : List (Option WriterTurn)) → All (IsBy group) (frames_from group metas past from tooks)
-frames-by group metas past from [] = All-nil (IsBy group)
-frames-by group metas past from (took ∷ tooks) =
-    All-append (IsBy group) (list_of (frame_of_writer group metas past from took)) (frames_from group metas past (from + 1) tooks) (took-by group metas past from took) (frames-by group metas past (from + 1) tooks)
-
-pub frames-small : (group : GroupPart) (frames : List Spelled) → ((writer : ℕ) → id_at group writer < 2 ^ 16) → All (IsBy group) frames → All IsSmall frames
-frames-small group frames small by = λ k d below. record { id = let is = (by k d below).id in omega (arith, is, small (slice_index_or frames k d).writer) }
+use Rattle.writer_group.proofs.SmallIds.{id_at}
+use Rattle.group_laws.proofs.DynamicPieces.{own}
 
 -- ---- the frame of one writer
 

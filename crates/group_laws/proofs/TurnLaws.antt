@@ -31,11 +31,12 @@ use Rattle.reader_group.specs.Settings.{setup_by}
 use Rattle.group_laws.specs.Matching.{IsMatched, ReadsWriter, IsGroupTurn, MaySend}
 use Rattle.group_laws.specs.TurnOpened.{sender_at, opened_at, opened_from, turn_opened, is_accepted, IsTakenAs}
 use Rattle.group_laws.specs.TurnPieces.{dynamic_pieces, turn_pieces}
-use Rattle.group_laws.proofs.DynamicPieces.{brought, brought-all, IsSmall}
+use Rattle.writer_group.proofs.SmallIds.{IsSmall, group-sound, id_at, turn-small}
+use Rattle.group_laws.proofs.DynamicPieces.{brought, brought-all}
 use Rattle.group_laws.proofs.PayloadsGood.{IsGood, dynamic-good}
-use Rattle.group_laws.proofs.TurnFrames.{frames-by, frames-small, own-frames, pieces_if}
+use Rattle.group_laws.proofs.TurnFrames.{own-frames, pieces_if}
 use Rattle.group_laws.proofs.TurnTaken.{IsOne, open-one, secured-one, late-one, guard-is, setup-open}
-use Rattle.group_laws.proofs.Writers.{id_at, id-small, other-id, group-sound}
+use Rattle.group_laws.proofs.Writers.{other-id}
 
 -- ---- one datagram is taken
 
@@ -96,10 +97,6 @@ each-taken config group reads accepted made from count (suc k) sender (payload �
 
 pub room-small : (config : Config) (group : GroupPart) → IsGroup config group → frame_room config.publisher.id group < 65536
 room-small config group is = let most = is.max_size.1 in omega (arith, most)
-
-pub turn-small : (config : Config) (group : GroupPart) (past : List GroupDeed) (input : TurnInput) → IsGroup config group → All IsSmall (frames_in group past input)
-turn-small config group past input is =
-    frames-small group (frames_in group past input) (λ writer. id-small config group writer is) (frames-by group input.told.metas past 0 (turns_from group input.told 0 input.on))
 
 slots-good : (b : Bool) (payload : Payload) → IsGood layouts.Fixed payload → All (IsGood layouts.Fixed) (if b then payload ∷ [] else [])
 slots-good true payload good = All-cons (IsGood layouts.Fixed) payload [] good (All-nil (IsGood layouts.Fixed))

@@ -14,13 +14,12 @@ use Rattle.config_tables.specs.declared.words.Security.TheVariants as security
 use Rattle.ps_config.specs.declared.parts.Config.{Config}
 use Rattle.ps_config.specs.declared.parts.GroupPart.{GroupPart}
 use Rattle.ps_config.specs.declared.parts.ReadGroupPart.{ReadGroupPart}
-use Rattle.ps_config.specs.Headers as headers
 use Rattle.ps_config.specs.Headers.{is_secured, mode_of}
 use Rattle.ps_config.specs.Sound.{IsSound, IsGroup}
 use Rattle.writer_group.specs.Envelopes.{Numbering}
 use Rattle.writer_group.specs.Sealing.{Payload, Envelope, envelope_with, advanced_by, header_at, datagram_at}
 use Rattle.reader_group.specs.Filter.{is_ours}
-use Rattle.reader_group.specs.Opening.{Opened, verdict}
+use Rattle.reader_group.specs.Opening.{verdict}
 use Rattle.reader_group.specs.Settings.{setup_by, keygroup_at}
 use Rattle.group_laws.specs.Matching.{IsMatched, IsSenderOf}
 use Rattle.group_laws.specs.TurnOpened.{sender_at, opened_at, IsNumberRefusal}
@@ -52,12 +51,7 @@ advanced-sender mode s count is fits = record {
   used = let used = advanced-used mode s count in omega (arith, used, fits);
 }
 
--- ---- one mode on both sides
-
-pub mode-same : (s : Security) → headers.mode_of s ≡ mode_of s
-mode-same security.None = refl
-mode-same security.Sign = refl
-mode-same security.Encrypt = refl
+-- ---- the mode of a group
 
 mode-secured : (s : Security) → is_secured s ≡ true → modes_of.is_secured (mode_of s) ≡ true
 mode-secured security.None secured = absurd (let wrong : Path Bool false true = secured in cc)
@@ -69,7 +63,7 @@ mode-open security.None unsecured = refl
 mode-open security.Sign unsecured = absurd (let wrong : Path Bool true false = unsecured in cc)
 mode-open security.Encrypt unsecured = absurd (let wrong : Path Bool true false = unsecured in cc)
 
-setup-mode : (config : Config) (group : ReadGroupPart) (keygroup : Option ℕ) → (setup_by config group keygroup).mode ≡ headers.mode_of group.security
+setup-mode : (config : Config) (group : ReadGroupPart) (keygroup : Option ℕ) → (setup_by config group keygroup).mode ≡ mode_of group.security
 setup-mode config group None = refl
 setup-mode config group (Some index) = refl
 
@@ -87,7 +81,7 @@ good-there reads layout payload same good = subst (λ (l : Layout). IsGood l pay
 
 pub setup-open : (config : Config) (group : GroupPart) (reads : ReadGroupPart) (payload : Payload) → IsOne config group reads payload → is_secured group.security ≡ false → (setup_by config reads reads.keygroup).mode ≡ modes.None
 setup-open config group reads payload one unsecured =
-    setup-mode config reads reads.keygroup ∙ ap headers.mode_of one.matched.security ∙ mode-same group.security ∙ mode-open group.security unsecured
+    setup-mode config reads reads.keygroup ∙ ap mode_of one.matched.security ∙ mode-open group.security unsecured
 
 pub open-one : (config : Config) (group : GroupPart) (reads : ReadGroupPart) (accepted : Accepted) (made index : ℕ) (payload : Payload) → IsOne config group reads payload
     → IsWritten (header_at (envelope_with config group made) None index payload.0) → is_secured group.security ≡ false
@@ -111,7 +105,7 @@ guard-of config group reads s count (Some index) secured there has reads_has sam
     let mode = mode_of group.security in
     let setup = setup_by config reads (Some index) in
     let here : IsSecured setup mode (advanced_by mode s count) = record {
-      mode_is = ap headers.mode_of same ∙ mode-same group.security;
+      mode_is = ap mode_of same;
       secured = mode-secured group.security secured;
       sender = advanced-sender mode s count is.sender_is fits;
       known = ap (λ (k : TokenKeys). keys_with setup.keys k.token) (advanced-keys mode s count) ∙ is.keys ∙ ap Some (sym (advanced-keys mode s count));

@@ -1,14 +1,14 @@
 -- The writers of a group of a sound configuration: their ids are of 16 bits, not 0, and each another.
-use Rattle.std.proofs.Common.{◌≡◌, ◌≢◌, refl, sym, ap, ◌∙◌, subst, arith, ℕ, zero, suc, ◌+◌, ◌<◌, ◌≤◌, ◌^◌, ◌⊎◌, inl, inr, List, [], ◌∷◌, ◌++◌, length, map, get_or, length-append, AllPairs, Contains}
+use Rattle.std.proofs.Common.{◌≡◌, ◌≢◌, refl, sym, ◌∙◌, subst, arith, ℕ, zero, suc, ◌+◌, ◌<◌, ◌≤◌, ◌⊎◌, inl, inr, List, [], ◌∷◌, ◌++◌, length, map, get_or, length-append, AllPairs, Contains}
 use Rattle.std.specs.List.{flat_map}
 use Rattle.std.proofs.lemmas.Bool.{cases_lt}
-use Rattle.std.proofs.lemmas.List.{get_or_past, length-map, map-append, get_or-append-add, get_or_append_left}
-use Rattle.std.proofs.lemmas.List.Elements.{All-contains}
+use Rattle.std.proofs.lemmas.List.{length-map, map-append, get_or-append-add, get_or_append_left}
 use Rattle.ps_config.specs.declared.parts.Config.{Config}
 use Rattle.ps_config.specs.declared.parts.GroupPart.{GroupPart}
 use Rattle.ps_config.specs.declared.parts.WriterPart.{WriterPart}
-use Rattle.ps_config.specs.Sound.{IsSound, IsGroup, IsWithin}
-use Rattle.writer_group.specs.Payloads.{writer_at, no_writer}
+use Rattle.ps_config.specs.Sound.{IsSound, IsGroup}
+use Rattle.writer_group.specs.Payloads.{no_writer}
+use Rattle.writer_group.proofs.SmallIds.{group-sound, id_at, past-zero, there-within}
 
 -- ---- pairs in a part of a list
 
@@ -38,26 +38,6 @@ mapped h (x ∷ xs) zero d = refl
 mapped h (x ∷ xs) (suc k) d = mapped h xs k d
 
 -- ---- ids
-
-abbrev pub id_at : GroupPart → ℕ → ℕ
-id_at group writer = (writer_at group writer).id
-
-pub group-sound : (config : Config) (group : GroupPart) → IsSound config → Contains config.group group → IsGroup config group
-group-sound config group sound there = All-contains (IsGroup config) config.group group sound.groups there
-
--- where no writer stands the id is 0
-past-zero : (group : GroupPart) (writer : ℕ) → length group.writer ≤ writer → id_at group writer ≡ 0
-past-zero group writer past = ap (λ (w : WriterPart). w.id) (get_or_past group.writer writer no_writer past)
-
-there-within : (config : Config) (group : GroupPart) (writer : ℕ) → IsGroup config group → writer < length group.writer → IsWithin 1 65535 (id_at group writer)
-there-within config group writer is within = (is.writers writer no_writer within).id
-
-pub id-small : (config : Config) (group : GroupPart) (writer : ℕ) → IsGroup config group → id_at group writer < 2 ^ 16
-id-small config group writer is = on (cases_lt writer (length group.writer))
-  where
-    on : (writer < length group.writer) ⊎ (length group.writer ≤ writer) → id_at group writer < 2 ^ 16
-    on (inl within) = let h = there-within config group writer is within in omega (arith, h.1)
-    on (inr past) = let h = past-zero group writer past in omega (arith, h)
 
 ids-apart : (config : Config) (group : GroupPart) (one other : ℕ) → IsSound config → Contains config.group group → one < other → other < length group.writer → id_at group one ≢ id_at group other
 ids-apart config group one other sound there less within =

@@ -4,3 +4,5 @@ pub mod TurnPieces
 pub mod TurnReading
 pub mod TurnItems
 pub mod TurnDelivered
+pub mod Ticking
+pub mod Witness

@@ -11,15 +11,16 @@ use Rattle.ps_config.specs.declared.parts.KeyGroupPart.{KeyGroupPart}
 use Rattle.ps_config.specs.declared.parts.ReadGroupPart.{ReadGroupPart}
 use Rattle.ps_config.specs.declared.parts.ReaderPart.{ReaderPart}
 use Rattle.ps_config.specs.declared.parts.WriterPart.{WriterPart}
+use Rattle.ps_config.specs.BuiltIn.{built_in_config, built_in_group}
 use Rattle.ps_config.specs.Headers.{is_secured}
 use Rattle.ps_config.specs.Rings.{key_set}
 use Rattle.ps_config.specs.Rooms.{is_fixed}
-use Rattle.ps_config.specs.Sound.{IsSound}
+use Rattle.ps_config.specs.Sound.{IsKeyGroup, IsSound}
 use Rattle.writer_group.specs.Payloads.{writer_at, meta_at, payloads_of}
 use Rattle.writer_group.specs.Sealing.{AreWritten}
 use Rattle.writer_group.specs.Turns.{GroupDeed, TurnInput, envelope_of, frames_in}
-use Rattle.reader_group.specs.Members.{no_seat}
-use Rattle.reader_group.specs.Settings.{keygroup_at, token_keys}
+use Rattle.reader_group.specs.Members.{no_seat, seat_at}
+use Rattle.reader_group.specs.Settings.{keygroup_at, setting_by, token_keys}
 
 -- the read group asks for the program's publisher, for the group's id or in a dynamic layout for any, for its version and class id or for any, and has
 -- its layout, security and key group
@@ -44,7 +45,7 @@ pub record ReadsWriter (group : GroupPart) (writer : ℕ) (reader : ReaderPart) 
 abbrev pub reader_at : ReadGroupPart → ℕ → ReaderPart
 reader_at readers reader = slice_index_or readers.reader reader no_seat.part
 
--- that reader is matched to the writer with this index in the group
+-- the reader with this index in the read group is matched to the writer with this index in the group
 pub record IsMatchedTo (config : Config) (readers : ReadGroupPart) (reader : ℕ) (group : GroupPart) (writer : ℕ) : Type 0 where
   pub groups : IsMatched config group readers
   pub within : reader < length readers.reader
@@ -56,7 +57,8 @@ pub record HasGrownSince (writer : WriterPart) (before now : MetaData) : Type 0 
   pub versions : writer.versions ≡ true
   pub minor : before.minor < now.minor
 
--- with this meta the frames of the writer with this index can be read, which has one of these: it is the same, or what that was before
+-- the frames of the writer with this index, which has one of these metas, can be read with this meta: it is the writer's own, or what that was before fields
+-- were appended
 abbrev pub ReadsFrames : GroupPart → List MetaData → ℕ → MetaData → Type 0
 ReadsFrames group metas writer meta =
     (meta ≡ meta_at group metas writer) ⊎ HasGrownSince (writer_at group writer) meta (meta_at group metas writer)
@@ -88,3 +90,35 @@ pub record IsGroupTurn (config : Config) (group : GroupPart) (past : List GroupD
   pub on : length input.on ≤ length group.writer
   pub sender : MaySend config group (length (payloads_of config group (frames_in group past input))) input.sender
   pub written : AreWritten (envelope_of config group past) input.sender 0 (payloads_of config group (frames_in group past input))
+
+-- ---- the laws of it
+
+-- the reader that is matched to a writer reads that writer
+abbrev pub ReadsItsWriter : Config → Type 0
+ReadsItsWriter config =
+    (readers : ReadGroupPart) (reader : ℕ) (group : GroupPart) (writer : ℕ)
+    → IsMatchedTo config readers reader group writer
+    → ReadsWriter group writer (seat_at (setting_by config readers).seats reader).part
+
+-- the reader that is matched to a writer has the meta that the writer's data set has in the configuration
+abbrev pub HasItsMeta : Config → Type 0
+HasItsMeta config =
+    (readers : ReadGroupPart) (reader : ℕ) (group : GroupPart) (writer : ℕ)
+    → IsMatchedTo config readers reader group writer
+    → (seat_at (setting_by config readers).seats reader).meta ≡ meta_at group config.dataset writer
+
+-- a meta that the frames of a writer of the group can be read with has the major version that they have
+abbrev pub HasTheirMajor : GroupPart → Type 0
+HasTheirMajor group =
+    (metas : List MetaData) (writer : ℕ) (meta : MetaData) → ReadsFrames group metas writer meta
+    → meta.major ≡ (meta_at group metas writer).major
+
+-- a sender that was made of the key group's ring, and has the keys of whichever moment, is a sender of the key group
+abbrev pub MakesItsSenders : KeyGroupPart → Type 0
+MakesItsSenders ring =
+    (now : ℕ) (s : SenderState) → IsKeyGroup ring → IsRingSender ring now s → IsSenderOf ring s
+
+-- any turn of the built-in group in which it has no sender is one that the laws speak of
+abbrev pub IsBuiltInTurn : List GroupDeed → TurnInput → Type 0
+IsBuiltInTurn past input =
+    length input.on ≤ 1 → input.sender ≡ None → IsGroupTurn built_in_config built_in_group past input

@@ -1,5 +1,5 @@
 -- What a reader is given of a turn.
-use Rattle.std.specs.Prelude.{◌≡◌, ◌⊎◌, ℕ, ◌+◌, ◌<◌, List, length, fold, Contains, true, false, nat_le, Option, Some, None, option_map, Ok, IsErr, ⊤}
+use Rattle.std.specs.Prelude.{◌≡◌, ◌⊎◌, ℕ, ◌+◌, ◌<◌, List, length, map, fold, All, Contains, true, false, nat_le, Option, Some, None, option_map, Ok, IsErr, ⊤}
 use Rattle.dataset_meta.specs.Metas.{IsMeta}
 use Rattle.pubsub_model.specs.Frames.{PlacedFrame}
 use Rattle.frame_codec.specs.Frames.{Alive, Frame, frame_cut}
@@ -9,19 +9,22 @@ use Rattle.chunker.specs.Joining.{Joining}
 use Rattle.chunker.specs.Joins.{IsCutOf, IsNewFor}
 use Rattle.chunker.specs.Spelling.{chunk_at, without_rest}
 use Rattle.config_tables.specs.declared.publisher.Publisher.{Publisher}
+use Rattle.config_tables.specs.declared.words.Layout.TheVariants as layouts
 use Rattle.ps_config.specs.declared.parts.Config.{Config}
 use Rattle.ps_config.specs.declared.parts.GroupPart.{GroupPart}
 use Rattle.ps_config.specs.FixedSound.{IsFixedSound}
 use Rattle.writer_group.specs.Envelopes.{frame_room}
 use Rattle.writer_group.specs.Payloads.{IsFrameIf, Spelled, size_of, spelled_by, writer_at, meta_at, carried_frame}
 use Rattle.writer_group.specs.Standing.{AreMetas}
-use Rattle.writer_group.specs.Turns.{GroupDeed, TurnInput, answer_by}
+use Rattle.writer_group.specs.Turns.{GroupDeed, TurnInput, answer_by, frame_by}
 use Rattle.reader_group.specs.declared.receipt.Receipt.{Receipt}
 use Rattle.reader_group.specs.Members.{Seat, MemberValue}
 use Rattle.reader_group.specs.Opening.{Opened}
 use Rattle.reader_group.specs.Payloads.{Piece, Message, Chunked, Slotted, Missing, pieces}
 use Rattle.reader_group.specs.Plain.{Fed, fed_on, fed_by, given}
 use Rattle.reader_group.specs.SlotFrames.{slot_frame_at}
+use Rattle.group_laws.specs.Matching.{IsGroupTurn, ReadsFrames, ReadsWriter}
+use Rattle.group_laws.specs.TurnOpened.{turn_opened}
 
 -- ---- what a writer answers
 
@@ -30,7 +33,7 @@ abbrev pub frame_read : GroupPart → TurnInput → ℕ → Seat → PlacedFrame
 frame_read group input writer seat placed =
     frame_cut seat.meta (carried_frame (writer_at group writer) (meta_at group input.told.metas writer) placed)
 
--- what the writer answers, as that
+-- the frame that the writer answers at the turn, if it answers, cut to the fields of a reader's meta
 abbrev pub frame_answered : GroupPart → List GroupDeed → TurnInput → ℕ → Seat → Option Frame
 frame_answered group past input writer seat = option_map (frame_read group input writer seat) (answer_by group past input writer)
 
@@ -50,11 +53,11 @@ pub record Received : Type 0 where
 abbrev pub fed_more : Seat → Fed → Received → Fed
 fed_more seat fed received = fold (fed_on seat received.receipt) fed (pieces seat.part received.opened.payload)
 
--- what a read group makes of an enabled reader with it
+-- what a read group makes of an enabled reader with an opened datagram that raises no token
 abbrev pub given_by : Seat → MemberValue → Received → MemberValue
 given_by seat member received = (fed_by seat received.receipt false true received.opened.payload member).member
 
--- of all of them, in order
+-- the reader is given the parts of opened datagrams, in order, none of which raises the token
 abbrev pub fed_all : Seat → Fed → List Received → Fed
 fed_all seat fed received = fold (fed_more seat) fed received
 
@@ -79,7 +82,7 @@ abbrev pub IsReadAs : Seat → List Receipt → Fed → Option Frame → Fed →
 IsReadAs seat receipts fed None after = (after.member ≡ fed.member) × (after.bad ≡ fed.bad)
 IsReadAs seat receipts fed (Some frame) after = IsGiven seat receipts fed frame after
 
--- in a fixed layout the slot of a writer that sent nothing holds zeros, which are a bad part
+-- in a fixed layout the reader was given what the writer sent, if it sent something; else its slot holds zeros, which are a bad part
 abbrev pub IsReadInSlot : Seat → List Receipt → Fed → Option Frame → Fed → Type 0
 IsReadInSlot seat receipts fed None after = (after.member ≡ fed.member) × (after.bad ≡ fed.bad + 1)
 IsReadInSlot seat receipts fed (Some frame) after = IsGiven seat receipts fed frame after
@@ -114,6 +117,7 @@ IsEmptyPart seat (Chunked bytes) = ⊥
 IsEmptyPart seat (Slotted bytes) = IsErr (slot_frame_at seat.meta bytes)
 IsEmptyPart seat Missing = ⊥
 
+-- a part is of what the writer answered, if it answered, and else reads as no frame
 abbrev pub IsPartIf : Seat → (PlacedFrame → Spelled) → (PlacedFrame → Frame) → Option PlacedFrame → Piece → Type 0
 IsPartIf seat spelled frame None piece = IsEmptyPart seat piece
 IsPartIf seat spelled frame (Some placed) piece = IsPartOf seat (spelled placed) (frame placed) piece
@@ -122,3 +126,50 @@ IsPartIf seat spelled frame (Some placed) piece = IsPartOf seat (spelled placed)
 abbrev pub IsPartBy : GroupPart → List GroupDeed → TurnInput → ℕ → Seat → Piece → Type 0
 IsPartBy group past input writer seat piece =
     IsPartIf seat (spelled_by group input.told.metas writer) (frame_read group input writer seat) (answer_by group past input writer) piece
+
+-- ---- the laws of it
+
+-- A reader that takes all datagrams of a turn of a dynamic group of the configuration, in order, is given once what its writer answered, if it joins no chunks
+-- of a message that isn't older, where the frame comes in chunks; where the writer answered nothing the reader is left as it was.
+abbrev pub IsReadInFrames : Config → Type 0
+IsReadInFrames config =
+    (group : GroupPart) (past : List GroupDeed) (input : TurnInput) (writer : ℕ) (seat : Seat)
+    (fed : Fed) (received : List Received) → group.layout ≡ layouts.Dynamic
+    → IsGroupTurn config group past input → ReadsWriter group writer seat.part
+    → ReadsFrames group input.told.metas writer seat.meta → IsSampled group past input writer
+    → map (λ r. r.opened) received ≡ turn_opened config group past input
+    → IsBehind config.publisher.id group fed.member.joining (frame_by group past input writer)
+    → IsReadAs seat (map (λ r. r.receipt) received) fed (frame_answered group past input writer seat)
+    (fed_all seat fed received)
+
+-- A reader that takes the datagram of a turn of a fixed group of the configuration is given the key frame that its writer answered; where the writer had no
+-- turn the reader is left as it was, and the zeros in its slot are a bad part.
+abbrev pub IsReadInSlots : Config → Type 0
+IsReadInSlots config =
+    (group : GroupPart) (past : List GroupDeed) (input : TurnInput) (writer : ℕ) (seat : Seat)
+    (fed : Fed) (received : List Received) → group.layout ≡ layouts.Fixed
+    → IsGroupTurn config group past input → IsFixedTurn config group past input
+    → ReadsWriter group writer seat.part → seat.meta ≡ meta_at group config.dataset writer
+    → map (λ r. r.opened) received ≡ turn_opened config group past input
+    → IsReadInSlot seat (map (λ r. r.receipt) received) fed (frame_answered group past input writer seat)
+    (fed_all seat fed received)
+
+-- each part of a datagram of a turn of a dynamic group of the configuration, for the reader of a writer, is of what that writer answered
+abbrev pub HavePartsInFrames : Config → Type 0
+HavePartsInFrames config =
+    (group : GroupPart) (past : List GroupDeed) (input : TurnInput) (writer : ℕ) (seat : Seat)
+    → group.layout ≡ layouts.Dynamic → IsGroupTurn config group past input
+    → ReadsWriter group writer seat.part → ReadsFrames group input.told.metas writer seat.meta
+    → IsSampled group past input writer
+    → (opened : Opened) → Contains (turn_opened config group past input) opened
+    → All (IsPartBy group past input writer seat) (pieces seat.part opened.payload)
+
+-- the part of the datagram of a turn of a fixed group of the configuration, for the reader of a writer, is of what that writer answered
+abbrev pub HavePartsInSlots : Config → Type 0
+HavePartsInSlots config =
+    (group : GroupPart) (past : List GroupDeed) (input : TurnInput) (writer : ℕ) (seat : Seat)
+    → group.layout ≡ layouts.Fixed → IsGroupTurn config group past input
+    → IsFixedTurn config group past input → ReadsWriter group writer seat.part
+    → seat.meta ≡ meta_at group config.dataset writer
+    → (opened : Opened) → Contains (turn_opened config group past input) opened
+    → All (IsPartBy group past input writer seat) (pieces seat.part opened.payload)

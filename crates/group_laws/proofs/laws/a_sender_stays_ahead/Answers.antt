@@ -6,7 +6,7 @@ pub returns-clause-opening : goal.returns-clause-opening
 returns-clause-opening c = opening-ahead
 
 pub returns-clause-turned : goal.returns-clause-turned
-returns-clause-turned c = turned-ahead
+returns-clause-turned c = λ now s accepted ahead. turned-ahead accepted now s ahead
 
 pub returns-clause-shared : goal.returns-clause-shared
-returns-clause-shared c = shared-ahead
+returns-clause-shared c = λ mode s count accepted ahead. shared-ahead accepted mode s count ahead

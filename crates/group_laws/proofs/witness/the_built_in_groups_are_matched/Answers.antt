@@ -1,5 +1,5 @@
 use Rattle.group_laws.proofs.BuiltIn.{built-in-matched, built-in-turn}
-use Rattle.group_laws.proofs.laws.the_built_in_groups_are_matched.Goals as goal
+use Rattle.group_laws.proofs.witness.the_built_in_groups_are_matched.Goals as goal
 
 pub returns-clause-matched : goal.returns-clause-matched
 returns-clause-matched c = built-in-matched
