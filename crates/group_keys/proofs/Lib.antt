@@ -3,3 +3,4 @@ pub mod Finding
 pub mod Judging
 pub mod Moments
 pub mod Rising
+pub mod Told

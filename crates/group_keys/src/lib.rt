@@ -1,6 +1,7 @@
 //! The keys of a security group: key sets by token and moment, and the ring that holds them.
 #![tactic(auto)]
 
+mod in_memory;
 mod key_set;
 mod laws;
 mod ring;

@@ -4,8 +4,10 @@ ghost use Rattle.std.specs.Option.{option_copied};
 ghost use Rattle.std.specs.List.Sorted.{IsStrictlyIncreasing};
 ghost use Rattle.group_keys.specs.KeySets.{tokens, moments, encrypting_length, LengthsFit, Rises, current, with_token};
 ghost use Rattle.group_keys.specs.Faults.{IsFirstIndex, IsMisfit, IsNotAbove};
+ghost use Rattle.group_keys.specs.InMemory.{AreKeySets};
 
 use crate::KeySet;
+use crate::in_memory::tell_sets;
 use arrayvec::ArrayVec;
 use std::alloc::AllocError;
 use std::error::Error;
@@ -105,8 +107,11 @@ impl Ring {
         ensures sets { result.now ≡ key_sets self.now }
         ensures ring { IsAccepted (is_long self.now) (key_sets self.now) }
         ensures few { length result.now ≤ 16 }
+        ensures in_memory { AreKeySets (key_sets self.now) }
     {
-        self.keys.as_slice()
+        let sets = self.keys.as_slice();
+        tell_sets(sets);
+        sets
     }
 
     /// The last set whose moment has come at `now`, in milliseconds.
