@@ -1,4 +1,4 @@
-use Rattle.std.proofs.Common.{ℕ, All, take}
+use Rattle.std.proofs.Common.{All, take}
 use Rattle.ps_config.proofs.types.all_have_their_types.Given as goal
 
 abbrev pub invariant-loop-part : goal.invariant-loop-part
