@@ -1,9 +1,10 @@
 -- What the ends of a closed session tell of its readers' numbers and versions, and in which order its watches stand. A report
 -- prints what it is given: that it is given these is for the session that closes.
-use Rattle.std.specs.Prelude.{◌≡◌, ◌≢◌, ℕ, ◌%◌, ◌<◌, ◌==◌, List, [], map, reverse, find, zip, flat_map, Option, None, IfSome, IsSomeAnd, option_map, option_and_then}
+use Rattle.std.specs.Prelude.{◌≡◌, ◌≢◌, ℕ, ◌<◌, ◌==◌, List, [], map, find, zip, flat_map, Option, None, IfSome, IsSomeAnd, option_and_then}
 use Rattle.std.specs.List.{AllZip}
 use Rattle.std.specs.List.Sorted.{IsNonDecreasing}
 use Rattle.std.specs.Option.{option_map_or}
+use Rattle.pubsub_model.specs.Answers.{version_of}
 use Rattle.ps_config.specs.declared.NumberingWord.{NumberingWord}
 use Rattle.ps_config.specs.declared.NumberingWord.TheVariants as numbering
 use Rattle.ps_config.specs.declared.parts.Config.{Config}
@@ -15,10 +16,6 @@ use Rattle.ps_report.specs.declared.closed.HeldEnd.{HeldEnd}
 use Rattle.ps_report.specs.declared.closed.ReaderEnd.{ReaderEnd}
 use Rattle.ps_report.specs.declared.closed.WriterEnd.{WriterEnd}
 use Rattle.ps_report.specs.Conditions.{writers_of}
-
--- the version of the data frame whose place has these 16 bits, the latest where several have them
-abbrev pub version_of : List (ℕ × ℕ) → ℕ → Option ℕ
-version_of log number = option_map (λ entry. entry.1) (find (λ entry. entry.0 % 65536 == number) (reverse log))
 
 -- the log of this program's writer with an id, empty where there is no such writer
 abbrev pub log_of : List WriterPart → List WriterEnd → ℕ → List (ℕ × ℕ)

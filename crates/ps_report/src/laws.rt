@@ -1,6 +1,7 @@
 //! Reports and their lines as they are read, each the contract of a function that does nothing.
 ghost use Rattle.std.specs.Prelude.{◌≡◌, ◌∷◌, ◌++◌, [], codes, replicate, Some, None};
 ghost use Rattle.ua_values.specs.declared.value.Value.TheVariants.{UInt32};
+ghost use Rattle.pubsub_model.specs.Answers.{version_of};
 ghost use Rattle.pubsub_model.specs.declared.reading.Why.TheVariants.{NewToken};
 ghost use Rattle.pubsub_states.specs.declared.state.State.TheVariants.{Operational, Paused};
 ghost use Rattle.ps_config.specs.BuiltIn.{built_in_config};
@@ -8,7 +9,7 @@ ghost use Rattle.ps_report.specs.Conditions.{IsClosedOf};
 ghost use Rattle.ps_report.specs.FirstRun.{first_run, first_run_text, unnumbered_config, unnumbered_run, unnumbered_text, foreign_config, foreign_run, watched_run};
 ghost use Rattle.ps_report.specs.Lines.{history_line, group_line, writer_line, read_group_line, numbered_text, field_text, gaps_line, waits_text, watch_line, link_line};
 ghost use Rattle.ps_report.specs.Reports.{report_text};
-ghost use Rattle.ps_report.specs.Told.{TellsEnds, version_of};
+ghost use Rattle.ps_report.specs.Told.{TellsEnds};
 
 /// Lines of small sessions, spelled out.
 pub fn lines_read_so()
