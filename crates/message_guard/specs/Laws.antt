@@ -4,14 +4,14 @@ use Rattle.group_keys.specs.Faults.{IsAccepted}
 use Rattle.group_keys.specs.KeySets.{Rises, current}
 use Rattle.uadp_header.specs.Headers.{HeaderValue, SecurityValue}
 use Rattle.uadp_header.specs.Reading.{IsSecured}
-use Rattle.uadp_header.specs.Spelling.{IsWritten, header_bytes}
+use Rattle.uadp_header.specs.Spelling.{IsWritten, IsSendersSecurity, header_bytes}
 use Rattle.message_guard.specs.declared.keys.TokenKeys.{TokenKeys}
 use Rattle.message_guard.specs.declared.mode.Mode.{Mode}
 use Rattle.message_guard.specs.declared.mode.Mode.TheVariants as modes
 use Rattle.message_guard.specs.declared.pass.Pass1.{Pass1}
 use Rattle.message_guard.specs.Modes.{is_secured}
 use Rattle.message_guard.specs.Protection.{keys_in, keys_with, with_stream, signature_of}
-use Rattle.message_guard.specs.Acceptance.{Accepted, is_acceptable}
+use Rattle.message_guard.specs.Acceptance.{Accepted, AreAcceptable, is_acceptable}
 use Rattle.message_guard.specs.Opening.{has_mode, open_pass, signed_pass, verdict, opened}
 use Rattle.message_guard.specs.Opened.{MayOpen, IsPassed, sent_pass}
 use Rattle.message_guard.specs.Senders.{SenderState, SenderStep, IsSender, AreAllowed, HaveOtherNumbers, after, datagrams_of, front_value, fronts_in, numbers_left, sent, turned}
@@ -37,6 +37,10 @@ abbrev pub SendsItsFront : Mode → SenderState → Type 0
 SendsItsFront mode s = (h : HeaderValue) (payload : List ℕ)
     → IsWritten h → h.security ≡ Some (front_value mode s)
     → IsSecured (sent mode s (header_bytes h) payload) (Some (front_value mode s)) (length (header_bytes h))
+
+-- a sender's front is a security header that a sender writes
+abbrev pub IsSendersFront : Mode → SenderState → Type 0
+IsSendersFront mode s = IsSender s → IsSendersSecurity (front_value mode s)
 
 -- a guard that may open what the sender sent passes it
 abbrev pub IsPassedOn : Mode → SenderState → Type 0
@@ -69,22 +73,23 @@ LeavesOpen keys = (first_block payload : ℕ) (datagram : List ℕ) → payload 
     → opened modes.None keys first_block (open_pass datagram) payload datagram ≡ datagram
 
 -- with security only what is signed is passed
-abbrev pub PassesSigned : Mode → List TokenKeys → Accepted → Type 0
-PassesSigned mode keys accepted = (security : Option SecurityValue)
+abbrev pub PassesSigned : Mode → List TokenKeys → Type 0
+PassesSigned mode keys = (accepted : Accepted) (security : Option SecurityValue)
     (datagram : List ℕ) (payload : ℕ) (pass : Pass1) → is_secured mode ≡ true
     → verdict mode keys accepted security datagram payload ≡ Ok pass
     → IsPassed mode keys accepted security datagram payload pass
 
 -- with security only a token and a number that are acceptable are passed
-abbrev pub PassesAcceptable : Mode → List TokenKeys → Accepted → Type 0
-PassesAcceptable mode keys accepted = (security : Option SecurityValue)
+abbrev pub PassesAcceptable : Mode → List TokenKeys → Type 0
+PassesAcceptable mode keys = (accepted : Accepted) (security : Option SecurityValue)
     (datagram : List ℕ) (payload : ℕ) (pass : Pass1) → is_secured mode ≡ true
     → verdict mode keys accepted security datagram payload ≡ Ok pass
     → is_acceptable keys accepted pass.token pass.number ≡ true
 
--- no pair stands there twice
-abbrev pub StandOnce : Accepted → Type 0
-StandOnce accepted = AllPairs (λ a b. a ≢ b) accepted
+-- where each pair was acceptable when it was accepted, no pair was accepted twice
+abbrev pub AcceptsOnce : List TokenKeys → Type 0
+AcceptsOnce keys = (accepted : Accepted) → AreAcceptable keys accepted
+    → AllPairs (λ a b. a ≢ b) accepted
 
 -- the datagrams that the steps protect have numbers of their own, where each step is allowed when it comes
 abbrev pub HasOtherNumbersEach : SenderState → List SenderStep → Type 0

@@ -1,15 +1,14 @@
 //! What the definitions owe the reader, each law the contract of a function that does nothing.
 ghost use Rattle.std.specs.Prelude.{◌≡◌, ℕ, List, Bool};
 ghost use Rattle.uadp_header.specs.Headers.{HeaderValue};
-ghost use Rattle.uadp_header.specs.Spelling.{IsSendersSecurity};
 ghost use Rattle.message_guard.specs.declared.keys.TokenKeys.{TokenKeys};
 ghost use Rattle.message_guard.specs.declared.mode.Mode.{Mode};
 ghost use Rattle.message_guard.specs.declared.mode.Mode.TheVariants as modes;
 ghost use Rattle.message_guard.specs.declared.pass.Pass1.{Pass1};
-ghost use Rattle.message_guard.specs.Acceptance.{Accepted, AreAcceptable};
+ghost use Rattle.message_guard.specs.Acceptance.{Accepted};
 ghost use Rattle.message_guard.specs.Opening.{accepts};
-ghost use Rattle.message_guard.specs.Senders.{SenderState, SenderStep, IsSender, front_value};
-ghost use Rattle.message_guard.specs.Laws.{StreamCancels, StreamKeepsLength, IsReadSecured, SendsItsFront, IsPassedOn, IsFound, IsRestored, PassesOpen, LeavesOpen, PassesSigned, PassesAcceptable, StandOnce, HasOtherNumbersEach, HasNumbersFor, HasKeysOfMoments, IsKnownInRing};
+ghost use Rattle.message_guard.specs.Senders.{SenderState, SenderStep};
+ghost use Rattle.message_guard.specs.Laws.{StreamCancels, StreamKeepsLength, IsReadSecured, SendsItsFront, IsSendersFront, IsPassedOn, IsFound, IsRestored, PassesOpen, LeavesOpen, PassesSigned, PassesAcceptable, AcceptsOnce, HasOtherNumbersEach, HasNumbersFor, HasKeysOfMoments, IsKnownInRing};
 
 /// A payload with the stream added is as long as the payload, and with the stream added once more it is the payload.
 pub fn a_stream_added_twice_is_gone()
@@ -22,8 +21,7 @@ pub fn a_stream_added_twice_is_gone()
 pub fn a_written_header_carries_the_front()
     ensures written { (h : HeaderValue) → IsReadSecured h }
     ensures sent { (mode : Mode) (s : SenderState) → SendsItsFront mode s }
-    ensures front { (mode : Mode) (s : SenderState) → IsSender s
-        → IsSendersSecurity (front_value mode s) }
+    ensures front { (mode : Mode) (s : SenderState) → IsSendersFront mode s }
 {}
 
 /// A datagram that a sender protected is passed by a guard of the same mode that has the sender's key set and accepts
@@ -48,17 +46,14 @@ pub fn an_open_datagram_is_left_as_it_is()
 /// A secured guard passes only what is signed under the keys of its token, with a token and a number that it accepts.
 #[tactic(auto, using(crate::proofs::Telling::passed_is, crate::proofs::Telling::passed_acceptable))]
 pub fn a_passed_datagram_is_signed_and_acceptable()
-    ensures signed { (mode : Mode) (keys : List TokenKeys) (accepted : Accepted)
-        → PassesSigned mode keys accepted }
-    ensures acceptable { (mode : Mode) (keys : List TokenKeys) (accepted : Accepted)
-        → PassesAcceptable mode keys accepted }
+    ensures signed { (mode : Mode) (keys : List TokenKeys) → PassesSigned mode keys }
+    ensures acceptable { (mode : Mode) (keys : List TokenKeys) → PassesAcceptable mode keys }
 {}
 
 /// No pair of token and number is accepted twice.
 #[tactic(auto, using(crate::proofs::Once::accepted_once))]
 pub fn no_pair_is_accepted_twice()
-    ensures { (keys : List TokenKeys) (accepted : Accepted) → AreAcceptable keys accepted
-        → StandOnce accepted }
+    ensures { (keys : List TokenKeys) → AcceptsOnce keys }
 {}
 
 /// No two datagrams of a sender are read with the same token and number, whatever the moments that it turns to, where
