@@ -98,7 +98,7 @@ pub record MayAnswer (part : GroupPart) (metas : List MetaData) (rows : List Sam
   pub holds : (writer : ℕ) → writer < length writers → HoldsAt (HoldsRowOf (meta_at part metas writer)) writers writer
   pub lived : (writer : ℕ) → writer < length writers → LivesAt part metas writers writer
 
--- the same of a writer of a group
+-- what the writer with this index in a group has lived through, with the turn that it has, if it has one
 abbrev pub deeds_with : ℕ → List GroupDeed → Option WriterTurn → List WriterDeed
 deeds_with writer past took = with_turn took (writer_past writer past)
 

@@ -4,10 +4,11 @@ use Rattle.std.specs.Int.{w16, to_le_bytes}
 use Rattle.std.specs.List.{flat_map}
 use Rattle.ua_binary.specs.declared.pen.Pen.{Pen}
 use Rattle.dataset_meta.specs.Metas.{MetaData}
+use Rattle.uadp_header.specs.declared.header.Header.{Header}
 use Rattle.uadp_header.specs.declared.header.Ids.{Ids}
 use Rattle.uadp_header.specs.declared.header.SecurityPart.{SecurityPart}
-use Rattle.uadp_header.specs.Headers.{PublisherValue, SecurityValue, HeaderValue, NoIds, if_there, ids_in, publisher_in, security_in}
-use Rattle.uadp_header.specs.Spelling.{publisher_len, IsPublisher, IsShortText}
+use Rattle.uadp_header.specs.Headers.{PublisherValue, SecurityValue, HeaderValue, NoIds, header_in, if_there, ids_in, publisher_in, security_in}
+use Rattle.uadp_header.specs.Spelling.{publisher_len, IsPublisher, IsShortText, header_bytes}
 use Rattle.frame_codec.specs.declared.frame.Frame.{Frame as FrameWords}
 use Rattle.frame_codec.specs.Words.{frame_in}
 use Rattle.chunker.specs.Chunks.{cut_at}
@@ -141,6 +142,10 @@ frames_by cargo first count = (frames_payload (take count (drop first (cargo_in 
 -- what stands behind the header of a datagram with this chunk of this frame
 abbrev pub chunk_by : Cargo → ℕ → ℕ → List ℕ
 chunk_by cargo frame index = (chunk_load cargo.room (frame_at (cargo_in cargo) frame) index).1
+
+-- the bytes of a header
+abbrev pub header_text : Header → List ℕ
+header_text header = header_bytes (header_in header)
 
 -- the pen has room for a header and what stands behind it
 abbrev pub HasRoom : Pen → List ℕ → List ℕ → Type 0

@@ -1,11 +1,13 @@
 -- Datagrams one behind another.
-use Rattle.std.specs.Prelude.{◌≡◌, ℕ, ◌+◌, ◌≤◌, List, [], ◌∷◌, ◌++◌, length, map, All, Option}
+use Rattle.std.specs.Prelude.{◌≡◌, ℕ, ◌+◌, ◌≤◌, List, [], ◌∷◌, ◌++◌, length, map, All, Option, Some}
 use Rattle.uadp_header.specs.Spelling.{header_len, header_bytes}
-use Rattle.message_guard.specs.Senders.{SenderState}
+use Rattle.message_guard.specs.declared.mode.Mode.{Mode}
+use Rattle.message_guard.specs.Senders.{SenderState, advanced}
 use Rattle.uadp_header.specs.declared.header.SecurityPart.{SecurityPart}
 use Rattle.uadp_header.specs.Headers.{HeaderValue, SecurityValue, NoIds, if_there, security_in}
 use Rattle.ps_config.specs.Headers.{security_value}
 use Rattle.writer_group.specs.Envelopes.{numbered_header}
+use Rattle.writer_group.specs.declared.front.Front.{Front}
 use Rattle.writer_group.specs.declared.header_parts.HeaderParts.{HeaderParts}
 use Rattle.writer_group.specs.declared.laying.Cargo.{Cargo}
 use Rattle.writer_group.specs.declared.load.Load.{Load}
@@ -14,6 +16,7 @@ use Rattle.writer_group.specs.Holding.{CargoValue, CanBeWritten, cargo_in, envel
 use Rattle.writer_group.specs.Loading.{IsCargo, IsLoad}
 use Rattle.writer_group.specs.Sealing.{Envelope, datagrams_from, open_datagram, secured_datagram, secured_header}
 use Rattle.writer_group.specs.Limits.{most_datagrams}
+use Rattle.writer_group.specs.Numbers.{front_in}
 
 abbrev pub open_load : Envelope → ℕ → CargoValue → Load → List ℕ
 open_load envelope index cargo load = open_datagram envelope index (payload_in cargo load)
@@ -63,12 +66,12 @@ ranges_of start (datagram ∷ datagrams) =
 abbrev pub made_by : HeaderParts → Option SenderState → Cargo → List Load → List (List ℕ)
 made_by parts sender cargo loads = made_of (envelope_in parts) sender (cargo_in cargo) loads
 
--- the one with this index and load, under the front that the sender just gave, and its header
-abbrev pub secured_by : HeaderParts → SenderState → ℕ → Cargo → Load → List ℕ
-secured_by parts now index cargo load = secured_load (envelope_in parts) now index (cargo_in cargo) load
+-- the one with this index and load, under the sender's next front, and its header
+abbrev pub secured_by : HeaderParts → Mode → SenderState → ℕ → Cargo → Load → List ℕ
+secured_by parts mode sender index cargo load = secured_load (envelope_in parts) (advanced mode sender) index (cargo_in cargo) load
 
-abbrev pub secured_header_by : HeaderParts → SenderState → ℕ → Cargo → Load → HeaderValue
-secured_header_by parts now index cargo load = secured_header (envelope_in parts) now index (payload_in (cargo_in cargo) load).0
+abbrev pub secured_header_by : HeaderParts → Mode → SenderState → ℕ → Cargo → Load → HeaderValue
+secured_header_by parts mode sender index cargo load = secured_header (envelope_in parts) (advanced mode sender) index (payload_in (cargo_in cargo) load).0
 
 -- the one with this index and load before its signature, its header, and the header's bytes
 abbrev pub laid_by : HeaderParts → ℕ → Cargo → Load → Option SecurityValue → List ℕ
@@ -77,9 +80,12 @@ laid_by parts index cargo load security = laid_load (envelope_in parts) index (c
 abbrev pub load_header_by : HeaderParts → ℕ → Cargo → Load → Option SecurityValue → HeaderValue
 load_header_by parts index cargo load security = load_header (envelope_in parts) index (cargo_in cargo) load security
 
-abbrev pub header_laid_by : HeaderParts → ℕ → Cargo → Load → Option SecurityValue → List ℕ
-header_laid_by parts index cargo load security = header_bytes (load_header_by parts index cargo load security)
+abbrev pub head_by : HeaderParts → ℕ → Cargo → Load → Option SecurityValue → List ℕ
+head_by parts index cargo load security = header_bytes (load_header_by parts index cargo load security)
 
--- what a security header says, if there is one
+-- what the front of a sender says in a security header, and what a security header says, if there is one
+abbrev pub front_of : Front → Option SecurityValue
+front_of front = Some (front_in front)
+
 abbrev pub security_of : Option SecurityPart → Option SecurityValue
 security_of security = if_there security_in security

@@ -5,7 +5,7 @@ ghost use Rattle.uadp_header.specs.Headers.{ChunkOf, header_in, ids_in};
 ghost use Rattle.uadp_header.specs.Spelling.{AreIds, IsIds, IsSenders, header_bytes};
 ghost use Rattle.payload_layout.specs.Payloads.{sizes_bytes};
 ghost use Rattle.chunker.specs.Spelling.{chunk_bytes, chunk_in};
-ghost use Rattle.writer_group.specs.Holding.{spelled_at, HasRoom, IsWithin, all_bytes, cargo_in, chunk_by, frame_at, frames_by, payload_by, payload_in};
+ghost use Rattle.writer_group.specs.Holding.{spelled_at, HasRoom, IsWithin, all_bytes, cargo_in, chunk_by, frame_at, frames_by, header_text, payload_by, payload_in};
 ghost use Rattle.writer_group.specs.Loading.{IsCargo, IsLoad, HasHeaderOf};
 
 use crate::load::Load;
@@ -62,12 +62,12 @@ impl<'a> Cargo<'a> {
         requires cargo { IsCargo self.now }
         requires load { IsLoad (cargo_in self.now) load }
         requires senders { IsSenders (header_in header.now) }
-        requires header { HasHeaderOf (cargo_in self.now) load (header_bytes (header_in header.now)) }
-        requires room { at + length (header_bytes (header_in header.now))
+        requires header { HasHeaderOf (cargo_in self.now) load (header_text header.now) }
+        requires room { at + length (header_text header.now)
             + length (payload_by self.now load) ≤ length free.old }
-        ensures laid { free.new ≡ laid free.old at (header_bytes (header_in header.now)
+        ensures laid { free.new ≡ laid free.old at (header_text header.now
             ++ payload_by self.now load) }
-        ensures payload { result.0 ≡ at + length (header_bytes (header_in header.now)) }
+        ensures payload { result.0 ≡ at + length (header_text header.now) }
         ensures end { result.1 ≡ result.0 + length (payload_by self.now load) }
     {
         let mut pen = Pen { bytes: free, at };
@@ -80,11 +80,11 @@ impl<'a> Cargo<'a> {
         requires cargo { IsCargo self.now }
         requires load { IsLoad (cargo_in self.now) load }
         requires senders { IsSenders (header_in header.now) }
-        requires header { HasHeaderOf (cargo_in self.now) load (header_bytes (header_in header.now)) }
-        requires room { HasRoom pen.old (header_bytes (header_in header.now)) (payload_by self.now load) }
-        ensures puts { Puts pen.old pen.new (header_bytes (header_in header.now)
+        requires header { HasHeaderOf (cargo_in self.now) load (header_text header.now) }
+        requires room { HasRoom pen.old (header_text header.now) (payload_by self.now load) }
+        ensures puts { Puts pen.old pen.new (header_text header.now
             ++ payload_by self.now load) }
-        ensures payload { result ≡ pen.old.at + length (header_bytes (header_in header.now)) }
+        ensures payload { result ≡ pen.old.at + length (header_text header.now) }
     {
         let start = pen.at;
         put_header(pen, header);
@@ -157,9 +157,9 @@ fn chunk_ids<'a>(id: u16) -> Ids<'a>
 
 fn put_header(pen: &mut Pen<'_>, header: &Header<'_>)
     requires senders { IsSenders (header_in header.now) }
-    requires room { pen.old.at + length (header_bytes (header_in header.now))
+    requires room { pen.old.at + length (header_text header.now)
         ≤ length pen.old.bytes.now }
-    ensures { Puts pen.old pen.new (header_bytes (header_in header.now)) }
+    ensures { Puts pen.old pen.new (header_text header.now) }
 {
     match write_header(pen, header) {
         Ok(()) => {}

@@ -10,7 +10,7 @@ ghost use Rattle.writer_group.specs.declared.load.Load.{Load as AnyLoad};
 ghost use Rattle.writer_group.specs.Envelopes.{IsSecuredAs};
 ghost use Rattle.writer_group.specs.Holding.{envelope_in, cargo_in, payload_in, payloads_in};
 ghost use Rattle.writer_group.specs.Numbers.{front_in};
-ghost use Rattle.writer_group.specs.Posting.{MayPost, header_laid_by, joined, laid_by, load_header_by, made_by, open_load, ranges_of, secured_by, secured_header_by, security_of};
+ghost use Rattle.writer_group.specs.Posting.{MayPost, front_of, head_by, joined, laid_by, load_header_by, made_by, open_load, ranges_of, secured_by, secured_header_by, security_of};
 ghost use Rattle.writer_group.specs.Sealing.{AreWritten, advanced_by, open_header};
 
 use crate::front::Front;
@@ -152,14 +152,14 @@ fn secured_datagram<'a>(
     requires secured { is_secured mode ≡ true }
     requires numbers { sender.old.used < 4294967295 }
     requires sender { IsSender sender.old }
-    requires room { start + length (secured_by parts.now (advanced mode sender.old) index cargo.now load)
+    requires room { start + length (secured_by parts.now mode sender.old index cargo.now load)
         ≤ length free.old }
     ensures laid { free.new ≡ laid free.old start
-        (secured_by parts.now (advanced mode sender.old) index cargo.now load) }
+        (secured_by parts.now mode sender.old index cargo.now load) }
     ensures header { IsWritten
-        (secured_header_by parts.now (advanced mode sender.old) index cargo.now load) }
+        (secured_header_by parts.now mode sender.old index cargo.now load) }
     ensures end { result ≡ start
-        + length (secured_by parts.now (advanced mode sender.old) index cargo.now load) }
+        + length (secured_by parts.now mode sender.old index cargo.now load) }
     ensures sender { sender.new ≡ advanced mode sender.old }
 {
     let front = Front::next(sender, mode);
@@ -181,17 +181,17 @@ fn lay_fronted<'a>(
 ) -> (usize, usize)
     requires few { index < most_datagrams }
     requires post { MayPost (envelope_in parts.now) cargo.now (load ∷ []) }
-    requires secured { IsSecuredAs parts.now.settings (Some (front_in front.now)) }
+    requires secured { IsSecuredAs parts.now.settings (front_of front.now) }
     requires senders { IsSendersSecurity (front_in front.now) }
-    requires room { start + length (laid_by parts.now index cargo.now load (Some (front_in front.now)))
+    requires room { start + length (laid_by parts.now index cargo.now load (front_of front.now))
         ≤ length free.old }
     ensures laid { free.new ≡ laid free.old start
-        (laid_by parts.now index cargo.now load (Some (front_in front.now))) }
-    ensures header { IsWritten (load_header_by parts.now index cargo.now load (Some (front_in front.now))) }
+        (laid_by parts.now index cargo.now load (front_of front.now)) }
+    ensures header { IsWritten (load_header_by parts.now index cargo.now load (front_of front.now)) }
     ensures payload { result.0 ≡ start
-        + length (header_laid_by parts.now index cargo.now load (Some (front_in front.now))) }
+        + length (head_by parts.now index cargo.now load (front_of front.now)) }
     ensures end { result.1 ≡ start
-        + length (laid_by parts.now index cargo.now load (Some (front_in front.now))) }
+        + length (laid_by parts.now index cargo.now load (front_of front.now)) }
 {
     lay_out(parts, cargo, load, index, Some(front.part()), free, start)
 }
@@ -217,7 +217,7 @@ fn lay_out<'a>(
     ensures header { IsWritten
         (load_header_by parts.now index cargo.now load (security_of security.entry)) }
     ensures payload { result.0 ≡ start
-        + length (header_laid_by parts.now index cargo.now load (security_of security.entry)) }
+        + length (head_by parts.now index cargo.now load (security_of security.entry)) }
     ensures end { result.1 ≡ start
         + length (laid_by parts.now index cargo.now load (security_of security.entry)) }
 {
