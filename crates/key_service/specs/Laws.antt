@@ -26,14 +26,14 @@ IsRequestReadBack group start count =
     request_in (request_bytes group start count)
     ≡ Ok (record { group = group; start = start; count = count })
 
--- a set under this token with keys of these lengths
+-- a set under the token, with keys of the policy's lengths
 pub record IsSetOf (long : Bool) (token : ℕ) (set : KeySet) : Type 0 where
   pub under : set.token ≡ token
   pub signing : length set.signing ≡ 32
   pub encrypting : length set.encrypting.items ≡ encrypting_length long
   pub nonce : length set.nonce ≡ 4
 
--- sets of consecutive tokens, from this one on
+-- sets of consecutive tokens from this one on, with keys of the policy's lengths
 abbrev pub AreSets : Bool → ℕ → List KeySet → Type 0
 AreSets long token [] = ⊤
 AreSets long token (set ∷ sets) = IsSetOf long token set × AreSets long (token + 1) sets
@@ -66,7 +66,7 @@ pub record IsCovered (sets : List KeySet) (now count moment : ℕ) : Type 0 wher
   pub begun : now ≤ moment
   pub not_over : moment < now + next_of sets now + (length (answered sets now 0 count) - 1) * lifetime_of sets
 
--- the pulled sets have this set under its token, with its keys, from another moment
+-- the pulled sets have the keys of a set under its token, from any moment
 abbrev pub HasKeysOf : List KeySet → KeySet → Type 0
 HasKeysOf pulled set = (moment : ℕ) × (with_token pulled set.token ≡ Some (from_moment set moment))
 
