@@ -44,7 +44,7 @@ def read(data):
 
 def worked_rows():
     say("# serve NAME LONG SET ..: the service of the group and the ring, each set TOKEN:MOMENT; get NAME START COUNT NOW: what it answers;")
-    say("# pull NAME COUNT NOW: the ring that a puller makes of the answer to start 0; reply NAME START COUNT NOW ROOM: the answer's bytes")
+    say("# pull NAME COUNT NOW: the ring that a puller makes of the answer to start 0, written and read back; reply NAME START COUNT NOW ROOM: the answer's bytes")
     say("serve k1 short " + ring(*even(1, 1000, 3)))
     for case in ("get k1 0 2 500", "pull k1 2 500", "get k1 0 9 2500", "pull k1 9 2500", "get k1 7 1 0", "get k9 0 2 500", "reply k1 0 2 500 2048"):
         say(case)

@@ -1,8 +1,9 @@
 //! Rows of a service's answers.
 use crate::bench::name_of;
+use crate::read_back::pulled_back;
 use crate::shown::{ShownKeys, ShownSets, written};
-use case_lines::{Answer, Line, LineFault, refused, told};
-use key_service::{KeyFault, Keys, Service, pulled, write_reply};
+use case_lines::{Answer, Line, LineFault, refused, said, told};
+use key_service::{KeyFault, Keys, Service, write_reply};
 use std::alloc::Global;
 use ua_binary::Pen;
 
@@ -37,12 +38,16 @@ fn asked(service: &Service, line: &mut Line) -> Result<Result<Keys, KeyFault>, L
     Ok(service.get(now, &name, start, count))
 }
 
-/// `pull NAME COUNT NOW`: the ring that a puller makes of the answer to start 0
+/// `pull NAME COUNT NOW`: the ring that a puller makes of the answer to start 0, once it was written and read back
 pub fn pull(alloc: Global, service: &Service, line: &mut Line) -> Answer {
     let name = name_of(line)?;
     let (count, now) = (line.u32()?, line.u64()?);
-    match service.get(now, &name, 0, count) {
-        Ok(keys) => told(alloc, &ShownSets(pulled(&keys).key_sets())),
-        Err(fault) => refused(alloc, &fault),
+    let keys = match service.get(now, &name, 0, count) {
+        Ok(keys) => keys,
+        Err(fault) => return refused(alloc, &fault),
+    };
+    match pulled_back(&keys) {
+        Some(ring) => told(alloc, &ShownSets(ring.key_sets())),
+        None => said(alloc, "Room"),
     }
 }

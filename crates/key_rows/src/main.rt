@@ -4,6 +4,7 @@
 
 mod answers;
 mod bench;
+mod read_back;
 mod rings;
 mod shown;
 mod wire;
