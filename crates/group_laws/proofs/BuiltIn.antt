@@ -2,12 +2,13 @@
 use Rattle.std.proofs.Common.{◌≡◌, refl, sym, subst, arith, inl, ◌<◌, ◌≤◌, Contains, length, List, Option, None, IfSome}
 use Rattle.message_guard.specs.Senders.{SenderState}
 use Rattle.ps_config.specs.BuiltIn.{built_in_config, built_in_group, built_in_read_group, built_in_reader, built_in_writer}
-use Rattle.ps_config.proofs.BuiltIn.{built_in_sound}
+use Rattle.ps_config.proofs.BuiltIn.{built_in_sound, built_in_types}
 use Rattle.writer_group.specs.Payloads.{payloads_of}
-use Rattle.writer_group.specs.Turning.{CanGiveFronts, HasHeaderTypes}
+use Rattle.writer_group.specs.Turning.{CanGiveFronts}
 use Rattle.writer_group.specs.Turns.{GroupDeed, TurnInput, frames_in}
 use Rattle.group_laws.specs.Matching.{IsMatched, IsMatchedTo, IsGroupTurn, MaySend}
 use Rattle.writer_group.proofs.WrittenHeaders.{turn-written}
+use Rattle.group_laws.proofs.Allowed.{header-types}
 
 built-in-groups : IsMatched built_in_config built_in_group built_in_read_group
 unfolding built_in_config built_in_group built_in_read_group
@@ -20,10 +21,6 @@ built-in-matched = record {
   within = omega arith;
   reads = record { within = omega arith; id = refl; dataset = refl; offset = λ fixed. refl; size = λ fixed. refl };
 }
-
-built-in-types : HasHeaderTypes built_in_config built_in_group
-unfolding built_in_config built_in_group
-built-in-types = record { publisher = omega arith; version = omega arith; class_id = tt }
 
 built-in-there : Contains built_in_config.group built_in_group
 unfolding built_in_config
@@ -44,5 +41,5 @@ built-in-turn past input few none = record {
   on = let one = one-writer in omega (arith, few, one);
   sender = let count = length (payloads_of built_in_config built_in_group (frames_in built_in_group past input)) in
       subst (λ (s : Option SenderState). MaySend built_in_config built_in_group count s) (sym none) (built-in-sends count);
-  written = turn-written built_in_config built_in_group past input built_in_sound built-in-there built-in-types (subst (λ (s : Option SenderState). IfSome s CanGiveFronts) (sym none) tt);
+  written = turn-written built_in_config built_in_group past input built_in_sound built-in-there (header-types built_in_config built_in_group built_in_types built-in-there) (subst (λ (s : Option SenderState). IfSome s CanGiveFronts) (sym none) tt);
 }

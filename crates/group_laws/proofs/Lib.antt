@@ -27,3 +27,4 @@ pub mod OtherGroups
 pub mod BuiltIn
 pub mod Ticking
 pub mod Meeting
+pub mod Allowed

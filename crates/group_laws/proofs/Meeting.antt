@@ -1,9 +1,9 @@
 -- First turns of three groups meet what the laws ask for.
-use Rattle.std.proofs.Common.{◌≡◌, refl, sym, ◌∙◌, subst, inl, ℕ, zero, suc, ◌<◌, ◌^◌, lit<, lit≤, arith, true, false, [], ◌∷◌, length, All, Contains, Some, None, Ok, IfSome}
+use Rattle.std.proofs.Common.{◌≡◌, refl, sym, ◌∙◌, subst, inl, ℕ, zero, suc, ◌<◌, ◌^◌, lit<, lit≤, arith, true, false, [], ◌∷◌, length, Contains, Some, None, Ok, IfSome}
 use Rattle.std.specs.Prelude.{IsSome, nat_le, slice_index_or}
 use Rattle.std.specs.Fmt.{digits}
 use Rattle.std.specs.Str.{is_utf8, chars}
-use Rattle.std.proofs.lemmas.List.Elements.{All-cons, All-contains, All-nil, All-replicate}
+use Rattle.std.proofs.lemmas.List.Elements.{All-cons, All-nil, All-replicate}
 use Rattle.toml.proofs.OnLiterals.{toml_on_literals}
 use Rattle.hex.proofs.OnLiterals.{hex_on_literals}
 use Rattle.dataset_meta.specs.Rows.{IsRow}
@@ -21,22 +21,23 @@ use Rattle.ps_config.specs.Reading.{configuration}
 use Rattle.ps_config.specs.Refusals.{table_faults, stands}
 use Rattle.ps_config.specs.Settings.{settings_at}
 use Rattle.ps_config.specs.Sound.{IsSound}
+use Rattle.ps_config.specs.Types.{HasGroupTypes, HasKeyGroupTypes, HasKeyTypes, HasMetaTypes, HasReadGroupTypes, HasReaderTypes, HasTypes, HasWriterTypes}
 use Rattle.ps_config.proofs.Accepted.{fixed_configuration, sound_configuration}
-use Rattle.ps_config.specs.Headers.{publisher_value}
-use Rattle.uadp_header.specs.Spelling.{IsPublisher, header_len, header_bytes, flags_bytes, group_bytes, security_bytes}
+use Rattle.uadp_header.specs.Spelling.{header_len, header_bytes, flags_bytes, group_bytes, security_bytes}
 use Rattle.writer_group.specs.Answering.{with_turn}
 use Rattle.writer_group.specs.Envelopes.{frame_room}
 use Rattle.writer_group.specs.Payloads.{IsFrameIf, meta_at, payloads_of, size_of, spelled_by, writer_at}
 use Rattle.writer_group.specs.Sealing.{AreWritten}
 use Rattle.writer_group.specs.Standing.{AreMetas}
-use Rattle.writer_group.specs.Turning.{CanGiveFronts, HasHeaderTypes}
+use Rattle.writer_group.specs.Turning.{CanGiveFronts}
 use Rattle.writer_group.proofs.AnswerFrames.{answer-frame}
 use Rattle.writer_group.proofs.SomeDatagrams.{turn-count}
 use Rattle.writer_group.proofs.WrittenHeaders.{turn-written}
 use Rattle.writer_group.specs.Turns.{TurnInput, answer_by, envelope_of, frame_by, frames_in, turn_by, turn_datagrams, writer_past}
-use Rattle.group_laws.specs.Matching.{IsGroupTurn, IsMatched, IsSenderOf, MaySend, ReadsWriter}
+use Rattle.group_laws.specs.Matching.{IsGroupTurn, IsMatched, IsSenderOf, MaySend, ReadsWriter, reader_at}
 use Rattle.group_laws.specs.TurnDelivered.{AreEnabled, ComesInFrames, ComesInSlots, Delivery, IsInOrder, IsSenderAhead, IsSenderAheadIf, answer_for, its_datagrams, its_seat, its_setting, member_before}
 use Rattle.group_laws.specs.TurnReading.{IsBehind, IsSampled}
+use Rattle.group_laws.proofs.Allowed.{header-types}
 use Rattle.group_laws.proofs.Delivered.{opening-ahead}
 use Rattle.group_laws.specs.Witness.{at_once, blob, chunked_course, cut_group, cut_readers, first_input, fixed_course, ones, secured_course, signed_group, signed_readers, slotted_group, slotted_readers, three_config, three_key, three_keys, three_sender, three_text}
 
@@ -335,30 +336,105 @@ many facts = (
 
 -- ---- what laws below say
 
-publisher-fits : IsPublisher (publisher_value three_config.publisher.id)
+three-key-types : HasKeyTypes three_key
+unfolding three_key
+three-key-types = record { token = lit< tt; from = lit< tt; signing = refl; nonce = refl }
+
+three-keys-types : HasKeyGroupTypes three_keys
+unfolding three_keys
+three-keys-types = record {
+  random = refl;
+  first_block = lit< tt;
+  used = lit< tt;
+  keys = All-cons HasKeyTypes three_key [] three-key-types (All-nil HasKeyTypes);
+}
+
+blob-types : HasMetaTypes blob
+unfolding blob
+blob-types = record { major = lit< tt; minor = lit< tt }
+
+signed_group-types : HasGroupTypes signed_group
+unfolding signed_group
+signed_group-types = record {
+  id = lit< tt;
+  interval = lit< tt;
+  max_size = lit< tt;
+  version = lit< tt;
+  class_id = tt;
+  writers = All-cons HasWriterTypes (writer_at signed_group 0) [] (record { id = lit< tt; key_frame_count = lit< tt; keep_alive = lit< tt; first_number = lit< tt; offset = lit< tt; size = lit< tt }) (All-nil HasWriterTypes);
+}
+
+slotted_group-types : HasGroupTypes slotted_group
+unfolding slotted_group
+slotted_group-types = record {
+  id = lit< tt;
+  interval = lit< tt;
+  max_size = lit< tt;
+  version = lit< tt;
+  class_id = tt;
+  writers = All-cons HasWriterTypes (writer_at slotted_group 0) [] (record { id = lit< tt; key_frame_count = lit< tt; keep_alive = lit< tt; first_number = lit< tt; offset = lit< tt; size = lit< tt }) (All-nil HasWriterTypes);
+}
+
+cut_group-types : HasGroupTypes cut_group
+unfolding cut_group
+cut_group-types = record {
+  id = lit< tt;
+  interval = lit< tt;
+  max_size = lit< tt;
+  version = lit< tt;
+  class_id = tt;
+  writers = All-cons HasWriterTypes (writer_at cut_group 0) [] (record { id = lit< tt; key_frame_count = lit< tt; keep_alive = lit< tt; first_number = lit< tt; offset = lit< tt; size = lit< tt }) (All-nil HasWriterTypes);
+}
+
+signed_readers-types : HasReadGroupTypes signed_readers
+unfolding signed_readers
+signed_readers-types = record {
+  publisher = lit< tt;
+  group_id = lit< tt;
+  version = lit< tt;
+  class_id = tt;
+  readers = All-cons HasReaderTypes (reader_at signed_readers 0) [] (record { writer = lit< tt; timeout = lit< tt; offset = lit< tt; size = lit< tt }) (All-nil HasReaderTypes);
+}
+
+slotted_readers-types : HasReadGroupTypes slotted_readers
+unfolding slotted_readers
+slotted_readers-types = record {
+  publisher = lit< tt;
+  group_id = lit< tt;
+  version = lit< tt;
+  class_id = tt;
+  readers = All-cons HasReaderTypes (reader_at slotted_readers 0) [] (record { writer = lit< tt; timeout = lit< tt; offset = lit< tt; size = lit< tt }) (All-nil HasReaderTypes);
+}
+
+cut_readers-types : HasReadGroupTypes cut_readers
+unfolding cut_readers
+cut_readers-types = record {
+  publisher = lit< tt;
+  group_id = lit< tt;
+  version = lit< tt;
+  class_id = tt;
+  readers = All-cons HasReaderTypes (reader_at cut_readers 0) [] (record { writer = lit< tt; timeout = lit< tt; offset = lit< tt; size = lit< tt }) (All-nil HasReaderTypes);
+}
+
+pub three-types : HasTypes three_config
 unfolding three_config
-publisher-fits = lit< tt
-
--- what the headers of each group have by their types
-abbrev HasOwnTypes : GroupPart → Type 0
-HasOwnTypes group = (group.version < 2 ^ 32) × IfSome group.class_id (λ guid. length guid ≡ 16)
-
-types-fit : All HasOwnTypes three_config.group
-unfolding three_config signed_group slotted_group cut_group
-types-fit =
-    All-cons HasOwnTypes signed_group (slotted_group ∷ cut_group ∷ []) (lit< tt, tt)
-    (All-cons HasOwnTypes slotted_group (cut_group ∷ []) (lit< tt, tt) (All-cons HasOwnTypes cut_group [] (lit< tt, tt) (All-nil HasOwnTypes)))
-
-three-types : (group : GroupPart) → Contains three_config.group group → HasHeaderTypes three_config group
-three-types group there =
-    let fits = All-contains HasOwnTypes three_config.group group types-fit there in
-    record { publisher = publisher-fits; version = fits.0; class_id = fits.1 }
+three-types = record {
+  publisher = lit< tt;
+  port = lit< tt;
+  metas = All-cons HasMetaTypes blob [] blob-types (All-nil HasMetaTypes);
+  keygroups = All-cons HasKeyGroupTypes three_keys [] three-keys-types (All-nil HasKeyGroupTypes);
+  groups = All-cons HasGroupTypes signed_group (slotted_group ∷ cut_group ∷ []) signed_group-types
+      (All-cons HasGroupTypes slotted_group (cut_group ∷ []) slotted_group-types (All-cons HasGroupTypes cut_group [] cut_group-types (All-nil HasGroupTypes)));
+  readgroups = All-cons HasReadGroupTypes signed_readers (slotted_readers ∷ cut_readers ∷ []) signed_readers-types
+      (All-cons HasReadGroupTypes slotted_readers (cut_readers ∷ []) slotted_readers-types
+      (All-cons HasReadGroupTypes cut_readers [] cut_readers-types (All-nil HasReadGroupTypes)));
+}
 
 pub turn-facts : TurnFacts
 turn-facts = record {
   sound = sound_configuration three_text three_config three_is_read;
   fixed = fixed_configuration three_text three_config three_is_read;
-  written = λ group input there gives. turn-written three_config group [] input (sound_configuration three_text three_config three_is_read) there (three-types group there) gives;
+  written = λ group input there gives. turn-written three_config group [] input (sound_configuration three_text three_config three_is_read) there (header-types three_config group three-types there) gives;
   frame = λ group input. answer-frame group [] input 0;
   count = λ group input. turn-count three_config group [] input;
   ahead = opening-ahead;

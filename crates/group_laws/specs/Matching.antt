@@ -16,8 +16,10 @@ use Rattle.ps_config.specs.Headers.{is_secured}
 use Rattle.ps_config.specs.Rings.{key_set}
 use Rattle.ps_config.specs.Rooms.{is_fixed}
 use Rattle.ps_config.specs.Sound.{IsKeyGroup, IsSound}
+use Rattle.ps_config.specs.Types.{HasKeyGroupTypes, HasTypes}
 use Rattle.writer_group.specs.Payloads.{writer_at, meta_at, payloads_of}
 use Rattle.writer_group.specs.Sealing.{AreWritten}
+use Rattle.writer_group.specs.Turning.{CanGiveFronts, HasHeaderTypes}
 use Rattle.writer_group.specs.Turns.{GroupDeed, TurnInput, envelope_of, frames_in}
 use Rattle.reader_group.specs.Members.{no_seat, seat_at}
 use Rattle.reader_group.specs.Settings.{keygroup_at, setting_by, token_keys}
@@ -122,3 +124,28 @@ MakesItsSenders ring =
 abbrev pub IsBuiltInTurn : List GroupDeed → TurnInput → Type 0
 IsBuiltInTurn past input =
     length input.on ≤ 1 → input.sender ≡ None → IsGroupTurn built_in_config built_in_group past input
+
+-- ---- what follows from the types of a configuration
+
+-- A turn of a group of a configuration that was read, behind these deeds, with numbers left for its datagrams. That their headers can be written isn't asked.
+pub record IsAllowedTurn (config : Config) (group : GroupPart) (past : List GroupDeed) (input : TurnInput) : Type 0 where
+  pub sound : IsSound config
+  pub types : HasTypes config
+  pub group_is : Contains config.group group
+  pub on : length input.on ≤ length group.writer
+  pub sender : MaySend config group (length (payloads_of config group (frames_in group past input))) input.sender
+
+-- each turn of a group of the configuration that is allowed is one that the laws speak of
+abbrev pub AllowsGroupTurns : Config → Type 0
+AllowsGroupTurns config =
+    (group : GroupPart) (past : List GroupDeed) (input : TurnInput) → IsAllowedTurn config group past input
+    → IsGroupTurn config group past input
+
+-- the headers of each group of the configuration have what their types say, where the configuration has
+abbrev pub GivesHeaderTypes : Config → Type 0
+GivesHeaderTypes config =
+    (group : GroupPart) → HasTypes config → Contains config.group group → HasHeaderTypes config group
+
+-- the fronts of a sender of the key group have what their types say, where the key group has
+abbrev pub GivesFronts : KeyGroupPart → Type 0
+GivesFronts ring = (s : SenderState) → HasKeyGroupTypes ring → IsSenderOf ring s → CanGiveFronts s

@@ -5,7 +5,7 @@ ghost use Rattle.message_guard.specs.Senders.{SenderState, turned};
 ghost use Rattle.ps_config.specs.declared.parts.Config.{Config};
 ghost use Rattle.ps_config.specs.declared.parts.GroupPart.{GroupPart};
 ghost use Rattle.ps_config.specs.declared.parts.KeyGroupPart.{KeyGroupPart};
-ghost use Rattle.group_laws.specs.Matching.{HasItsMeta, HasTheirMajor, MakesItsSenders, ReadsItsWriter};
+ghost use Rattle.group_laws.specs.Matching.{AllowsGroupTurns, GivesFronts, GivesHeaderTypes, HasItsMeta, HasTheirMajor, MakesItsSenders, ReadsItsWriter};
 ghost use Rattle.group_laws.specs.TurnDelivered.{ComesFromOthers, ComesInFrames, ComesInSlots, ComesToDisabled, Course, GetsAnswer, GetsSlot, IsAheadAfter, IsSenderAhead, IsTakenInOrder, StaysAhead, StaysAheadBy, member_after, member_before};
 ghost use Rattle.group_laws.specs.Ticking.{AreWriterMetas, IsSampledAt, IsTurnOfFixed, IsTurnOfGroup, Tick, WasGroupTick, WasTick};
 ghost use Rattle.group_laws.specs.TurnItems.{AddsItsAnswer, AddsItsItem, AddsNothing};
@@ -113,6 +113,14 @@ pub fn a_matched_reader_reads_its_writer()
     ensures reads { (config : Config) → ReadsItsWriter config }
     ensures meta { (config : Config) → HasItsMeta config }
     ensures major { (group : GroupPart) → HasTheirMajor group }
+{}
+
+/// A turn of a group of a configuration that was read, with numbers left for its datagrams, is one that these laws speak of: that
+/// its headers can be written follows from the types of the configuration's fields, whichever sender of its key group it has.
+pub fn an_allowed_turn_is_a_group_turn()
+    ensures turn { (config : Config) → AllowsGroupTurns config }
+    ensures headers { (config : Config) → GivesHeaderTypes config }
+    ensures fronts { (ring : KeyGroupPart) → GivesFronts ring }
 {}
 
 /// A turn that `Group::tick` had, of a group of an accepted configuration whose sender is one of its key group, is one that these

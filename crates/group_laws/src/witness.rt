@@ -2,6 +2,7 @@
 ghost use Rattle.std.specs.Prelude.{◌≡◌, List, Ok, IsSome, length};
 ghost use Rattle.ps_config.specs.BuiltIn.{built_in_config, built_in_group, built_in_read_group};
 ghost use Rattle.ps_config.specs.Reading.{configuration};
+ghost use Rattle.ps_config.specs.Types.{HasTypes};
 ghost use Rattle.writer_group.specs.Turns.{GroupDeed, TurnInput};
 ghost use Rattle.group_laws.specs.Matching.{IsBuiltInTurn, IsMatchedTo};
 ghost use Rattle.group_laws.specs.TurnDelivered.{ComesInFrames, ComesInSlots, answer_for, its_datagrams};
@@ -18,6 +19,7 @@ pub fn the_built_in_groups_are_matched()
 /// signed datagram, one with a slot, and two with the chunks of one frame. At each the writer answers.
 pub fn the_premises_of_turns_are_met()
     ensures accepted { configuration three_text ≡ Ok three_config }
+    ensures types { HasTypes three_config }
     ensures secured { ComesInFrames secured_course 0 }
     ensures fixed { ComesInSlots fixed_course 0 }
     ensures chunked { ComesInFrames chunked_course 0 }

@@ -128,7 +128,12 @@ impl Case {
         if count > fields.len() {
             return Err(LineFault::Condition);
         }
-        let short = meta_of(fields[..count].to_vec(alloc)?, 1, 0, self.meta.quality())?;
+        let short = meta_of(
+            fields[..count].to_vec(alloc)?,
+            self.meta.major(),
+            0,
+            self.meta.quality(),
+        )?;
         Ok(self.row.first(&self.meta, &short))
     }
 
@@ -200,6 +205,7 @@ fn put_one(meta: &Meta, patch: &mut Patch, put: &Put) -> Result<(), LineFault>
 /// The data set of these fields.
 fn meta_of(fields: Vec<Field>, major: u32, minor: u32, quality: bool) -> Result<Meta, LineFault>
     ensures fields { IfOk result (λ meta. meta.fields ≡ fields.items) }
+    ensures major { IfOk result (λ meta. meta.major ≡ major) }
     ensures quality { IfOk result (λ meta. meta.quality ≡ quality) }
 {
     match Meta::new(name_of("demo")?, fields, major, minor, quality) {

@@ -1,8 +1,11 @@
-use Rattle.group_laws.proofs.Meeting.{chunked-comes, cut-answers, fixed-comes, many, secured-comes, signed-answers, slotted-answers, three_is_read, turn-facts}
+use Rattle.group_laws.proofs.Meeting.{chunked-comes, cut-answers, fixed-comes, many, secured-comes, signed-answers, slotted-answers, three-types, three_is_read, turn-facts}
 use Rattle.group_laws.proofs.witness.the_premises_of_turns_are_met.Goals as goal
 
 pub returns-clause-accepted : goal.returns-clause-accepted
 returns-clause-accepted c = three_is_read
+
+pub returns-clause-types : goal.returns-clause-types
+returns-clause-types c = three-types
 
 pub returns-clause-secured : goal.returns-clause-secured
 returns-clause-secured c = secured-comes turn-facts

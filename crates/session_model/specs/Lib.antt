@@ -1,0 +1,11 @@
+pub mod Steps
+pub mod Sets
+pub mod Deeds
+pub mod Turns
+pub mod Sends
+pub mod Events
+pub mod Stores
+pub mod States
+pub mod Answers
+pub mod Closing
+pub mod Keeping

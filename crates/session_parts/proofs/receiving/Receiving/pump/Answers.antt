@@ -1,0 +1,39 @@
+use Rattle.std.proofs.Common.{◌≡◌, ◌<◌, ℕ, refl, sym, subst, arith}
+use Rattle.ua_base.proofs.Links.{KeepsLink-then, stays_open}
+use Rattle.session_parts.specs.Pumping.{PumpsTo}
+use Rattle.session_parts.proofs.Entries.{SoFar, so-none, so-more, so-ended, so-full}
+use Rattle.session_parts.proofs.receiving.Receiving.pump.Goals as goal
+
+pub loop-taken-init : goal.loop-taken-init
+loop-taken-init g c = record {
+  holds = c.requires.holds;
+  room = c.requires.room;
+  run = so-none c.args.config.now c.args.tree.now c.args.moment c.args.self.now c.args.subscriber.now (g.L.Link.told c.args.link.now);
+  link = record { opening = refl; counted = omega arith };
+}
+
+pub returns-then-not-receive-clause-pumps : goal.returns-then-not-receive-clause-pumps
+returns-then-not-receive-clause-pumps g c =
+    let few : c.loop-taken.taken < 65536 = omega arith in
+    so-ended c.args.config.now c.args.tree.now c.args.moment c.loop-taken.taken c.args.self.now c.loop-taken.self c.receive.new.self c.args.subscriber.now c.loop-taken.subscriber c.receive.new.subscriber
+    _ _ _ few c.loop-taken.invariant.run c.if-not-receive.ensures.receives
+
+pub receive-requires-clause-open : goal.receive-requires-clause-open
+receive-requires-clause-open g c = stays_open g.L.Link.opened_with g.L.Link.faults c.args.link.now c.loop-taken.link c.loop-taken.invariant.link c.requires.open
+
+pub loop-taken-preserved : goal.loop-taken-preserved
+loop-taken-preserved g c = record {
+  holds = c.receive.ensures.holds;
+  room = c.receive.ensures.room;
+  run = so-more c.args.config.now c.args.tree.now c.args.moment c.loop-taken.taken c.args.self.now c.loop-taken.self c.receive.new.self c.args.subscriber.now c.loop-taken.subscriber c.receive.new.subscriber
+      _ _ _ c.loop-taken.invariant.run c.if-not-receive.ensures.receives;
+  link = KeepsLink-then g.L.Link.opened_with g.L.Link.faults c.args.link.now c.loop-taken.link c.receive.new.link c.loop-taken.invariant.link c.receive.ensures.link;
+}
+
+pub returns-clause-pumps : goal.returns-clause-pumps
+returns-clause-pumps g c =
+    let full : c.loop-taken.taken ≡ 65536 = omega arith in
+    subst (λ (n : ℕ). PumpsTo c.args.config.now c.args.tree.now c.args.moment n c.args.self.now c.note_limit.new.self c.args.subscriber.now c.loop-taken.subscriber (g.L.Link.told c.args.link.now) (g.L.Link.told c.loop-taken.link)) (sym c.note_limit.ensures.taken)
+    (so-full c.args.config.now c.args.tree.now c.args.moment c.args.self.now c.loop-taken.self c.note_limit.new.self c.args.subscriber.now c.loop-taken.subscriber _ _ c.note_limit.ensures.counts
+    (subst (λ (n : ℕ). SoFar c.args.config.now c.args.tree.now c.args.moment n c.args.self.now c.loop-taken.self c.args.subscriber.now c.loop-taken.subscriber (g.L.Link.told c.args.link.now) (g.L.Link.told c.loop-taken.link)) full
+    c.loop-taken.invariant.run))

@@ -1,0 +1,4 @@
+pub mod Holding
+pub mod Standing
+pub mod Ticking
+pub mod Pumping

@@ -1,0 +1,245 @@
+//! The subscribing side: read groups, and what they made of what came.
+ghost use Rattle.std.specs.Prelude.{◌≡◌, ◌≤◌, ◌<◌, ◌∷◌, ℕ, List, length, map, take};
+ghost use Rattle.std.specs.List.{range_with_len};
+ghost use Rattle.pubsub_model.specs.declared.reading.Why.TheVariants.{Restarted};
+ghost use Rattle.pubsub_states.specs.Components.{IsAmong, counts_of};
+ghost use Rattle.pubsub_states.specs.Changes.{flags_in};
+ghost use Rattle.pubsub_states.specs.States.{state_of, is_operational};
+ghost use Rattle.pubsub_states.specs.declared.component.Component.TheVariants.{ReadGroup as ReadGroupOf, Reader as ReaderOf};
+ghost use Rattle.reader_group.specs.Groups.{index_of, reader_count, IsMadeOf, Stands as ReadingStands};
+ghost use Rattle.dataset_meta.specs.Rows.{cons_if};
+ghost use Rattle.reader_group.specs.Plain.{Event, Expired, Setting, Stopped, plain};
+ghost use Rattle.reader_group.specs.Settings.{group_at as read_group_at};
+ghost use Rattle.ps_config.specs.declared.parts.Config.{Config as ConfigValue};
+ghost use Rattle.ua_base.specs.Journal.{Got};
+ghost use Rattle.writer_group.specs.Standing.{IsGood};
+ghost use Rattle.session_model.specs.Steps.{Step, moment_of};
+ghost use Rattle.session_model.specs.Events.{stopped_below};
+ghost use Rattle.session_parts.specs.Holding.{HoldSubscriber};
+ghost use Rattle.session_parts.specs.Standing.{HaveReadAll};
+ghost use Rattle.session_parts.specs.Pumping.{Hands, HasSwitches, HaveGot, IsOperationalIn, MayHand, TellsGroup, TellsReader, TellsReaders, brought};
+
+use crate::tally::Tally;
+use ps_config::{Config, ReadGroupPart};
+use pubsub_model::Why;
+use pubsub_states::{Component, Tree, ids_are_places_in_order};
+use reader_group::ReaderGroup;
+
+/// The read groups of a configuration.
+#[derive(Drop)]
+pub struct Subscriber {
+    pub groups: Vec<ReaderGroup>,
+    pub tallies: Vec<Tally>,
+}
+
+/// The most readers of a read group.
+pub const MOST_READERS: usize = 16;
+
+impl Subscriber {
+    /// Looks at all timers.
+    pub fn expire(&mut self, moment: u64)
+        ensures holds { (config : ConfigValue) → HoldSubscriber config self.old → HoldSubscriber config self.new }
+        ensures read { (config : ConfigValue) (befell : ℕ → List Event) → HoldSubscriber config self.old
+            → HaveReadAll config befell self.old.groups.items
+            → HaveReadAll config (λ r. Expired moment ∷ befell r) self.new.groups.items }
+        ensures rest { self.new ≡ record self.old { groups = self.new.groups } }
+    {
+        for r in 0..self.groups.len() {
+            self.groups[r].expire(moment);
+        }
+    }
+
+    /// Cuts the readers at or below a component.
+    pub fn stop_below(&mut self, config: &Config, component: Component)
+        requires good { IsGood config.now }
+        requires holds { HoldSubscriber config.now self.old }
+        ensures holds { HoldSubscriber config.now self.new }
+        ensures read { (befell : ℕ → List Event) → HaveReadAll config.now befell self.old.groups.items
+            → HaveReadAll config.now (λ r. stopped_below config.now r component (befell r)) self.new.groups.items }
+        ensures rest { self.new ≡ record self.old { groups = self.new.groups } }
+    {
+        for r in 0..self.groups.len() {
+            stop_below(
+                &mut self.groups[r],
+                read_group_part(config, r),
+                r as u8,
+                component,
+            );
+        }
+    }
+
+    /// Tells the tree which readers are late and which are ready.
+    pub fn tell(&self, config: &Config, tree: &mut Tree)
+        requires good { IsGood config.now }
+        requires holds { HoldSubscriber config.now self.now }
+        requires tree { tree.old.counts ≡ counts_of config.now }
+        ensures counts { tree.new.counts ≡ tree.old.counts }
+        ensures told { TellsReaders config.now self.now tree.old tree.new }
+    {
+        for r in 0..self.groups.len() {
+            tell_readers(&self.groups[r], read_group_part(config, r), r as u8, tree);
+        }
+    }
+
+    /// Gives a datagram to each Operational read group. Opening decrypts in place, so each is given a copy but the last one,
+    /// which is given the datagram itself.
+    pub fn hand_on(
+        &mut self,
+        config: &Config,
+        tree: &Tree,
+        moment: u64,
+        datagram: &mut [u8],
+        copy: &mut [u8],
+    )
+        requires good { IsGood config.now }
+        requires holds { HoldSubscriber config.now self.old }
+        requires tree { tree.now.counts ≡ counts_of config.now }
+        requires copy { length copy.old ≡ length datagram.old }
+        ensures holds { HoldSubscriber config.now self.new }
+        ensures got { (before : List Step) (befell : ℕ → List Event) → HasSwitches config.now before tree.now
+            → moment ≡ moment_of before → HaveGot config.now befell self.old
+            → HaveGot config.now (λ r. brought config.now before (Got datagram.old) r (befell r)) self.new }
+    {
+        let Some(last) = self.groups.len().checked_sub(1) else {
+            return;
+        };
+        for r in 0..last {
+            self.hand_copy(config, tree, moment, r, datagram, copy);
+        }
+        self.hand(config, tree, moment, last, datagram);
+    }
+
+    /// Gives a copy of a datagram to a read group, if it is Operational.
+    fn hand_copy(
+        &mut self,
+        config: &Config,
+        tree: &Tree,
+        moment: u64,
+        r: usize,
+        datagram: &[u8],
+        copy: &mut [u8],
+    )
+        requires may { MayHand config.now tree.now r self.old }
+        requires copy { length copy.old ≡ length datagram.now }
+        ensures holds { HoldSubscriber config.now self.new }
+        ensures hands { Hands config.now tree.now moment r datagram.now self.old self.new }
+    {
+        if !receives(tree, r as u8) {
+            return;
+        }
+        copy.copy_from_slice(datagram);
+        self.give(config, tree, moment, r, copy);
+    }
+
+    /// Gives a datagram to a read group, if it is Operational.
+    fn hand(&mut self, config: &Config, tree: &Tree, moment: u64, r: usize, datagram: &mut [u8])
+        requires may { MayHand config.now tree.now r self.old }
+        ensures holds { HoldSubscriber config.now self.new }
+        ensures hands { Hands config.now tree.now moment r datagram.old self.old self.new }
+    {
+        if !receives(tree, r as u8) {
+            return;
+        }
+        self.give(config, tree, moment, r, datagram);
+    }
+
+    /// An Operational read group takes a datagram, and its answer is counted.
+    fn give(&mut self, config: &Config, tree: &Tree, moment: u64, r: usize, datagram: &mut [u8])
+        requires may { MayHand config.now tree.now r self.old }
+        requires receives { IsOperationalIn tree.now (ReadGroupOf r) }
+        ensures holds { HoldSubscriber config.now self.new }
+        ensures hands { Hands config.now tree.now moment r datagram.old self.old self.new }
+    {
+        let count = read_group_part(config, r).reader.as_slice().len();
+        let on = readers_on(tree, r as u8, count);
+        let answer = self.groups[r].datagram(config, moment, &on[..count], datagram);
+        self.tallies[r].note(&answer);
+    }
+}
+
+fn receives(tree: &Tree, read_group: u8) -> bool
+    requires { IsAmong tree.now.counts (ReadGroupOf read_group) }
+    ensures { result ≡ is_operational (state_of (flags_in tree.now) (ReadGroupOf read_group)) }
+{
+    tree.state_of(Component::ReadGroup { read_group })
+        .is_operational()
+}
+
+/// Whether each of so many readers of a read group is enabled.
+fn readers_on(tree: &Tree, read_group: u8, count: usize) -> [bool; MOST_READERS]
+    requires few { count ≤ 16 }
+    requires there { (i : ℕ) → i < count → IsAmong tree.now.counts (ReaderOf read_group i) }
+    ensures { take count result
+        ≡ map (λ i. (flags_in tree.now (ReaderOf read_group i)).enabled) (range_with_len 0 count) }
+{
+    let mut on = [false; MOST_READERS];
+    for i in 0..count {
+        let reader = i as u8;
+        on[i] = tree.is_enabled(Component::Reader { read_group, reader });
+    }
+    on
+}
+
+/// Cuts the readers of a read group that are at or below a component.
+fn stop_below(group: &mut ReaderGroup, part: &ReadGroupPart, r: u8, component: Component)
+    requires few { length part.now.reader ≤ 16 }
+    requires made { (config : ConfigValue) × IsMadeOf config group.old }
+    requires count { reader_count group.old ≡ length part.now.reader }
+    ensures index { index_of group.new ≡ index_of group.old }
+    ensures made { (config : ConfigValue) → IsMadeOf config group.old → IsMadeOf config group.new }
+    ensures stands { (config : ConfigValue) (setting : Setting) (befell : List Event) → part.now ≡ read_group_at config r
+        → ReadingStands setting (plain setting befell) group.old
+        → ReadingStands setting (plain setting (stopped_below config r component befell)) group.new }
+{
+    for i in 0..part.reader.as_slice().len() {
+        let reader = Component::Reader {
+            read_group: r,
+            reader: i as u8,
+        };
+        cut_if(group, i as u8, component.is_at_or_above(reader));
+    }
+}
+
+/// Where it is at or below the component, a reader is cut.
+fn cut_if(group: &mut ReaderGroup, reader: u8, is_below: bool)
+    requires there { reader < reader_count group.old }
+    ensures index { index_of group.new ≡ index_of group.old }
+    ensures made { (config : ConfigValue) → IsMadeOf config group.old → IsMadeOf config group.new }
+    ensures stands { (setting : Setting) (befell : List Event) → ReadingStands setting (plain setting befell) group.old
+        → ReadingStands setting (plain setting (cons_if is_below (Stopped reader Restarted) befell)) group.new }
+{
+    if is_below {
+        group.cut(reader, Why::Restarted);
+    }
+}
+
+fn tell_readers(group: &ReaderGroup, part: &ReadGroupPart, read_group: u8, tree: &mut Tree)
+    requires few { length part.now.reader ≤ 16 }
+    requires made { reader_count group.now ≡ length part.now.reader }
+    requires there { (i : ℕ) → i < length part.now.reader → IsAmong tree.old.counts (ReaderOf read_group i) }
+    ensures { TellsGroup group.now read_group (length part.now.reader) tree.old tree.new }
+{
+    for i in 0..part.reader.as_slice().len() {
+        tell_reader(group, read_group, i as u8, tree);
+    }
+}
+
+fn tell_reader(group: &ReaderGroup, read_group: u8, reader: u8, tree: &mut Tree)
+    requires within { reader < reader_count group.now }
+    requires there { IsAmong tree.old.counts (ReaderOf read_group reader) }
+    ensures { TellsReader group.now read_group reader tree.old tree.new }
+{
+    ids_are_places_in_order();
+    let id = tree
+        .components()
+        .id(Component::Reader { read_group, reader });
+    tree.fault(id, group.is_late(reader));
+    tree.ready(id, group.is_ready(reader));
+}
+
+pub fn read_group_part(config: &Config, r: usize) -> &ReadGroupPart
+    requires { r < length config.now.readgroup }
+    ensures { result.now ≡ read_group_at config.now r }
+{
+    &config.readgroup.as_slice()[r]
+}
