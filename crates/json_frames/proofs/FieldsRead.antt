@@ -1,5 +1,5 @@
 -- Reading a payload field by field.
-use Rattle.std.proofs.Common.{◌≡◌, ℕ, zero, suc, ◌+◌, ◌<◌, ◌≤◌, List, [], ◌∷◌, ◌++◌, length, get_or, take, Bool, true, false, Option, Some, None, refl, sym, ap, ◌∙◌, subst, arith}
+use Rattle.std.proofs.Common.{◌≡◌, ℕ, suc, ◌+◌, ◌<◌, ◌≤◌, List, [], ◌∷◌, ◌++◌, length, get_or, take, Bool, true, false, Some, None, refl, sym, ap, ◌∙◌, subst, arith}
 use Rattle.std.specs.Prelude.{◌==◌}
 use Rattle.std.proofs.lemmas.Bool.Decides.{nat_tests}
 use Rattle.std.proofs.lemmas.List.{take_more, length-append}
@@ -18,7 +18,6 @@ use Rattle.json_values.specs.Reading.{ReadsField}
 use Rattle.json_frames.specs.Parts.{numbered}
 use Rattle.json_frames.specs.Written.{name_at}
 use Rattle.json_frames.specs.Reading.{Names}
-use Rattle.json_frames.proofs.FieldNames.{name_is}
 use Rattle.json_frames.proofs.WrittenPayloads.{no_field, named_at}
 use Rattle.json_frames.proofs.Namings.{put_at_end, names_less, names_more, names_length}
 

@@ -1,5 +1,5 @@
 -- What is written of a message is read as that message.
-use Rattle.std.proofs.Common.{◌≡◌, ◌≤◌, ℕ, List, length, cond, Bool, true, false, Some, None, Ok, refl, sym, ap, ◌∙◌, subst, arith}
+use Rattle.std.proofs.Common.{◌≡◌, ◌≤◌, ℕ, List, length, cond, Bool, false, Some, None, Ok, ap, ◌∙◌, subst, arith}
 use Rattle.std.specs.Prelude.{nat_lt}
 use Rattle.std.specs.List.{AllByRecursion}
 use Rattle.std.proofs.lemmas.Bool.Decides.{nat_tests}

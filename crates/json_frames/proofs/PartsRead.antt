@@ -1,15 +1,13 @@
 -- The elements of the messages, one after another.
-use Rattle.std.proofs.Common.{◌≡◌, ℕ, ◌+◌, ◌<◌, List, [], ◌∷◌, ◌++◌, length, get_or, map, take, Option, Some, None, IsSome, option_map, inl, inr, refl, sym, ap, ◌∙◌, subst, arith}
-use Rattle.std.specs.Prelude.{◌⊎◌}
+use Rattle.std.proofs.Common.{◌≡◌, ℕ, ◌+◌, ◌<◌, List, [], ◌∷◌, ◌++◌, length, get_or, map, take, Option, Some, None, IsSome, option_map, inl, inr, refl, sym, ap, ◌∙◌, subst}
 use Rattle.frame_codec.specs.Words.{IsFrameOf}
-use Rattle.std.proofs.lemmas.List.{map-append, take_more, take_all}
+use Rattle.std.proofs.lemmas.List.{map-append, take_more}
 use Rattle.serde_json.specs.Data.{Data}
-use Rattle.serde_json.specs.View.{view, items_of, items_view}
+use Rattle.serde_json.specs.View.{view, items_of}
 use Rattle.serde_json.specs.declared.value.Value.{Value}
 use Rattle.dataset_meta.specs.Metas.{MetaData}
 use Rattle.json_frames.specs.declared.message.JsonPart.{JsonPart}
-use Rattle.json_frames.specs.Parts.{Part, IsPartOf, HasVersions, meta_at, part_in, parts_in}
-use Rattle.json_frames.specs.Documents.{counted}
+use Rattle.json_frames.specs.Parts.{Part, IsPartOf, HasVersions, meta_at, part_in}
 use Rattle.json_frames.specs.Reading.{IsOther, GivesPart, IsBad, ReadAs, HavePlaces, versions_at}
 use Rattle.json_frames.proofs.Sets.{set_within}
 

@@ -1,13 +1,12 @@
 -- Elements are read as one list of parts.
-use Rattle.std.proofs.Common.{◌≡◌, ℕ, ◌+◌, List, [], ◌∷◌, map, Option, Some, None, inl, inr, refl, sym, ap, ◌∙◌, subst}
-use Rattle.std.specs.Prelude.{◌⊎◌, codes}
+use Rattle.std.proofs.Common.{◌≡◌, ℕ, ◌+◌, List, [], ◌∷◌, map, inl, inr, refl, sym, ap, ◌∙◌, subst}
 use Rattle.std.proofs.lemmas.Option.{none-some, same_Some}
 use Rattle.serde_json.specs.Data.{Data, Items, item, no_items}
 use Rattle.dataset_meta.specs.DataValues.{DataValue}
 use Rattle.dataset_meta.specs.Metas.{MetaData}
 use Rattle.frame_codec.specs.Frames.{Content, Whole, Change, Alive, Frame}
 use Rattle.json_frames.specs.Parts.{Part, meta_at, numbered}
-use Rattle.json_frames.specs.Reading.{HasContent, GivesFrame, set_of, IsOther, GivesPart, IsBad, ReadAs}
+use Rattle.json_frames.specs.Reading.{HasContent, GivesFrame, set_of, IsOther, GivesPart, ReadAs}
 use Rattle.json_frames.proofs.ContentsRead.{word_at, key_delta, key_alive, delta_alive, payload_once}
 
 seconds : (row : List DataValue) (i : ℕ) → map (λ (c : ℕ × DataValue). c.1) (numbered i row) ≡ row

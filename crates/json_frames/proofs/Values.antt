@@ -1,5 +1,5 @@
 -- The JSON value of bytes, and a publisher's text.
-use Rattle.std.proofs.Common.{◌≡◌, ℕ, List, length, cond, Bool, true, false, Option, Some, None, Ok, Err, Result, refl, sym, ap, ◌∙◌}
+use Rattle.std.proofs.Common.{◌≡◌, ℕ, List, length, cond, Bool, true, false, Some, None, Ok, Err, refl, sym, ap, ◌∙◌}
 use Rattle.std.specs.Prelude.{nat_lt}
 use Rattle.std.specs.Str.{IsUtf8, is_utf8}
 use Rattle.std.proofs.lemmas.Str.{IsUtf8-from_is_utf8, is_utf8-from_IsUtf8}

@@ -1,22 +1,20 @@
 -- What is written of a part is read as that part.
-use Rattle.std.proofs.Common.{◌≡◌, ℕ, zero, suc, ◌+◌, ◌%◌, ◌^◌, ◌<◌, ◌≤◌, List, [], ◌∷◌, length, map, cond, Bool, true, false, Option, Some, None, IfSome, IsSome, option_map, option_and_then, unwrap_or, Ok, inl, inr, refl, sym, ap, ◌∙◌, subst, arith}
-use Rattle.std.specs.Prelude.{◌==◌, nat_lt, ◌⊎◌, codes}
-use Rattle.std.specs.List.{All, AllByRecursion}
+use Rattle.std.proofs.Common.{◌≡◌, ℕ, ◌%◌, ◌^◌, ◌<◌, List, [], ◌∷◌, cond, Bool, true, Option, Some, None, IfSome, IsSome, option_map, option_and_then, unwrap_or, inl, inr, refl, sym, ap, ◌∙◌, subst, arith}
+use Rattle.std.specs.Prelude.{nat_lt, codes}
+use Rattle.std.specs.List.{AllByRecursion}
 use Rattle.std.proofs.lemmas.Bool.{false≢true}
 use Rattle.std.proofs.lemmas.Bool.Decides.{nat_tests}
-use Rattle.serde_json.specs.Data.{Data, number, string, object, unsigned, Items, item, no_items, member, no_members}
-use Rattle.serde_json.specs.View.{items_of}
-use Rattle.serde_json.specs.Find.{get, as_object}
-use Rattle.dataset_meta.specs.declared.field.Field.{Field}
+use Rattle.serde_json.specs.Data.{Data, number, string, unsigned}
+use Rattle.serde_json.specs.Find.{get}
 use Rattle.dataset_meta.specs.DataValues.{DataValue}
 use Rattle.dataset_meta.specs.Metas.{MetaData, IsMeta}
 use Rattle.dataset_meta.specs.Rows.{IsPatchFrom}
 use Rattle.dataset_meta.proofs.RowLaws.{length_row}
-use Rattle.frame_codec.specs.Frames.{Content, Whole, Change, Alive, Frame, IsContent, IsFrame}
-use Rattle.json_values.specs.Numbers.{natural_in, fitting, number_at, text_at}
+use Rattle.frame_codec.specs.Frames.{Content, Whole, Change, Alive, IsContent}
+use Rattle.json_values.specs.Numbers.{natural_in, fitting}
 use Rattle.json_frames.specs.Parts.{Part, meta_at, HasVersions, IsPart, numbered}
 use Rattle.json_frames.specs.Written.{kind_word, fields_json, payload_json, versions_json, element_of, element_json, elements_json}
-use Rattle.json_frames.specs.Reading.{both, HasPayload, HasContent, IsNamedPart, versions_in, versions_at, sequence_at, GivesFrame, writer_at, set_of, GivesPart, ReadAs}
+use Rattle.json_frames.specs.Reading.{both, HasPayload, HasContent, IsNamedPart, versions_in, versions_at, sequence_at, GivesFrame, set_of, GivesPart, ReadAs}
 use Rattle.json_frames.proofs.WrittenPayloads.{written_names, whole_is_patch}
 
 -- ---- the members of an element

@@ -1,5 +1,5 @@
 -- Which bytes are a message, and what refuses the others.
-use Rattle.std.specs.Prelude.{◌≡◌, ◌≢◌, ℕ, ◌^◌, ◌-◌, min, nat_lt, if◌then◌else◌, Bool, List, codes, Option, Some, None, option_map, option_and_then, unwrap_or, length, Result, Ok, Err}
+use Rattle.std.specs.Prelude.{◌≡◌, ℕ, ◌^◌, ◌-◌, min, nat_lt, if◌then◌else◌, Bool, List, codes, Option, Some, None, option_and_then, unwrap_or, length, Result, Ok, Err}
 use Rattle.std.specs.Str.{is_utf8, bytes_eq}
 use Rattle.std.specs.List.{All}
 use Rattle.serde_json.specs.Data.{Data, Items}
@@ -7,7 +7,6 @@ use Rattle.serde_json.specs.Find.{get, as_array}
 use Rattle.serde_json.specs.Read.{read}
 use Rattle.dataset_meta.specs.Metas.{MetaData}
 use Rattle.json_values.specs.Numbers.{text_at}
-use Rattle.json_frames.specs.declared.message.JsonPart.{JsonPart}
 use Rattle.json_frames.specs.declared.message.JsonRead.{JsonRead}
 use Rattle.json_frames.specs.declared.json_end.JsonEnd.{JsonEnd}
 use Rattle.json_frames.specs.declared.json_end.JsonEnd.TheVariants.{NotJson, NotData, BadPublisher, NoMessages, Memory}

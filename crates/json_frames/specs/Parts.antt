@@ -1,7 +1,6 @@
 -- Messages of the JSON mapping (OPC 10000-14 section 7.2.5): a publisher, and for each part a writer, the
 -- place of its data set's meta, and a frame.
 use Rattle.std.specs.Prelude.{◌≡◌, ℕ, ◌+◌, ◌<◌, ◌^◌, ◌⊎◌, false, List, [], ◌∷◌, map, length, slice_index_or, IsSome, Option, None}
-use Rattle.std.specs.List.{All}
 use Rattle.dataset_meta.specs.DataValues.{DataValue}
 use Rattle.dataset_meta.specs.Metas.{MetaData, IsMeta}
 use Rattle.frame_codec.specs.Frames.{Content, Whole, Change, Alive, Frame, IsFrame}

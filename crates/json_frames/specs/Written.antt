@@ -4,11 +4,10 @@ use Rattle.std.specs.Prelude.{ℕ, List, [], ◌∷◌, codes, map, slice_index_
 use Rattle.std.specs.Fmt.{decimal}
 use Rattle.serde_json.specs.Data.{Data, number, string, array, object, unsigned, Items, Members, member, no_members, put}
 use Rattle.serde_json.specs.View.{items_of}
-use Rattle.ua_values.specs.declared.kind.Kind.TheVariants.{Boolean}
 use Rattle.dataset_meta.specs.declared.field.Field.{Field}
 use Rattle.dataset_meta.specs.DataValues.{DataValue}
 use Rattle.dataset_meta.specs.Metas.{MetaData, names}
-use Rattle.frame_codec.specs.Frames.{Content, Whole, Change, Alive, Frame}
+use Rattle.frame_codec.specs.Frames.{Content, Whole, Change, Alive}
 use Rattle.json_values.specs.Spelled.{field_json}
 use Rattle.json_frames.specs.Parts.{Part, meta_at, numbered}
 

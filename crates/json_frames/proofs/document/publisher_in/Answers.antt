@@ -1,4 +1,4 @@
-use Rattle.std.proofs.Common.{◌≡◌, ℕ, List, length, cond, Option, Some, None, option_and_then, sym, ap, subst, ◌∙◌}
+use Rattle.std.proofs.Common.{option_and_then, sym, ap, subst, ◌∙◌}
 use Rattle.std.specs.Str.{IsUtf8}
 use Rattle.ua_values.specs.Texts.{text_of}
 use Rattle.json_frames.specs.Documents.{short_text}

@@ -1,4 +1,4 @@
-use Rattle.std.proofs.Common.{◌≡◌, ℕ, ◌+◌, ◌<◌, List, ◌∷◌, [], ◌++◌, length, map, take, sym, ap, subst, ◌∙◌, arith}
+use Rattle.std.proofs.Common.{◌≡◌, ◌+◌, ◌<◌, List, ◌∷◌, [], ◌++◌, length, map, take, sym, ap, subst, ◌∙◌, arith}
 use Rattle.std.proofs.lemmas.List.{map-append}
 use Rattle.std.proofs.lemmas.List.Elements.{All-push}
 use Rattle.std.specs.List.{All}
@@ -6,7 +6,6 @@ use Rattle.serde_json.specs.Data.{Data}
 use Rattle.serde_json.specs.View.{view, items_of}
 use Rattle.json_frames.specs.declared.message.JsonPart.{JsonPart}
 use Rattle.json_frames.specs.Parts.{Part, IsPartOf, part_in, parts_in}
-use Rattle.json_frames.specs.Documents.{counted}
 use Rattle.json_frames.specs.Reading.{ReadAs}
 use Rattle.json_frames.proofs.PartsRead.{read_other, read_part, read_bad, one_more, part_of}
 use Rattle.json_frames.proofs.document.read_parts.Goals as goal

@@ -1,6 +1,5 @@
-use Rattle.std.proofs.Common.{◌≡◌, ◌≤◌, Some, sym, ap, subst, ◌∙◌, arith}
+use Rattle.std.proofs.Common.{◌≤◌, Some, sym, ap, subst, ◌∙◌, arith}
 use Rattle.serde_json.specs.Data.{Data, depth}
-use Rattle.serde_json.specs.View.{view}
 use Rattle.serde_json.specs.Written.{has_float, compact_text}
 use Rattle.json_frames.specs.Parts.{parts_in}
 use Rattle.json_frames.specs.Written.{message_json}
