@@ -6,6 +6,7 @@ ZERO = dict(a=False, b=0, c=0, d=0, e=0, f=0, g=0, h="0", i="0", j="0x00000000",
             n="00000000-0000-0000-0000-000000000000", o="", p=0)
 KINDS = dict(a="Boolean", b="SByte", c="Byte", d="Int16", e="UInt16", f="Int32", g="UInt32", h="Int64", i="UInt64", j="Float",
              k="Double", l="String", m="DateTime", n="Guid", o="ByteString", p="StatusCode")
+DEMO = dict(a=7, b=0, c=0, d=0)
 MEASURED = dict(zz=dict(Value=0), s=dict(Value=""), b0=dict(Value=""), t=dict(Value=False))
 LEAST = dict(a=False, b=-128, c=0, d=-2**15, e=0, f=-2**31, g=0, h=str(-2**63), i="0", j="0x00000000", k="0x" + "0" * 16, l="",
              m=str(-2**63), n="0" * 8 + "-0000-0000-0000-" + "0" * 12, o="", p=0)
@@ -26,7 +27,7 @@ def text(value):
     return json.dumps(value, ensure_ascii=False, separators=(",", ":"))
 
 
-def element(word="ua-keyframe", writer=1, number=0, **more):
+def element(word="ua-keyframe", writer=3, number=0, **more):
     return {"DataSetWriterId": writer, "SequenceNumber": number, "MessageType": word, **more}
 
 
@@ -50,6 +51,15 @@ def without(value, name):
     return {k: v for k, v in value.items() if k != name}
 
 
+def worked():
+    note("two messages as they are written, with their numbers from 0 on, and the first with another sequence number")
+    for n in (0, 1):
+        print('{"MessageId":"%d","MessageType":"ua-data","Messages":[{"DataSetWriterId":1,"MessageType":"ua-keyframe","Payload":'
+              '{"a":7,"b":0,"c":0,"d":0},"SequenceNumber":%d}],"PublisherId":"5"}' % (n, n))
+    print('{"MessageId":"0","MessageType":"ua-data","Messages":[{"DataSetWriterId":1,"MessageType":"ua-keyframe","Payload":'
+          '{"a":7,"b":0,"c":0,"d":0},"SequenceNumber":65537}],"PublisherId":"5"}')
+
+
 def kinds():
     note("a key frame with each kind at its least, at its most, and all zero")
     for row in (LEAST, MOST, ZERO): show(message(element(Payload=row)))
@@ -61,7 +71,7 @@ def kinds():
         for value in PAST[name]: show(delta(**{name: value}))
     note("texts: escapes, other scripts, and one of the whole cap")
     for value in ('"\\/', "\b\f\n\r\t\x00\x1f\x7f", "\u00e9\u20ac\U0001f600", "\u00e9" * 10): show(delta(l=value))
-    print('{"MessageType":"ua-data","PublisherId":"5","Messages":[{"DataSetWriterId":1,"SequenceNumber":0,"MessageType":'
+    print('{"MessageType":"ua-data","PublisherId":"5","Messages":[{"DataSetWriterId":3,"SequenceNumber":0,"MessageType":'
           '"ua-deltaframe","Payload":{"l":"\\ud83d\\ude00\\u0041\\/"}}]}')
 
 
@@ -90,19 +100,20 @@ def numbers():
     show(message(without(element("ua-keepalive"), "SequenceNumber")))
     note("writers: one that is named twice, one at the end, others, and none")
     for w in (1, 2, 65535): show(message(element("ua-keepalive", writer=w)))
-    for w in (0, 3, 65534): show(message(element("ua-keepalive", writer=w)))
+    show(message(element(writer=1, Payload=DEMO)))
+    for w in (0, 4, 65534): show(message(element("ua-keepalive", writer=w)))
     for w in (65536, -1, "1", 1.5, None): show(message(element("ua-keepalive", writer=w)))
     show(message(without(element("ua-keepalive"), "DataSetWriterId")))
     note("an element of another writer is skipped, whatever it holds; elements that are no objects give no frame")
-    show(message(element(writer=3), element("x", writer=3, number=-1), {"DataSetWriterId": 3}))
+    show(message(element(writer=4), element("x", writer=4, number=-1), {"DataSetWriterId": 4}))
     show(message(1, None, [], "x", {}, element("ua-keepalive")))
     note("numbers that are floats: -0, 1e0, 1.0")
     for number in ("-0", "1e0", "1.0", "1E+2", "0", "00", "-", "1.", ".5", "1e", "1E400", "-1E400", "1e-400",
                    "18446744073709551615", "18446744073709551616"):
-        print('{"MessageType":"ua-data","PublisherId":"5","Messages":[{"DataSetWriterId":1,"SequenceNumber":%s,"MessageType":'
+        print('{"MessageType":"ua-data","PublisherId":"5","Messages":[{"DataSetWriterId":3,"SequenceNumber":%s,"MessageType":'
               '"ua-keepalive"}]}' % number)
     for number in ("-0", "1e0", "1.0"):
-        print('{"MessageType":"ua-data","PublisherId":"5","Messages":[{"DataSetWriterId":1,"SequenceNumber":0,"MessageType":'
+        print('{"MessageType":"ua-data","PublisherId":"5","Messages":[{"DataSetWriterId":3,"SequenceNumber":0,"MessageType":'
               '"ua-deltaframe","Payload":{"f":%s}}]}' % number)
 
 
@@ -165,14 +176,14 @@ def refusals():
     note("two equal members: the last counts")
     print('{"MessageType":"ua-metadata","PublisherId":"5","Messages":[],"MessageType":"ua-data"}')
     print('{"MessageType":"ua-data","PublisherId":"5","Messages":[],"MessageType":"ua-metadata"}')
-    print('{"MessageType":"ua-data","PublisherId":"5","Messages":[{"DataSetWriterId":1,"SequenceNumber":0,"MessageType":'
-          '"ua-deltaframe","Payload":{"c":300,"c":7}},{"DataSetWriterId":1,"SequenceNumber":0,"MessageType":"ua-deltaframe",'
+    print('{"MessageType":"ua-data","PublisherId":"5","Messages":[{"DataSetWriterId":3,"SequenceNumber":0,"MessageType":'
+          '"ua-deltaframe","Payload":{"c":300,"c":7}},{"DataSetWriterId":3,"SequenceNumber":0,"MessageType":"ua-deltaframe",'
           '"Payload":{"c":7,"c":300}}]}')
 
 
 def main():
-    print("# Messages in the JSON mapping, read for two data sets and written again. Made by models/json/cases.py.")
-    for part in (kinds, frames, numbers, versions, quality, refusals): part()
+    print("# Messages in the JSON mapping, read for three data sets and written again. Made by models/json/cases.py.")
+    for part in (worked, kinds, frames, numbers, versions, quality, refusals): part()
     return 0
 
 

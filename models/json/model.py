@@ -6,13 +6,14 @@ usage: model.py < crates/json_rows/stdin     (prints what crates/json_rows/stdou
 import base64, json, math, re, sys
 
 # the data sets that the cases are read for: (name, kind, cap) of each field, and whether there are statuses
+DEMO = [(name, "UInt32", 0) for name in "abcd"]
 PLAIN = [("a", "Boolean", 0), ("b", "SByte", 0), ("c", "Byte", 0), ("d", "Int16", 0), ("e", "UInt16", 0), ("f", "Int32", 0),
          ("g", "UInt32", 0), ("h", "Int64", 0), ("i", "UInt64", 0), ("j", "Float", 0), ("k", "Double", 0), ("l", "String", 20),
          ("m", "DateTime", 0), ("n", "Guid", 0), ("o", "ByteString", 20), ("p", "StatusCode", 0)]
 MEASURED = [("zz", "Int32", 0), ("s", "String", 256), ("b0", "ByteString", 256), ("t", "Boolean", 0)]
-METAS = [(PLAIN, False), (MEASURED, True)]
+METAS = [(DEMO, False), (MEASURED, True), (PLAIN, False)]
 # the data set of each writer; of two pairs with one writer the first counts
-SETS = [(1, 0), (2, 1), (1, 1), (65535, 0)]
+SETS = [(1, 0), (2, 1), (3, 2), (1, 2), (65535, 0)]
 
 NUMBERS = {"SByte": (-128, 127), "Byte": (0, 255), "Int16": (-2**15, 2**15 - 1), "UInt16": (0, 2**16 - 1),
            "Int32": (-2**31, 2**31 - 1), "UInt32": (0, 2**32 - 1), "StatusCode": (0, 2**32 - 1)}
@@ -153,7 +154,7 @@ def read_part(element):
     return written
 
 
-def read(data):
+def read(data, number):
     try: message = parse(data)
     except Refused: return "NotJson"
     if not isinstance(message, dict) or message.get("MessageType") != "ua-data": return "NotData"
@@ -164,14 +165,18 @@ def read(data):
     for element in message["Messages"]:
         try: parts.append(read_part(element))
         except Bad: bad += 1
-    written = {"MessageId": "7", "MessageType": "ua-data", "PublisherId": publisher, "Messages": [p for p in parts if p]}
+    written = {"MessageId": str(number), "MessageType": "ua-data", "PublisherId": publisher, "Messages": [p for p in parts if p]}
     return f"bad {bad} " + json.dumps(written, ensure_ascii=False, separators=(",", ":"), sort_keys=True)
 
 
 def main():
+    number = 0
     for line in sys.stdin.buffer.read().decode("utf-8").split("\n")[:-1]:
-        if not line or line.startswith("#"): print(line)
-        else: print(f"{line} -> {read(bytes.fromhex(line[6:]) if line.startswith('bytes ') else line.encode())}")
+        if not line or line.startswith("#"):
+            print(line)
+            continue
+        print(f"{line} -> {read(bytes.fromhex(line[6:]) if line.startswith('bytes ') else line.encode(), number)}")
+        number += 1
 
 
 sys.stdout.reconfigure(encoding="utf-8", newline="\n")

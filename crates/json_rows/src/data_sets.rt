@@ -1,15 +1,18 @@
-//! The data sets of the cases: one with a field of each kind, one with statuses.
+//! The data sets of the cases: one with four numbers, one with statuses, one with a field of each kind.
 use dataset_meta::{Field, Meta, Name32};
 use std::alloc::{AllocError, Global};
 use ua_values::Kind;
 
-/// The metas of both.
+/// Their metas.
 pub fn all(alloc: Global) -> Result<Vec<Meta>, AllocError> {
     let mut metas = Vec::new(alloc);
-    if let Some(meta) = meta(of_each_kind(alloc)?, false) {
+    if let Some(meta) = meta(of_numbers(alloc)?, false) {
         metas.push(meta)?;
     }
     if let Some(meta) = meta(measured(alloc)?, true) {
+        metas.push(meta)?;
+    }
+    if let Some(meta) = meta(of_each_kind(alloc)?, false) {
         metas.push(meta)?;
     }
     Ok(metas)
@@ -17,6 +20,15 @@ pub fn all(alloc: Global) -> Result<Vec<Meta>, AllocError> {
 
 fn meta(fields: Vec<Field>, quality: bool) -> Option<Meta> {
     Meta::new(Name32::new(b"demo")?, fields, 1, 1, quality).ok()
+}
+
+fn of_numbers(alloc: Global) -> Result<Vec<Field>, AllocError> {
+    let mut fields = Vec::new(alloc);
+    add(&mut fields, "a", Kind::UInt32, 0)?;
+    add(&mut fields, "b", Kind::UInt32, 0)?;
+    add(&mut fields, "c", Kind::UInt32, 0)?;
+    add(&mut fields, "d", Kind::UInt32, 0)?;
+    Ok(fields)
 }
 
 fn of_each_kind(alloc: Global) -> Result<Vec<Field>, AllocError> {

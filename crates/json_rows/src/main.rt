@@ -1,7 +1,7 @@
-//! Messages in the JSON mapping, one a line. Each is read for two data sets, and what is read of it is written again as a
-//! message with the id 7. Each line is printed again, with the answer behind ` -> `: the number of elements that gave no
-//! frame and the message, or why none is read. Behind a word `bytes` a line has its bytes in hexadecimal digits. Lines
-//! that begin with `#`, and empty ones, are printed as they are.
+//! Messages in the JSON mapping, one a line. Each is read for three data sets, and what is read of it is written again,
+//! with the number of the case, from 0 on, as its id. Each line is printed again, with the answer behind ` -> `: the
+//! number of elements that gave no frame and the message, or why none is read. Behind a word `bytes` a line has its bytes
+//! in hexadecimal digits. Lines that begin with `#`, and empty ones, are no cases and printed as they are.
 #![tactic(auto)]
 
 ghost use Rattle.std.specs.List.{All};
@@ -16,6 +16,7 @@ use std::{io, str};
 
 fn main(rt: HostRuntime) -> io::Result<()> {
     let metas = data_sets::all(rt.alloc())?;
+    let mut id = 0u64;
     for line in rt.lines(rt.alloc()) {
         let line = line?;
         let text = line.as_str();
@@ -23,38 +24,44 @@ fn main(rt: HostRuntime) -> io::Result<()> {
             println!(rt; "{text}")?;
             continue;
         }
-        let answer = answer(rt.alloc(), &metas, text)?;
+        let answer = answer(rt.alloc(), &metas, id, text)?;
+        id = id.saturating_add(1);
         println!(rt; "{text} -> {answer}")?;
     }
     Ok(())
 }
 
-fn answer(alloc: Global, metas: &[Meta], line: &str) -> Result<String, AllocError> {
+fn answer(alloc: Global, metas: &[Meta], id: u64, line: &str) -> Result<String, AllocError> {
     let Some(digits) = line.strip_prefix("bytes ") else {
-        return told(alloc, metas, line.as_bytes());
+        return told(alloc, metas, id, line.as_bytes());
     };
     match hex::decode(alloc, digits) {
-        Ok(bytes) => told(alloc, metas, &bytes),
+        Ok(bytes) => told(alloc, metas, id, &bytes),
         Err(_) => format!(in alloc; "not a case"),
     }
 }
 
-fn told(alloc: Global, metas: &[Meta], bytes: &[u8]) -> Result<String, AllocError> {
-    if metas.len() < 2 {
+fn told(alloc: Global, metas: &[Meta], id: u64, bytes: &[u8]) -> Result<String, AllocError> {
+    if metas.len() < 3 {
         return format!(in alloc; "no data sets");
     }
-    match read_json(alloc, metas, &[(1, 0), (2, 1), (1, 1), (65535, 0)], bytes) {
-        Ok(read) => written(alloc, metas, read),
+    match read_json(
+        alloc,
+        metas,
+        &[(1, 0), (2, 1), (3, 2), (1, 2), (65535, 0)],
+        bytes,
+    ) {
+        Ok(read) => written(alloc, metas, id, read),
         Err(end) => format!(in alloc; "{end:?}"),
     }
 }
 
-fn written(alloc: Global, metas: &[Meta], read: JsonRead) -> Result<String, AllocError>
+fn written(alloc: Global, metas: &[Meta], id: u64, read: JsonRead) -> Result<String, AllocError>
     requires { All (IsPartOf metas.now) read.parts }
 {
     let bad = read.bad;
     let message = JsonMessage {
-        id: 7,
+        id,
         publisher: read.publisher,
         parts: read.parts,
     };
