@@ -24,7 +24,8 @@ use writer_group::{Datagrams, Group};
 pub fn publisher_of(alloc: Global, config: &Config, turns: u32) -> Result<Publisher, NoMemory>
     requires good { IsGood config.now }
     ensures holds { IfOk result (HoldPublisher config.now) }
-    ensures past { IfOk result (λ publisher. HavePast config.now config.now.dataset [] publisher.groups.items) }
+    ensures past { IfOk result
+        (λ publisher. HavePast config.now config.now.dataset [] publisher.groups.items) }
     ensures senders { IfOk result (λ publisher. HaveSent config.now [] publisher.senders.items) }
     ensures goes_on { IfOk result
         (λ publisher. MayAllGoOn config.now config.now.dataset turns publisher.groups.items) }

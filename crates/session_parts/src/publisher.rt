@@ -1,28 +1,21 @@
 //! The publishing side: senders, groups with their turns, and what came of their sends.
-ghost use Rattle.std.specs.Prelude.{◌≡◌, Some, None, ◌||◌, [], ◌≤◌, ◌<◌, ◌+◌, ◌∷◌, ℕ, List, Bool, IsTrue, IsSome, IfSome, length, map, slice_index_or, take, vec_len, true, false};
-ghost use Rattle.std.specs.List.{range_with_len};
+ghost use Rattle.std.specs.Prelude.{◌≡◌, Some, None, ◌||◌, [], ◌≤◌, ◌<◌, ℕ, List, Bool, IsTrue, IsSome, IfSome, length, slice_index_or, take, vec_len, true, false};
 ghost use Rattle.dataset_meta.specs.Metas.{MetaData};
 ghost use Rattle.ua_base.specs.Links.{KeepsLink};
 ghost use Rattle.pubsub_states.specs.Components.{IsAmong, counts_of};
-ghost use Rattle.pubsub_states.specs.Changes.{flags_in};
 ghost use Rattle.pubsub_states.specs.States.{state_of, is_operational};
 ghost use Rattle.pubsub_states.specs.declared.component.Component.TheVariants.{Group as GroupOf, Writer as WriterOf};
 ghost use Rattle.ps_config.specs.declared.parts.Config.{Config as ConfigValue};
-ghost use Rattle.writer_group.specs.Standing.{IsGood, IsGroup, IsMadeFor, IsReserved, AreSameBut, MayGoOn, datagrams_in, index_of, metas_for, writer_count};
+ghost use Rattle.writer_group.specs.Standing.{IsGood, IsMadeFor, IsReserved, MayGoOn, datagrams_in, index_of, writer_count, GoesOnRefreshed, IsRefreshed, IsStillMade};
 ghost use Rattle.writer_group.specs.Limits.{most_datagrams};
-ghost use Rattle.writer_group.specs.Turns.{GroupDeed, RefreshedWriter};
-ghost use Rattle.dataset_meta.specs.Rows.{cons_if};
 ghost use Rattle.ps_config.specs.declared.parts.GroupPart.{GroupPart as PartValue};
-ghost use Rattle.session_model.specs.Deeds.{Deed, RefreshedBelow, RefreshedSet, is_spent, is_writer_below, is_writer_of, refreshed_where, rekeyed, writer_indexes, writers_on, has_turn};
+ghost use Rattle.session_model.specs.Deeds.{Deed, RefreshedBelow, is_spent, rekeyed, writers_on, has_turn};
 ghost use Rattle.writer_group.specs.Parts.{group_at};
-ghost use Rattle.session_model.specs.Sends.{last_sends, sends_by};
-ghost use Rattle.session_parts.specs.Holding.{AreGroups, AreSameButSet, HoldPublisher, MayAllGoOn};
+ghost use Rattle.session_parts.specs.Holding.{AreGroups, HoldPublisher};
 ghost use Rattle.session_parts.specs.Standing.{HavePast, HaveSent};
-ghost use Rattle.session_parts.specs.Ticking.{TickData, ClearsSends, GoesOnAt, HasTurned, HaveBeenSent, IsAt, IsBefore, HasNoted, HasPassed, MayPassAll, begun, MayTurn, TakesTurn, KnowsSpent, TurnEach, IsToldOf, MayPass, NoneFailedFrom, OthersStay, Passes, TellsFaults, is_spent_by, now_of};
-ghost use Rattle.std.specs.Option.{option_map_or};
+ghost use Rattle.session_parts.specs.Refreshed.{AllGoOn, AllGoOnGrown, GoesOn, GoesOnGrown, HaveDone, HaveDoneIf, HaveRefreshedSet, IsRefreshedBelow, IsRefreshedIf, IsRefreshedOf, StaysMadeFor};
+ghost use Rattle.session_parts.specs.Ticking.{TickData, ClearsSends, IsBefore, HasNoted, MayPassAll, MayTurn, TakesTurn, KnowsSpent, TurnEach, MayPass, OthersStay, TellsFaults, is_spent_by, now_of, AllGoOnAfter, AreSent, AreWritersOn, GoesOnAfter, HasItsTurn, HasPart, HaveParts, IsAdvancedBy, IsSent, IsUnspent, is_changed_in, is_faulty};
 ghost use Rattle.message_guard.specs.Senders.{IsSender};
-ghost use Rattle.ps_config.specs.Headers.{mode_of};
-ghost use Rattle.writer_group.specs.Sealing.{advanced_by};
 ghost use Rattle.session_parts.specs.declared.sends.GroupSends.{GroupSends as SendsOf};
 
 use crate::sends::{GroupSends, LinkSends};
@@ -68,10 +61,11 @@ impl Publisher {
             → HavePast config.now metas (rekeyed config.now moment deeds) self.new.groups.items }
         ensures senders { (deeds : List Deed) → HaveSent config.now deeds self.old.senders.items
             → HaveSent config.now (rekeyed config.now moment deeds) self.new.senders.items }
-        ensures goes_on { (metas : List MetaData) (turns : ℕ)
-            → MayAllGoOn config.now metas turns self.old.groups.items
-            → MayAllGoOn config.now metas turns self.new.groups.items }
-        ensures rest { self.new ≡ record self.old { groups = self.new.groups; senders = self.new.senders } }
+        ensures goes_on { AllGoOn config.now self.old.groups.items self.new.groups.items }
+        ensures rest { self.new ≡ record self.old {
+          groups = self.new.groups;
+          senders = self.new.senders;
+        } }
     {
         let is_changed = self.turn_senders(moment);
         for g in 0..self.groups.len() {
@@ -98,12 +92,9 @@ impl Publisher {
         requires good { IsGood config.now }
         requires groups { AreGroups config.now self.old.groups.items }
         ensures groups { AreGroups config.now self.new.groups.items }
-        ensures past { (metas : List MetaData) (deeds : List Deed)
-            → HavePast config.now metas deeds self.old.groups.items
-            → HavePast config.now metas (cons_if is_new (RefreshedBelow (GroupOf group)) deeds) self.new.groups.items }
-        ensures goes_on { (metas : List MetaData) (turns : ℕ)
-            → MayAllGoOn config.now metas turns self.old.groups.items
-            → MayAllGoOn config.now metas turns self.new.groups.items }
+        ensures past { HaveDoneIf config.now is_new (RefreshedBelow (GroupOf group))
+            self.old.groups.items self.new.groups.items }
+        ensures goes_on { AllGoOn config.now self.old.groups.items self.new.groups.items }
         ensures rest { self.new ≡ record self.old { groups = self.new.groups } }
     {
         if !is_new {
@@ -117,12 +108,9 @@ impl Publisher {
         requires good { IsGood config.now }
         requires groups { AreGroups config.now self.old.groups.items }
         ensures groups { AreGroups config.now self.new.groups.items }
-        ensures past { (metas : List MetaData) (deeds : List Deed)
-            → HavePast config.now metas deeds self.old.groups.items
-            → HavePast config.now metas (RefreshedBelow component ∷ deeds) self.new.groups.items }
-        ensures goes_on { (metas : List MetaData) (turns : ℕ)
-            → MayAllGoOn config.now metas turns self.old.groups.items
-            → MayAllGoOn config.now metas turns self.new.groups.items }
+        ensures past { HaveDone config.now (RefreshedBelow component)
+            self.old.groups.items self.new.groups.items }
+        ensures goes_on { AllGoOn config.now self.old.groups.items self.new.groups.items }
         ensures rest { self.new ≡ record self.old { groups = self.new.groups } }
     {
         for g in 0..self.groups.len() {
@@ -140,14 +128,8 @@ impl Publisher {
         requires good { IsGood config.now }
         requires groups { AreGroups config.now self.old.groups.items }
         ensures groups { AreGroups config.now self.new.groups.items }
-        ensures past { (metas others : List MetaData) (deeds : List Deed)
-            → AreSameButSet set metas others
-            → HavePast config.now metas deeds self.old.groups.items
-            → HavePast config.now others (RefreshedSet set ∷ deeds) self.new.groups.items }
-        ensures goes_on { (metas others : List MetaData) (turns : ℕ)
-            → AreSameButSet set metas others
-            → MayAllGoOn config.now metas turns self.old.groups.items
-            → MayAllGoOn config.now others turns self.new.groups.items }
+        ensures past { HaveRefreshedSet config.now set self.old.groups.items self.new.groups.items }
+        ensures goes_on { AllGoOnGrown config.now set self.old.groups.items self.new.groups.items }
         ensures rest { self.new ≡ record self.old { groups = self.new.groups } }
     {
         for g in 0..self.groups.len() {
@@ -183,8 +165,7 @@ impl Publisher {
     fn has_fault(&self, group: &GroupPart, g: usize) -> bool
         requires within { g < vec_len self.now.sends }
         requires keyed { IfSome group.now.keygroup (λ k. k < length self.now.senders.items) }
-        ensures { (d : SendsOf) → result
-            ≡ (slice_index_or self.now.sends.items g d).is_failing || is_spent_by self.now.senders.items group.now.keygroup }
+        ensures { (d : SendsOf) → result ≡ is_faulty self.now group.now g d }
     {
         if self.sends[g].is_failing {
             return true;
@@ -208,11 +189,9 @@ impl Publisher {
         requires may { MayPassAll told.now self.old tree.old }
         ensures holds { HoldPublisher told.now.config.now self.new }
         ensures tree { tree.new.counts ≡ tree.old.counts }
-        ensures goes_on { (turns : ℕ) → MayAllGoOn told.now.config.now told.now.metas.now (turns + 1) self.old.groups.items
-            → MayAllGoOn told.now.config.now told.now.metas.now turns self.new.groups.items }
-        ensures passed { result ≡ Ticked.Done → (t : TickData) → IsToldOf t told.now → last_sends (begun t) ≡ []
-            → IsAt t (begun t) [] self.old tree.old
-            → HasPassed t (length told.now.config.now.group) self.new tree.new (L.told link.old) (L.told link.new) }
+        ensures goes_on { AllGoOnAfter told.now self.old self.new }
+        ensures passed { result ≡ Ticked.Done → HaveParts told.now self.old self.new tree.old tree.new
+            (L.told link.old) (L.told link.new) }
         ensures memory { result ≡ Ticked.Memory → IsTrue L.takes_memory }
         ensures link { KeepsLink L.opened_with L.faults link.old link.new }
     {
@@ -238,12 +217,10 @@ impl Publisher {
         ensures holds { HoldPublisher told.now.config.now self.new }
         ensures tree { tree.new.counts ≡ tree.old.counts }
         ensures spent { KnowsSpent told.now.config.now self.new.senders.items tree.new }
-        ensures goes_on { (turns : ℕ) → GoesOnAt told.now.config.now told.now.metas.now (turns + 1) g self.old.groups.items
-            → GoesOnAt told.now.config.now told.now.metas.now turns g self.new.groups.items }
+        ensures goes_on { GoesOnAfter told.now g self.old self.new }
         ensures others { OthersStay g self.old.groups.items self.new.groups.items }
-        ensures passes { result ≡ Ticked.Done → (t : TickData) (so_far : List Deed) (done : List Bool)
-            → IsToldOf t told.now → IsAt t so_far done self.old tree.old → NoneFailedFrom g so_far done
-            → Passes t g so_far done self.new tree.new (L.told link.old) (L.told link.new) }
+        ensures passes { result ≡ Ticked.Done → HasPart told.now g self.old self.new tree.old tree.new
+            (L.told link.old) (L.told link.new) }
         ensures memory { result ≡ Ticked.Memory → IsTrue L.takes_memory }
         ensures link { KeepsLink L.opened_with L.faults link.old link.new }
     {
@@ -259,7 +236,7 @@ impl Publisher {
     /// The group is Operational, and due or it is the closing tick.
     fn has_turn(&self, told: &Told<'_>, g: usize, tree: &Tree) -> bool
         requires may { MayPass told.now g self.now tree.now }
-        ensures unspent { IsTrue result → is_spent_by self.now.senders.items (group_at told.now.config.now g).keygroup ≡ false }
+        ensures unspent { IsTrue result → IsUnspent told.now g self.now }
         ensures has { (t : TickData) (so_far : List Deed) (done : List Bool)
             → IsBefore t g so_far done told.now self.now tree.now
             → result ≡ has_turn t.plan t.before (now_of t) t.closing so_far g }
@@ -274,12 +251,10 @@ impl Publisher {
     /// A turn of the group's Operational writers; how many datagrams it makes.
     fn turn(&mut self, told: &Told<'_>, g: usize, tree: &Tree) -> u32
         requires may { MayPass told.now g self.old tree.now }
-        requires unspent { is_spent_by self.old.senders.items (group_at told.now.config.now g).keygroup ≡ false }
-        ensures turned { (t : TickData) (so_far : List Deed) (done : List Bool)
-            → IsBefore t g so_far done told.now self.old tree.now → HasTurned t g so_far self.new }
+        requires unspent { IsUnspent told.now g self.old }
+        ensures turned { HasItsTurn told.now g self.old self.new tree.now }
         ensures holds { HoldPublisher told.now.config.now self.new }
-        ensures goes_on { (turns : ℕ) → GoesOnAt told.now.config.now told.now.metas.now (turns + 1) g self.old.groups.items
-            → GoesOnAt told.now.config.now told.now.metas.now turns g self.new.groups.items }
+        ensures goes_on { GoesOnAfter told.now g self.old self.new }
         ensures others { OthersStay g self.old.groups.items self.new.groups.items }
         ensures count { result ≡ length (datagrams_in self.new.out) }
         ensures few { result ≤ most_datagrams }
@@ -313,12 +288,15 @@ impl Publisher {
         requires group { g < vec_len self.old.sends }
         requires reserved { IsReserved self.old.out }
         requires count { count ≡ length (datagrams_in self.old.out) }
-        ensures sent { result ≡ Ticked.Done → (done : List Bool)
-            × HaveBeenSent (sends_by g (datagrams_in self.old.out)) done self.old self.new (L.told link.old) (L.told link.new) }
+        ensures sent { result ≡ Ticked.Done → AreSent g (datagrams_in self.old.out) self.old self.new
+            (L.told link.old) (L.told link.new) }
         ensures memory { result ≡ Ticked.Memory → IsTrue L.takes_memory }
         ensures link { KeepsLink L.opened_with L.faults link.old link.new }
         ensures count { vec_len self.new.sends ≡ vec_len self.old.sends }
-        ensures rest { self.new ≡ record self.old { sends = self.new.sends; link = self.new.link } }
+        ensures rest { self.new ≡ record self.old {
+          sends = self.new.sends;
+          link = self.new.link;
+        } }
     {
         for i in 0..count {
             match self.send_one(g, i, link) {
@@ -335,13 +313,16 @@ impl Publisher {
         requires group { g < vec_len self.old.sends }
         requires reserved { IsReserved self.old.out }
         requires index { i < length (datagrams_in self.old.out) }
-        ensures sent { result ≡ Ticked.Done → (is_done : Bool)
-            × HaveBeenSent (sends_by g (slice_index_or (datagrams_in self.old.out) i [] ∷ [])) (is_done ∷ []) self.old self.new
+        ensures sent { result ≡ Ticked.Done → IsSent g
+            (slice_index_or (datagrams_in self.old.out) i []) self.old self.new
             (L.told link.old) (L.told link.new) }
         ensures memory { result ≡ Ticked.Memory → IsTrue L.takes_memory }
         ensures link { KeepsLink L.opened_with L.faults link.old link.new }
         ensures count { vec_len self.new.sends ≡ vec_len self.old.sends }
-        ensures rest { self.new ≡ record self.old { sends = self.new.sends; link = self.new.link } }
+        ensures rest { self.new ≡ record self.old {
+          sends = self.new.sends;
+          link = self.new.link;
+        } }
     {
         match link.send(self.out.get(i)) {
             Sent::Done => self.note(g, true),
@@ -355,7 +336,10 @@ impl Publisher {
         ensures done { result ≡ Ticked.Done }
         ensures noted { HasNoted g is_done self.old self.new }
         ensures count { vec_len self.new.sends ≡ vec_len self.old.sends }
-        ensures rest { self.new ≡ record self.old { sends = self.new.sends; link = self.new.link } }
+        ensures rest { self.new ≡ record self.old {
+          sends = self.new.sends;
+          link = self.new.link;
+        } }
     {
         self.sends[g].note(is_done);
         self.link.note(is_done);
@@ -393,9 +377,10 @@ fn turn_secured(
 ) -> u32
     requires may { MayTurn told.now g on.now (Some sender.old) group.old }
     requires reserved { IsReserved out.old }
-    ensures turned { TakesTurn told.now g on.now (Some sender.old) result group.old group.new out.new }
+    ensures turned { TakesTurn told.now g on.now (Some sender.old) result
+        group.old group.new out.new }
     ensures few { result ≤ most_datagrams }
-    ensures sender { sender.new ≡ advanced_by (mode_of (group_at told.now.config.now g).security) sender.old result }
+    ensures sender { IsAdvancedBy told.now g result sender.old sender.new }
     ensures sender_is { IsSender sender.new }
 {
     group.tick(
@@ -414,8 +399,7 @@ fn turn_secured(
 fn writers_on(tree: &Tree, group: u8, count: usize) -> [bool; MOST_WRITERS]
     requires few { count ≤ 16 }
     requires there { (w : ℕ) → w < count → IsAmong tree.now.counts (WriterOf group w) }
-    ensures { take count result
-        ≡ map (λ w. is_operational (state_of (flags_in tree.now) (WriterOf group w))) (range_with_len 0 count) }
+    ensures { AreWritersOn tree.now group count (take count result) }
 {
     let mut on = [false; MOST_WRITERS];
     for w in 0..count {
@@ -429,7 +413,7 @@ fn writers_on(tree: &Tree, group: u8, count: usize) -> [bool; MOST_WRITERS]
 
 fn is_rekeyed(group: &GroupPart, is_changed: &[bool; 4]) -> bool
     requires { IfSome group.now.keygroup (λ k. k < 4) }
-    ensures { result ≡ option_map_or (λ k. slice_index_or is_changed.now k false) group.now.keygroup false }
+    ensures { result ≡ is_changed_in is_changed.now group.now.keygroup }
 {
     match group.keygroup {
         Some(k) => is_changed[usize::from(k)],
@@ -442,12 +426,9 @@ fn refresh_below(group: &mut Group, part: &GroupPart, g: u8, component: Componen
     requires few { length part.now.writer ≤ 16 }
     requires made { (config : ConfigValue) × IsMadeFor config part.now group.old }
     ensures index { index_of group.new ≡ index_of group.old }
-    ensures made { (config : ConfigValue) → IsMadeFor config part.now group.old → IsMadeFor config part.now group.new }
-    ensures stands { (metas : ℕ → MetaData) (past : List GroupDeed)
-        → IsGroup metas part.now past group.old
-        → IsGroup metas part.now (refreshed_where (is_writer_below component g) past (writer_indexes part.now)) group.new }
-    ensures goes_on { (metas : ℕ → MetaData) (turns : ℕ)
-        → MayGoOn metas part.now turns group.old → MayGoOn metas part.now turns group.new }
+    ensures made { StaysMadeFor part.now group.old group.new }
+    ensures stands { IsRefreshedBelow component g part.now group.old group.new }
+    ensures goes_on { GoesOn part.now group.old group.new }
 {
     for w in 0..part.writer.as_slice().len() {
         let writer = Component::Writer {
@@ -462,10 +443,8 @@ fn refresh_below(group: &mut Group, part: &GroupPart, g: u8, component: Componen
 fn refresh_if(group: &mut Group, writer: u8, is_below: bool)
     requires there { writer < writer_count group.old }
     ensures index { index_of group.new ≡ index_of group.old }
-    ensures made { (config : ConfigValue) (part : PartValue) → IsMadeFor config part group.old → IsMadeFor config part group.new }
-    ensures stands { (metas : ℕ → MetaData) (part : PartValue) (past : List GroupDeed)
-        → IsGroup metas part past group.old
-        → IsGroup metas part (cons_if is_below (RefreshedWriter writer) past) group.new }
+    ensures made { IsStillMade group.old group.new }
+    ensures stands { IsRefreshedIf is_below writer group.old group.new }
     ensures goes_on { (metas : ℕ → MetaData) (part : PartValue) (turns : ℕ)
         → MayGoOn metas part turns group.old → MayGoOn metas part turns group.new }
 {
@@ -480,14 +459,9 @@ fn refresh_set(group: &mut Group, part: &GroupPart, set: u8)
     requires few { length part.now.writer ≤ 16 }
     requires made { (config : ConfigValue) × IsMadeFor config part.now group.old }
     ensures index { index_of group.new ≡ index_of group.old }
-    ensures made { (config : ConfigValue) → IsMadeFor config part.now group.old → IsMadeFor config part.now group.new }
-    ensures stands { (metas others : List MetaData) (past : List GroupDeed) → AreSameButSet set metas others
-        → IsGroup (metas_for part.now metas) part.now past group.old
-        → IsGroup (metas_for part.now others) part.now
-        (refreshed_where (is_writer_of part.now set) past (writer_indexes part.now)) group.new }
-    ensures goes_on { (metas others : List MetaData) (turns : ℕ) → AreSameButSet set metas others
-        → MayGoOn (metas_for part.now metas) part.now turns group.old
-        → MayGoOn (metas_for part.now others) part.now turns group.new }
+    ensures made { StaysMadeFor part.now group.old group.new }
+    ensures stands { IsRefreshedOf set part.now group.old group.new }
+    ensures goes_on { GoesOnGrown set part.now group.old group.new }
 {
     for w in 0..part.writer.as_slice().len() {
         let is_of = part.writer.as_slice()[w].dataset == set;
@@ -499,14 +473,10 @@ fn refresh_set(group: &mut Group, part: &GroupPart, set: u8)
 fn refresh_grown(group: &mut Group, writer: u8, is_of: bool)
     requires there { writer < writer_count group.old }
     ensures index { index_of group.new ≡ index_of group.old }
-    ensures made { (config : ConfigValue) (part : PartValue) → IsMadeFor config part group.old → IsMadeFor config part group.new }
+    ensures made { IsStillMade group.old group.new }
     ensures kept { is_of ≡ false → group.new ≡ group.old }
-    ensures stands { is_of ≡ true → (metas others : ℕ → MetaData) (part : PartValue) (past : List GroupDeed)
-        → AreSameBut writer (length part.writer) metas others → IsGroup metas part past group.old
-        → IsGroup others part (RefreshedWriter writer ∷ past) group.new }
-    ensures goes_on { is_of ≡ true → (metas others : ℕ → MetaData) (part : PartValue) (turns : ℕ)
-        → AreSameBut writer (writer_count group.old) metas others → MayGoOn metas part turns group.old
-        → MayGoOn others part turns group.new }
+    ensures stands { is_of ≡ true → IsRefreshed writer group.old group.new }
+    ensures goes_on { is_of ≡ true → GoesOnRefreshed writer group.old group.new }
 {
     if is_of {
         group.refresh(writer);
