@@ -1,5 +1,6 @@
 -- A session within a pump: after some receives.
-use Rattle.std.specs.Prelude.{◌++◌, Option, ◌≡◌, ◌≢◌, ◌≤◌, ◌<◌, ◌+◌, ◌==◌, ℕ, Bool, false, List, [], ◌∷◌, length, count_by, true, if◌then◌else◌}
+use Rattle.std.specs.Prelude.{◌++◌, Option, ◌≡◌, ◌≢◌, ◌≤◌, ◌<◌, ◌+◌, ◌==◌, ℕ, Bool, false, List, [], ◌∷◌, length, map, count_by, true, if◌then◌else◌}
+use Rattle.std.specs.List.{range_with_len}
 use Rattle.ua_base.specs.Journal.{LinkState, Tells, Entry, Sent, SendFailed, Got, Empty, Long, ReceiveFailed}
 use Rattle.ps_config.specs.declared.parts.Config.{Config}
 use Rattle.ua_base.specs.Cause.{counted_if}
@@ -53,6 +54,14 @@ pub record HasSwitches (config : Config) (before : List Step) (tree : TreeValue)
 abbrev pub IsOperationalIn : TreeValue → Component → Type 0
 IsOperationalIn tree component = is_operational (state_of (flags_in tree) component) ≡ true
 
+-- the tree has so many readers of the read group with this index
+abbrev pub HasReaders : TreeValue → ℕ → ℕ → Type 0
+HasReaders tree r count = (i : ℕ) → i < count → IsAmong tree.counts (Reader r i)
+
+-- which of the first readers of the read group with this index the tree has as enabled
+abbrev pub AreReadersOn : TreeValue → ℕ → ℕ → List Bool → Type 0
+AreReadersOn tree r count on = on ≡ map (λ i. (flags_in tree (Reader r i)).enabled) (range_with_len 0 count)
+
 -- a read group may be handed a datagram
 pub record MayHand (config : Config) (tree : TreeValue) (r : ℕ) (subscriber : Subscriber) : Type 0 where
   pub good : IsGood config
@@ -70,6 +79,11 @@ abbrev pub Hands : Config → TreeValue → ℕ → ℕ → List ℕ → Subscri
 Hands config tree moment r datagram old new =
     (before : List Step) (befell : ℕ → List Event) → HasSwitches config before tree → moment ≡ moment_of before
     → HaveGot config befell old → HaveGot config (with_brought config before datagram r befell) new
+
+-- no receive is counted
+abbrev pub HasNoCounts : Receiving → Type 0
+HasNoCounts receiving =
+    (receiving.received ≡ 0) × (receiving.broken ≡ 0) × (receiving.long ≡ 0) × (receiving.limit ≡ 0)
 
 -- a receive more is counted
 pub record Counts (entry : Entry) (old new : Receiving) : Type 0 where

@@ -1,23 +1,18 @@
 //! The subscribing side: read groups, and what they made of what came.
-ghost use Rattle.std.specs.Prelude.{◌≡◌, ◌≤◌, ◌<◌, ◌∷◌, ℕ, List, length, map, take};
-ghost use Rattle.std.specs.List.{range_with_len};
+ghost use Rattle.std.specs.Prelude.{◌≡◌, ◌≤◌, ◌<◌, length, take};
 ghost use Rattle.pubsub_model.specs.declared.reading.Why.TheVariants.{Restarted};
 ghost use Rattle.pubsub_states.specs.Components.{IsAmong, counts_of};
 ghost use Rattle.pubsub_states.specs.Changes.{flags_in};
 ghost use Rattle.pubsub_states.specs.States.{state_of, is_operational};
 ghost use Rattle.pubsub_states.specs.declared.component.Component.TheVariants.{ReadGroup as ReadGroupOf, Reader as ReaderOf};
-ghost use Rattle.reader_group.specs.Groups.{index_of, reader_count, IsMadeOf, Stands as ReadingStands};
-ghost use Rattle.dataset_meta.specs.Rows.{cons_if};
-ghost use Rattle.reader_group.specs.Plain.{Event, Expired, Setting, Stopped, plain};
+ghost use Rattle.reader_group.specs.Groups.{index_of, reader_count, IsMadeOf};
 ghost use Rattle.reader_group.specs.Settings.{group_at as read_group_at};
 ghost use Rattle.ps_config.specs.declared.parts.Config.{Config as ConfigValue};
 ghost use Rattle.ua_base.specs.Journal.{Got};
 ghost use Rattle.writer_group.specs.Standing.{IsGood};
-ghost use Rattle.session_model.specs.Steps.{Step, moment_of};
-ghost use Rattle.session_model.specs.Events.{stopped_below};
 ghost use Rattle.session_parts.specs.Holding.{HoldSubscriber};
-ghost use Rattle.session_parts.specs.Standing.{HaveReadAll};
-ghost use Rattle.session_parts.specs.Pumping.{Hands, HasSwitches, HaveGot, IsOperationalIn, MayHand, TellsGroup, TellsReader, TellsReaders, brought};
+ghost use Rattle.session_parts.specs.Pumping.{Hands, IsOperationalIn, MayHand, TellsGroup, TellsReader, TellsReaders, HasReaders, AreReadersOn, HandsOn};
+ghost use Rattle.session_parts.specs.Befalling.{HaveExpired, HaveStoppedBelow, IsStoppedBelow, IsStoppedIf, StaysMadeOf, StillHold};
 
 use crate::tally::Tally;
 use ps_config::{Config, ReadGroupPart};
@@ -38,10 +33,8 @@ pub const MOST_READERS: usize = 16;
 impl Subscriber {
     /// Looks at all timers.
     pub fn expire(&mut self, moment: u64)
-        ensures holds { (config : ConfigValue) → HoldSubscriber config self.old → HoldSubscriber config self.new }
-        ensures read { (config : ConfigValue) (befell : ℕ → List Event) → HoldSubscriber config self.old
-            → HaveReadAll config befell self.old.groups.items
-            → HaveReadAll config (λ r. Expired moment ∷ befell r) self.new.groups.items }
+        ensures holds { StillHold self.old self.new }
+        ensures read { HaveExpired moment self.old self.new }
         ensures rest { self.new ≡ record self.old { groups = self.new.groups } }
     {
         for r in 0..self.groups.len() {
@@ -54,8 +47,7 @@ impl Subscriber {
         requires good { IsGood config.now }
         requires holds { HoldSubscriber config.now self.old }
         ensures holds { HoldSubscriber config.now self.new }
-        ensures read { (befell : ℕ → List Event) → HaveReadAll config.now befell self.old.groups.items
-            → HaveReadAll config.now (λ r. stopped_below config.now r component (befell r)) self.new.groups.items }
+        ensures read { HaveStoppedBelow config.now component self.old self.new }
         ensures rest { self.new ≡ record self.old { groups = self.new.groups } }
     {
         for r in 0..self.groups.len() {
@@ -96,9 +88,7 @@ impl Subscriber {
         requires tree { tree.now.counts ≡ counts_of config.now }
         requires copy { length copy.old ≡ length datagram.old }
         ensures holds { HoldSubscriber config.now self.new }
-        ensures got { (before : List Step) (befell : ℕ → List Event) → HasSwitches config.now before tree.now
-            → moment ≡ moment_of before → HaveGot config.now befell self.old
-            → HaveGot config.now (λ r. brought config.now before (Got datagram.old) r (befell r)) self.new }
+        ensures got { HandsOn config.now (Got datagram.old) tree.now moment self.old self.new }
     {
         let Some(last) = self.groups.len().checked_sub(1) else {
             return;
@@ -168,9 +158,8 @@ fn receives(tree: &Tree, read_group: u8) -> bool
 /// Whether each of so many readers of a read group is enabled.
 fn readers_on(tree: &Tree, read_group: u8, count: usize) -> [bool; MOST_READERS]
     requires few { count ≤ 16 }
-    requires there { (i : ℕ) → i < count → IsAmong tree.now.counts (ReaderOf read_group i) }
-    ensures { take count result
-        ≡ map (λ i. (flags_in tree.now (ReaderOf read_group i)).enabled) (range_with_len 0 count) }
+    requires there { HasReaders tree.now read_group count }
+    ensures { AreReadersOn tree.now read_group count (take count result) }
 {
     let mut on = [false; MOST_READERS];
     for i in 0..count {
@@ -186,10 +175,8 @@ fn stop_below(group: &mut ReaderGroup, part: &ReadGroupPart, r: u8, component: C
     requires made { (config : ConfigValue) × IsMadeOf config group.old }
     requires count { reader_count group.old ≡ length part.now.reader }
     ensures index { index_of group.new ≡ index_of group.old }
-    ensures made { (config : ConfigValue) → IsMadeOf config group.old → IsMadeOf config group.new }
-    ensures stands { (config : ConfigValue) (setting : Setting) (befell : List Event) → part.now ≡ read_group_at config r
-        → ReadingStands setting (plain setting befell) group.old
-        → ReadingStands setting (plain setting (stopped_below config r component befell)) group.new }
+    ensures made { StaysMadeOf group.old group.new }
+    ensures stands { IsStoppedBelow component r part.now group.old group.new }
 {
     for i in 0..part.reader.as_slice().len() {
         let reader = Component::Reader {
@@ -204,9 +191,8 @@ fn stop_below(group: &mut ReaderGroup, part: &ReadGroupPart, r: u8, component: C
 fn cut_if(group: &mut ReaderGroup, reader: u8, is_below: bool)
     requires there { reader < reader_count group.old }
     ensures index { index_of group.new ≡ index_of group.old }
-    ensures made { (config : ConfigValue) → IsMadeOf config group.old → IsMadeOf config group.new }
-    ensures stands { (setting : Setting) (befell : List Event) → ReadingStands setting (plain setting befell) group.old
-        → ReadingStands setting (plain setting (cons_if is_below (Stopped reader Restarted) befell)) group.new }
+    ensures made { StaysMadeOf group.old group.new }
+    ensures stands { IsStoppedIf is_below reader group.old group.new }
 {
     if is_below {
         group.cut(reader, Why::Restarted);
@@ -216,7 +202,7 @@ fn cut_if(group: &mut ReaderGroup, reader: u8, is_below: bool)
 fn tell_readers(group: &ReaderGroup, part: &ReadGroupPart, read_group: u8, tree: &mut Tree)
     requires few { length part.now.reader ≤ 16 }
     requires made { reader_count group.now ≡ length part.now.reader }
-    requires there { (i : ℕ) → i < length part.now.reader → IsAmong tree.old.counts (ReaderOf read_group i) }
+    requires there { HasReaders tree.old read_group (length part.now.reader) }
     ensures { TellsGroup group.now read_group (length part.now.reader) tree.old tree.new }
 {
     for i in 0..part.reader.as_slice().len() {
