@@ -26,13 +26,18 @@ use pubsub_states::{Component, Tree, ids_are_places_in_order};
 use ua_base::{Link, Sent, Ticked};
 use writer_group::{Datagrams, Group, Sampled};
 
-/// The groups of a configuration, the senders of its key groups, and the datagrams of the last turn.
+/// The publishing side of a configuration (OPC 10000-14 6.2.6, WriterGroup).
 #[derive(Drop)]
 pub struct Publisher {
+    /// Its groups, in its order.
     pub groups: Vec<Group>,
+    /// The senders of its key groups, in its order. Groups with one key group share its sender.
     pub senders: Vec<Sender>,
+    /// The datagrams of the last turn, of whichever group.
     pub out: Datagrams,
+    /// What came of the sends of each group.
     pub sends: Vec<GroupSends>,
+    /// What came of all sends.
     pub link: LinkSends,
 }
 
@@ -40,9 +45,13 @@ pub struct Publisher {
 #[derive(Clone, Copy)]
 pub struct Told<'a> {
     pub config: &'a Config,
+    /// The present meta of each data set.
     pub metas: &'a [Meta],
+    /// The row of each data set that was sampled for the tick.
     pub rows: &'a [Sampled],
+    /// The moment that the tick comes to, in milliseconds.
     pub moment: u64,
+    /// Whether it is the closing tick, in which each Operational group has its turn.
     pub closing: bool,
 }
 
@@ -50,7 +59,8 @@ pub struct Told<'a> {
 pub const MOST_WRITERS: usize = 16;
 
 impl Publisher {
-    /// Each sender turns to the moment. A changed token refreshes the writers of its groups.
+    /// Each sender turns to the moment, in milliseconds. A changed token refreshes the writers of its groups: the next frame
+    /// of each is a key frame.
     pub fn come_to(&mut self, config: &Config, moment: u64)
         requires good { IsGood config.now }
         requires holds { HoldPublisher config.now self.old }
@@ -87,7 +97,7 @@ impl Publisher {
         is_changed
     }
 
-    /// Where the token of a group is new its writers are refreshed.
+    /// Where the token of a group is new, its writers are refreshed.
     fn refresh_if(&mut self, config: &Config, group: u8, is_new: bool)
         requires good { IsGood config.now }
         requires groups { AreGroups config.now self.old.groups.items }
@@ -103,7 +113,7 @@ impl Publisher {
         self.refresh_below(config, Component::Group { group });
     }
 
-    /// The writers at or below a component are refreshed.
+    /// The writers at or below a component are refreshed: the next frame of each is a key frame.
     pub fn refresh_below(&mut self, config: &Config, component: Component)
         requires good { IsGood config.now }
         requires groups { AreGroups config.now self.old.groups.items }
@@ -123,7 +133,8 @@ impl Publisher {
         }
     }
 
-    /// The writers of a data set are refreshed, which may have grown.
+    /// The writers of the data set with this index are refreshed. Its meta may be another from now on, and the next frame
+    /// of each is a key frame.
     pub fn refresh_set(&mut self, config: &Config, set: u8)
         requires good { IsGood config.now }
         requires groups { AreGroups config.now self.old.groups.items }
@@ -137,7 +148,7 @@ impl Publisher {
         }
     }
 
-    /// No group has a failed send.
+    /// A tick begins: no group has a failed send. The counts stay.
     pub fn clear(&mut self)
         ensures sends { ClearsSends self.old.sends.items self.new.sends.items }
         ensures rest { self.new ≡ record self.old { sends = self.new.sends } }
@@ -147,7 +158,8 @@ impl Publisher {
         }
     }
 
-    /// Tells the tree which groups have a fault: those whose last send failed, and those whose sender is spent.
+    /// Tells the tree which groups have a fault (OPC 10000-14 6.2.1, PubSubState): those whose last send failed, and those
+    /// whose sender has less than 1,024 numbers left under its token.
     pub fn tell(&self, config: &Config, tree: &mut Tree)
         requires good { IsGood config.now }
         requires holds { HoldPublisher config.now self.now }
@@ -162,6 +174,7 @@ impl Publisher {
         }
     }
 
+    /// Whether the last send of a group failed, or its sender is spent.
     fn has_fault(&self, group: &GroupPart, g: usize) -> bool
         requires within { g < vec_len self.now.sends }
         requires keyed { IfSome group.now.keygroup (λ k. k < length self.now.senders.items) }
@@ -173,6 +186,7 @@ impl Publisher {
         self.is_spent(group)
     }
 
+    /// Whether a group is secured, and its sender has less than 1,024 numbers left under its token.
     fn is_spent(&self, group: &GroupPart) -> bool
         requires { IfSome group.now.keygroup (λ k. k < length self.now.senders.items) }
         ensures { result ≡ is_spent_by self.now.senders.items group.now.keygroup }
@@ -183,7 +197,8 @@ impl Publisher {
         }
     }
 
-    /// The parts of all groups in a tick, in order.
+    /// The parts of all groups in a tick, in order, once the senders came to its moment. Want of memory comes from a send of
+    /// the link alone, and ends the tick there: the groups behind have no turn.
     pub fn pass_all<L: Link>(&mut self, told: &Told<'_>, tree: &mut Tree, link: &mut L) -> Ticked
         requires open { IsSome (L.opened_with link.old) }
         requires may { MayPassAll told.now self.old tree.old }
@@ -204,7 +219,9 @@ impl Publisher {
         Ticked::Done
     }
 
-    /// The group's part of a tick: its turn, if it has one, with its sends.
+    /// The part of one group in a tick (OPC 10000-14 6.2.6, PublishingInterval): its turn, if it has one, and one send of each
+    /// datagram of it, in order; then the tree is told of faults. A send that fails is counted, and the next datagram is sent
+    /// all the same. Want of memory comes from a send of the link alone; the datagrams behind it aren't sent.
     pub fn pass<L: Link>(
         &mut self,
         told: &Told<'_>,
@@ -331,6 +348,7 @@ impl Publisher {
         }
     }
 
+    /// Counts a send of a group.
     fn note(&mut self, g: usize, is_done: bool) -> Ticked
         requires { g < vec_len self.old.sends }
         ensures done { result ≡ Ticked.Done }
@@ -411,6 +429,7 @@ fn writers_on(tree: &Tree, group: u8, count: usize) -> [bool; MOST_WRITERS]
     on
 }
 
+/// Whether a group is secured, and the token of its key group changed.
 fn is_rekeyed(group: &GroupPart, is_changed: &[bool; 4]) -> bool
     requires { IfSome group.now.keygroup (λ k. k < 4) }
     ensures { result ≡ is_changed_in is_changed.now group.now.keygroup }
@@ -454,7 +473,7 @@ fn refresh_if(group: &mut Group, writer: u8, is_below: bool)
     group.refresh(writer);
 }
 
-/// The writers of a data set are refreshed, which may have grown.
+/// The writers of a group that are of this data set are refreshed.
 fn refresh_set(group: &mut Group, part: &GroupPart, set: u8)
     requires few { length part.now.writer ≤ 16 }
     requires made { (config : ConfigValue) × IsMadeFor config part.now group.old }
@@ -483,6 +502,7 @@ fn refresh_grown(group: &mut Group, writer: u8, is_of: bool)
     }
 }
 
+/// The group with this index, as the configuration has it.
 pub fn group_part(config: &Config, g: usize) -> &GroupPart
     requires { g < length config.now.group }
     ensures { result.now ≡ group_at config.now g }

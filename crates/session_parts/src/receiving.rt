@@ -22,18 +22,23 @@ const BUFFER_BYTES: usize = 65_536;
 /// The most datagrams that a pump takes.
 const MOST_DATAGRAMS: u32 = 65_536;
 
-/// The datagram that came, the copy that a read group decrypts in place, and the counts of receives.
+/// The datagram that came, a copy for a read group to decrypt in place, and counts. A count stops at 2^64 - 1.
 #[derive(Drop)]
 pub struct Receiving {
     buffer: Vec<u8>,
     copy: Vec<u8>,
+    /// The datagrams that came whole.
     pub received: u64,
+    /// The receives that failed.
     pub broken: u64,
+    /// The datagrams of more than 65,536 bytes, which were dropped.
     pub long: u64,
+    /// The pumps that ended because they took 65,536 datagrams.
     pub limit: u64,
 }
 
 impl Receiving {
+    /// Room for the longest datagram, twice, and no receive counted. An error says that memory ran out.
     pub fn new(alloc: Global) -> Result<Receiving, NoMemory>
         ensures room { IfOk result HasBuffers }
         ensures counts { IfOk result HasNoCounts }
@@ -48,7 +53,9 @@ impl Receiving {
         })
     }
 
-    /// Receives until nothing waits, a receive fails, or 65,536 datagrams were taken.
+    /// Receives until nothing waits, a receive fails, or 65,536 datagrams were taken, those of more than 65,536 bytes included,
+    /// which are dropped. Each of the others is handed on to the Operational read groups at this moment, in milliseconds. The
+    /// answer is how many were taken, and whether the pump ended for that.
     pub fn pump<L: Link>(
         &mut self,
         config: &Config,
@@ -93,7 +100,7 @@ impl Receiving {
         }
     }
 
-    /// Whether a datagram was taken.
+    /// Receives once, counts it, and hands on what came. Whether a datagram was taken.
     fn receive<L: Link>(
         &mut self,
         config: &Config,
@@ -141,7 +148,7 @@ impl Receiving {
         link.receive(&mut self.buffer)
     }
 
-    /// A datagram of so many bytes came, which stands at the front of the buffer: it is counted, and handed on.
+    /// A datagram of so many bytes stands at the front of the buffer: it is counted, and handed on.
     fn hand_on(
         &mut self,
         config: &Config,

@@ -20,10 +20,12 @@ use pubsub_model::Why;
 use pubsub_states::{Component, Tree, ids_are_places_in_order};
 use reader_group::ReaderGroup;
 
-/// The read groups of a configuration.
+/// The subscribing side of a configuration (OPC 10000-14 6.2.8, ReaderGroup).
 #[derive(Drop)]
 pub struct Subscriber {
+    /// Its read groups, in its order.
     pub groups: Vec<ReaderGroup>,
+    /// What each of them answered to the datagrams that it was given.
     pub tallies: Vec<Tally>,
 }
 
@@ -31,7 +33,8 @@ pub struct Subscriber {
 pub const MOST_READERS: usize = 16;
 
 impl Subscriber {
-    /// Looks at all timers.
+    /// Looks at the timers of all readers at the moment, in milliseconds (OPC 10000-14, MessageReceiveTimeout): a reader whose
+    /// timer has run out is cut, is late, and isn't ready.
     pub fn expire(&mut self, moment: u64)
         ensures holds { StillHold self.old self.new }
         ensures read { HaveExpired moment self.old self.new }
@@ -42,7 +45,7 @@ impl Subscriber {
         }
     }
 
-    /// Cuts the readers at or below a component.
+    /// Cuts the readers at or below a component: each forgets its row and its last number.
     pub fn stop_below(&mut self, config: &Config, component: Component)
         requires good { IsGood config.now }
         requires holds { HoldSubscriber config.now self.old }
@@ -60,7 +63,7 @@ impl Subscriber {
         }
     }
 
-    /// Tells the tree which readers are late and which are ready.
+    /// Tells the tree which readers are late, as a fault, and which are ready (OPC 10000-14 6.2.1, PubSubState).
     pub fn tell(&self, config: &Config, tree: &mut Tree)
         requires good { IsGood config.now }
         requires holds { HoldSubscriber config.now self.now }
@@ -73,8 +76,8 @@ impl Subscriber {
         }
     }
 
-    /// Gives a datagram to each Operational read group. Opening decrypts in place, so each is given a copy but the last one,
-    /// which is given the datagram itself.
+    /// Gives a datagram to each Operational read group at the moment, in milliseconds, and counts the answer of each. Opening
+    /// decrypts in place, so each is given a copy but the last one, which is given the datagram itself: its bytes may change.
     pub fn hand_on(
         &mut self,
         config: &Config,
@@ -133,7 +136,7 @@ impl Subscriber {
         self.give(config, tree, moment, r, datagram);
     }
 
-    /// An Operational read group takes a datagram, and its answer is counted.
+    /// An Operational read group is given a datagram, and its answer is counted.
     fn give(&mut self, config: &Config, tree: &Tree, moment: u64, r: usize, datagram: &mut [u8])
         requires may { MayHand config.now tree.now r self.old }
         requires receives { IsOperationalIn tree.now (ReadGroupOf r) }
@@ -147,6 +150,7 @@ impl Subscriber {
     }
 }
 
+/// Whether a read group is Operational.
 fn receives(tree: &Tree, read_group: u8) -> bool
     requires { IsAmong tree.now.counts (ReadGroupOf read_group) }
     ensures { result ≡ is_operational (state_of (flags_in tree.now) (ReadGroupOf read_group)) }
@@ -199,6 +203,7 @@ fn cut_if(group: &mut ReaderGroup, reader: u8, is_below: bool)
     }
 }
 
+/// Tells the tree of each reader of a read group.
 fn tell_readers(group: &ReaderGroup, part: &ReadGroupPart, read_group: u8, tree: &mut Tree)
     requires few { length part.now.reader ≤ 16 }
     requires made { reader_count group.now ≡ length part.now.reader }
@@ -210,6 +215,7 @@ fn tell_readers(group: &ReaderGroup, part: &ReadGroupPart, read_group: u8, tree:
     }
 }
 
+/// Tells the tree whether a reader is late, and whether it is ready.
 fn tell_reader(group: &ReaderGroup, read_group: u8, reader: u8, tree: &mut Tree)
     requires within { reader < reader_count group.now }
     requires there { IsAmong tree.old.counts (ReaderOf read_group reader) }
@@ -223,6 +229,7 @@ fn tell_reader(group: &ReaderGroup, read_group: u8, reader: u8, tree: &mut Tree)
     tree.ready(id, group.is_ready(reader));
 }
 
+/// The read group with this index, as the configuration has it.
 pub fn read_group_part(config: &Config, r: usize) -> &ReadGroupPart
     requires { r < length config.now.readgroup }
     ensures { result.now ≡ read_group_at config.now r }
