@@ -1,5 +1,5 @@
 -- What refreshes of writers make of groups, whatever came before them.
-use Rattle.std.specs.Prelude.{◌≡◌, ℕ, List, ◌∷◌, Bool}
+use Rattle.std.specs.Prelude.{ℕ, List, ◌∷◌, Bool}
 use Rattle.dataset_meta.specs.Metas.{MetaData}
 use Rattle.dataset_meta.specs.Rows.{cons_if}
 use Rattle.ps_config.specs.declared.parts.Config.{Config}
