@@ -34,11 +34,12 @@ HaveStoppedBelow config component old new =
 
 -- ---- one read group
 
--- whichever configuration it was made of, it still is
+-- whichever configuration a read group was made of, it still is
 abbrev pub StaysMadeOf : ReaderGroup → ReaderGroup → Type 0
 StaysMadeOf old new = (config : Config) → IsMadeOf config old → IsMadeOf config new
 
--- the read group with this index, which the configuration has as this part, is where cuts of its readers at or below the component take its plain reading
+-- the read group with this index, which the configuration has as this part, is where cuts of its readers at or below the component
+-- take its plain reading
 abbrev pub IsStoppedBelow : Component → ℕ → ReadGroupPart → ReaderGroup → ReaderGroup → Type 0
 IsStoppedBelow component r part old new =
     (config : Config) (setting : Setting) (befell : List Event) → part ≡ group_at config r

@@ -140,7 +140,7 @@ pub record TellsReaders (config : Config) (subscriber : Subscriber) (old new : T
       → flags_in new (Reader r i) ≡ record { enabled = (flags_in old (Reader r i)).enabled; fault = late_at config befell r i; ready = ready_at config befell r i }
   pub others : (component : Component) → IsAmong old.counts component → is_reader component ≡ false → flags_in new component ≡ flags_in old component
 
--- of one reader
+-- the tree has whether this reader is late and whether it is ready; else it is as it was
 pub record TellsReader (group : ReaderGroup) (r i : ℕ) (old new : TreeValue) : Type 0 where
   pub counts : new.counts ≡ old.counts
   pub reader : (setting : Setting) (value : PlainGroup) → ReadingStands setting value group
@@ -148,7 +148,7 @@ pub record TellsReader (group : ReaderGroup) (r i : ℕ) (old new : TreeValue) :
       ≡ record { enabled = (flags_in old (Reader r i)).enabled; fault = (member_at value.members i).late; ready = (member_at value.members i).ready }
   pub others : (component : Component) → IsAmong old.counts component → component ≢ Reader r i → flags_in new component ≡ flags_in old component
 
--- of the first n readers of a read group
+-- the tree has which of the first n readers of a read group are late and which are ready; else it is as it was
 pub record TellsGroup (group : ReaderGroup) (r n : ℕ) (old new : TreeValue) : Type 0 where
   pub counts : new.counts ≡ old.counts
   pub readers : (i : ℕ) → i < n → (setting : Setting) (value : PlainGroup) → ReadingStands setting value group

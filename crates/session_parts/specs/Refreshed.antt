@@ -19,7 +19,8 @@ abbrev pub HaveDone : Config → Deed → List Group → List Group → Type 0
 HaveDone config deed old new =
     (metas : List MetaData) (deeds : List Deed) → HavePast config metas deeds old → HavePast config metas (deed ∷ deeds) new
 
--- with unchanged metas, the groups stand after one deed more where the truth value tells that it was done, and else where they stood
+-- with unchanged metas, the groups stand after one deed more where the truth value tells that it was done, and else where they
+-- stood
 abbrev pub HaveDoneIf : Config → Bool → Deed → List Group → List Group → Type 0
 HaveDoneIf config is_done deed old new =
     (metas : List MetaData) (deeds : List Deed) → HavePast config metas deeds old → HavePast config metas (cons_if is_done deed deeds) new
@@ -43,11 +44,12 @@ AllGoOnGrown config set old new =
 
 -- ---- one group
 
--- whichever configuration with this group it was made for, it still is
+-- whichever configuration with this part a group was made for, it still is
 abbrev pub StaysMadeFor : GroupPart → Group → Group → Type 0
 StaysMadeFor part old new = (config : Config) → IsMadeFor config part old → IsMadeFor config part new
 
--- with unchanged metas, the group stands after a refresh more of this writer where the truth value tells that it was refreshed, and else where it stood
+-- with unchanged metas, the group stands after a refresh more of this writer where the truth value tells of one, and else where
+-- it stood
 abbrev pub IsRefreshedIf : Bool → ℕ → Group → Group → Type 0
 IsRefreshedIf is_refreshed writer old new =
     (metas : ℕ → MetaData) (part : GroupPart) (past : List GroupDeed)

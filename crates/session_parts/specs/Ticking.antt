@@ -53,7 +53,7 @@ now_of t = moment_of t.before + t.ms
 abbrev pub begun : TickData → List Deed
 begun t = rekeyed t.plan.config (now_of t) (deeds t.plan t.before)
 
--- with the turn of one group more, if it has one
+-- these deeds, with the turn of one group more, if it has one
 abbrev pub turned : TickData → List Deed → ℕ → List Deed
 turned t so_far g = turned_on t.plan t.before (now_of t) t.closing t.samples so_far g
 
@@ -182,7 +182,7 @@ AllGoOnAfter told old new =
 abbrev pub OthersStay : ℕ → List GroupWords → List GroupWords → Type 0
 OthersStay g old new = (d : GroupWords) → new ≡ slice_set old g (slice_index_or new g d)
 
--- where there is none
+-- in the place of a sender that isn't there
 abbrev pub no_sender : SenderState
 no_sender = opening_sender no_keygroup
 
@@ -251,7 +251,7 @@ pub record MayTurn (told : Told) (g : ℕ) (on : List Bool) (sender : Option Sen
   pub index : index_of group ≡ g
   pub may : MayTick told.config.now told.metas.now told.rows.now on sender group (group_at told.config.now g)
 
--- and what it is
+-- what a turn of one group makes of the group and of the buffer of datagrams
 pub record TakesTurn (told : Told) (g : ℕ) (on : List Bool) (sender : Option SenderState) (count : ℕ) (old new : GroupWords) (out : Datagrams) : Type 0 where
   pub stands : (past : List GroupDeed) → IsGroup (metas_for (group_at told.config.now g) told.metas.now) (group_at told.config.now g) past old
       → HasTicked told.config.now (group_at told.config.now g) past (input_of told.moment told.closing told.metas.now told.rows.now on sender) new out
@@ -297,7 +297,7 @@ pub record HasPassed (t : TickData) (n : ℕ) (publisher : Publisher) (tree : Tr
   pub holds : (g : ℕ) → g < n → Holds t (deeds_to t g) g
   pub tells : TellsRun t.plan t.before told → TellsSoFar t (deeds_to t n) done after
 
--- what they ask for
+-- what the turns of all groups ask for
 pub record MayPassAll (told : Told) (publisher : Publisher) (tree : TreeValue) : Type 0 where
   pub good : IsGood told.config.now
   pub holds : HoldPublisher told.config.now publisher
