@@ -25,7 +25,7 @@ pub record AreGroups (config : Config) (groups : List Group) : Type 0 where
   pub count : length groups ≡ length config.group
   pub each : (g : ℕ) → g < length config.group → HoldsAt (IsGroupOf config g) groups g
 
--- each may go on with these metas for so many turns
+-- each group may go on with these metas for so many turns
 abbrev pub MayAllGoOn : Config → List MetaData → ℕ → List Group → Type 0
 MayAllGoOn config metas turns groups =
     (g : ℕ) → g < length config.group → HoldsAt (MayGoOn (metas_for (group_at config g) metas) (group_at config g) turns) groups g
@@ -59,6 +59,6 @@ pub record HasBuffers (receiving : Receiving) : Type 0 where
   pub buffer : vec_len receiving.buffer ≡ 65536
   pub copy : vec_len receiving.copy ≡ 65536
 
--- but for this data set they are the same
+-- the metas of the other data sets are as they were
 abbrev pub AreSameButSet : ℕ → List MetaData → List MetaData → Type 0
 AreSameButSet set metas others = (k : ℕ) → k ≢ set → meta_in others k ≡ meta_in metas k

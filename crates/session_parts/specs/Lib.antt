@@ -1,4 +1,6 @@
 pub mod Holding
 pub mod Standing
+pub mod Refreshed
 pub mod Ticking
 pub mod Pumping
+pub mod Befalling

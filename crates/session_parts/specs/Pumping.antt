@@ -1,5 +1,6 @@
 -- A session within a pump: after some receives.
-use Rattle.std.specs.Prelude.{◌++◌, Option, ◌≡◌, ◌≢◌, ◌≤◌, ◌<◌, ◌+◌, ◌==◌, ℕ, Bool, false, List, [], ◌∷◌, length, count_by, true, if◌then◌else◌}
+use Rattle.std.specs.Prelude.{◌++◌, Option, ◌≡◌, ◌≢◌, ◌≤◌, ◌<◌, ◌+◌, ◌==◌, ℕ, Bool, false, List, [], ◌∷◌, length, map, count_by, true, if◌then◌else◌}
+use Rattle.std.specs.List.{range_with_len}
 use Rattle.ua_base.specs.Journal.{LinkState, Tells, Entry, Sent, SendFailed, Got, Empty, Long, ReceiveFailed}
 use Rattle.ps_config.specs.declared.parts.Config.{Config}
 use Rattle.ua_base.specs.Cause.{counted_if}
@@ -53,6 +54,14 @@ pub record HasSwitches (config : Config) (before : List Step) (tree : TreeValue)
 abbrev pub IsOperationalIn : TreeValue → Component → Type 0
 IsOperationalIn tree component = is_operational (state_of (flags_in tree) component) ≡ true
 
+-- the tree has so many readers of the read group with this index
+abbrev pub HasReaders : TreeValue → ℕ → ℕ → Type 0
+HasReaders tree r count = (i : ℕ) → i < count → IsAmong tree.counts (Reader r i)
+
+-- which of the first readers of the read group with this index the tree has as enabled
+abbrev pub AreReadersOn : TreeValue → ℕ → ℕ → List Bool → Type 0
+AreReadersOn tree r count on = on ≡ map (λ i. (flags_in tree (Reader r i)).enabled) (range_with_len 0 count)
+
 -- a read group may be handed a datagram
 pub record MayHand (config : Config) (tree : TreeValue) (r : ℕ) (subscriber : Subscriber) : Type 0 where
   pub good : IsGood config
@@ -70,6 +79,11 @@ abbrev pub Hands : Config → TreeValue → ℕ → ℕ → List ℕ → Subscri
 Hands config tree moment r datagram old new =
     (before : List Step) (befell : ℕ → List Event) → HasSwitches config before tree → moment ≡ moment_of before
     → HaveGot config befell old → HaveGot config (with_brought config before datagram r befell) new
+
+-- no receive is counted
+abbrev pub HasNoCounts : Receiving → Type 0
+HasNoCounts receiving =
+    (receiving.received ≡ 0) × (receiving.broken ≡ 0) × (receiving.long ≡ 0) × (receiving.limit ≡ 0)
 
 -- a receive more is counted
 pub record Counts (entry : Entry) (old new : Receiving) : Type 0 where
@@ -126,7 +140,7 @@ pub record TellsReaders (config : Config) (subscriber : Subscriber) (old new : T
       → flags_in new (Reader r i) ≡ record { enabled = (flags_in old (Reader r i)).enabled; fault = late_at config befell r i; ready = ready_at config befell r i }
   pub others : (component : Component) → IsAmong old.counts component → is_reader component ≡ false → flags_in new component ≡ flags_in old component
 
--- of one reader
+-- the tree has whether this reader is late and whether it is ready; else it is as it was
 pub record TellsReader (group : ReaderGroup) (r i : ℕ) (old new : TreeValue) : Type 0 where
   pub counts : new.counts ≡ old.counts
   pub reader : (setting : Setting) (value : PlainGroup) → ReadingStands setting value group
@@ -134,7 +148,7 @@ pub record TellsReader (group : ReaderGroup) (r i : ℕ) (old new : TreeValue) :
       ≡ record { enabled = (flags_in old (Reader r i)).enabled; fault = (member_at value.members i).late; ready = (member_at value.members i).ready }
   pub others : (component : Component) → IsAmong old.counts component → component ≢ Reader r i → flags_in new component ≡ flags_in old component
 
--- of the first n readers of a read group
+-- the tree has which of the first n readers of a read group are late and which are ready; else it is as it was
 pub record TellsGroup (group : ReaderGroup) (r n : ℕ) (old new : TreeValue) : Type 0 where
   pub counts : new.counts ≡ old.counts
   pub readers : (i : ℕ) → i < n → (setting : Setting) (value : PlainGroup) → ReadingStands setting value group

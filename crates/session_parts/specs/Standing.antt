@@ -37,7 +37,7 @@ HavePast config metas deeds groups =
     (g : ℕ) → g < length config.group
     → HoldsAt (IsGroup (metas_for (group_at config g) metas) (group_at config g) (group_past config g deeds)) groups g
 
--- each sender
+-- each sender is where these deeds leave it
 abbrev pub HaveSent : Config → List Deed → List SenderState → Type 0
 HaveSent config deeds senders =
     (k : ℕ) → k < length config.keygroup → HoldsAt (λ sender. sender ≡ sender_after config k deeds) senders k

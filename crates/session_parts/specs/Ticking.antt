@@ -1,20 +1,25 @@
 -- A session within a tick: after its senders came to the moment, and after some groups had their turns.
-use Rattle.std.specs.Prelude.{◌≡◌, ◌≢◌, ℕ, ◌+◌, ◌<◌, ◌≤◌, ◌==◌, List, ◌∷◌, ◌++◌, length, zip, fold, count_by, Bool, true, false, not, ◌||◌, nat_lt, None, slice_set, if◌then◌else◌, Option, Some, slice_index_or}
-use Rattle.std.specs.List.{HoldsAt, AllZip}
+use Rattle.std.specs.Prelude.{◌≡◌, ◌≢◌, ℕ, ◌+◌, ◌<◌, ◌≤◌, ◌==◌, List, [], ◌∷◌, map, ◌++◌, length, zip, fold, count_by, Bool, true, false, not, ◌||◌, nat_lt, None, slice_set, if◌then◌else◌, Option, Some, slice_index_or}
+use Rattle.std.specs.List.{HoldsAt, AllZip, range_with_len}
+use Rattle.std.specs.Option.{option_map_or}
 use Rattle.dataset_meta.specs.Metas.{MetaData}
 use Rattle.row_words.specs.Belonging.{Belongs}
 use Rattle.message_guard.specs.Senders.{SenderState, numbers_left, turned as turned_to}
 use Rattle.ua_base.specs.Cause.{counted_if}
 use Rattle.ua_base.specs.Journal.{LinkState, Entry, Tells}
 use Rattle.ps_config.specs.declared.parts.Config.{Config}
+use Rattle.ps_config.specs.declared.parts.GroupPart.{GroupPart}
+use Rattle.ps_config.specs.Headers.{mode_of}
 use Rattle.pubsub_states.specs.declared.component.Component.{Component}
 use Rattle.pubsub_states.specs.declared.component.Component.TheVariants.{Root, Connection, Group, Writer, ReadGroup, Reader}
 use Rattle.pubsub_states.specs.declared.flags.Flags.{Flags}
 use Rattle.pubsub_states.specs.Components.{counts_of, IsAmong}
 use Rattle.pubsub_states.specs.Changes.{TreeValue, flags_in}
+use Rattle.pubsub_states.specs.States.{state_of, is_operational}
 use Rattle.writer_group.specs.declared.group.Group.{Group as GroupWords}
 use Rattle.writer_group.specs.Standing.{AreMetas, HasTicked, IsGood, IsGroup, IsMadeFor, IsReserved, MayGoOn, MayTick, datagrams_in, index_of, input_of, metas_for}
 use Rattle.writer_group.specs.declared.datagrams.Datagrams.{Datagrams}
+use Rattle.writer_group.specs.Sealing.{advanced_by}
 use Rattle.writer_group.specs.Turns.{GroupTurn, GroupDeed}
 use Rattle.writer_group.specs.declared.sampled.Sampled.{Sampled}
 use Rattle.session_model.specs.Steps.{Plan, Step, Tick, moment_of, is_on}
@@ -22,7 +27,7 @@ use Rattle.session_model.specs.Sets.{metas_at, rows_at}
 use Rattle.session_model.specs.Deeds.{Deed, TookTurn, deeds, group_past, opening_sender, turn_input, turn_of, rekeyed, turned_on, is_spent}
 use Rattle.writer_group.specs.Parts.{group_at}
 use Rattle.session_model.specs.Turns.{HoldsIfTurned, turned_to as turns_to}
-use Rattle.session_model.specs.Sends.{Send, TellsRun, last_sends, send_entries, is_done_by, last_failed, journal, sent_by}
+use Rattle.session_model.specs.Sends.{Send, TellsRun, last_sends, sends_by, send_entries, is_done_by, last_failed, journal, sent_by}
 use Rattle.session_model.specs.Events.{reader_at}
 use Rattle.session_model.specs.States.{is_ready}
 use Rattle.session_model.specs.Answers.{counted}
@@ -48,7 +53,7 @@ now_of t = moment_of t.before + t.ms
 abbrev pub begun : TickData → List Deed
 begun t = rekeyed t.plan.config (now_of t) (deeds t.plan t.before)
 
--- with the turn of one group more, if it has one
+-- these deeds, with the turn of one group more, if it has one
 abbrev pub turned : TickData → List Deed → ℕ → List Deed
 turned t so_far g = turned_on t.plan t.before (now_of t) t.closing t.samples so_far g
 
@@ -81,6 +86,15 @@ pub record HaveBeenSent (sends : List Send) (done : List Bool) (old new : Publis
   pub groups : (g : ℕ) → g < length old.sends.items → (d : GroupSends) → Noted (zip sends done) g (slice_index_or old.sends.items g d) (slice_index_or new.sends.items g d)
   pub link : (entries : List Entry) → AreSendsIn entries old.link → AreSendsIn (entries ++ send_entries sends done) new.link
   pub tells : Tells told after (λ x y. y.journal ≡ x.journal ++ send_entries sends done)
+
+-- datagrams of the group with this index were sent, each once, in order
+abbrev pub AreSent : ℕ → List (List ℕ) → Publisher → Publisher → Option LinkState → Option LinkState → Type 0
+AreSent g datagrams old new told after = (done : List Bool) × HaveBeenSent (sends_by g datagrams) done old new told after
+
+-- one datagram of the group with this index was sent
+abbrev pub IsSent : ℕ → List ℕ → Publisher → Publisher → Option LinkState → Option LinkState → Type 0
+IsSent g datagram old new told after =
+    (is_done : Bool) × HaveBeenSent (sends_by g (datagram ∷ [])) (is_done ∷ []) old new told after
 
 -- no group has a failed send any more
 pub record ClearsSends (old new : List GroupSends) : Type 0 where
@@ -140,17 +154,35 @@ pub record Passes (t : TickData) (g : ℕ) (so_far : List Deed) (done : List Boo
   pub none_failed : NoneFailedFrom (g + 1) (turned t so_far g) (done ++ more)
   pub tells : TellsSoFar t so_far done told → TellsSoFar t (turned t so_far g) (done ++ more) after
 
+-- from any moment of the tick at which the group's part is next, it passes
+abbrev pub HasPart : Told → ℕ → Publisher → Publisher → TreeValue → TreeValue → Option LinkState → Option LinkState → Type 0
+HasPart told g old new tree later link after =
+    (t : TickData) (so_far : List Deed) (done : List Bool) → IsToldOf t told → IsAt t so_far done old tree
+    → NoneFailedFrom g so_far done → Passes t g so_far done new later link after
+
 -- ---- what holds of a tick whatever came before
 
 -- the group with this index may go on for so many turns
 abbrev pub GoesOnAt : Config → List MetaData → ℕ → ℕ → List GroupWords → Type 0
 GoesOnAt config metas turns g groups = HoldsAt (MayGoOn (metas_for (group_at config g) metas) (group_at config g) turns) groups g
 
+-- the group with this index may go on for all but one of the turns that it could before
+abbrev pub GoesOnAfter : Told → ℕ → Publisher → Publisher → Type 0
+GoesOnAfter told g old new =
+    (turns : ℕ) → GoesOnAt told.config.now told.metas.now (turns + 1) g old.groups.items
+    → GoesOnAt told.config.now told.metas.now turns g new.groups.items
+
+-- each group may go on for all but one of the turns that it could before
+abbrev pub AllGoOnAfter : Told → Publisher → Publisher → Type 0
+AllGoOnAfter told old new =
+    (turns : ℕ) → MayAllGoOn told.config.now told.metas.now (turns + 1) old.groups.items
+    → MayAllGoOn told.config.now told.metas.now turns new.groups.items
+
 -- no other group changed
 abbrev pub OthersStay : ℕ → List GroupWords → List GroupWords → Type 0
 OthersStay g old new = (d : GroupWords) → new ≡ slice_set old g (slice_index_or new g d)
 
--- where there is none
+-- in the place of a sender that isn't there
 abbrev pub no_sender : SenderState
 no_sender = opening_sender no_keygroup
 
@@ -158,6 +190,19 @@ no_sender = opening_sender no_keygroup
 abbrev pub is_spent_by : List SenderState → Option ℕ → Bool
 is_spent_by senders None = false
 is_spent_by senders (Some k) = nat_lt (numbers_left (slice_index_or senders k no_sender)) 1024
+
+-- the last send of the group with this index failed, or its sender is spent
+abbrev pub is_faulty : Publisher → GroupPart → ℕ → GroupSends → Bool
+is_faulty publisher part g d =
+    (slice_index_or publisher.sends.items g d).is_failing || is_spent_by publisher.senders.items part.keygroup
+
+-- the sender of the group with this index, if it has one, isn't spent
+abbrev pub IsUnspent : Told → ℕ → Publisher → Type 0
+IsUnspent told g publisher = is_spent_by publisher.senders.items (group_at told.config.now g).keygroup ≡ false
+
+-- whether the token of this key group changed, of those that are told
+abbrev pub is_changed_in : List Bool → Option ℕ → Bool
+is_changed_in is_changed keygroup = option_map_or (λ k. slice_index_or is_changed k false) keygroup false
 
 -- the tree has a fault of each group whose sender is spent
 abbrev pub KnowsSpent : Config → List SenderState → TreeValue → Type 0
@@ -185,7 +230,7 @@ pub record MayPass (told : Told) (g : ℕ) (publisher : Publisher) (tree : TreeV
 -- the tree has each group's fault; nothing else of it changed
 pub record TellsFaults (config : Config) (publisher : Publisher) (old new : TreeValue) : Type 0 where
   pub groups : (g : ℕ) → g < length config.group → (d : GroupSends) → flags_in new (Group g)
-      ≡ record (flags_in old (Group g)) { fault = (slice_index_or publisher.sends.items g d).is_failing || is_spent_by publisher.senders.items (group_at config g).keygroup }
+      ≡ record (flags_in old (Group g)) { fault = is_faulty publisher (group_at config g) g d }
   pub others : (component : Component) → IsAmong old.counts component → ((g : ℕ) → component ≢ Group g) → flags_in new component ≡ flags_in old component
 
 -- ---- the parts of a group's turn
@@ -206,7 +251,7 @@ pub record MayTurn (told : Told) (g : ℕ) (on : List Bool) (sender : Option Sen
   pub index : index_of group ≡ g
   pub may : MayTick told.config.now told.metas.now told.rows.now on sender group (group_at told.config.now g)
 
--- and what it is
+-- what a turn of one group makes of the group and of the buffer of datagrams
 pub record TakesTurn (told : Told) (g : ℕ) (on : List Bool) (sender : Option SenderState) (count : ℕ) (old new : GroupWords) (out : Datagrams) : Type 0 where
   pub stands : (past : List GroupDeed) → IsGroup (metas_for (group_at told.config.now g) told.metas.now) (group_at told.config.now g) past old
       → HasTicked told.config.now (group_at told.config.now g) past (input_of told.moment told.closing told.metas.now told.rows.now on sender) new out
@@ -223,6 +268,21 @@ pub record HasTurned (t : TickData) (g : ℕ) (so_far : List Deed) (after : Publ
       (turn_input t.plan t.before (now_of t) t.closing t.samples so_far g) (slice_index_or after.groups.items g e) after.out
   pub senders : HaveSent t.plan.config (TookTurn g (turn_in t so_far g) ∷ so_far) after.senders.items
 
+-- in any moment of the tick at which the group may have its turn, it has it
+abbrev pub HasItsTurn : Told → ℕ → Publisher → Publisher → TreeValue → Type 0
+HasItsTurn told g old new tree =
+    (t : TickData) (so_far : List Deed) (done : List Bool)
+    → IsBefore t g so_far done told old tree → HasTurned t g so_far new
+
+-- the sender gave a front for each of so many datagrams of the group with this index
+abbrev pub IsAdvancedBy : Told → ℕ → ℕ → SenderState → SenderState → Type 0
+IsAdvancedBy told g count old new = new ≡ advanced_by (mode_of (group_at told.config.now g).security) old count
+
+-- which of the first writers of the group with this index the tree has as Operational
+abbrev pub AreWritersOn : TreeValue → ℕ → ℕ → List Bool → Type 0
+AreWritersOn tree g count on =
+    on ≡ map (λ w. is_operational (state_of (flags_in tree) (Writer g w))) (range_with_len 0 count)
+
 -- ---- the turns of all groups
 
 -- what the first n groups did
@@ -237,7 +297,7 @@ pub record HasPassed (t : TickData) (n : ℕ) (publisher : Publisher) (tree : Tr
   pub holds : (g : ℕ) → g < n → Holds t (deeds_to t g) g
   pub tells : TellsRun t.plan t.before told → TellsSoFar t (deeds_to t n) done after
 
--- what they ask for
+-- what the turns of all groups ask for
 pub record MayPassAll (told : Told) (publisher : Publisher) (tree : TreeValue) : Type 0 where
   pub good : IsGood told.config.now
   pub holds : HoldPublisher told.config.now publisher
@@ -246,3 +306,9 @@ pub record MayPassAll (told : Told) (publisher : Publisher) (tree : TreeValue) :
   pub goes_on : MayAllGoOn told.config.now told.metas.now 1 publisher.groups.items
   pub counts_are : tree.counts ≡ counts_of told.config.now
   pub spent : KnowsSpent told.config.now publisher.senders.items tree
+
+-- from the moment at which a tick began, the groups had their parts
+abbrev pub HaveParts : Told → Publisher → Publisher → TreeValue → TreeValue → Option LinkState → Option LinkState → Type 0
+HaveParts told old new tree later link after =
+    (t : TickData) → IsToldOf t told → last_sends (begun t) ≡ [] → IsAt t (begun t) [] old tree
+    → HasPassed t (length told.config.now.group) new later link after

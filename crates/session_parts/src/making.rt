@@ -20,11 +20,13 @@ use std::alloc::Global;
 use ua_base::NoMemory;
 use writer_group::{Datagrams, Group};
 
-/// The groups before their first turns, with room for so many.
+/// The groups of a configuration before their first turns, with room in their logs for so many turns each, the senders of
+/// its key groups before their first datagrams, and no send counted. An error says that memory ran out.
 pub fn publisher_of(alloc: Global, config: &Config, turns: u32) -> Result<Publisher, NoMemory>
     requires good { IsGood config.now }
     ensures holds { IfOk result (HoldPublisher config.now) }
-    ensures past { IfOk result (λ publisher. HavePast config.now config.now.dataset [] publisher.groups.items) }
+    ensures past { IfOk result
+        (λ publisher. HavePast config.now config.now.dataset [] publisher.groups.items) }
     ensures senders { IfOk result (λ publisher. HaveSent config.now [] publisher.senders.items) }
     ensures goes_on { IfOk result
         (λ publisher. MayAllGoOn config.now config.now.dataset turns publisher.groups.items) }
@@ -43,6 +45,7 @@ pub fn publisher_of(alloc: Global, config: &Config, turns: u32) -> Result<Publis
     })
 }
 
+/// The groups, in the configuration's order.
 fn groups_of(alloc: Global, config: &Config, turns: u32) -> Result<Vec<Group>, NoMemory>
     requires good { IsGood config.now }
     ensures groups { IfOk result (λ groups. AreGroups config.now groups.items) }
@@ -57,6 +60,7 @@ fn groups_of(alloc: Global, config: &Config, turns: u32) -> Result<Vec<Group>, N
     Ok(groups)
 }
 
+/// A sender for each key group, in the configuration's order.
 fn senders_of(alloc: Global, keygroups: &[KeyGroupPart]) -> Result<Vec<Sender>, NoMemory>
     requires { All IsKeyGroup keygroups.now }
     ensures senders { IfOk result (λ senders. senders.items ≡ map opening_sender keygroups.now) }
@@ -69,6 +73,7 @@ fn senders_of(alloc: Global, keygroups: &[KeyGroupPart]) -> Result<Vec<Sender>, 
     Ok(senders)
 }
 
+/// The sender that begins with the first key of a key group.
 fn sender_of(keygroup: &KeyGroupPart) -> Sender
     requires { IsKeyGroup keygroup.now }
     ensures opening { result ≡ opening_sender keygroup.now }
@@ -82,7 +87,7 @@ fn sender_of(keygroup: &KeyGroupPart) -> Sender
     )
 }
 
-/// The read groups before anything.
+/// The read groups of a configuration before any datagram, with tallies of none. An error says that memory ran out.
 pub fn subscriber_of(alloc: Global, config: &Config) -> Result<Subscriber, NoMemory>
     requires good { IsGood config.now }
     ensures holds { IfOk result (HoldSubscriber config.now) }
@@ -96,6 +101,7 @@ pub fn subscriber_of(alloc: Global, config: &Config) -> Result<Subscriber, NoMem
     Ok(Subscriber { groups, tallies })
 }
 
+/// The read groups, in the configuration's order.
 fn read_groups_of(alloc: Global, config: &Config) -> Result<Vec<ReaderGroup>, NoMemory>
     requires good { IsGood config.now }
     ensures groups { IfOk result (λ groups. AreReadGroups config.now groups.items) }

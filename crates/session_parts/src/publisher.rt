@@ -1,28 +1,21 @@
 //! The publishing side: senders, groups with their turns, and what came of their sends.
-ghost use Rattle.std.specs.Prelude.{◌≡◌, Some, None, ◌||◌, [], ◌≤◌, ◌<◌, ◌+◌, ◌∷◌, ℕ, List, Bool, IsTrue, IsSome, IfSome, length, map, slice_index_or, take, vec_len, true, false};
-ghost use Rattle.std.specs.List.{range_with_len};
+ghost use Rattle.std.specs.Prelude.{◌≡◌, Some, None, ◌||◌, [], ◌≤◌, ◌<◌, ℕ, List, Bool, IsTrue, IsSome, IfSome, length, slice_index_or, take, vec_len, true, false};
 ghost use Rattle.dataset_meta.specs.Metas.{MetaData};
 ghost use Rattle.ua_base.specs.Links.{KeepsLink};
 ghost use Rattle.pubsub_states.specs.Components.{IsAmong, counts_of};
-ghost use Rattle.pubsub_states.specs.Changes.{flags_in};
 ghost use Rattle.pubsub_states.specs.States.{state_of, is_operational};
 ghost use Rattle.pubsub_states.specs.declared.component.Component.TheVariants.{Group as GroupOf, Writer as WriterOf};
 ghost use Rattle.ps_config.specs.declared.parts.Config.{Config as ConfigValue};
-ghost use Rattle.writer_group.specs.Standing.{IsGood, IsGroup, IsMadeFor, IsReserved, AreSameBut, MayGoOn, datagrams_in, index_of, metas_for, writer_count};
+ghost use Rattle.writer_group.specs.Standing.{IsGood, IsMadeFor, IsReserved, MayGoOn, datagrams_in, index_of, writer_count, GoesOnRefreshed, IsRefreshed, IsStillMade};
 ghost use Rattle.writer_group.specs.Limits.{most_datagrams};
-ghost use Rattle.writer_group.specs.Turns.{GroupDeed, RefreshedWriter};
-ghost use Rattle.dataset_meta.specs.Rows.{cons_if};
 ghost use Rattle.ps_config.specs.declared.parts.GroupPart.{GroupPart as PartValue};
-ghost use Rattle.session_model.specs.Deeds.{Deed, RefreshedBelow, RefreshedSet, is_spent, is_writer_below, is_writer_of, refreshed_where, rekeyed, writer_indexes, writers_on, has_turn};
+ghost use Rattle.session_model.specs.Deeds.{Deed, RefreshedBelow, is_spent, rekeyed, writers_on, has_turn};
 ghost use Rattle.writer_group.specs.Parts.{group_at};
-ghost use Rattle.session_model.specs.Sends.{last_sends, sends_by};
-ghost use Rattle.session_parts.specs.Holding.{AreGroups, AreSameButSet, HoldPublisher, MayAllGoOn};
+ghost use Rattle.session_parts.specs.Holding.{AreGroups, HoldPublisher};
 ghost use Rattle.session_parts.specs.Standing.{HavePast, HaveSent};
-ghost use Rattle.session_parts.specs.Ticking.{TickData, ClearsSends, GoesOnAt, HasTurned, HaveBeenSent, IsAt, IsBefore, HasNoted, HasPassed, MayPassAll, begun, MayTurn, TakesTurn, KnowsSpent, TurnEach, IsToldOf, MayPass, NoneFailedFrom, OthersStay, Passes, TellsFaults, is_spent_by, now_of};
-ghost use Rattle.std.specs.Option.{option_map_or};
+ghost use Rattle.session_parts.specs.Refreshed.{AllGoOn, AllGoOnGrown, GoesOn, GoesOnGrown, HaveDone, HaveDoneIf, HaveRefreshedSet, IsRefreshedBelow, IsRefreshedIf, IsRefreshedOf, StaysMadeFor};
+ghost use Rattle.session_parts.specs.Ticking.{TickData, ClearsSends, IsBefore, HasNoted, MayPassAll, MayTurn, TakesTurn, KnowsSpent, TurnEach, MayPass, OthersStay, TellsFaults, is_spent_by, now_of, AllGoOnAfter, AreSent, AreWritersOn, GoesOnAfter, HasItsTurn, HasPart, HaveParts, IsAdvancedBy, IsSent, IsUnspent, is_changed_in, is_faulty};
 ghost use Rattle.message_guard.specs.Senders.{IsSender};
-ghost use Rattle.ps_config.specs.Headers.{mode_of};
-ghost use Rattle.writer_group.specs.Sealing.{advanced_by};
 ghost use Rattle.session_parts.specs.declared.sends.GroupSends.{GroupSends as SendsOf};
 
 use crate::sends::{GroupSends, LinkSends};
@@ -33,13 +26,18 @@ use pubsub_states::{Component, Tree, ids_are_places_in_order};
 use ua_base::{Link, Sent, Ticked};
 use writer_group::{Datagrams, Group, Sampled};
 
-/// The groups of a configuration, the senders of its key groups, and the datagrams of the last turn.
+/// The publishing side of a configuration (OPC 10000-14 6.2.6, WriterGroup).
 #[derive(Drop)]
 pub struct Publisher {
+    /// Its groups, in its order.
     pub groups: Vec<Group>,
+    /// The senders of its key groups, in its order. Groups with one key group share its sender.
     pub senders: Vec<Sender>,
+    /// The datagrams of the last turn, of whichever group.
     pub out: Datagrams,
+    /// What came of the sends of each group.
     pub sends: Vec<GroupSends>,
+    /// What came of all sends.
     pub link: LinkSends,
 }
 
@@ -47,9 +45,13 @@ pub struct Publisher {
 #[derive(Clone, Copy)]
 pub struct Told<'a> {
     pub config: &'a Config,
+    /// The present meta of each data set.
     pub metas: &'a [Meta],
+    /// The row of each data set that was sampled for the tick.
     pub rows: &'a [Sampled],
+    /// The moment that the tick comes to, in milliseconds.
     pub moment: u64,
+    /// Whether it is the closing tick, in which each Operational group has its turn.
     pub closing: bool,
 }
 
@@ -57,7 +59,8 @@ pub struct Told<'a> {
 pub const MOST_WRITERS: usize = 16;
 
 impl Publisher {
-    /// Each sender turns to the moment. A changed token refreshes the writers of its groups.
+    /// Each sender turns to the moment, in milliseconds. A changed token refreshes the writers of its groups: the next frame
+    /// of each is a key frame.
     pub fn come_to(&mut self, config: &Config, moment: u64)
         requires good { IsGood config.now }
         requires holds { HoldPublisher config.now self.old }
@@ -68,10 +71,11 @@ impl Publisher {
             → HavePast config.now metas (rekeyed config.now moment deeds) self.new.groups.items }
         ensures senders { (deeds : List Deed) → HaveSent config.now deeds self.old.senders.items
             → HaveSent config.now (rekeyed config.now moment deeds) self.new.senders.items }
-        ensures goes_on { (metas : List MetaData) (turns : ℕ)
-            → MayAllGoOn config.now metas turns self.old.groups.items
-            → MayAllGoOn config.now metas turns self.new.groups.items }
-        ensures rest { self.new ≡ record self.old { groups = self.new.groups; senders = self.new.senders } }
+        ensures goes_on { AllGoOn config.now self.old.groups.items self.new.groups.items }
+        ensures rest { self.new ≡ record self.old {
+          groups = self.new.groups;
+          senders = self.new.senders;
+        } }
     {
         let is_changed = self.turn_senders(moment);
         for g in 0..self.groups.len() {
@@ -93,17 +97,14 @@ impl Publisher {
         is_changed
     }
 
-    /// Where the token of a group is new its writers are refreshed.
+    /// Where the token of a group is new, its writers are refreshed.
     fn refresh_if(&mut self, config: &Config, group: u8, is_new: bool)
         requires good { IsGood config.now }
         requires groups { AreGroups config.now self.old.groups.items }
         ensures groups { AreGroups config.now self.new.groups.items }
-        ensures past { (metas : List MetaData) (deeds : List Deed)
-            → HavePast config.now metas deeds self.old.groups.items
-            → HavePast config.now metas (cons_if is_new (RefreshedBelow (GroupOf group)) deeds) self.new.groups.items }
-        ensures goes_on { (metas : List MetaData) (turns : ℕ)
-            → MayAllGoOn config.now metas turns self.old.groups.items
-            → MayAllGoOn config.now metas turns self.new.groups.items }
+        ensures past { HaveDoneIf config.now is_new (RefreshedBelow (GroupOf group))
+            self.old.groups.items self.new.groups.items }
+        ensures goes_on { AllGoOn config.now self.old.groups.items self.new.groups.items }
         ensures rest { self.new ≡ record self.old { groups = self.new.groups } }
     {
         if !is_new {
@@ -112,17 +113,14 @@ impl Publisher {
         self.refresh_below(config, Component::Group { group });
     }
 
-    /// The writers at or below a component are refreshed.
+    /// The writers at or below a component are refreshed: the next frame of each is a key frame.
     pub fn refresh_below(&mut self, config: &Config, component: Component)
         requires good { IsGood config.now }
         requires groups { AreGroups config.now self.old.groups.items }
         ensures groups { AreGroups config.now self.new.groups.items }
-        ensures past { (metas : List MetaData) (deeds : List Deed)
-            → HavePast config.now metas deeds self.old.groups.items
-            → HavePast config.now metas (RefreshedBelow component ∷ deeds) self.new.groups.items }
-        ensures goes_on { (metas : List MetaData) (turns : ℕ)
-            → MayAllGoOn config.now metas turns self.old.groups.items
-            → MayAllGoOn config.now metas turns self.new.groups.items }
+        ensures past { HaveDone config.now (RefreshedBelow component)
+            self.old.groups.items self.new.groups.items }
+        ensures goes_on { AllGoOn config.now self.old.groups.items self.new.groups.items }
         ensures rest { self.new ≡ record self.old { groups = self.new.groups } }
     {
         for g in 0..self.groups.len() {
@@ -135,19 +133,14 @@ impl Publisher {
         }
     }
 
-    /// The writers of a data set are refreshed, which may have grown.
+    /// The writers of the data set with this index are refreshed. Its meta may be another from now on, and the next frame
+    /// of each is a key frame.
     pub fn refresh_set(&mut self, config: &Config, set: u8)
         requires good { IsGood config.now }
         requires groups { AreGroups config.now self.old.groups.items }
         ensures groups { AreGroups config.now self.new.groups.items }
-        ensures past { (metas others : List MetaData) (deeds : List Deed)
-            → AreSameButSet set metas others
-            → HavePast config.now metas deeds self.old.groups.items
-            → HavePast config.now others (RefreshedSet set ∷ deeds) self.new.groups.items }
-        ensures goes_on { (metas others : List MetaData) (turns : ℕ)
-            → AreSameButSet set metas others
-            → MayAllGoOn config.now metas turns self.old.groups.items
-            → MayAllGoOn config.now others turns self.new.groups.items }
+        ensures past { HaveRefreshedSet config.now set self.old.groups.items self.new.groups.items }
+        ensures goes_on { AllGoOnGrown config.now set self.old.groups.items self.new.groups.items }
         ensures rest { self.new ≡ record self.old { groups = self.new.groups } }
     {
         for g in 0..self.groups.len() {
@@ -155,7 +148,7 @@ impl Publisher {
         }
     }
 
-    /// No group has a failed send.
+    /// A tick begins: no group has a failed send. The counts stay.
     pub fn clear(&mut self)
         ensures sends { ClearsSends self.old.sends.items self.new.sends.items }
         ensures rest { self.new ≡ record self.old { sends = self.new.sends } }
@@ -165,7 +158,8 @@ impl Publisher {
         }
     }
 
-    /// Tells the tree which groups have a fault: those whose last send failed, and those whose sender is spent.
+    /// Tells the tree which groups have a fault (OPC 10000-14 6.2.1, PubSubState): those whose last send failed, and those
+    /// whose sender has less than 1,024 numbers left under its token.
     pub fn tell(&self, config: &Config, tree: &mut Tree)
         requires good { IsGood config.now }
         requires holds { HoldPublisher config.now self.now }
@@ -180,11 +174,11 @@ impl Publisher {
         }
     }
 
+    /// Whether the last send of a group failed, or its sender is spent.
     fn has_fault(&self, group: &GroupPart, g: usize) -> bool
         requires within { g < vec_len self.now.sends }
         requires keyed { IfSome group.now.keygroup (λ k. k < length self.now.senders.items) }
-        ensures { (d : SendsOf) → result
-            ≡ (slice_index_or self.now.sends.items g d).is_failing || is_spent_by self.now.senders.items group.now.keygroup }
+        ensures { (d : SendsOf) → result ≡ is_faulty self.now group.now g d }
     {
         if self.sends[g].is_failing {
             return true;
@@ -192,6 +186,7 @@ impl Publisher {
         self.is_spent(group)
     }
 
+    /// Whether a group is secured, and its sender has less than 1,024 numbers left under its token.
     fn is_spent(&self, group: &GroupPart) -> bool
         requires { IfSome group.now.keygroup (λ k. k < length self.now.senders.items) }
         ensures { result ≡ is_spent_by self.now.senders.items group.now.keygroup }
@@ -202,17 +197,16 @@ impl Publisher {
         }
     }
 
-    /// The parts of all groups in a tick, in order.
+    /// The parts of all groups in a tick, in order, once the senders came to its moment. Want of memory comes from a send of
+    /// the link alone, and ends the tick there: the groups behind have no turn.
     pub fn pass_all<L: Link>(&mut self, told: &Told<'_>, tree: &mut Tree, link: &mut L) -> Ticked
         requires open { IsSome (L.opened_with link.old) }
         requires may { MayPassAll told.now self.old tree.old }
         ensures holds { HoldPublisher told.now.config.now self.new }
         ensures tree { tree.new.counts ≡ tree.old.counts }
-        ensures goes_on { (turns : ℕ) → MayAllGoOn told.now.config.now told.now.metas.now (turns + 1) self.old.groups.items
-            → MayAllGoOn told.now.config.now told.now.metas.now turns self.new.groups.items }
-        ensures passed { result ≡ Ticked.Done → (t : TickData) → IsToldOf t told.now → last_sends (begun t) ≡ []
-            → IsAt t (begun t) [] self.old tree.old
-            → HasPassed t (length told.now.config.now.group) self.new tree.new (L.told link.old) (L.told link.new) }
+        ensures goes_on { AllGoOnAfter told.now self.old self.new }
+        ensures passed { result ≡ Ticked.Done → HaveParts told.now self.old self.new tree.old tree.new
+            (L.told link.old) (L.told link.new) }
         ensures memory { result ≡ Ticked.Memory → IsTrue L.takes_memory }
         ensures link { KeepsLink L.opened_with L.faults link.old link.new }
     {
@@ -225,7 +219,9 @@ impl Publisher {
         Ticked::Done
     }
 
-    /// The group's part of a tick: its turn, if it has one, with its sends.
+    /// The part of one group in a tick (OPC 10000-14 6.2.6, PublishingInterval): its turn, if it has one, and one send of each
+    /// datagram of it, in order; then the tree is told of faults. A send that fails is counted, and the next datagram is sent
+    /// all the same. Want of memory comes from a send of the link alone; the datagrams behind it aren't sent.
     pub fn pass<L: Link>(
         &mut self,
         told: &Told<'_>,
@@ -238,12 +234,10 @@ impl Publisher {
         ensures holds { HoldPublisher told.now.config.now self.new }
         ensures tree { tree.new.counts ≡ tree.old.counts }
         ensures spent { KnowsSpent told.now.config.now self.new.senders.items tree.new }
-        ensures goes_on { (turns : ℕ) → GoesOnAt told.now.config.now told.now.metas.now (turns + 1) g self.old.groups.items
-            → GoesOnAt told.now.config.now told.now.metas.now turns g self.new.groups.items }
+        ensures goes_on { GoesOnAfter told.now g self.old self.new }
         ensures others { OthersStay g self.old.groups.items self.new.groups.items }
-        ensures passes { result ≡ Ticked.Done → (t : TickData) (so_far : List Deed) (done : List Bool)
-            → IsToldOf t told.now → IsAt t so_far done self.old tree.old → NoneFailedFrom g so_far done
-            → Passes t g so_far done self.new tree.new (L.told link.old) (L.told link.new) }
+        ensures passes { result ≡ Ticked.Done → HasPart told.now g self.old self.new tree.old tree.new
+            (L.told link.old) (L.told link.new) }
         ensures memory { result ≡ Ticked.Memory → IsTrue L.takes_memory }
         ensures link { KeepsLink L.opened_with L.faults link.old link.new }
     {
@@ -259,7 +253,7 @@ impl Publisher {
     /// The group is Operational, and due or it is the closing tick.
     fn has_turn(&self, told: &Told<'_>, g: usize, tree: &Tree) -> bool
         requires may { MayPass told.now g self.now tree.now }
-        ensures unspent { IsTrue result → is_spent_by self.now.senders.items (group_at told.now.config.now g).keygroup ≡ false }
+        ensures unspent { IsTrue result → IsUnspent told.now g self.now }
         ensures has { (t : TickData) (so_far : List Deed) (done : List Bool)
             → IsBefore t g so_far done told.now self.now tree.now
             → result ≡ has_turn t.plan t.before (now_of t) t.closing so_far g }
@@ -274,12 +268,10 @@ impl Publisher {
     /// A turn of the group's Operational writers; how many datagrams it makes.
     fn turn(&mut self, told: &Told<'_>, g: usize, tree: &Tree) -> u32
         requires may { MayPass told.now g self.old tree.now }
-        requires unspent { is_spent_by self.old.senders.items (group_at told.now.config.now g).keygroup ≡ false }
-        ensures turned { (t : TickData) (so_far : List Deed) (done : List Bool)
-            → IsBefore t g so_far done told.now self.old tree.now → HasTurned t g so_far self.new }
+        requires unspent { IsUnspent told.now g self.old }
+        ensures turned { HasItsTurn told.now g self.old self.new tree.now }
         ensures holds { HoldPublisher told.now.config.now self.new }
-        ensures goes_on { (turns : ℕ) → GoesOnAt told.now.config.now told.now.metas.now (turns + 1) g self.old.groups.items
-            → GoesOnAt told.now.config.now told.now.metas.now turns g self.new.groups.items }
+        ensures goes_on { GoesOnAfter told.now g self.old self.new }
         ensures others { OthersStay g self.old.groups.items self.new.groups.items }
         ensures count { result ≡ length (datagrams_in self.new.out) }
         ensures few { result ≤ most_datagrams }
@@ -313,12 +305,15 @@ impl Publisher {
         requires group { g < vec_len self.old.sends }
         requires reserved { IsReserved self.old.out }
         requires count { count ≡ length (datagrams_in self.old.out) }
-        ensures sent { result ≡ Ticked.Done → (done : List Bool)
-            × HaveBeenSent (sends_by g (datagrams_in self.old.out)) done self.old self.new (L.told link.old) (L.told link.new) }
+        ensures sent { result ≡ Ticked.Done → AreSent g (datagrams_in self.old.out) self.old self.new
+            (L.told link.old) (L.told link.new) }
         ensures memory { result ≡ Ticked.Memory → IsTrue L.takes_memory }
         ensures link { KeepsLink L.opened_with L.faults link.old link.new }
         ensures count { vec_len self.new.sends ≡ vec_len self.old.sends }
-        ensures rest { self.new ≡ record self.old { sends = self.new.sends; link = self.new.link } }
+        ensures rest { self.new ≡ record self.old {
+          sends = self.new.sends;
+          link = self.new.link;
+        } }
     {
         for i in 0..count {
             match self.send_one(g, i, link) {
@@ -335,13 +330,16 @@ impl Publisher {
         requires group { g < vec_len self.old.sends }
         requires reserved { IsReserved self.old.out }
         requires index { i < length (datagrams_in self.old.out) }
-        ensures sent { result ≡ Ticked.Done → (is_done : Bool)
-            × HaveBeenSent (sends_by g (slice_index_or (datagrams_in self.old.out) i [] ∷ [])) (is_done ∷ []) self.old self.new
+        ensures sent { result ≡ Ticked.Done → IsSent g
+            (slice_index_or (datagrams_in self.old.out) i []) self.old self.new
             (L.told link.old) (L.told link.new) }
         ensures memory { result ≡ Ticked.Memory → IsTrue L.takes_memory }
         ensures link { KeepsLink L.opened_with L.faults link.old link.new }
         ensures count { vec_len self.new.sends ≡ vec_len self.old.sends }
-        ensures rest { self.new ≡ record self.old { sends = self.new.sends; link = self.new.link } }
+        ensures rest { self.new ≡ record self.old {
+          sends = self.new.sends;
+          link = self.new.link;
+        } }
     {
         match link.send(self.out.get(i)) {
             Sent::Done => self.note(g, true),
@@ -350,12 +348,16 @@ impl Publisher {
         }
     }
 
+    /// Counts a send of a group.
     fn note(&mut self, g: usize, is_done: bool) -> Ticked
         requires { g < vec_len self.old.sends }
         ensures done { result ≡ Ticked.Done }
         ensures noted { HasNoted g is_done self.old self.new }
         ensures count { vec_len self.new.sends ≡ vec_len self.old.sends }
-        ensures rest { self.new ≡ record self.old { sends = self.new.sends; link = self.new.link } }
+        ensures rest { self.new ≡ record self.old {
+          sends = self.new.sends;
+          link = self.new.link;
+        } }
     {
         self.sends[g].note(is_done);
         self.link.note(is_done);
@@ -393,9 +395,10 @@ fn turn_secured(
 ) -> u32
     requires may { MayTurn told.now g on.now (Some sender.old) group.old }
     requires reserved { IsReserved out.old }
-    ensures turned { TakesTurn told.now g on.now (Some sender.old) result group.old group.new out.new }
+    ensures turned { TakesTurn told.now g on.now (Some sender.old) result
+        group.old group.new out.new }
     ensures few { result ≤ most_datagrams }
-    ensures sender { sender.new ≡ advanced_by (mode_of (group_at told.now.config.now g).security) sender.old result }
+    ensures sender { IsAdvancedBy told.now g result sender.old sender.new }
     ensures sender_is { IsSender sender.new }
 {
     group.tick(
@@ -414,8 +417,7 @@ fn turn_secured(
 fn writers_on(tree: &Tree, group: u8, count: usize) -> [bool; MOST_WRITERS]
     requires few { count ≤ 16 }
     requires there { (w : ℕ) → w < count → IsAmong tree.now.counts (WriterOf group w) }
-    ensures { take count result
-        ≡ map (λ w. is_operational (state_of (flags_in tree.now) (WriterOf group w))) (range_with_len 0 count) }
+    ensures { AreWritersOn tree.now group count (take count result) }
 {
     let mut on = [false; MOST_WRITERS];
     for w in 0..count {
@@ -427,9 +429,10 @@ fn writers_on(tree: &Tree, group: u8, count: usize) -> [bool; MOST_WRITERS]
     on
 }
 
+/// Whether a group is secured, and the token of its key group changed.
 fn is_rekeyed(group: &GroupPart, is_changed: &[bool; 4]) -> bool
     requires { IfSome group.now.keygroup (λ k. k < 4) }
-    ensures { result ≡ option_map_or (λ k. slice_index_or is_changed.now k false) group.now.keygroup false }
+    ensures { result ≡ is_changed_in is_changed.now group.now.keygroup }
 {
     match group.keygroup {
         Some(k) => is_changed[usize::from(k)],
@@ -442,12 +445,9 @@ fn refresh_below(group: &mut Group, part: &GroupPart, g: u8, component: Componen
     requires few { length part.now.writer ≤ 16 }
     requires made { (config : ConfigValue) × IsMadeFor config part.now group.old }
     ensures index { index_of group.new ≡ index_of group.old }
-    ensures made { (config : ConfigValue) → IsMadeFor config part.now group.old → IsMadeFor config part.now group.new }
-    ensures stands { (metas : ℕ → MetaData) (past : List GroupDeed)
-        → IsGroup metas part.now past group.old
-        → IsGroup metas part.now (refreshed_where (is_writer_below component g) past (writer_indexes part.now)) group.new }
-    ensures goes_on { (metas : ℕ → MetaData) (turns : ℕ)
-        → MayGoOn metas part.now turns group.old → MayGoOn metas part.now turns group.new }
+    ensures made { StaysMadeFor part.now group.old group.new }
+    ensures stands { IsRefreshedBelow component g part.now group.old group.new }
+    ensures goes_on { GoesOn part.now group.old group.new }
 {
     for w in 0..part.writer.as_slice().len() {
         let writer = Component::Writer {
@@ -462,10 +462,8 @@ fn refresh_below(group: &mut Group, part: &GroupPart, g: u8, component: Componen
 fn refresh_if(group: &mut Group, writer: u8, is_below: bool)
     requires there { writer < writer_count group.old }
     ensures index { index_of group.new ≡ index_of group.old }
-    ensures made { (config : ConfigValue) (part : PartValue) → IsMadeFor config part group.old → IsMadeFor config part group.new }
-    ensures stands { (metas : ℕ → MetaData) (part : PartValue) (past : List GroupDeed)
-        → IsGroup metas part past group.old
-        → IsGroup metas part (cons_if is_below (RefreshedWriter writer) past) group.new }
+    ensures made { IsStillMade group.old group.new }
+    ensures stands { IsRefreshedIf is_below writer group.old group.new }
     ensures goes_on { (metas : ℕ → MetaData) (part : PartValue) (turns : ℕ)
         → MayGoOn metas part turns group.old → MayGoOn metas part turns group.new }
 {
@@ -475,19 +473,14 @@ fn refresh_if(group: &mut Group, writer: u8, is_below: bool)
     group.refresh(writer);
 }
 
-/// The writers of a data set are refreshed, which may have grown.
+/// The writers of a group that are of this data set are refreshed.
 fn refresh_set(group: &mut Group, part: &GroupPart, set: u8)
     requires few { length part.now.writer ≤ 16 }
     requires made { (config : ConfigValue) × IsMadeFor config part.now group.old }
     ensures index { index_of group.new ≡ index_of group.old }
-    ensures made { (config : ConfigValue) → IsMadeFor config part.now group.old → IsMadeFor config part.now group.new }
-    ensures stands { (metas others : List MetaData) (past : List GroupDeed) → AreSameButSet set metas others
-        → IsGroup (metas_for part.now metas) part.now past group.old
-        → IsGroup (metas_for part.now others) part.now
-        (refreshed_where (is_writer_of part.now set) past (writer_indexes part.now)) group.new }
-    ensures goes_on { (metas others : List MetaData) (turns : ℕ) → AreSameButSet set metas others
-        → MayGoOn (metas_for part.now metas) part.now turns group.old
-        → MayGoOn (metas_for part.now others) part.now turns group.new }
+    ensures made { StaysMadeFor part.now group.old group.new }
+    ensures stands { IsRefreshedOf set part.now group.old group.new }
+    ensures goes_on { GoesOnGrown set part.now group.old group.new }
 {
     for w in 0..part.writer.as_slice().len() {
         let is_of = part.writer.as_slice()[w].dataset == set;
@@ -499,20 +492,17 @@ fn refresh_set(group: &mut Group, part: &GroupPart, set: u8)
 fn refresh_grown(group: &mut Group, writer: u8, is_of: bool)
     requires there { writer < writer_count group.old }
     ensures index { index_of group.new ≡ index_of group.old }
-    ensures made { (config : ConfigValue) (part : PartValue) → IsMadeFor config part group.old → IsMadeFor config part group.new }
+    ensures made { IsStillMade group.old group.new }
     ensures kept { is_of ≡ false → group.new ≡ group.old }
-    ensures stands { is_of ≡ true → (metas others : ℕ → MetaData) (part : PartValue) (past : List GroupDeed)
-        → AreSameBut writer (length part.writer) metas others → IsGroup metas part past group.old
-        → IsGroup others part (RefreshedWriter writer ∷ past) group.new }
-    ensures goes_on { is_of ≡ true → (metas others : ℕ → MetaData) (part : PartValue) (turns : ℕ)
-        → AreSameBut writer (writer_count group.old) metas others → MayGoOn metas part turns group.old
-        → MayGoOn others part turns group.new }
+    ensures stands { is_of ≡ true → IsRefreshed writer group.old group.new }
+    ensures goes_on { is_of ≡ true → GoesOnRefreshed writer group.old group.new }
 {
     if is_of {
         group.refresh(writer);
     }
 }
 
+/// The group with this index, as the configuration has it.
 pub fn group_part(config: &Config, g: usize) -> &GroupPart
     requires { g < length config.now.group }
     ensures { result.now ≡ group_at config.now g }

@@ -1,15 +1,14 @@
 //! Receives, and the counts of them.
-ghost use Rattle.std.specs.Prelude.{true, false, ◌≡◌, ◌<◌, ◌≤◌, ◌∷◌, ◌++◌, ◌↔◌, [], List, IsTrue, IsSome, IfOk, count_by, length, take};
+ghost use Rattle.std.specs.Prelude.{true, false, ◌≡◌, ◌<◌, ◌≤◌, ◌↔◌, IsTrue, IsSome, IfOk, length, take};
 ghost use Rattle.ua_base.specs.Cause.{counted_if};
 ghost use Rattle.ua_base.specs.Journal.{Got};
-ghost use Rattle.ua_base.specs.Journal.{Entry, Tells};
+ghost use Rattle.ua_base.specs.Journal.{Tells};
 ghost use Rattle.ua_base.specs.Links.{KeepsLink};
 ghost use Rattle.ua_base.specs.Net.{FitsBuffer, Receives as BringsInto};
 ghost use Rattle.pubsub_states.specs.Components.{counts_of};
 ghost use Rattle.writer_group.specs.Standing.{IsGood};
-ghost use Rattle.session_model.specs.Closing.{is_datagram};
 ghost use Rattle.session_parts.specs.Holding.{HasBuffers, HoldSubscriber};
-ghost use Rattle.session_parts.specs.Pumping.{Counts, HandsOn, PumpsTo, ReceivesOne};
+ghost use Rattle.session_parts.specs.Pumping.{Counts, HandsOn, PumpsTo, ReceivesOne, HasNoCounts};
 
 use crate::subscriber::Subscriber;
 use ps_config::Config;
@@ -23,21 +22,26 @@ const BUFFER_BYTES: usize = 65_536;
 /// The most datagrams that a pump takes.
 const MOST_DATAGRAMS: u32 = 65_536;
 
-/// The datagram that came, the copy that a read group decrypts in place, and the counts of receives.
+/// The datagram that came, a copy for a read group to decrypt in place, and counts. A count stops at 2^64 - 1.
 #[derive(Drop)]
 pub struct Receiving {
     buffer: Vec<u8>,
     copy: Vec<u8>,
+    /// The datagrams that came whole.
     pub received: u64,
+    /// The receives that failed.
     pub broken: u64,
+    /// The datagrams of more than 65,536 bytes, which were dropped.
     pub long: u64,
+    /// The pumps that ended because they took 65,536 datagrams.
     pub limit: u64,
 }
 
 impl Receiving {
+    /// Room for the longest datagram, twice, and no receive counted. An error says that memory ran out.
     pub fn new(alloc: Global) -> Result<Receiving, NoMemory>
         ensures room { IfOk result HasBuffers }
-        ensures counts { IfOk result (λ r. (r.received ≡ 0) × (r.broken ≡ 0) × (r.long ≡ 0) × (r.limit ≡ 0)) }
+        ensures counts { IfOk result HasNoCounts }
     {
         Ok(Receiving {
             buffer: vec![in alloc; 0u8; BUFFER_BYTES]?,
@@ -49,7 +53,9 @@ impl Receiving {
         })
     }
 
-    /// Receives until nothing waits, a receive fails, or 65,536 datagrams were taken.
+    /// Receives until nothing waits, a receive fails, or 65,536 datagrams were taken, those of more than 65,536 bytes included,
+    /// which are dropped. Each of the others is handed on to the Operational read groups at this moment, in milliseconds. The
+    /// answer is how many were taken, and whether the pump ended for that.
     pub fn pump<L: Link>(
         &mut self,
         config: &Config,
@@ -65,8 +71,8 @@ impl Receiving {
         requires room { HasBuffers self.old }
         ensures holds { HoldSubscriber config.now subscriber.new }
         ensures room { HasBuffers self.new }
-        ensures pumps { PumpsTo config.now tree.now moment result.taken self.old self.new subscriber.old subscriber.new
-            (L.told link.old) (L.told link.new) }
+        ensures pumps { PumpsTo config.now tree.now moment result.taken self.old self.new
+            subscriber.old subscriber.new (L.told link.old) (L.told link.new) }
         ensures limit { IsTrue result.limit ↔ (result.taken ≡ 65536) }
         ensures link { KeepsLink L.opened_with L.faults link.old link.new }
     {
@@ -94,7 +100,7 @@ impl Receiving {
         }
     }
 
-    /// Whether a datagram was taken.
+    /// Receives once, counts it, and hands on what came. Whether a datagram was taken.
     fn receive<L: Link>(
         &mut self,
         config: &Config,
@@ -110,8 +116,8 @@ impl Receiving {
         requires room { HasBuffers self.old }
         ensures holds { HoldSubscriber config.now subscriber.new }
         ensures room { HasBuffers self.new }
-        ensures receives { ReceivesOne config.now tree.now moment result self.old self.new subscriber.old subscriber.new
-            (L.told link.old) (L.told link.new) }
+        ensures receives { ReceivesOne config.now tree.now moment result self.old self.new
+            subscriber.old subscriber.new (L.told link.old) (L.told link.new) }
         ensures link { KeepsLink L.opened_with L.faults link.old link.new }
     {
         match self.take_in(link) {
@@ -132,7 +138,8 @@ impl Receiving {
     fn take_in<L: Link>(&mut self, link: &mut L) -> Received
         requires open { IsSome (L.opened_with link.old) }
         requires room { HasBuffers self.old }
-        ensures entry { Tells (L.told link.old) (L.told link.new) (BringsInto result self.new.buffer.items) }
+        ensures entry { Tells (L.told link.old) (L.told link.new)
+            (BringsInto result self.new.buffer.items) }
         ensures sizes { FitsBuffer result self.new.buffer.items }
         ensures room { HasBuffers self.new }
         ensures rest { self.new ≡ record self.old { buffer = self.new.buffer } }
@@ -141,7 +148,7 @@ impl Receiving {
         link.receive(&mut self.buffer)
     }
 
-    /// A datagram of so many bytes came, which stands at the front of the buffer: it is counted, and handed on.
+    /// A datagram of so many bytes stands at the front of the buffer: it is counted, and handed on.
     fn hand_on(
         &mut self,
         config: &Config,
@@ -159,7 +166,8 @@ impl Receiving {
         ensures holds { HoldSubscriber config.now subscriber.new }
         ensures room { HasBuffers self.new }
         ensures counts { Counts (Got (take end self.old.buffer.items)) self.old self.new }
-        ensures hands { HandsOn config.now (Got (take end self.old.buffer.items)) tree.now moment subscriber.old subscriber.new }
+        ensures hands { HandsOn config.now (Got (take end self.old.buffer.items)) tree.now moment
+            subscriber.old subscriber.new }
     {
         self.received = self.received.saturating_add(1);
         hand_front(
@@ -209,7 +217,8 @@ fn hand_front(
     requires buffer { end ≤ length buffer.old }
     requires copy { end ≤ length copy.old }
     ensures holds { HoldSubscriber config.now subscriber.new }
-    ensures hands { HandsOn config.now (Got (take end buffer.old)) tree.now moment subscriber.old subscriber.new }
+    ensures hands { HandsOn config.now (Got (take end buffer.old)) tree.now moment
+        subscriber.old subscriber.new }
 {
     subscriber.hand_on(config, tree, moment, &mut buffer[..end], &mut copy[..end]);
 }

@@ -1,9 +1,11 @@
 //! What came of sends.
 
-/// The datagrams of a group whose send was done, and whether the last of this tick failed.
+/// What came of the sends of a group.
 #[derive(Clone, Copy, Debug)]
 pub struct GroupSends {
+    /// Those that were done, up to 2^64 - 1.
     pub done: u64,
+    /// Whether the last of this tick failed.
     pub is_failing: bool,
 }
 
@@ -11,11 +13,13 @@ impl GroupSends {
     ghost use Rattle.std.specs.Prelude.{◌≡◌, not};
     ghost use Rattle.ua_base.specs.Cause.{counted_if};
 
+    /// Before any send.
     pub const NONE: GroupSends = GroupSends {
         done: 0,
         is_failing: false,
     };
 
+    /// One send more, done or failed: the group has a failed send exactly where this one failed.
     pub fn note(&mut self, is_done: bool)
         ensures done { self.new.done ≡ counted_if is_done self.old.done }
         ensures failing { self.new.is_failing ≡ not is_done }
@@ -27,10 +31,12 @@ impl GroupSends {
     }
 }
 
-/// All sends over the link.
+/// What came of all sends over the link. A count stops at 2^64 - 1.
 #[derive(Clone, Copy, Debug)]
 pub struct LinkSends {
+    /// Those that were done.
     pub done: u64,
+    /// Those that failed.
     pub failed: u64,
 }
 
@@ -38,8 +44,10 @@ impl LinkSends {
     ghost use Rattle.std.specs.Prelude.{◌≡◌, not};
     ghost use Rattle.ua_base.specs.Cause.{counted_if};
 
+    /// Before any send.
     pub const NONE: LinkSends = LinkSends { done: 0, failed: 0 };
 
+    /// One send more, done or failed.
     pub fn note(&mut self, is_done: bool)
         ensures done { self.new.done ≡ counted_if is_done self.old.done }
         ensures failed { self.new.failed ≡ counted_if (not is_done) self.old.failed }

@@ -1,23 +1,18 @@
 //! The subscribing side: read groups, and what they made of what came.
-ghost use Rattle.std.specs.Prelude.{◌≡◌, ◌≤◌, ◌<◌, ◌∷◌, ℕ, List, length, map, take};
-ghost use Rattle.std.specs.List.{range_with_len};
+ghost use Rattle.std.specs.Prelude.{◌≡◌, ◌≤◌, ◌<◌, length, take};
 ghost use Rattle.pubsub_model.specs.declared.reading.Why.TheVariants.{Restarted};
 ghost use Rattle.pubsub_states.specs.Components.{IsAmong, counts_of};
 ghost use Rattle.pubsub_states.specs.Changes.{flags_in};
 ghost use Rattle.pubsub_states.specs.States.{state_of, is_operational};
 ghost use Rattle.pubsub_states.specs.declared.component.Component.TheVariants.{ReadGroup as ReadGroupOf, Reader as ReaderOf};
-ghost use Rattle.reader_group.specs.Groups.{index_of, reader_count, IsMadeOf, Stands as ReadingStands};
-ghost use Rattle.dataset_meta.specs.Rows.{cons_if};
-ghost use Rattle.reader_group.specs.Plain.{Event, Expired, Setting, Stopped, plain};
+ghost use Rattle.reader_group.specs.Groups.{index_of, reader_count, IsMadeOf};
 ghost use Rattle.reader_group.specs.Settings.{group_at as read_group_at};
 ghost use Rattle.ps_config.specs.declared.parts.Config.{Config as ConfigValue};
 ghost use Rattle.ua_base.specs.Journal.{Got};
 ghost use Rattle.writer_group.specs.Standing.{IsGood};
-ghost use Rattle.session_model.specs.Steps.{Step, moment_of};
-ghost use Rattle.session_model.specs.Events.{stopped_below};
 ghost use Rattle.session_parts.specs.Holding.{HoldSubscriber};
-ghost use Rattle.session_parts.specs.Standing.{HaveReadAll};
-ghost use Rattle.session_parts.specs.Pumping.{Hands, HasSwitches, HaveGot, IsOperationalIn, MayHand, TellsGroup, TellsReader, TellsReaders, brought};
+ghost use Rattle.session_parts.specs.Pumping.{Hands, IsOperationalIn, MayHand, TellsGroup, TellsReader, TellsReaders, HasReaders, AreReadersOn, HandsOn};
+ghost use Rattle.session_parts.specs.Befalling.{HaveExpired, HaveStoppedBelow, IsStoppedBelow, IsStoppedIf, StaysMadeOf, StillHold};
 
 use crate::tally::Tally;
 use ps_config::{Config, ReadGroupPart};
@@ -25,10 +20,12 @@ use pubsub_model::Why;
 use pubsub_states::{Component, Tree, ids_are_places_in_order};
 use reader_group::ReaderGroup;
 
-/// The read groups of a configuration.
+/// The subscribing side of a configuration (OPC 10000-14 6.2.8, ReaderGroup).
 #[derive(Drop)]
 pub struct Subscriber {
+    /// Its read groups, in its order.
     pub groups: Vec<ReaderGroup>,
+    /// What each of them answered to the datagrams that it was given.
     pub tallies: Vec<Tally>,
 }
 
@@ -36,12 +33,11 @@ pub struct Subscriber {
 pub const MOST_READERS: usize = 16;
 
 impl Subscriber {
-    /// Looks at all timers.
+    /// Looks at the timers of all readers at the moment, in milliseconds (OPC 10000-14, MessageReceiveTimeout): a reader whose
+    /// timer has run out is cut, is late, and isn't ready.
     pub fn expire(&mut self, moment: u64)
-        ensures holds { (config : ConfigValue) → HoldSubscriber config self.old → HoldSubscriber config self.new }
-        ensures read { (config : ConfigValue) (befell : ℕ → List Event) → HoldSubscriber config self.old
-            → HaveReadAll config befell self.old.groups.items
-            → HaveReadAll config (λ r. Expired moment ∷ befell r) self.new.groups.items }
+        ensures holds { StillHold self.old self.new }
+        ensures read { HaveExpired moment self.old self.new }
         ensures rest { self.new ≡ record self.old { groups = self.new.groups } }
     {
         for r in 0..self.groups.len() {
@@ -49,13 +45,12 @@ impl Subscriber {
         }
     }
 
-    /// Cuts the readers at or below a component.
+    /// Cuts the readers at or below a component: each forgets its row and its last number.
     pub fn stop_below(&mut self, config: &Config, component: Component)
         requires good { IsGood config.now }
         requires holds { HoldSubscriber config.now self.old }
         ensures holds { HoldSubscriber config.now self.new }
-        ensures read { (befell : ℕ → List Event) → HaveReadAll config.now befell self.old.groups.items
-            → HaveReadAll config.now (λ r. stopped_below config.now r component (befell r)) self.new.groups.items }
+        ensures read { HaveStoppedBelow config.now component self.old self.new }
         ensures rest { self.new ≡ record self.old { groups = self.new.groups } }
     {
         for r in 0..self.groups.len() {
@@ -68,7 +63,7 @@ impl Subscriber {
         }
     }
 
-    /// Tells the tree which readers are late and which are ready.
+    /// Tells the tree which readers are late, as a fault, and which are ready (OPC 10000-14 6.2.1, PubSubState).
     pub fn tell(&self, config: &Config, tree: &mut Tree)
         requires good { IsGood config.now }
         requires holds { HoldSubscriber config.now self.now }
@@ -81,8 +76,8 @@ impl Subscriber {
         }
     }
 
-    /// Gives a datagram to each Operational read group. Opening decrypts in place, so each is given a copy but the last one,
-    /// which is given the datagram itself.
+    /// Gives a datagram to each Operational read group at the moment, in milliseconds, and counts the answer of each. Opening
+    /// decrypts in place, so each is given a copy but the last one, which is given the datagram itself: its bytes may change.
     pub fn hand_on(
         &mut self,
         config: &Config,
@@ -96,9 +91,7 @@ impl Subscriber {
         requires tree { tree.now.counts ≡ counts_of config.now }
         requires copy { length copy.old ≡ length datagram.old }
         ensures holds { HoldSubscriber config.now self.new }
-        ensures got { (before : List Step) (befell : ℕ → List Event) → HasSwitches config.now before tree.now
-            → moment ≡ moment_of before → HaveGot config.now befell self.old
-            → HaveGot config.now (λ r. brought config.now before (Got datagram.old) r (befell r)) self.new }
+        ensures got { HandsOn config.now (Got datagram.old) tree.now moment self.old self.new }
     {
         let Some(last) = self.groups.len().checked_sub(1) else {
             return;
@@ -143,7 +136,7 @@ impl Subscriber {
         self.give(config, tree, moment, r, datagram);
     }
 
-    /// An Operational read group takes a datagram, and its answer is counted.
+    /// An Operational read group is given a datagram, and its answer is counted.
     fn give(&mut self, config: &Config, tree: &Tree, moment: u64, r: usize, datagram: &mut [u8])
         requires may { MayHand config.now tree.now r self.old }
         requires receives { IsOperationalIn tree.now (ReadGroupOf r) }
@@ -157,6 +150,7 @@ impl Subscriber {
     }
 }
 
+/// Whether a read group is Operational.
 fn receives(tree: &Tree, read_group: u8) -> bool
     requires { IsAmong tree.now.counts (ReadGroupOf read_group) }
     ensures { result ≡ is_operational (state_of (flags_in tree.now) (ReadGroupOf read_group)) }
@@ -168,9 +162,8 @@ fn receives(tree: &Tree, read_group: u8) -> bool
 /// Whether each of so many readers of a read group is enabled.
 fn readers_on(tree: &Tree, read_group: u8, count: usize) -> [bool; MOST_READERS]
     requires few { count ≤ 16 }
-    requires there { (i : ℕ) → i < count → IsAmong tree.now.counts (ReaderOf read_group i) }
-    ensures { take count result
-        ≡ map (λ i. (flags_in tree.now (ReaderOf read_group i)).enabled) (range_with_len 0 count) }
+    requires there { HasReaders tree.now read_group count }
+    ensures { AreReadersOn tree.now read_group count (take count result) }
 {
     let mut on = [false; MOST_READERS];
     for i in 0..count {
@@ -186,10 +179,8 @@ fn stop_below(group: &mut ReaderGroup, part: &ReadGroupPart, r: u8, component: C
     requires made { (config : ConfigValue) × IsMadeOf config group.old }
     requires count { reader_count group.old ≡ length part.now.reader }
     ensures index { index_of group.new ≡ index_of group.old }
-    ensures made { (config : ConfigValue) → IsMadeOf config group.old → IsMadeOf config group.new }
-    ensures stands { (config : ConfigValue) (setting : Setting) (befell : List Event) → part.now ≡ read_group_at config r
-        → ReadingStands setting (plain setting befell) group.old
-        → ReadingStands setting (plain setting (stopped_below config r component befell)) group.new }
+    ensures made { StaysMadeOf group.old group.new }
+    ensures stands { IsStoppedBelow component r part.now group.old group.new }
 {
     for i in 0..part.reader.as_slice().len() {
         let reader = Component::Reader {
@@ -204,19 +195,19 @@ fn stop_below(group: &mut ReaderGroup, part: &ReadGroupPart, r: u8, component: C
 fn cut_if(group: &mut ReaderGroup, reader: u8, is_below: bool)
     requires there { reader < reader_count group.old }
     ensures index { index_of group.new ≡ index_of group.old }
-    ensures made { (config : ConfigValue) → IsMadeOf config group.old → IsMadeOf config group.new }
-    ensures stands { (setting : Setting) (befell : List Event) → ReadingStands setting (plain setting befell) group.old
-        → ReadingStands setting (plain setting (cons_if is_below (Stopped reader Restarted) befell)) group.new }
+    ensures made { StaysMadeOf group.old group.new }
+    ensures stands { IsStoppedIf is_below reader group.old group.new }
 {
     if is_below {
         group.cut(reader, Why::Restarted);
     }
 }
 
+/// Tells the tree of each reader of a read group.
 fn tell_readers(group: &ReaderGroup, part: &ReadGroupPart, read_group: u8, tree: &mut Tree)
     requires few { length part.now.reader ≤ 16 }
     requires made { reader_count group.now ≡ length part.now.reader }
-    requires there { (i : ℕ) → i < length part.now.reader → IsAmong tree.old.counts (ReaderOf read_group i) }
+    requires there { HasReaders tree.old read_group (length part.now.reader) }
     ensures { TellsGroup group.now read_group (length part.now.reader) tree.old tree.new }
 {
     for i in 0..part.reader.as_slice().len() {
@@ -224,6 +215,7 @@ fn tell_readers(group: &ReaderGroup, part: &ReadGroupPart, read_group: u8, tree:
     }
 }
 
+/// Tells the tree whether a reader is late, and whether it is ready.
 fn tell_reader(group: &ReaderGroup, read_group: u8, reader: u8, tree: &mut Tree)
     requires within { reader < reader_count group.now }
     requires there { IsAmong tree.old.counts (ReaderOf read_group reader) }
@@ -237,6 +229,7 @@ fn tell_reader(group: &ReaderGroup, read_group: u8, reader: u8, tree: &mut Tree)
     tree.ready(id, group.is_ready(reader));
 }
 
+/// The read group with this index, as the configuration has it.
 pub fn read_group_part(config: &Config, r: usize) -> &ReadGroupPart
     requires { r < length config.now.readgroup }
     ensures { result.now ≡ read_group_at config.now r }

@@ -6,10 +6,13 @@ use message_guard::OpenFault;
 use reader_group::{Refusal, Taken};
 use uadp_header::HeaderFault;
 
-/// How many datagrams a read group took, for each cause how many it refused, and last how many parts were bad.
+/// What a read group answered to the datagrams that it was given. A count stops at 2^64 - 1.
 #[derive(Clone, Copy, Debug)]
 pub struct Tally {
+    /// How many it took.
     pub taken: u64,
+    /// How many it refused for each of 19 causes, in the order of a report; and last, how many parts of those that it took
+    /// couldn't be read.
     pub causes: [u64; 20],
 }
 
@@ -22,12 +25,13 @@ impl Tally {
     ghost use Rattle.reader_group.specs.declared.refusal.Taken.{Taken};
     ghost use Rattle.session_parts.specs.Standing.{IsTallyOf};
 
+    /// Before any datagram.
     pub const NONE: Tally = Tally {
         taken: 0,
         causes: [0; 20],
     };
 
-    /// One datagram more.
+    /// Counts the answer to one datagram more: it was taken, with its bad parts, or refused for its cause.
     pub fn note(&mut self, answer: &Result<Taken, Refusal>)
         ensures { (answers : List (Result Taken Refusal)) → IsTallyOf answers self.old
             → IsTallyOf (answer.now ∷ answers) self.new }
@@ -41,6 +45,7 @@ impl Tally {
         }
     }
 
+    /// Counts so many more at a place, up to 2^64 - 1.
     fn count(&mut self, place: usize, more: u64)
         requires { place < 20 }
         ensures { self.new ≡ record self.old {
@@ -66,6 +71,7 @@ fn cause_of(refusal: &Refusal) -> usize
     }
 }
 
+/// The place of a header's fault in a report.
 fn header_cause(fault: HeaderFault) -> usize
     ensures place { result ≡ header_cause fault }
     ensures bound { result < 19 }
@@ -80,6 +86,7 @@ fn header_cause(fault: HeaderFault) -> usize
     }
 }
 
+/// The place of a guard's fault in a report.
 fn guard_cause(fault: OpenFault) -> usize
     ensures place { result ≡ guard_cause fault }
     ensures bound { result < 19 }
