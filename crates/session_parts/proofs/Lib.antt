@@ -24,3 +24,4 @@ pub mod MadeTo
 pub mod Opened
 pub mod Giving
 pub mod Causes
+pub mod Halting

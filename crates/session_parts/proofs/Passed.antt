@@ -53,7 +53,7 @@ knows-told config publisher old new told g low spent =
     ap (λ (f : Flags). f.fault) (told.groups g low no_sends)
     ∙ or-true (get_or publisher.sends.items g no_sends).is_failing (is_spent_by publisher.senders.items (group_at config g).keygroup) spent
 
-some-of : {X : Type 0} (xs : List X) → 0 < length xs → X
+pub some-of : {X : Type 0} (xs : List X) → 0 < length xs → X
 some-of [] low = absurd (omega (arith, low))
 some-of (x ∷ xs) low = x
 

@@ -1,5 +1,5 @@
 -- A session within a tick: after its senders came to the moment, and after some groups had their turns.
-use Rattle.std.specs.Prelude.{◌≡◌, ◌≢◌, ℕ, ◌+◌, ◌<◌, ◌≤◌, ◌==◌, List, [], ◌∷◌, map, ◌++◌, length, zip, fold, count_by, Bool, true, false, not, ◌||◌, nat_lt, None, slice_set, if◌then◌else◌, Option, Some, slice_index_or}
+use Rattle.std.specs.Prelude.{◌≡◌, ◌≢◌, ℕ, ◌+◌, ◌<◌, ◌≤◌, ◌==◌, List, [], ◌∷◌, map, ◌++◌, length, zip, fold, count_by, Bool, true, false, not, ◌||◌, nat_lt, None, slice_set, if◌then◌else◌, Option, Some, slice_index_or, take}
 use Rattle.std.specs.List.{HoldsAt, AllZip, range_with_len}
 use Rattle.std.specs.Option.{option_map_or}
 use Rattle.dataset_meta.specs.Metas.{MetaData}
@@ -24,7 +24,7 @@ use Rattle.writer_group.specs.Turns.{GroupTurn, GroupDeed}
 use Rattle.writer_group.specs.declared.sampled.Sampled.{Sampled}
 use Rattle.session_model.specs.Steps.{Plan, Step, Tick, moment_of, is_on}
 use Rattle.session_model.specs.Sets.{metas_at, rows_at}
-use Rattle.session_model.specs.Deeds.{Deed, TookTurn, deeds, group_past, opening_sender, turn_input, turn_of, rekeyed, turned_on, is_spent}
+use Rattle.session_model.specs.Deeds.{Deed, TookTurn, deeds, group_past, opening_sender, turn_input, turn_of, rekeyed, turned_on, is_spent, has_turn}
 use Rattle.writer_group.specs.Parts.{group_at}
 use Rattle.session_model.specs.Turns.{HoldsIfTurned, turned_to as turns_to}
 use Rattle.session_model.specs.Sends.{Send, TellsRun, last_sends, sends_by, send_entries, is_done_by, last_failed, journal, sent_by}
@@ -95,6 +95,18 @@ AreSent g datagrams old new told after = (done : List Bool) × HaveBeenSent (sen
 abbrev pub IsSent : ℕ → List ℕ → Publisher → Publisher → Option LinkState → Option LinkState → Type 0
 IsSent g datagram old new told after =
     (is_done : Bool) × HaveBeenSent (sends_by g (datagram ∷ [])) (is_done ∷ []) old new told after
+
+-- nothing was sent, and nothing is counted or told
+pub record IsUnsent (old new : Publisher) (told after : Option LinkState) : Type 0 where
+  pub publisher : new ≡ old
+  pub tells : Tells told after (λ x y. y.journal ≡ x.journal)
+
+-- the first of the datagrams were sent, each once, in order, and no further one
+pub record SendsHalt (g : ℕ) (datagrams : List (List ℕ)) (old new : Publisher) (told after : Option LinkState) : Type 0 where
+  pub count : ℕ
+  pub fewer : count < length datagrams
+  pub done : List Bool
+  pub sent : HaveBeenSent (sends_by g (take count datagrams)) done old new told after
 
 -- no group has a failed send any more
 pub record ClearsSends (old new : List GroupSends) : Type 0 where
@@ -312,3 +324,33 @@ abbrev pub HaveParts : Told → Publisher → Publisher → TreeValue → TreeVa
 HaveParts told old new tree later link after =
     (t : TickData) → IsToldOf t told → last_sends (begun t) ≡ [] → IsAt t (begun t) [] old tree
     → HasPassed t (length told.config.now.group) new later link after
+
+-- ---- where memory runs out at a send
+
+-- the group had its turn, the first of whose datagrams were sent, and no further one
+pub record TurnHalts (t : TickData) (g : ℕ) (so_far : List Deed) (old new : Publisher) (told after : Option LinkState) : Type 0 where
+  pub has : has_turn t.plan t.before (now_of t) t.closing so_far g ≡ true
+  pub groups : HavePast t.plan.config (metas_at t.plan.config t.before) (TookTurn g (turn_in t so_far g) ∷ so_far) new.groups.items
+  pub senders : HaveSent t.plan.config (TookTurn g (turn_in t so_far g) ∷ so_far) new.senders.items
+  pub sends : SendsHalt g (turn_in t so_far g).made old new told after
+
+-- from any moment of the tick at which the group's part is next, its turn halts
+abbrev pub HasHalted : Told → ℕ → Publisher → Publisher → TreeValue → Option LinkState → Option LinkState → Type 0
+HasHalted told g old new tree link after =
+    (t : TickData) (so_far : List Deed) (done : List Bool) → IsToldOf t told → IsAt t so_far done old tree
+    → NoneFailedFrom g so_far done → TurnHalts t g so_far old new link after
+
+-- the turn of one group halts, behind the parts of those before it
+pub record TickHalts (t : TickData) (new : Publisher) (told after : Option LinkState) : Type 0 where
+  pub group : ℕ
+  pub within : group < length t.plan.config.group
+  pub publisher : Publisher
+  pub tree : TreeValue
+  pub between : Option LinkState
+  pub passed : HasPassed t group publisher tree told between
+  pub halts : TurnHalts t group (deeds_to t group) publisher new between after
+
+-- from the moment at which a tick began, the turn of one group halts
+abbrev pub HaveHalted : Told → Publisher → Publisher → TreeValue → Option LinkState → Option LinkState → Type 0
+HaveHalted told old new tree link after =
+    (t : TickData) → IsToldOf t told → last_sends (begun t) ≡ [] → IsAt t (begun t) [] old tree → TickHalts t new link after

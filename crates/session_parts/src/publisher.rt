@@ -14,7 +14,7 @@ ghost use Rattle.writer_group.specs.Parts.{group_at};
 ghost use Rattle.session_parts.specs.Holding.{AreGroups, HoldPublisher};
 ghost use Rattle.session_parts.specs.Standing.{HavePast, HaveSent};
 ghost use Rattle.session_parts.specs.Refreshed.{AllGoOn, AllGoOnGrown, GoesOn, GoesOnGrown, HaveDone, HaveDoneIf, HaveRefreshedSet, IsRefreshedBelow, IsRefreshedIf, IsRefreshedOf, StaysMadeFor};
-ghost use Rattle.session_parts.specs.Ticking.{TickData, ClearsSends, IsBefore, HasNoted, MayPassAll, MayTurn, TakesTurn, KnowsSpent, TurnEach, MayPass, OthersStay, TellsFaults, is_spent_by, now_of, AllGoOnAfter, AreSent, AreWritersOn, GoesOnAfter, HasItsTurn, HasPart, HaveParts, IsAdvancedBy, IsSent, IsUnspent, is_changed_in, is_faulty};
+ghost use Rattle.session_parts.specs.Ticking.{TickData, ClearsSends, IsBefore, HasNoted, MayPassAll, MayTurn, TakesTurn, KnowsSpent, TurnEach, MayPass, OthersStay, TellsFaults, is_spent_by, now_of, AllGoOnAfter, AreSent, AreWritersOn, GoesOnAfter, HasItsTurn, HasPart, HaveParts, IsAdvancedBy, IsSent, IsUnspent, is_changed_in, is_faulty, HasHalted, HaveHalted, IsUnsent, SendsHalt};
 ghost use Rattle.message_guard.specs.Senders.{IsSender};
 ghost use Rattle.session_parts.specs.declared.sends.GroupSends.{GroupSends as SendsOf};
 
@@ -207,6 +207,8 @@ impl Publisher {
         ensures goes_on { AllGoOnAfter told.now self.old self.new }
         ensures passed { result ≡ Ticked.Done → HaveParts told.now self.old self.new tree.old tree.new
             (L.told link.old) (L.told link.new) }
+        ensures halted { result ≡ Ticked.Memory → HaveHalted told.now self.old self.new tree.old
+            (L.told link.old) (L.told link.new) }
         ensures memory { result ≡ Ticked.Memory → IsTrue L.takes_memory }
         ensures link { KeepsLink L.opened_with L.faults link.old link.new }
     {
@@ -237,6 +239,8 @@ impl Publisher {
         ensures goes_on { GoesOnAfter told.now g self.old self.new }
         ensures others { OthersStay g self.old.groups.items self.new.groups.items }
         ensures passes { result ≡ Ticked.Done → HasPart told.now g self.old self.new tree.old tree.new
+            (L.told link.old) (L.told link.new) }
+        ensures halted { result ≡ Ticked.Memory → HasHalted told.now g self.old self.new tree.old
             (L.told link.old) (L.told link.new) }
         ensures memory { result ≡ Ticked.Memory → IsTrue L.takes_memory }
         ensures link { KeepsLink L.opened_with L.faults link.old link.new }
@@ -307,6 +311,8 @@ impl Publisher {
         requires count { count ≡ length (datagrams_in self.old.out) }
         ensures sent { result ≡ Ticked.Done → AreSent g (datagrams_in self.old.out) self.old self.new
             (L.told link.old) (L.told link.new) }
+        ensures halted { result ≡ Ticked.Memory → SendsHalt g (datagrams_in self.old.out) self.old self.new
+            (L.told link.old) (L.told link.new) }
         ensures memory { result ≡ Ticked.Memory → IsTrue L.takes_memory }
         ensures link { KeepsLink L.opened_with L.faults link.old link.new }
         ensures count { vec_len self.new.sends ≡ vec_len self.old.sends }
@@ -332,6 +338,8 @@ impl Publisher {
         requires index { i < length (datagrams_in self.old.out) }
         ensures sent { result ≡ Ticked.Done → IsSent g
             (slice_index_or (datagrams_in self.old.out) i []) self.old self.new
+            (L.told link.old) (L.told link.new) }
+        ensures unsent { result ≡ Ticked.Memory → IsUnsent self.old self.new
             (L.told link.old) (L.told link.new) }
         ensures memory { result ≡ Ticked.Memory → IsTrue L.takes_memory }
         ensures link { KeepsLink L.opened_with L.faults link.old link.new }

@@ -6,7 +6,8 @@ use Rattle.writer_group.specs.Parts.{group_at}
 use Rattle.session_parts.specs.declared.publisher.Publisher.{Publisher}
 use Rattle.session_parts.specs.Ticking.{GoesOnAt, IsBefore, OthersStay}
 use Rattle.session_parts.proofs.Passing.{passes-by}
-use Rattle.session_parts.proofs.Passed.{fewer, hold-sent, knows-told, passed}
+use Rattle.session_parts.proofs.Halting.{turn-halts}
+use Rattle.session_parts.proofs.Passed.{fewer, hold-sent, knows-told, passed, some-of}
 use Rattle.session_parts.proofs.publisher.Publisher.pass.Goals as goal
 
 pub returns-then-not-has_turn-clause-goes_on : goal.returns-then-not-has_turn-clause-goes_on
@@ -65,3 +66,18 @@ returns-clause-passes g c =
     passed t c.args.g so_far done sent.0 c.args.told.now c.args.self.now one two c.args.tree.now c.tell.new.tree (g.L.Link.told c.args.link.now) (g.L.Link.told c.send_all-ticked.new.link)
     c.requires.may is (sym (c.has_turn.ensures.has t so_far done is) ∙ on) (turn.turned t so_far done is) (omega (arith, turn.count, turn.few)) turn.others
     (ap (λ (p : Publisher). p.sends) turn.rest) (ap (λ (p : Publisher). p.link) turn.rest) sent.1 c.send_all-ticked.ensures.rest c.tell.ensures.counts c.tell.ensures.faults
+
+pub returns-clause-halted : goal.returns-clause-halted
+returns-clause-halted g c =
+    λ is_memory t so_far done told at none.
+    let on : c.has_turn.result ≡ true = search rules in
+    let turn = c.turn-count.ensures in
+    let one = c.turn-count.new.self in
+    let two = c.send_all-ticked.new.self in
+    let rest = c.send_all-ticked.ensures.rest in
+    let is : IsBefore t c.args.g so_far done c.args.told.now c.args.self.now c.args.tree.now = record { told_is = told; at = at; none_failed = none } in
+    turn-halts t c.args.g so_far done c.args.self.now one two c.args.tree.now (g.L.Link.told c.args.link.now) (g.L.Link.told c.send_all-ticked.new.link)
+    (some-of c.args.self.now.groups.items (omega (arith, c.requires.may.within, c.requires.may.holds.groups.count)))
+    (sym (c.has_turn.ensures.has t so_far done is) ∙ on) at (turn.turned t so_far done is) turn.others
+    (ap (λ (p : Publisher). p.sends) turn.rest) (ap (λ (p : Publisher). p.link) turn.rest) (c.send_all-ticked.ensures.halted is_memory)
+    (ap (λ (p : Publisher). p.groups) rest) (ap (λ (p : Publisher). p.senders) rest)

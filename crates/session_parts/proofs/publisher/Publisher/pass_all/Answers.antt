@@ -1,4 +1,5 @@
 use Rattle.std.proofs.Common.{◌≡◌, ◌+◌, ◌<◌, ℕ, length, refl, ◌∙◌, subst, arith}
+use Rattle.ps_config.specs.declared.parts.Config.{Config}
 use Rattle.ua_base.proofs.Links.{KeepsLink-refl, KeepsLink-then, stays_open}
 use Rattle.session_parts.specs.Ticking.{HasPassed}
 use Rattle.session_parts.proofs.Ticks.{passed-none, passed-more, go-none, go-more, go-all}
@@ -79,3 +80,19 @@ returns-clause-passed g c =
     let all : c.loop-g.g ≡ length c.args.told.now.config.now.group
     = omega (arith, c.loop-g-test.false, c.loop-g.auto.g-end, c.len-g-end.ensures, c.args.self.now.groups.ok.0, may.holds.groups.count) in
     subst (λ (n : ℕ). HasPassed t n c.loop-g.self c.loop-g.tree (g.L.Link.told c.args.link.now) (g.L.Link.told c.loop-g.link)) all (c.loop-g.invariant.passed t is none at)
+
+pub returns-in-Memory-clause-halted : goal.returns-in-Memory-clause-halted
+returns-in-Memory-clause-halted g c =
+    λ is_memory t is none at.
+    let may = c.requires.may in
+    let before = c.loop-g.invariant.passed t is none at in
+    let low : c.loop-g.g < length c.args.told.now.config.now.group = omega (arith, c.loop-g-test.true, c.len-g-end.ensures, c.args.self.now.groups.ok.0, may.holds.groups.count) in
+    record {
+      group = c.loop-g.g;
+      within = subst (λ (config : Config). c.loop-g.g < length config.group) is.config low;
+      publisher = c.loop-g.self;
+      tree = c.loop-g.tree;
+      between = g.L.Link.told c.loop-g.link;
+      passed = before;
+      halts = c.in-Memory.ensures.halted refl t _ before.done is before.at before.none_failed;
+    }

@@ -6,6 +6,7 @@ use Rattle.writer_group.specs.Standing.{IsReserved, datagrams_in}
 use Rattle.session_model.specs.Sends.{sends_by}
 use Rattle.session_parts.specs.declared.publisher.Publisher.{Publisher}
 use Rattle.session_parts.specs.Ticking.{HaveBeenSent}
+use Rattle.session_parts.proofs.Halting.{been-unsent}
 use Rattle.session_parts.proofs.Sent.{none-been, next-been}
 use Rattle.session_parts.proofs.publisher.Publisher.send_all.Goals as goal
 
@@ -71,3 +72,15 @@ returns-clause-sent g c =
       subst (λ (l : List (List ℕ)). HaveBeenSent (sends_by c.args.g l) inv.sent.0 c.args.self.now c.loop-i.self told after)
           (ap (λ (n : ℕ). take n datagrams) all ∙ take-length datagrams) inv.sent.1,
     )
+
+pub returns-in-Memory-clause-halted : goal.returns-in-Memory-clause-halted
+returns-in-Memory-clause-halted g c =
+    λ is.
+    let inv = c.loop-i.invariant in
+    record {
+      count = c.loop-i.i;
+      fewer = omega (arith, c.loop-i-test.true, c.requires.count);
+      done = inv.sent.0;
+      sent = been-unsent _ inv.sent.0 c.args.self.now c.loop-i.self c.send_one.new.self (g.L.Link.told c.args.link.now) (g.L.Link.told c.loop-i.link)
+          (g.L.Link.told c.send_one.new.link) inv.sent.1 (c.in-Memory.ensures.unsent refl);
+    }
