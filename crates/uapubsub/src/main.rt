@@ -1,6 +1,13 @@
 //! The program `uapubsub`.
 #![tactic(auto)]
 
+ghost use Rattle.std.specs.Prelude.{◌≡◌, ◌≢◌, []};
+ghost use Rattle.std.specs.Process.{exit_status};
+ghost use Rattle.std.specs.declared.io.ErrorKind.TheVariants.{OutOfMemory};
+ghost use Rattle.uapubsub.specs.declared.status.Status.TheVariants.{BadWords, OutOfMemory as NoMemoryLeft};
+ghost use Rattle.uapubsub.specs.Status.{number_of, text_of};
+ghost use Rattle.uapubsub.specs.Telling.{WritesText};
+
 mod application;
 mod check;
 mod file;
@@ -37,14 +44,23 @@ fn words_of(rt: &(impl Env + AllocGlobal), alloc: Global) -> io::Result<Vec<Word
     Ok(words)
 }
 
-/// Ends where the words can't be read: memory ran out, or one of them isn't UTF-8.
-fn refuse<E: Sink>(kind: ErrorKind, err: &mut E) -> ExitCode {
-    let status = if kind == ErrorKind::OutOfMemory {
-        Status::OutOfMemory
-    } else {
-        Status::BadWords
-    };
-    tell(err, &status, "");
+/// Why the words can't be read: memory ran out, or one of them isn't UTF-8.
+fn refusal(kind: ErrorKind) -> Status
+    ensures memory { kind ≡ OutOfMemory → result ≡ NoMemoryLeft }
+    ensures words { kind ≢ OutOfMemory → result ≡ BadWords }
+{
+    match kind {
+        ErrorKind::OutOfMemory => Status::OutOfMemory,
+        _ => Status::BadWords,
+    }
+}
+
+/// Tells the status, and ends with it.
+fn refuse<E: Sink>(status: &Status, err: &mut E) -> ExitCode
+    ensures told { WritesText (E.written err.old) (E.written err.new) (E.faults err.old) (E.faults err.new) (text_of status.now []) }
+    ensures status { exit_status result ≡ number_of status.now }
+{
+    tell(err, status, "");
     ExitCode::from(status.number())
 }
 
@@ -54,7 +70,7 @@ fn main(rt: HostRuntime) -> ExitCode {
     let mut err = StdSink::new(&stderr);
     let words = match words_of(&rt, alloc) {
         Ok(words) => words,
-        Err(error) => return refuse(error.kind(), &mut err),
+        Err(error) => return refuse(&refusal(error.kind()), &mut err),
     };
     let mut folder = DirFolder::new(&rt);
     let mut lab = MemoryLink::new(

@@ -1,0 +1,14 @@
+pub mod FieldNames
+pub mod Payloads
+pub mod Namings
+pub mod Values
+pub mod WrittenPayloads
+pub mod WrittenElements
+pub mod FieldsRead
+pub mod ContentsRead
+pub mod ElementsWritten
+pub mod Sets
+pub mod PartsRead
+pub mod Plain
+pub mod ReadOnce
+pub mod MessagesRead

@@ -1,0 +1,84 @@
+-- A guard over a pulled ring knows the keys of a covered moment, and opens what was protected under them.
+use Rattle.std.proofs.Common.{◌≡◌, ℕ, ◌+◌, ◌≤◌, ◌==◌, nat_lt, Bool, true, false, cond, List, [], ◌∷◌, ◌++◌, length, map, take, Option, Some, None, Ok, refl, sym, ◌∙◌, ap, subst, arith}
+use Rattle.std.specs.Prelude.{if◌then◌else◌}
+use Rattle.std.specs.Option.{option_map}
+use Rattle.std.proofs.lemmas.List.{length-take}
+use Rattle.group_keys.specs.declared.key_set.KeySet.{KeySet}
+use Rattle.group_keys.specs.declared.ring.Ring.{Ring}
+use Rattle.group_keys.specs.Faults.{IsAccepted}
+use Rattle.group_keys.specs.KeySets.{current, with_token}
+use Rattle.group_keys.specs.Ring.{is_long, key_sets}
+use Rattle.key_service.specs.Laws.{HasKeysOf}
+use Rattle.key_service.specs.Answers.{answer}
+use Rattle.key_service.specs.Pulled.{pulled_sets}
+use Rattle.key_service.proofs.Served.{covered_moments}
+use Rattle.key_laws.specs.Pulled.{pulled_keys, made_pass, HasSendersKeys, IsCoveredSender, PassesMade, RestoresMade, StaysPublisher}
+use Rattle.message_guard.specs.declared.keys.TokenKeys.{TokenKeys}
+use Rattle.message_guard.specs.declared.mode.Mode.{Mode}
+use Rattle.message_guard.specs.Opening.{opened, verdict}
+use Rattle.message_guard.specs.Protection.{keys_in, keys_with, payload_in, signature_of}
+use Rattle.message_guard.specs.Senders.{SenderState, front_value, made_of, turned, turned_by}
+use Rattle.message_guard.proofs.Restoring.{sent_is_passed, payload_restored}
+use Rattle.message_guard.proofs.Rings.{keys_of_moment}
+
+keys_with-map : (sets : List KeySet) (token : ℕ) → keys_with (map keys_in sets) token ≡ option_map keys_in (with_token sets token)
+keys_with-map [] token = refl
+keys_with-map (set ∷ sets) token = first_of_map set (keys_with (map keys_in sets) token) (with_token sets token) (set.token == token) (keys_with-map sets token)
+  where
+    first_of_map : (set : KeySet) (found : Option TokenKeys) (among : Option KeySet) (b : Bool) → found ≡ option_map keys_in among
+        → cond b (Some (keys_in set)) found ≡ option_map keys_in (cond b (Some set) among)
+    first_of_map set found among true rest = refl
+    first_of_map set found among false rest = rest
+
+set_of : (o : Option KeySet) (keys : TokenKeys) → option_map keys_in o ≡ Some keys → (set : KeySet) × ((o ≡ Some set) × (keys ≡ keys_in set))
+set_of None keys is = cc
+set_of (Some set) keys is = (set, (refl, cc))
+
+-- pulled sets that have a set's keys give them to a guard
+known_of : (pulled : List KeySet) (set : KeySet) → HasKeysOf pulled set → keys_with (map keys_in pulled) set.token ≡ Some (keys_in set)
+known_of pulled set has = keys_with-map pulled set.token ∙ ap (option_map keys_in) has.1
+
+pub known : (ring : Ring) (now count moment : ℕ) (s : SenderState) → IsCoveredSender ring now count moment s → HasSendersKeys ring now count s
+known ring now count moment s is =
+    let at = set_of (current (key_sets ring) moment) s.keys is.publisher.keys in
+    subst (λ (keys : TokenKeys). keys_with (pulled_keys ring now count) keys.token ≡ Some keys) (sym at.1.1)
+    (known_of (pulled_sets (answer ring now 0 count)) at.0 (covered_moments ring now count is.served moment at.0 is.covered at.1.0))
+
+front_length : (datagram : List ℕ) (payload : ℕ) → payload + 32 ≤ length datagram → length (take payload datagram) ≡ payload
+front_length datagram payload room = omega (arith, length-take payload datagram, room)
+
+pub passed : (ring : Ring) (now count moment : ℕ) (s : SenderState) (mode : Mode) → IsCoveredSender ring now count moment s → PassesMade ring now count mode s
+passed ring now count moment s mode is datagram payload accepted made acceptable =
+    subst (λ (n : ℕ). verdict mode (pulled_keys ring now count) accepted (Some (front_value mode s)) (made_of mode s datagram payload) n ≡ Ok (made_pass s datagram payload))
+    (front_length datagram payload made.front.room)
+    (sent_is_passed mode s (pulled_keys ring now count) accepted (take payload datagram) (payload_in datagram payload) (record {
+      secured = made.secured;
+      random = made.sender.random;
+      number = made.sender.used;
+      known = known ring now count moment s is;
+      acceptable = acceptable;
+    }))
+
+pub restored : (ring : Ring) (now count moment : ℕ) (s : SenderState) (mode : Mode) → IsCoveredSender ring now count moment s → RestoresMade ring now count mode s
+restored ring now count moment s mode is datagram payload made =
+    subst (λ (n : ℕ). opened mode (pulled_keys ring now count) s.first_block (made_pass s datagram payload) n (made_of mode s datagram payload) ≡ take payload datagram ++ payload_in datagram payload ++ signature_of (made_of mode s datagram payload))
+    (front_length datagram payload made.front.room)
+    (payload_restored mode s (pulled_keys ring now count) (take payload datagram) (payload_in datagram payload) (known ring now count moment s is))
+
+-- a sender that turns keeps its sets
+sets_stay : (s : SenderState) (o : Option KeySet) → (turned_by s o).sets ≡ s.sets
+sets_stay s None = refl
+sets_stay s (Some set) = by_token (nat_lt s.keys.token set.token)
+  where
+    by_token : (higher : Bool) → (if higher then record s { keys = keys_in set; used = 0; fronted = None } else s).sets ≡ s.sets
+    by_token true = refl
+    by_token false = refl
+
+pub publisher_goes_on : (ring : Ring) (s : SenderState) → StaysPublisher ring s
+publisher_goes_on ring s earlier now served order is = record {
+  sets = sets_stay s (current s.sets now) ∙ is.sets;
+  keys = subst (λ (sets : List KeySet). option_map keys_in (current sets now) ≡ Some (turned s now).keys) is.sets
+      (keys_of_moment (is_long ring) s earlier now
+      (subst (IsAccepted (is_long ring)) (sym is.sets) served.accepted) order
+      (subst (λ (sets : List KeySet). option_map keys_in (current sets earlier) ≡ Some s.keys) (sym is.sets) is.keys));
+}

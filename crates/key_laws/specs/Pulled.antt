@@ -1,0 +1,70 @@
+-- What a guard over a pulled ring has of what the publisher sends.
+use Rattle.std.specs.Prelude.{◌≡◌, ℕ, ◌≤◌, List, ◌++◌, map, take, true, Some, Ok, option_map}
+use Rattle.group_keys.specs.declared.ring.Ring.{Ring}
+use Rattle.group_keys.specs.KeySets.{current}
+use Rattle.group_keys.specs.Ring.{key_sets}
+use Rattle.key_service.specs.Answers.{answer}
+use Rattle.key_service.specs.Laws.{IsCovered, IsServedRing}
+use Rattle.key_service.specs.Pulled.{pulled_sets}
+use Rattle.message_guard.specs.declared.keys.TokenKeys.{TokenKeys}
+use Rattle.message_guard.specs.declared.mode.Mode.{Mode}
+use Rattle.message_guard.specs.declared.pass.Pass1.{Pass1}
+use Rattle.message_guard.specs.Acceptance.{Accepted, is_acceptable}
+use Rattle.message_guard.specs.Modes.{is_secured}
+use Rattle.message_guard.specs.Opened.{sent_pass}
+use Rattle.message_guard.specs.Opening.{opened, verdict}
+use Rattle.message_guard.specs.Protection.{keys_in, keys_with, payload_in, signature_of}
+use Rattle.message_guard.specs.Senders.{IsSender, MayProtect, SenderState, front_value, made_of, turned}
+
+-- The keys of a guard over the ring that a puller makes of the answer to start 0. `Guard::new` has these of the ring that `pulled` gives.
+abbrev pub pulled_keys : Ring → ℕ → ℕ → List TokenKeys
+pulled_keys ring now count = map keys_in (pulled_sets (answer ring now 0 count))
+
+-- The publisher's sender at a moment: it is one of the ring, and has the keys of the set that the ring uses then. A new sender
+-- is one of moment 0.
+pub record IsPublisherAt (ring : Ring) (moment : ℕ) (s : SenderState) : Type 0 where
+  pub sets : s.sets ≡ key_sets ring
+  pub keys : option_map keys_in (current (key_sets ring) moment) ≡ Some s.keys
+
+-- the sender at a moment that is covered by the answer which the ring's service gave at `now`
+pub record IsCoveredSender (ring : Ring) (now count moment : ℕ) (s : SenderState) : Type 0 where
+  pub served : IsServedRing ring
+  pub covered : IsCovered (key_sets ring) now count moment
+  pub publisher : IsPublisherAt ring moment s
+
+-- a sender that turns to a later moment is the publisher's at that
+abbrev pub StaysPublisher : Ring → SenderState → Type 0
+StaysPublisher ring s = (earlier now : ℕ) → IsServedRing ring → earlier ≤ now
+    → IsPublisherAt ring earlier s → IsPublisherAt ring now (turned s now)
+
+-- the guard has the sender's keys, under their token
+abbrev pub HasSendersKeys : Ring → ℕ → ℕ → SenderState → Type 0
+HasSendersKeys ring now count s = keys_with (pulled_keys ring now count) s.keys.token ≡ Some s.keys
+
+-- a datagram that `protect` made with the sender: its last front was of the mode, and the datagram carries it
+pub record IsMade (mode : Mode) (s : SenderState) (datagram : List ℕ) (payload : ℕ) : Type 0 where
+  pub secured : is_secured mode ≡ true
+  pub sender : IsSender s
+  pub front : MayProtect mode s datagram payload
+
+-- what a guard finds of it
+abbrev pub made_pass : SenderState → List ℕ → ℕ → Pass1
+made_pass s datagram payload = sent_pass s (take payload datagram) (payload_in datagram payload)
+
+-- the guard passes it wherever the number is acceptable
+abbrev pub PassesMade : Ring → ℕ → ℕ → Mode → SenderState → Type 0
+PassesMade ring now count mode s = (datagram : List ℕ) (payload : ℕ) (accepted : Accepted)
+    → IsMade mode s datagram payload
+    → is_acceptable (pulled_keys ring now count) accepted s.keys.token s.used ≡ true
+    → verdict mode (pulled_keys ring now count) accepted (Some (front_value mode s))
+    (made_of mode s datagram payload) payload
+    ≡ Ok (made_pass s datagram payload)
+
+-- a guard of the sender's first block restores header and payload, and leaves the signature
+abbrev pub RestoresMade : Ring → ℕ → ℕ → Mode → SenderState → Type 0
+RestoresMade ring now count mode s = (datagram : List ℕ) (payload : ℕ)
+    → IsMade mode s datagram payload
+    → opened mode (pulled_keys ring now count) s.first_block
+    (made_pass s datagram payload) payload (made_of mode s datagram payload)
+    ≡ take payload datagram ++ payload_in datagram payload
+    ++ signature_of (made_of mode s datagram payload)

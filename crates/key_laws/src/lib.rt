@@ -1,0 +1,10 @@
+//! What an answer of the key service is to a guard: for each moment that the answer covers, a guard over the pulled ring has the
+//! keys of the publisher's sender, and opens what it protected (OPC 10000-14 8.3.2, GetSecurityKeys).
+#![tactic(auto)]
+
+mod laws;
+
+pub use laws::{
+    a_guard_of_a_pulled_ring_has_the_senders_keys, a_guard_of_a_pulled_ring_opens_what_was_sent,
+    a_publishers_sender_goes_on,
+};

@@ -1,0 +1,75 @@
+-- The headline of a session: what its matched readers hold is what its writers published, of versions that never fall.
+use Rattle.std.specs.Prelude.{◌≡◌, ℕ, ◌%◌, ◌<◌, ◌≤◌, ◌+◌, List, [], ◌∷◌, length, Contains, Option, Some}
+use Rattle.dataset_meta.specs.DataValues.{DataValue}
+use Rattle.dataset_meta.specs.Metas.{MetaData}
+use Rattle.dataset_meta.specs.Rows.{row_cut}
+use Rattle.pubsub_model.specs.Cadence.{Settings, WriterTurn, WriterDeed, HadTurn, Answered, answer, cadence, frames_of, is_fresh}
+use Rattle.pubsub_model.specs.Frames.{published}
+use Rattle.writer_group.specs.declared.sampled.Sampled.{Sampled}
+use Rattle.reader_group.specs.Members.{seat_at}
+use Rattle.reader_group.specs.Settings.{setting_of}
+use Rattle.writer_group.specs.Payloads.{writer_at}
+use Rattle.session_model.specs.Steps.{Plan, Step, Enable, Disable, Append, Tick, Pump}
+use Rattle.session_model.specs.Deeds.{answered_at, log_at}
+use Rattle.writer_group.specs.Parts.{group_at}
+use Rattle.session_model.specs.Keeping.{AreSteps, IsPlan}
+use Rattle.session_laws.specs.Reading.{IsMatchedIn, arrivals_at, first_number_of}
+use Rattle.session_model.specs.Sends.{IsRun, journal}
+use Rattle.pubsub_model.specs.Answers.{version_of}
+use Rattle.session_laws.specs.Plays.{ItemsAre, IsAnswerBy}
+use Rattle.session_laws.specs.Sessions.{HasSample, IsHonestFor, SamplesRise}
+
+-- how many ticks there were
+abbrev pub ticks_in : List Step → ℕ
+ticks_in [] = 0
+ticks_in (Enable id ∷ before) = ticks_in before
+ticks_in (Disable id ∷ before) = ticks_in before
+ticks_in (Append set field ∷ before) = ticks_in before
+ticks_in (Tick ms closing samples done ∷ before) = ticks_in before + 1
+ticks_in (Pump entries ∷ before) = ticks_in before
+
+-- The reader with index i of the read group r is matched to the writer with index w of the group g, in a session of the plan; each received datagram was sent
+-- before (of a secured read group each that is signed under its ring), and there were at most 16,384 ticks.
+pub record InSession (p : Plan) (r i g w : ℕ) (steps : List Step) : Type 0 where
+  pub plan : IsPlan p
+  pub steps_are : AreSteps p steps
+  pub run : IsRun p steps
+  pub rise : SamplesRise p steps
+  pub there : g < length p.config.group
+  pub matched : IsMatchedIn p.config r i g w
+  pub honest : IsHonestFor (setting_of p.config r) (journal p steps)
+  pub few : ticks_in steps ≤ 16384
+
+-- the fields of a reader
+abbrev pub meta_of : Plan → ℕ → ℕ → MetaData
+meta_of p r i = (seat_at (setting_of p.config r).seats i).meta
+
+-- each item that came to the reader is what the writer answered at some turn, cut to the reader's fields
+abbrev pub ComesFrom : Plan → ℕ → ℕ → ℕ → ℕ → List Step → Type 0
+ComesFrom p r i g w steps =
+    ItemsAre (IsAnswerBy (seat_at (setting_of p.config r).seats i).part.numbering (meta_of p r i) (answered_at p g w steps))
+    (arrivals_at p.config r i (first_number_of p.config g w) steps)
+
+-- The row is that of the version which the writer's log has at the place of the number, and names by it, cut to the reader's fields; `rows` are those of the
+-- versions of each data set.
+pub record IsPublished (p : Plan) (r i g w : ℕ) (steps : List Step) (rows : ℕ → ℕ → List DataValue) (number : Option ℕ) (row : List DataValue) : Type 0 where
+  pub place : ℕ
+  pub version : ℕ
+  pub logged : Contains (log_at p g w steps) (place, version)
+  pub named : version_of (log_at p g w steps) (place % 65536) ≡ Some version
+  pub number_is : (n : ℕ) → number ≡ Some n → n ≡ place % 65536
+  pub row_is : row ≡ row_cut (meta_of p r i) (rows (writer_at (group_at p.config g) w).dataset version)
+
+-- ---- published rows
+
+-- a turn behind these deeds, with its answer
+abbrev pub answered_turn : Settings → List WriterDeed → WriterTurn → Answered
+answered_turn s before turn = record { turn = turn; answer = answer s (is_fresh before) (cadence s before) turn }
+
+-- What the writer's frames up to this turn publish is the row of the turn's version, which some tick sampled, cut to the fields that the data set had then.
+pub record PublishesVersion (p : Plan) (steps : List Step) (s : Settings) (index : ℕ) (rows : ℕ → ℕ → List DataValue) (before : List WriterDeed) (turn : WriterTurn) : Type 0 where
+  pub sample : Sampled
+  pub now : MetaData
+  pub sampled : HasSample p steps index now sample
+  pub version : turn.version ≡ sample.version
+  pub row : published (frames_of (cadence s (HadTurn turn ∷ before))) ≡ row_cut now (rows index turn.version)

@@ -1,0 +1,10 @@
+pub mod Reading
+pub mod Pasts
+pub mod Plays
+pub mod Sessions
+pub mod Headline
+pub mod Printed
+pub mod Witness
+pub mod Telling
+pub mod Fresh
+pub mod Twins

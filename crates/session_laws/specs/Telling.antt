@@ -1,0 +1,54 @@
+-- THE HEADLINE, of what a closed session tells, as one record.
+use Rattle.std.specs.Prelude.{◌≡◌, ℕ, ◌<◌, ◌≤◌, List, ◌∷◌, ◌++◌, length, true}
+use Rattle.dataset_meta.specs.DataValues.{DataValue}
+use Rattle.pubsub_model.specs.Cadence.{WriterTurn, WriterDeed, HadTurn, is_data}
+use Rattle.ps_report.specs.declared.closed.Closed.{Closed}
+use Rattle.ps_report.specs.declared.closed.ReaderEnd.{ReaderEnd}
+use Rattle.ps_report.specs.declared.closed.WriterEnd.{WriterEnd}
+use Rattle.reader_group.specs.Settings.{setting_of}
+use Rattle.writer_group.specs.Payloads.{writer_at}
+use Rattle.session_model.specs.Steps.{Plan, Step}
+use Rattle.session_model.specs.Deeds.{writer_deeds}
+use Rattle.writer_group.specs.Parts.{group_at}
+use Rattle.session_model.specs.Keeping.{AreSteps, IsPlan}
+use Rattle.session_laws.specs.Reading.{IsMatchedIn}
+use Rattle.session_model.specs.Sends.{IsRun, journal}
+use Rattle.session_laws.specs.Headline.{PublishesVersion, answered_turn, ticks_in}
+use Rattle.session_laws.specs.Pasts.{settings_at}
+use Rattle.session_laws.specs.Printed.{EndsReader, EndsWriter, TellsReader, TellsWriter}
+use Rattle.session_laws.specs.Sessions.{AreVersions, IsHonestFor, SamplesRise}
+
+-- a session of an accepted plan, over any link, whose samples are rows of one history for each data set; `rows` are those of its versions
+pub record HasRun (p : Plan) (steps : List Step) (rows : ℕ → ℕ → List DataValue) : Type 0 where
+  pub plan : IsPlan p
+  pub steps_are : AreSteps p steps
+  pub run : IsRun p steps
+  pub rise : SamplesRise p steps
+  pub versions : AreVersions p steps rows
+  pub few : ticks_in steps ≤ 16384
+
+-- a writer's told log is its own, and its versions never fall
+pub record IsWriterTold (p : Plan) (g w : ℕ) (steps : List Step) (closed : Closed) : Type 0 where
+  pub end : WriterEnd
+  pub ends : EndsWriter p.config closed g w end
+  pub tells : TellsWriter p g w steps end
+
+-- a matched reader is told by its writer's told log
+pub record IsReaderTold (p : Plan) (r i g w : ℕ) (steps : List Step) (rows : ℕ → ℕ → List DataValue) (closed : Closed) : Type 0 where
+  pub reader : ReaderEnd
+  pub writer : WriterEnd
+  pub ends : EndsReader p.config closed r i reader
+  pub its_writer : EndsWriter p.config closed g w writer
+  pub tells : TellsReader p r i g w steps rows writer.log reader
+
+-- Every data message of a writer stands for one whole version of its data set's single history, and never an older one than its last; and whatever datagrams are
+-- lost, repeated or reordered, each matched reader holds exactly the published version that the unbroken run of its arrivals from a key frame names, or has said
+-- why it waits: where nothing comes but what was sent, or nothing that is signed under a ring of the reader's group.
+pub record TellsHeadline (p : Plan) (steps : List Step) (rows : ℕ → ℕ → List DataValue) (closed : Closed) : Type 0 where
+  pub whole_versions : (g w : ℕ) (later before : List WriterDeed) (turn : WriterTurn) → w < length (group_at p.config g).writer
+      → writer_deeds p g w steps ≡ later ++ HadTurn turn ∷ before
+      → is_data (answered_turn (settings_at (group_at p.config g) w) before turn) ≡ true
+      → PublishesVersion p steps (settings_at (group_at p.config g) w) (writer_at (group_at p.config g) w).dataset rows before turn
+  pub never_older : (g w : ℕ) → w < length (group_at p.config g).writer → IsWriterTold p g w steps closed
+  pub readers : (r i g w : ℕ) → IsMatchedIn p.config r i g w → IsHonestFor (setting_of p.config r) (journal p steps)
+      → IsReaderTold p r i g w steps rows closed

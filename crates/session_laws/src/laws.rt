@@ -1,0 +1,135 @@
+//! Laws of sessions, each the contract of a function that does nothing.
+ghost use Rattle.std.specs.Prelude.{◌≡◌, ◌<◌, ◌≤◌, ℕ, Bool, true, List, ◌∷◌, ◌++◌, length, Some, AllPairs};
+ghost use Rattle.std.specs.List.Sorted.{IsNonDecreasingBy};
+ghost use Rattle.dataset_meta.specs.DataValues.{DataValue};
+ghost use Rattle.message_guard.specs.Senders.{HaveOtherNumbers};
+ghost use Rattle.pubsub_model.specs.Cadence.{WriterDeed, WriterTurn, HadTurn, cadence, is_data, next_place};
+ghost use Rattle.pubsub_model.specs.Frames.{Whole};
+ghost use Rattle.writer_group.specs.declared.sampled.Sampled.{Sampled};
+ghost use Rattle.writer_group.specs.Turns.{answer_of, writer_past};
+ghost use Rattle.writer_group.specs.Payloads.{writer_at};
+ghost use Rattle.reader_group.specs.Agreeing.{MemberIs};
+ghost use Rattle.session_model.specs.Steps.{Plan, Step};
+ghost use Rattle.session_model.specs.Deeds.{deeds, group_past, is_rekeyed, log_at, writer_deeds};
+ghost use Rattle.writer_group.specs.Parts.{group_at};
+ghost use Rattle.session_model.specs.Events.{reader_at};
+ghost use Rattle.session_model.specs.Keeping.{AreSteps, IsPlan};
+ghost use Rattle.session_laws.specs.Reading.{ReadsByRecords, first_number_of};
+ghost use Rattle.session_model.specs.Stores.{stores};
+ghost use Rattle.session_model.specs.Turns.{turned_to};
+ghost use Rattle.session_laws.specs.Fresh.{protected_by};
+ghost use Rattle.session_laws.specs.Headline.{InSession, ComesFrom, IsPublished, PublishesVersion, answered_turn};
+ghost use Rattle.session_laws.specs.Pasts.{settings_at};
+ghost use Rattle.session_laws.specs.Plays.{Play, IsPlay, ComesFromWriter, HoldsVersion, its_marks, its_member, its_way};
+ghost use Rattle.session_laws.specs.Sessions.{AreVersions, SamplesRise};
+ghost use Rattle.session_laws.specs.Twins.{TwinStep, AddRefused, AreTwins, firsts, seconds};
+
+use crate::turning::each_turn_of_a_session_holds;
+use group_laws::{
+    a_datagram_has_nothing_for_readers_of_other_groups, a_matched_reader_reads_its_writer,
+    a_ring_makes_senders_of_its_key_group, each_datagram_is_taken_as_it_was_sent,
+    each_part_is_of_what_was_answered,
+};
+use reader_group::{
+    near_readers_have_their_records, refused_datagrams_leave_no_trace,
+    what_a_secured_group_takes_is_signed,
+};
+use row_words::cut_rows_have_words;
+use writer_group::{
+    a_refreshed_writer_sends_a_key_frame, no_token_and_number_come_twice_in_groups,
+};
+
+/// A reader that is matched to a writer, where every datagram that its read group gets was made by a turn of some group before,
+/// or of a secured read group each that is signed under a key of its ring: each item that comes to it is a frame that the writer
+/// answered, whatever datagrams are lost, repeated or reordered, whole or in chunks; what it keeps is what *Records* has of these
+/// items; and a row that it holds is that of the turn whose version the writer's log has at the held number.
+pub fn a_matched_reader_holds_what_was_sent()
+    ensures comes { (most : ℕ) (p : Play) → most ≤ 65536 → IsPlay most p → ComesFromWriter p }
+    ensures keeps { (p : Play) → IsPlay 16385 p → MemberIs (its_way p) (its_marks p) (its_member p) }
+    ensures holds { (p : Play) (row : List DataValue) → IsPlay 16385 p → (its_member p).kept.row ≡ Some row
+        → HoldsVersion p (its_member p).kept.number row }
+{
+    each_datagram_is_taken_as_it_was_sent();
+    each_part_is_of_what_was_answered();
+    a_datagram_has_nothing_for_readers_of_other_groups();
+    a_matched_reader_reads_its_writer();
+    what_a_secured_group_takes_is_signed();
+    near_readers_have_their_records();
+}
+
+/// Whatever datagrams of a session are lost, repeated or reordered, each matched reader reads by *Records*, and holds exactly the
+/// published version that the unbroken run of its arrivals from a key frame names: the row of the version that its writer's log
+/// has at the held number, cut to the reader's fields.
+pub fn matched_readers_hold_published_versions()
+    ensures comes { (p : Plan) (r i g w : ℕ) (steps : List Step) → InSession p r i g w steps → ComesFrom p r i g w steps }
+    ensures reads { (p : Plan) (r i g w : ℕ) (steps : List Step) → InSession p r i g w steps
+        → ReadsByRecords p.config r i (first_number_of p.config g w) steps }
+    ensures holds { (p : Plan) (r i g w : ℕ) (steps : List Step) (rows : ℕ → ℕ → List DataValue) (row : List DataValue)
+        → InSession p r i g w steps → AreVersions p steps rows → (reader_at p.config r i steps).kept.row ≡ Some row
+        → IsPublished p r i g w steps rows (reader_at p.config r i steps).kept.number row }
+{
+    each_datagram_is_taken_as_it_was_sent();
+    each_part_is_of_what_was_answered();
+    a_datagram_has_nothing_for_readers_of_other_groups();
+    a_matched_reader_reads_its_writer();
+    what_a_secured_group_takes_is_signed();
+    near_readers_have_their_records();
+    cut_rows_have_words();
+    a_ring_makes_senders_of_its_key_group();
+    each_turn_of_a_session_holds();
+}
+
+/// Every data message of a writer stands for one whole version of its data set's single history, and never an older one than its
+/// last: up to each turn with a data frame the writer's frames publish the row of the turn's version, cut to the fields that the
+/// data set had then, and the versions of its log never fall, where those that are sampled of a data set don't.
+pub fn data_messages_stand_for_versions()
+    ensures publish { (p : Plan) (g w : ℕ) (steps : List Step) (rows : ℕ → ℕ → List DataValue)
+        (later before : List WriterDeed) (turn : WriterTurn) → IsPlan p → AreSteps p steps
+        → SamplesRise p steps → AreVersions p steps rows → w < length (group_at p.config g).writer
+        → writer_deeds p g w steps ≡ later ++ HadTurn turn ∷ before
+        → let part = writer_at (group_at p.config g) w in let s = settings_at (group_at p.config g) w in
+        is_data (answered_turn s before turn) ≡ true → PublishesVersion p steps s part.dataset rows before turn }
+    ensures never_older { (p : Plan) (g w : ℕ) (steps : List Step) → IsPlan p → AreSteps p steps
+        → SamplesRise p steps → w < length (group_at p.config g).writer
+        → IsNonDecreasingBy (λ entry. entry.1) (log_at p g w steps) }
+{
+    cut_rows_have_words();
+    a_ring_makes_senders_of_its_key_group();
+    each_turn_of_a_session_holds();
+}
+
+/// No two datagrams of a session that one key group protects have the same token and number, over any link.
+pub fn no_token_and_number_come_twice_in_a_session()
+    ensures { (p : Plan) (k : ℕ) (steps : List Step) → IsPlan p → AreSteps p steps → k < length p.config.keygroup
+        → AllPairs HaveOtherNumbers (protected_by p k steps) }
+{
+    a_ring_makes_senders_of_its_key_group();
+    no_token_and_number_come_twice_in_groups();
+    each_turn_of_a_session_holds();
+}
+
+/// At a tick that changes the token of a group's key group each of its writers answers with a key frame, if it has a turn.
+pub fn a_new_token_begins_with_key_frames()
+    ensures { (p : Plan) (before : List Step) (now : ℕ) (closing : Bool) (samples : List Sampled) (g w : ℕ) (turn : WriterTurn)
+        → g < length p.config.group → w < length (group_at p.config g).writer
+        → is_rekeyed p.config now (deeds p before) g ≡ true
+        → let past = group_past p.config g (turned_to p before now closing samples g) in
+        let s = settings_at (group_at p.config g) w in
+        answer_of (group_at p.config g) past w turn
+        ≡ Some (Whole (next_place s (cadence s (writer_past w past))) turn.row) }
+{
+    a_refreshed_writer_sends_a_key_frame();
+}
+
+/// Two courses of a session whose pumps differ in datagrams alone that read groups refuse where they stand, as where the second has
+/// further ones: the groups do the same, each reader is the same, and has the same stores.
+pub fn refused_datagrams_leave_no_trace_in_a_session()
+    ensures groups { (p : Plan) (twins : List TwinStep) → deeds p (firsts twins) ≡ deeds p (seconds twins) }
+    ensures further { (p : Plan) (twins : List TwinStep) → AddRefused p twins → AreTwins p twins }
+    ensures readers { (p : Plan) (twins : List TwinStep) → AreTwins p twins → (r i : ℕ)
+        → reader_at p.config r i (firsts twins) ≡ reader_at p.config r i (seconds twins) }
+    ensures stores { (p : Plan) (twins : List TwinStep) → AreTwins p twins → (r i : ℕ)
+        → stores p.config r i (firsts twins) ≡ stores p.config r i (seconds twins) }
+{
+    refused_datagrams_leave_no_trace();
+}

@@ -1,0 +1,23 @@
+//! What is promised of turns holds in each session.
+ghost use Rattle.std.specs.Prelude.{List};
+ghost use Rattle.session_model.specs.Steps.{Plan, Step};
+ghost use Rattle.session_model.specs.Keeping.{AreSteps, IsPlan};
+ghost use Rattle.session_model.specs.Turns.{TurnsHold};
+
+use group_laws::a_ring_makes_senders_of_its_key_group;
+use row_words::cut_rows_have_words;
+use writer_group::{
+    a_turn_makes_at_most_1024_datagrams, each_answer_is_a_frame, headers_of_a_turn_can_be_written,
+};
+
+/// Each turn of a session's groups has headers that can be written, answers that are frames of their data sets, and at most 1,024
+/// datagrams, secured or not, whatever fields are appended.
+pub fn each_turn_of_a_session_holds()
+    ensures { (p : Plan) (steps : List Step) → IsPlan p → AreSteps p steps → TurnsHold p steps }
+{
+    cut_rows_have_words();
+    a_ring_makes_senders_of_its_key_group();
+    headers_of_a_turn_can_be_written();
+    each_answer_is_a_frame();
+    a_turn_makes_at_most_1024_datagrams();
+}
