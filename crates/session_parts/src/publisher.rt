@@ -205,8 +205,8 @@ impl Publisher {
         ensures holds { HoldPublisher told.now.config.now self.new }
         ensures tree { tree.new.counts ≡ tree.old.counts }
         ensures goes_on { AllGoOnAfter told.now self.old self.new }
-        ensures passed { result ≡ Ticked.Done → HaveParts told.now self.old self.new tree.old tree.new
-            (L.told link.old) (L.told link.new) }
+        ensures passed { result ≡ Ticked.Done → HaveParts told.now self.old self.new
+            tree.old tree.new (L.told link.old) (L.told link.new) }
         ensures halted { result ≡ Ticked.Memory → HaveHalted told.now self.old self.new tree.old
             (L.told link.old) (L.told link.new) }
         ensures memory { result ≡ Ticked.Memory → IsTrue L.takes_memory }
@@ -238,8 +238,8 @@ impl Publisher {
         ensures spent { KnowsSpent told.now.config.now self.new.senders.items tree.new }
         ensures goes_on { GoesOnAfter told.now g self.old self.new }
         ensures others { OthersStay g self.old.groups.items self.new.groups.items }
-        ensures passes { result ≡ Ticked.Done → HasPart told.now g self.old self.new tree.old tree.new
-            (L.told link.old) (L.told link.new) }
+        ensures passes { result ≡ Ticked.Done → HasPart told.now g self.old self.new
+            tree.old tree.new (L.told link.old) (L.told link.new) }
         ensures halted { result ≡ Ticked.Memory → HasHalted told.now g self.old self.new tree.old
             (L.told link.old) (L.told link.new) }
         ensures memory { result ≡ Ticked.Memory → IsTrue L.takes_memory }
@@ -309,8 +309,8 @@ impl Publisher {
         requires group { g < vec_len self.old.sends }
         requires reserved { IsReserved self.old.out }
         requires count { count ≡ length (datagrams_in self.old.out) }
-        ensures sent { result ≡ Ticked.Done → AreSent g (datagrams_in self.old.out) self.old self.new
-            (L.told link.old) (L.told link.new) }
+        ensures sent { result ≡ Ticked.Done → AreSent g (datagrams_in self.old.out)
+            self.old self.new (L.told link.old) (L.told link.new) }
         ensures halted { result ≡ Ticked.Memory → SendsHalt g (datagrams_in self.old.out) self.old self.new
             (L.told link.old) (L.told link.new) }
         ensures memory { result ≡ Ticked.Memory → IsTrue L.takes_memory }
