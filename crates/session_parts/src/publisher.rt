@@ -311,8 +311,8 @@ impl Publisher {
         requires count { count ≡ length (datagrams_in self.old.out) }
         ensures sent { result ≡ Ticked.Done → AreSent g (datagrams_in self.old.out)
             self.old self.new (L.told link.old) (L.told link.new) }
-        ensures halted { result ≡ Ticked.Memory → SendsHalt g (datagrams_in self.old.out) self.old self.new
-            (L.told link.old) (L.told link.new) }
+        ensures halted { result ≡ Ticked.Memory → SendsHalt g (datagrams_in self.old.out)
+            self.old self.new (L.told link.old) (L.told link.new) }
         ensures memory { result ≡ Ticked.Memory → IsTrue L.takes_memory }
         ensures link { KeepsLink L.opened_with L.faults link.old link.new }
         ensures count { vec_len self.new.sends ≡ vec_len self.old.sends }
