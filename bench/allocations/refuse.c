@@ -1,0 +1,40 @@
+// Refuses the allocation with the number FAIL_AT of a program that is started with this library before the C library, and with
+// COUNT tells their number on the error output behind all else.
+#include <errno.h>
+#include <stdio.h>
+#include <stdlib.h>
+#include <unistd.h>
+
+void *__libc_malloc(size_t);
+void *__libc_calloc(size_t, size_t);
+void *__libc_realloc(void *, size_t);
+void *__libc_memalign(size_t, size_t);
+
+static long made, refused = -1;
+
+static int refuses(void) {
+  if (refused < 0) {
+    const char *at = getenv("FAIL_AT");
+    refused = at ? atol(at) : 0;
+  }
+  if (++made != refused) return 0;
+  errno = ENOMEM;
+  return 1;
+}
+
+void *malloc(size_t size) { return refuses() ? NULL : __libc_malloc(size); }
+void *calloc(size_t count, size_t size) { return refuses() ? NULL : __libc_calloc(count, size); }
+void *realloc(void *old, size_t size) { return refuses() ? NULL : __libc_realloc(old, size); }
+void *memalign(size_t align, size_t size) { return refuses() ? NULL : __libc_memalign(align, size); }
+void *aligned_alloc(size_t align, size_t size) { return memalign(align, size); }
+
+int posix_memalign(void **result, size_t align, size_t size) {
+  if (refuses()) return ENOMEM;
+  *result = __libc_memalign(align, size);
+  return *result ? 0 : ENOMEM;
+}
+
+__attribute__((destructor)) static void tell(void) {
+  char text[32];
+  if (getenv("COUNT") && write(2, text, snprintf(text, sizeof text, "%ld\n", made)) < 0) return;
+}
