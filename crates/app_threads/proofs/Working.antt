@@ -23,7 +23,7 @@ use Rattle.app_threads.specs.declared.item.Item.TheVariants as items
 use Rattle.app_threads.specs.declared.done.Done.{Done}
 use Rattle.app_threads.specs.declared.done.Looked.{Looked}
 use Rattle.app_threads.specs.declared.hand.Progress.{Progress}
-use Rattle.app_threads.specs.declared.opening.Room.{Room}
+use Rattle.app_threads.specs.declared.opening.PassSets.{PassSets}
 use Rattle.app_threads.specs.Marks.{Made}
 use Rattle.app_threads.specs.Items.{only_at, patch_of, patches_in, set_of, sets_in, watch_of, watches_in, versions_in, FitsItem}
 use Rattle.app_threads.specs.Looks.{counts_of, counts_in, Climbs, IsLooked}
@@ -391,7 +391,7 @@ module _ (bank targets : List CellData) (thread : ℕ) (duty : Duty) (k : ℕ) (
 
 -- ---- places for one more item's answers
 
-pub room_item : (list : List Item) (k : ℕ) (item : Item) (old new : Room) → k < length list → get_or list k item ≡ item → AddsRoom item old new → HasRoom list k old → HasRoom list (k + 1) new
+pub room_item : (list : List Item) (k : ℕ) (item : Item) (old new : PassSets) → k < length list → get_or list k item ≡ item → AddsRoom item old new → HasRoom list k old → HasRoom list (k + 1) new
 room_item list k (items.Write set patch) old new lt here d h = record {
   versions = let a = ap length (flat_taken set_of list k (items.Write set patch) lt here) in let b = length-append (sets_in (take k list)) (set ∷ []) in let c = h.versions in let e = d.0 in omega (arith, a, b, c, e);
   looks = subst (λ (x : List (ℕ × ℕ) × List Looked). AllZip IsLooked x.0 x.1) (λ i. (sym (flat_taken watch_of list k (items.Write set patch) lt here ∙ append-nil (watches_in (take k list))) i, sym d.1 i)) h.looks;

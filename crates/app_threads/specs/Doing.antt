@@ -11,14 +11,14 @@ use Rattle.app_threads.specs.declared.item.Item.TheVariants as items
 use Rattle.app_threads.specs.declared.done.Done.{Done}
 use Rattle.app_threads.specs.declared.done.Looked.{Looked}
 use Rattle.app_threads.specs.declared.hand.Progress.{Progress}
-use Rattle.app_threads.specs.declared.opening.Room.{Room}
+use Rattle.app_threads.specs.declared.opening.PassSets.{PassSets}
 use Rattle.app_threads.specs.Looks.{IsLooked}
 use Rattle.app_threads.specs.Duties.{Watched}
 
 -- ---- places for the answers
 
 -- the places have room for one item more
-abbrev pub AddsRoom : Item → Room → Room → Type 0
+abbrev pub AddsRoom : Item → PassSets → PassSets → Type 0
 AddsRoom (items.Write set patch) old new =
     (length new.versions.items ≡ length old.versions.items + 1) × (new.looks.items ≡ old.looks.items)
 AddsRoom (items.Watch reader times) old new =

@@ -6,7 +6,7 @@ use Rattle.version_cell.specs.Sets.{ArePassesOf, cell_at, pass_at}
 use Rattle.app_threads.specs.declared.done.Done.{Done}
 use Rattle.app_threads.specs.declared.item.Item.{Item}
 use Rattle.app_threads.specs.declared.hand.Progress.{Progress}
-use Rattle.app_threads.specs.declared.opening.Room.{Room}
+use Rattle.app_threads.specs.declared.opening.PassSets.{PassSets}
 use Rattle.app_threads.specs.Items.{patches_in, sets_in, watches_in, versions_in}
 use Rattle.app_threads.specs.Looks.{counts_in, IsLooked}
 use Rattle.app_threads.specs.Duties.{Duty, Worked, Watched}
@@ -29,6 +29,6 @@ pub record Ran (bank targets : List CellData) (thread : ℕ) (duty : Duty) (k : 
       → Watched (pass_at duty.watches reader) (pass_at done.watches reader) (counts_in reader (take at.watches done.looks))
 
 -- there is a place for each answer of the first k items
-pub record HasRoom (list : List Item) (k : ℕ) (room : Room) : Type 0 where
+pub record HasRoom (list : List Item) (k : ℕ) (room : PassSets) : Type 0 where
   pub versions : length room.versions.items ≡ length (sets_in (take k list))
   pub looks : AllZip IsLooked (watches_in (take k list)) room.looks.items

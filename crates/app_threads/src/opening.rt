@@ -23,7 +23,7 @@ pub(crate) fn fresh(
     ensures passes { IfOk result (λ done. done.passes ≡ passes) }
     ensures watches { IfOk result (λ done. done.watches ≡ watches) }
 {
-    let mut room = Room {
+    let mut room = PassSets {
         versions: Vec::new(alloc),
         looks: Vec::new(alloc),
     };
@@ -31,7 +31,7 @@ pub(crate) fn fresh(
         let item = &list[k];
         add_room(alloc, item, &mut room)?;
     }
-    let Room { versions, looks } = room;
+    let PassSets { versions, looks } = room;
     Ok(Done {
         list: thread,
         versions: Series::new(versions),
@@ -43,12 +43,12 @@ pub(crate) fn fresh(
 
 // Places that the answers of a list will take.
 #[derive(Drop)]
-struct Room {
+struct PassSets {
     pub versions: Vec<(u8, u64)>,
     pub looks: Vec<Looked>,
 }
 
-fn add_room(alloc: Global, item: &Item, room: &mut Room) -> Result<(), NoMemory>
+fn add_room(alloc: Global, item: &Item, room: &mut PassSets) -> Result<(), NoMemory>
     ensures { OnOk result (AddsRoom item.now room.old room.new) }
 {
     match item {

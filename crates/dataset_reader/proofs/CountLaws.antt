@@ -2,6 +2,7 @@
 use Rattle.std.proofs.Common.{◌≡◌, refl, sym, ap, ◌∙◌, subst, ◌⊎◌, inl, inr, arith, ℕ, ◌+◌, ◌≤◌, ◌^◌, ◌-◌, min, take, Bool, true, false, List, ◌∷◌, Option, Some, None}
 use Rattle.std.specs.Prelude.{◌==◌}
 use Rattle.std.proofs.lemmas.Bool.{leb-true, le-leb}
+use Rattle.std.proofs.lemmas.Option.{none-some}
 use Rattle.dataset_meta.specs.DataValues.{DataValue}
 use Rattle.seq_number.specs.Numbers.{newer}
 use Rattle.pubsub_model.specs.declared.reading.Break.{Break}
@@ -94,26 +95,20 @@ frame-counts numbering major message old stamp = major_counts numbering major me
 abbrev WhyAfter : Kept → Option ℕ → Why → Type 0
 WhyAfter old stamp why = (IsJump old stamp × (why ≡ Jump)) ⊎ ((¬ IsJump old stamp) × (why ≡ old.why))
 
-none_some : {A B : Type 0} {x : A} → Path (Option A) None (Some x) → B
-none_some e = absurd (no e)
-  where
-    no : {A : Type 0} {x : A} → Path (Option A) None (Some x) → ⊥
-    no e = cc
-
 some_once : {A : Type 0} {x y : A} → Path (Option A) (Some x) (Some y) → x ≡ y
 some_once e = cc
 
 stamped_why_by : (jump : Bool) (old : Kept) (n : ℕ) (high : Option ℕ) → old.stamp ≡ high → is_jump high n ≡ jump → is_jump old.stamp n ≡ jump → WhyAfter old (Some n) (stamped old (Some n)).why
 stamped_why_by true old n None is test at = absurd (let no : Path Bool false true = test in cc)
 stamped_why_by true old n (Some high) is test at = rw at (inl ((high, n, is, refl, leb-true (high + 16384) n test), refl))
-stamped_why_by false old n None is test at = rw at (inr (λ jump. none_some (sym is ∙ jump.2), refl))
+stamped_why_by false old n None is test at = rw at (inr (λ jump. absurd (none-some jump.0 (sym is ∙ jump.2)), refl))
 stamped_why_by false old n (Some high) is test at = rw at (inr (λ jump. above jump.0 jump.1 (some_once (sym is ∙ jump.2)) (some_once jump.3) jump.4, refl))
   where
     above : (most number : ℕ) → high ≡ most → n ≡ number → most + 16384 ≤ number → ⊥
     above most number one two far = absurd (let no : Path Bool false true = sym test ∙ le-leb (high + 16384) n (omega (arith, one, two, far)) in cc)
 
 stamped_why : (old : Kept) (stamp : Option ℕ) → WhyAfter old stamp (stamped old stamp).why
-stamped_why old None = inr (λ jump. none_some jump.3, refl)
+stamped_why old None = inr (λ jump. absurd (none-some jump.1 jump.3), refl)
 stamped_why old (Some n) = stamped_why_by (is_jump old.stamp n) old n old.stamp refl refl refl
 
 waiting_once : {one other : Why} → Path Outcome (outcomes.Waiting one) (outcomes.Waiting other) → one ≡ other

@@ -2,6 +2,6 @@ pub mod Kept
 pub mod Cases
 pub mod Keeping
 pub mod Answers
-pub mod State
+pub mod Progress
 pub mod Reader
 pub mod Props

@@ -11,7 +11,7 @@ use Rattle.dataset_reader.specs.declared.took.Took.{Took}
 use Rattle.dataset_reader.specs.Kept.{Kept}
 use Rattle.dataset_reader.specs.Cases.{frame_case}
 use Rattle.dataset_reader.specs.Keeping.{KeepsBy, IsNextItem, came_on_by}
-use Rattle.dataset_reader.specs.State.{kept_in, IsStateOf}
+use Rattle.dataset_reader.specs.Progress.{kept_in, IsStateOf}
 
 -- how it finds its place in the run of messages
 abbrev pub numbering_of : Reader → Numbering

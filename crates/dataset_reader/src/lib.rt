@@ -4,8 +4,8 @@
 
 mod held;
 mod laws;
+mod progress;
 mod reader;
-mod state;
 mod took;
 
 pub use laws::{

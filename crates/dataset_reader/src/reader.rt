@@ -7,7 +7,7 @@ ghost use Rattle.frame_codec.specs.Words.{IsFrameOf};
 ghost use Rattle.pubsub_model.specs.Records.{Arrival, Item, Cut};
 ghost use Rattle.dataset_reader.specs.Kept.{fresh, cut_kept};
 
-use crate::state::State;
+use crate::progress::Progress;
 use crate::took::{Numbering, Took};
 use dataset_meta::Meta;
 use frame_codec::Frame;
@@ -20,7 +20,7 @@ use row_words::Row;
 #[derive(Drop)]
 pub struct Reader {
     numbering: Numbering,
-    state: State,
+    state: Progress,
 }
 
 impl Reader {
@@ -35,7 +35,7 @@ impl Reader {
     {
         Reader {
             numbering,
-            state: State::new(),
+            state: Progress::new(),
         }
     }
 

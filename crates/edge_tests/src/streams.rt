@@ -2,7 +2,7 @@
 ghost use Rattle.std.specs.Prelude.{◌≤◌, IfOk};
 
 use std::io::{self, Error, ErrorKind, Read, Write};
-use udp_edge::{Taken, take_whole, write_whole};
+use udp_edge::{StreamRead, take_whole, write_whole};
 
 // Gives pieces of at most three bytes, and fails after so many of them.
 #[derive(Drop)]
@@ -46,11 +46,11 @@ impl Write for Piecewise {
 #[test]
 fn a_stream_is_read_to_its_end_or_limit(rt: HostRuntime) {
     for (pieces, fails, limit, want, len) in [
-        (2, false, 6_u32, Taken::Whole, 6),
-        (2, false, 5, Taken::Over, 6),
-        (0, false, 0, Taken::Whole, 0),
-        (2, true, 5, Taken::Over, 6),
-        (1, true, 5, Taken::Failed, 3),
+        (2, false, 6_u32, StreamRead::Whole, 6),
+        (2, false, 5, StreamRead::Over, 6),
+        (0, false, 0, StreamRead::Whole, 0),
+        (2, true, 5, StreamRead::Over, 6),
+        (1, true, 5, StreamRead::Failed, 3),
     ] {
         let mut reader = Piecewise { pieces, fails };
         let mut into = Vec::new(rt.alloc());

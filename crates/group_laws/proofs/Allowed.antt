@@ -2,6 +2,7 @@
 use Rattle.std.proofs.Common.{◌≡◌, refl, subst, ℕ, ◌<◌, ◌^◌, Bool, true, false, List, [], ◌∷◌, map, All, Contains, Option, Some, None, IfSome, length}
 use Rattle.std.specs.Prelude.{◌==◌}
 use Rattle.std.proofs.lemmas.List.Elements.{All-contains, All-head, All-tail}
+use Rattle.std.proofs.lemmas.Option.{none-some}
 use Rattle.message_guard.specs.declared.keys.TokenKeys.{TokenKeys}
 use Rattle.message_guard.specs.Protection.{keys_with}
 use Rattle.message_guard.specs.Senders.{SenderState}
@@ -25,10 +26,7 @@ header-types config group types there =
 
 -- the keys that a token has among those of a ring have a token of 32 bits
 found-token : (keys : List KeyPart) (token : ℕ) (found : TokenKeys) → All HasKeyTypes keys → keys_with (map token_keys keys) token ≡ Some found → found.token < 2 ^ 32
-found-token [] token found types is = absurd (none_some is)
-  where
-    none_some : Path (Option TokenKeys) None (Some found) → ⊥
-    none_some e = cc
+found-token [] token found types is = absurd (none-some found is)
 found-token (key ∷ keys) token found types is =
     on (key.token == token) refl (λ rest. found-token keys token found (All-tail HasKeyTypes key keys types) rest)
   where

@@ -3,6 +3,7 @@ use Rattle.std.proofs.Common.{◌≡◌, ◌≢◌, refl, sym, ap, ◌∙◌, su
 use Rattle.std.specs.Prelude.{slice_get, nat_lt, if◌then◌else◌}
 use Rattle.std.specs.List.{flat_map}
 use Rattle.std.proofs.lemmas.List.{drop_at}
+use Rattle.std.proofs.lemmas.Option.{none-some}
 use Rattle.std.proofs.lemmas.List.Elements.{All-cons, All-head, All-tail, All-nil}
 use Rattle.uadp_header.specs.Spelling.{IsWritten, header_bytes}
 use Rattle.message_guard.specs.declared.mode.Mode.{Mode}
@@ -81,10 +82,7 @@ each-taken : (config : Config) (group : GroupPart) (reads : ReadGroupPart) (acce
     → AreOne config group reads count sender → AreWritten (envelope_with config group made) sender from payloads → from + length payloads ≤ count → All (IsGood group.layout) payloads
     → slice_get (datagrams_from (envelope_with config group made) sender from payloads) k ≡ Some datagram → slice_get (opened_from group.layout (envelope_with config group made) sender from payloads) k ≡ Some opened
     → (let setup = setup_by config reads reads.keygroup in IsTakenAs (is_accepted setup accepted opened.pass) opened (verdict reads setup accepted datagram))
-each-taken config group reads accepted made from count k sender [] datagram opened are written fit good datagram_is opened_is = absurd (none_some datagram_is)
-  where
-    none_some : {X : Type 0} {x : X} → Path (Option X) None (Some x) → ⊥
-    none_some e = cc
+each-taken config group reads accepted made from count k sender [] datagram opened are written fit good datagram_is opened_is = absurd (none-some datagram datagram_is)
 each-taken config group reads accepted made from count zero sender (payload ∷ payloads) datagram opened are written fit good datagram_is opened_is =
     let here = one-taken config group reads accepted made from count payload sender (are.one payload (All-head (IsGood group.layout) payload payloads good)) are.may written.0 (omega (arith, fit)) in
     let setup = setup_by config reads reads.keygroup in

@@ -16,6 +16,7 @@ use Rattle.value_texts.proofs.OfKinds.{of_boolean, of_sbyte, of_byte, of_int16, 
 use Rattle.value_texts.proofs.TextLaws.{text_once}
 use Rattle.dataset_meta.specs.declared.field.Field.{Field}
 use Rattle.dataset_meta.specs.DataValues.{DataValue}
+use Rattle.dataset_meta.proofs.SameLaws.{both}
 use Rattle.json_values.specs.Spelled.{base64_text}
 use Rattle.json_values.specs.Reading.{StandsFor, IsStatusAt, HasQuality, HasFieldJson, ReadsField}
 use Rattle.json_values.proofs.Results.{same_ok}
@@ -76,9 +77,6 @@ stands_once d (values.StatusCode a) other valid right same is so =
 status_once : (o : Option Data) (s t : ℕ) → IsStatusAt o s → IsStatusAt o t → s ≡ t
 status_once None s t is so = is ∙ sym so
 status_once (Some d) s t is so = same_Some s t (sym is ∙ so)
-
-both : (x y : DataValue) → x.value ≡ y.value → x.status ≡ y.status → x ≡ y
-both x y e f = rw (← e, ← f) refl
 
 field_once : (quality : Bool) (d : Data) (x y : DataValue) → IsValue x.value → IsValue y.value → kind_of x.value ≡ kind_of y.value → HasFieldJson quality d x → HasFieldJson quality d y → x ≡ y
 field_once false d x y valid right same is so =

@@ -19,20 +19,7 @@ use Rattle.message_guard.specs.Opening.{opened, verdict}
 use Rattle.message_guard.specs.Protection.{keys_in, keys_with, payload_in, signature_of}
 use Rattle.message_guard.specs.Senders.{SenderState, front_value, made_of, turned, turned_by}
 use Rattle.message_guard.proofs.Restoring.{sent_is_passed, payload_restored}
-use Rattle.message_guard.proofs.Rings.{keys_of_moment}
-
-keys_with-map : (sets : List KeySet) (token : ℕ) → keys_with (map keys_in sets) token ≡ option_map keys_in (with_token sets token)
-keys_with-map [] token = refl
-keys_with-map (set ∷ sets) token = first_of_map set (keys_with (map keys_in sets) token) (with_token sets token) (set.token == token) (keys_with-map sets token)
-  where
-    first_of_map : (set : KeySet) (found : Option TokenKeys) (among : Option KeySet) (b : Bool) → found ≡ option_map keys_in among
-        → cond b (Some (keys_in set)) found ≡ option_map keys_in (cond b (Some set) among)
-    first_of_map set found among true rest = refl
-    first_of_map set found among false rest = rest
-
-set_of : (o : Option KeySet) (keys : TokenKeys) → option_map keys_in o ≡ Some keys → (set : KeySet) × ((o ≡ Some set) × (keys ≡ keys_in set))
-set_of None keys is = cc
-set_of (Some set) keys is = (set, (refl, cc))
+use Rattle.message_guard.proofs.Rings.{keys_with-map, set_of, keys_of_moment}
 
 -- pulled sets that have a set's keys give them to a guard
 known_of : (pulled : List KeySet) (set : KeySet) → HasKeysOf pulled set → keys_with (map keys_in pulled) set.token ≡ Some (keys_in set)

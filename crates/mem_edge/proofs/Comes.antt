@@ -16,8 +16,8 @@ use Rattle.ua_base.specs.declared.link.Received.TheVariants as received
 use Rattle.mem_edge.specs.Contents.{bytes_of, injections}
 use Rattle.mem_edge.specs.declared.mark.Answer.TheVariants as answer
 use Rattle.mem_edge.specs.declared.mark.Mark.{Mark}
-use Rattle.mem_edge.specs.declared.mark.Place.{Place}
-use Rattle.mem_edge.specs.declared.mark.Place.TheVariants as place
+use Rattle.mem_edge.specs.declared.mark.Source.{Source}
+use Rattle.mem_edge.specs.declared.mark.Source.TheVariants as place
 use Rattle.mem_edge.specs.Marks.{datagram_at, held_places, reach_send, sends_at, state_of, IsWithin, IsMarkWithin}
 use Rattle.mem_edge.specs.Marks.{entries, entry_of}
 use Rattle.mem_edge.proofs.Kept.{datagrams_more, entries_more}
@@ -33,13 +33,13 @@ state_entry tells journal now es waiting left is same = state_more tells journal
 
 -- ---- places within more lists
 
-pub within_more : (m n k : ℕ) → n ≤ k → (p : Place) → IsWithin m n p → IsWithin m k p
+pub within_more : (m n k : ℕ) → n ≤ k → (p : Source) → IsWithin m n p → IsWithin m k p
 within_more m n k le p h = record { among_injected = h.among_injected; among_sent = omega (arith, h.among_sent, le) }
 
 pub mark_within_more : (m n k : ℕ) → n ≤ k → (marks : List Mark) → All (IsMarkWithin m n) marks → All (IsMarkWithin m k) marks
 mark_within_more m n k le marks all = All-weaker (IsMarkWithin m n) (IsMarkWithin m k) (λ x h. record { among_injected = h.among_injected; among_sent = omega (arith, h.among_sent, le) }) marks all
 
-pub places_more : (m n k : ℕ) → n ≤ k → (ps : List Place) → All (IsWithin m n) ps → All (IsWithin m k) ps
+pub places_more : (m n k : ℕ) → n ≤ k → (ps : List Source) → All (IsWithin m n) ps → All (IsWithin m k) ps
 places_more m n k le ps all = All-weaker (IsWithin m n) (IsWithin m k) (within_more m n k le) ps all
 
 pub numbered_more : (n k : ℕ) → n ≤ k → (places : List (Option ℕ)) → All (λ o. reach_send o ≤ n) places → All (λ o. reach_send o ≤ k) places
@@ -51,7 +51,7 @@ place_in n [] i all = omega arith
 place_in n (o ∷ places) zero all = All-head (λ (x : Option ℕ). reach_send x ≤ n) o places all
 place_in n (o ∷ places) (suc i) all = place_in n places i (All-tail (λ (x : Option ℕ). reach_send x ≤ n) o places all)
 
-one_held : (m n : ℕ) (o : Option ℕ) (ps : List Place) → reach_send o ≤ n → All (IsWithin m n) ps → All (IsWithin m n) (cons_option (option_map place.Sent o) ps)
+one_held : (m n : ℕ) (o : Option ℕ) (ps : List Source) → reach_send o ≤ n → All (IsWithin m n) ps → All (IsWithin m n) (cons_option (option_map place.Sent o) ps)
 one_held m n None ps le all = all
 one_held m n (Some i) ps le all = All-cons (IsWithin m n) (place.Sent i) ps (record { among_injected = omega arith; among_sent = le }) all
 
@@ -60,10 +60,10 @@ held_within m n places [] all = All-nil (IsWithin m n)
 held_within m n places (h ∷ held) all = one_held m n (unwrap_or (slice_get places h.1) None) (held_places places held) (place_in n places h.1 all) (held_within m n places held all)
 
 -- the whole queue, after a send
-pub queue_within : (m n k copies : ℕ) (queue : List Place) (places : List (Option ℕ)) (held injected : List (ℕ × ℕ)) → k ≡ n + 1 → All (IsWithin m n) queue → All (λ o. reach_send o ≤ n) places → All (λ p. p.1 < m) injected
+pub queue_within : (m n k copies : ℕ) (queue : List Source) (places : List (Option ℕ)) (held injected : List (ℕ × ℕ)) → k ≡ n + 1 → All (IsWithin m n) queue → All (λ o. reach_send o ≤ n) places → All (λ p. p.1 < m) injected
     → All (IsWithin m k) (queue ++ replicate copies (place.Sent n) ++ held_places places held ++ map (λ p. place.Injected p.1) injected)
 queue_within m n k copies queue places held injected len old small low =
-    let P : Place → Type 0 = IsWithin m k in
+    let P : Source → Type 0 = IsWithin m k in
     All-append P _ _
     (All-append P _ _
     (All-append P queue _ (places_more m n k (omega arith) queue old) (All-replicate P copies (place.Sent n) (record { among_injected = omega arith; among_sent = omega arith })))
@@ -72,11 +72,11 @@ queue_within m n k copies queue places held injected len old small low =
 
 -- ---- and what they show
 
-shown_copies : (f : Place → List ℕ) (p : Place) (d : List ℕ) (copies : ℕ) → f p ≡ d → map f (replicate copies p) ≡ replicate copies d
+shown_copies : (f : Source → List ℕ) (p : Source) (d : List ℕ) (copies : ℕ) → f p ≡ d → map f (replicate copies p) ≡ replicate copies d
 shown_copies f p d zero is = refl
 shown_copies f p d (suc copies) is = rw (is, shown_copies f p d copies is) refl
 
-one_shown : (injected sent : List (List ℕ)) (o : Option ℕ) (ps : List Place) → map (datagram_at injected sent) (cons_option (option_map place.Sent o) ps) ≡ cons_option (option_map (λ i. get_or sent i []) o) (map (datagram_at injected sent) ps)
+one_shown : (injected sent : List (List ℕ)) (o : Option ℕ) (ps : List Source) → map (datagram_at injected sent) (cons_option (option_map place.Sent o) ps) ≡ cons_option (option_map (λ i. get_or sent i []) o) (map (datagram_at injected sent) ps)
 one_shown injected sent None ps = refl
 one_shown injected sent (Some i) ps = refl
 
@@ -93,18 +93,18 @@ held_shown injected sent places (h ∷ held) =
     ∙ rw (held_shown injected sent places held, joined sent places h.1) refl
 
 -- what waits after a send
-pub waiting_more : (injected sent now : List (List ℕ)) (d : List ℕ) (m n next copies : ℕ) (queue later : List Place) (places : List (Option ℕ)) (sends : List (Option (List ℕ))) (held run : List (ℕ × ℕ))
+pub waiting_more : (injected sent now : List (List ℕ)) (d : List ℕ) (m n next copies : ℕ) (queue later : List Source) (places : List (Option ℕ)) (sends : List (Option (List ℕ))) (held run : List (ℕ × ℕ))
     → now ≡ sent ++ d ∷ [] → n ≡ length sent → next ≤ length queue → later ≡ queue ++ replicate copies (place.Sent n) ++ held_places places held ++ map (λ p. place.Injected p.1) run
     → All (IsWithin m n) queue → All (λ o. reach_send o ≤ n) places → sends ≡ sends_at sent places
     → map (datagram_at injected now) (drop next later)
     ≡ map (datagram_at injected sent) (drop next queue) ++ (replicate copies d ++ filter_map (λ h. unwrap_or (slice_get sends h.1) None) held ++ map (λ p. datagram_at injected sent (place.Injected p.1)) run)
 waiting_more injected sent now d m n next copies queue later places sends held run grew len le is within small numbered =
-    let shown : Place → List ℕ = datagram_at injected (sent ++ d ∷ []) in
-    let own : List Place = replicate copies (place.Sent n) in
-    let heard : List Place = held_places places held in
-    let others : List Place = map (λ (p : ℕ × ℕ). place.Injected p.1) run in
+    let shown : Source → List ℕ = datagram_at injected (sent ++ d ∷ []) in
+    let own : List Source = replicate copies (place.Sent n) in
+    let heard : List Source = held_places places held in
+    let others : List Source = map (λ (p : ℕ × ℕ). place.Injected p.1) run in
     let parted : drop next later ≡ drop next queue ++ (own ++ heard ++ others) =
-    ap (drop next) (is ∙ ap (λ (l : List Place). l ++ others) (append_assoc queue own heard) ∙ append_assoc queue (own ++ heard) others) ∙ drop-append-le next queue (own ++ heard ++ others) le in
+    ap (drop next) (is ∙ ap (λ (l : List Source). l ++ others) (append_assoc queue own heard) ∙ append_assoc queue (own ++ heard) others) ∙ drop-append-le next queue (own ++ heard ++ others) le in
     let waits : map shown (drop next queue) ≡ map (datagram_at injected sent) (drop next queue) = datagrams_more injected sent d m n (drop next queue) (omega arith) (All-drop (IsWithin m n) next queue within) in
     let copied : map shown own ≡ replicate copies d = shown_copies shown (place.Sent n) d copies (get_or_push sent d [] n (sym len)) in
     let kept : map shown heard ≡ map (datagram_at injected sent) heard = datagrams_more injected sent d m n heard (omega arith) (held_within m n places held small) in
@@ -129,7 +129,7 @@ injected_none (x ∷ injected) none = cc
 
 -- the journal with the entry of a datagram that is sent
 pub journal_sent : (injected sent now : List (List ℕ)) (d : List ℕ) (m n first : ℕ) (marks more : List Mark) → now ≡ sent ++ d ∷ [] → n ≡ length sent → All (IsMarkWithin m n) marks
-    → ((shown : Place → List ℕ) (k : ℕ) → entries shown k more ≡ entries shown k marks ++ entry_of shown (answer.Sent n) ∷ [])
+    → ((shown : Source → List ℕ) (k : ℕ) → entries shown k more ≡ entries shown k marks ++ entry_of shown (answer.Sent n) ∷ [])
     → entries (datagram_at injected now) first more ≡ entries (datagram_at injected sent) first marks ++ Sent d ∷ []
 journal_sent injected sent now d m n first marks more grew len within entry =
     rw grew (entry (datagram_at injected (sent ++ d ∷ [])) first ∙ rw (entries_more injected sent d m n first marks (omega arith) within, get_or_push sent d [] n (sym len)) refl)
@@ -144,7 +144,7 @@ told_waiting true journal waiting state is = ap (λ (w : LinkState). w.waiting) 
 told_waiting false journal waiting state is = cc
 
 -- the first that waits
-pub waiting_taken : (shown : Place → List ℕ) (queue : List Place) (next : ℕ) (p : Place) → next < length queue → p ≡ get_or queue next p → map shown (drop next queue) ≡ shown p ∷ map shown (drop (next + 1) queue)
+pub waiting_taken : (shown : Source → List ℕ) (queue : List Source) (next : ℕ) (p : Source) → next < length queue → p ≡ get_or queue next p → map shown (drop next queue) ≡ shown p ∷ map shown (drop (next + 1) queue)
 waiting_taken shown queue next p lt is = ap (map shown) (drop-cons queue next p lt) ∙ rw (add-one, ← is) refl
 
 -- and is received, or dropped since it is too long

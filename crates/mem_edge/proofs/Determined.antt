@@ -13,7 +13,7 @@ use Rattle.ua_base.specs.Net.{Receives}
 use Rattle.ua_base.proofs.Told.{Tells-between, Tells-at}
 use Rattle.mem_edge.specs.declared.memory_link.MemoryLink.{MemoryLink}
 use Rattle.mem_edge.specs.Calls.{is_named, next_call}
-use Rattle.mem_edge.specs.Lines.{journal_in, waiting_in}
+use Rattle.mem_edge.specs.Transits.{journal_in, waiting_in}
 use Rattle.mem_edge.specs.MemoryLinks.{told_by, journal_of, fates_of, injected_by, named_sends, named_receives, receives_made, fails_receiving, KeepsNamed, SendsInMemory}
 use Rattle.mem_edge.specs.Queueing.{queued_by}
 use Rattle.mem_edge.specs.Runs.{Settings, settings_of, Call, Send, Unsent, Receive, Standing, state_sent, state_received, first_taken, after_call, AnswersSend, AnswersReceive, Answers, AnswersAll}
@@ -45,7 +45,7 @@ is_false false not_so = refl
 
 send_step : (result : SentEnd) (old new : MemoryLink) (datagram : List ℕ) (before after : LinkState) → told_by old ≡ Some before → told_by new ≡ Some after → result ≢ sent.Memory → AnswersSend datagram result old new → after ≡ state_sent (settings_of old) datagram before
 send_step sent.Done old new datagram before after start end real a =
-    let same : journal_of old ≡ before.journal = told_journal old.line.tells (journal_in old.line) (waiting_in old.line) before start in
+    let same : journal_of old ≡ before.journal = told_journal old.transit.tells (journal_in old.transit) (waiting_in old.transit) before start in
     let more : List Entry → List (List ℕ) = λ journal. queued_by (fates_of old) (injected_by old) (sends_in journal) datagram in
     let done : List Entry → LinkState = λ journal. record { journal = before.journal ++ Sent datagram ∷ []; waiting = before.waiting ++ more journal } in
     let told : told_by new ≡ Some (done (journal_of old)) = a.adds.0 ∙ state_more_at (told_by old) before (Sent datagram ∷ []) (more (journal_of old)) start in
@@ -53,7 +53,7 @@ send_step sent.Done old new datagram before after start end real a =
     one_state (told_by new) after (done (journal_of old)) end told ∙ ap done same
     ∙ sym (ap (λ (b : Bool). cond b (record { journal = before.journal ++ SendFailed ∷ []; waiting = before.waiting }) (done before.journal)) test)
 send_step sent.Failed old new datagram before after start end real a =
-    let same : journal_of old ≡ before.journal = told_journal old.line.tells (journal_in old.line) (waiting_in old.line) before start in
+    let same : journal_of old ≡ before.journal = told_journal old.transit.tells (journal_in old.transit) (waiting_in old.transit) before start in
     let failed : LinkState = record { journal = before.journal ++ SendFailed ∷ []; waiting = before.waiting ++ [] } in
     let lost : LinkState = record { journal = before.journal ++ SendFailed ∷ []; waiting = before.waiting } in
     let told : told_by new ≡ Some failed = a.adds.0 ∙ state_more_at (told_by old) before (SendFailed ∷ []) [] start in

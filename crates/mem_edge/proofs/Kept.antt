@@ -9,19 +9,19 @@ use Rattle.ua_base.proofs.Honest.{honest_start, honest_after, sent_in}
 use Rattle.mem_edge.specs.declared.mark.Answer.{Answer}
 use Rattle.mem_edge.specs.declared.mark.Answer.TheVariants as answer
 use Rattle.mem_edge.specs.declared.mark.Mark.{Mark}
-use Rattle.mem_edge.specs.declared.mark.Place.{Place}
-use Rattle.mem_edge.specs.declared.mark.Place.TheVariants as place
+use Rattle.mem_edge.specs.declared.mark.Source.{Source}
+use Rattle.mem_edge.specs.declared.mark.Source.TheVariants as place
 use Rattle.mem_edge.specs.Marks.{datagram_at, entry_of, marked, entries, reach_send, answer_injected, answer_sent, sends_at, IsWithin, IsMarkWithin, IsKept}
 use Rattle.mem_edge.specs.Sends.{send_in}
 
 -- ---- lists of what was sent that grow
 
 -- a datagram stays where it was
-pub datagram_more : (injected sent : List (List ℕ)) (d : List ℕ) (m n : ℕ) (p : Place) → n ≤ length sent → IsWithin m n p → datagram_at injected (sent ++ d ∷ []) p ≡ datagram_at injected sent p
+pub datagram_more : (injected sent : List (List ℕ)) (d : List ℕ) (m n : ℕ) (p : Source) → n ≤ length sent → IsWithin m n p → datagram_at injected (sent ++ d ∷ []) p ≡ datagram_at injected sent p
 datagram_more injected sent d m n (place.Injected i) le within = refl
 datagram_more injected sent d m n (place.Sent i) le within = let lt : i < length sent = omega (arith, within.among_sent, le) in rw get_or_append_left refl
 
-pub datagrams_more : (injected sent : List (List ℕ)) (d : List ℕ) (m n : ℕ) (ps : List Place) → n ≤ length sent → All (IsWithin m n) ps → map (datagram_at injected (sent ++ d ∷ [])) ps ≡ map (datagram_at injected sent) ps
+pub datagrams_more : (injected sent : List (List ℕ)) (d : List ℕ) (m n : ℕ) (ps : List Source) → n ≤ length sent → All (IsWithin m n) ps → map (datagram_at injected (sent ++ d ∷ [])) ps ≡ map (datagram_at injected sent) ps
 datagrams_more injected sent d m n [] le all = refl
 datagrams_more injected sent d m n (p ∷ ps) le all =
     rw (datagram_more injected sent d m n p le (All-head (IsWithin m n) p ps all), datagrams_more injected sent d m n ps le (All-tail (IsWithin m n) p ps all)) refl
@@ -73,7 +73,7 @@ unmoved : {X : Type 0} (f : Entry → Option X) (before after : List Entry) (e :
 unmoved f before after e is none = grown f before after e is ∙ rw none (append-nil (filter_map f before))
 
 -- an answer that is no send, and brings no datagram
-pub kept_other : (alone : Type 0) (injected sent : List (List ℕ)) (places : List (Option ℕ)) (received : List Place) (before after : List Entry) (e : Entry) → after ≡ before ++ e ∷ []
+pub kept_other : (alone : Type 0) (injected sent : List (List ℕ)) (places : List (Option ℕ)) (received : List Source) (before after : List Entry) (e : Entry) → after ≡ before ++ e ∷ []
     → sent_datagram e ≡ None → send_in e ≡ None → received_datagram e ≡ None → ((d : List ℕ) → e ≡ Got d → ⊥) → IsKept alone injected sent places received before → IsKept alone injected sent places received after
 kept_other alone injected sent places received before after e is no_sent no_send no_got no_entry k = record {
   order = unmoved sent_datagram before after e is no_sent ∙ k.order;
@@ -82,17 +82,17 @@ kept_other alone injected sent places received before after e is no_sent no_send
   honest = λ a. honest_after before after e is (λ d got. absurd (no_entry d got)) (k.honest a);
 }
 
-pub kept_empty : (alone : Type 0) (injected sent : List (List ℕ)) (places : List (Option ℕ)) (received : List Place) (before after : List Entry) → after ≡ before ++ Empty ∷ [] → IsKept alone injected sent places received before → IsKept alone injected sent places received after
+pub kept_empty : (alone : Type 0) (injected sent : List (List ℕ)) (places : List (Option ℕ)) (received : List Source) (before after : List Entry) → after ≡ before ++ Empty ∷ [] → IsKept alone injected sent places received before → IsKept alone injected sent places received after
 kept_empty alone injected sent places received before after is k = kept_other alone injected sent places received before after Empty is refl refl refl (λ d got. cc) k
 
-pub kept_long : (alone : Type 0) (injected sent : List (List ℕ)) (places : List (Option ℕ)) (received : List Place) (before after : List Entry) (n : ℕ) → after ≡ before ++ Long n ∷ [] → IsKept alone injected sent places received before → IsKept alone injected sent places received after
+pub kept_long : (alone : Type 0) (injected sent : List (List ℕ)) (places : List (Option ℕ)) (received : List Source) (before after : List Entry) (n : ℕ) → after ≡ before ++ Long n ∷ [] → IsKept alone injected sent places received before → IsKept alone injected sent places received after
 kept_long alone injected sent places received before after n is k = kept_other alone injected sent places received before after (Long n) is refl refl refl (λ d got. cc) k
 
-pub kept_receive_failed : (alone : Type 0) (injected sent : List (List ℕ)) (places : List (Option ℕ)) (received : List Place) (before after : List Entry) → after ≡ before ++ ReceiveFailed ∷ [] → IsKept alone injected sent places received before → IsKept alone injected sent places received after
+pub kept_receive_failed : (alone : Type 0) (injected sent : List (List ℕ)) (places : List (Option ℕ)) (received : List Source) (before after : List Entry) → after ≡ before ++ ReceiveFailed ∷ [] → IsKept alone injected sent places received before → IsKept alone injected sent places received after
 kept_receive_failed alone injected sent places received before after is k = kept_other alone injected sent places received before after ReceiveFailed is refl refl refl (λ d got. cc) k
 
 -- a send that failed
-pub kept_failed : (alone : Type 0) (injected sent : List (List ℕ)) (places more : List (Option ℕ)) (received : List Place) (before after : List Entry) → after ≡ before ++ SendFailed ∷ [] → more ≡ places ++ None ∷ []
+pub kept_failed : (alone : Type 0) (injected sent : List (List ℕ)) (places more : List (Option ℕ)) (received : List Source) (before after : List Entry) → after ≡ before ++ SendFailed ∷ [] → more ≡ places ++ None ∷ []
     → IsKept alone injected sent places received before → IsKept alone injected sent more received after
 kept_failed alone injected sent places more received before after is numbered k = record {
   order = unmoved sent_datagram before after SendFailed is refl ∙ k.order;
@@ -103,7 +103,7 @@ kept_failed alone injected sent places more received before after is numbered k 
 }
 
 -- a datagram that is sent
-pub kept_send : (alone : Type 0) (injected sent now : List (List ℕ)) (d : List ℕ) (m n : ℕ) (places more : List (Option ℕ)) (received : List Place) (before after : List Entry)
+pub kept_send : (alone : Type 0) (injected sent now : List (List ℕ)) (d : List ℕ) (m n : ℕ) (places more : List (Option ℕ)) (received : List Source) (before after : List Entry)
     → after ≡ before ++ Sent d ∷ [] → now ≡ sent ++ d ∷ [] → n ≡ length sent → more ≡ places ++ Some n ∷ [] → All (λ o. reach_send o ≤ n) places → All (IsWithin m n) received
     → IsKept alone injected sent places received before → IsKept alone injected now more received after
 kept_send alone injected sent now d m n places more received before after is grew len numbered small within k = rw grew (record {
@@ -117,7 +117,7 @@ kept_send alone injected sent now d m n places more received before after is gre
 })
 
 -- a datagram that is received
-pub kept_got : (alone : Type 0) (injected sent : List (List ℕ)) (places : List (Option ℕ)) (received more : List Place) (p : Place) (m n : ℕ) (before after : List Entry)
+pub kept_got : (alone : Type 0) (injected sent : List (List ℕ)) (places : List (Option ℕ)) (received more : List Source) (p : Source) (m n : ℕ) (before after : List Entry)
     → after ≡ before ++ Got (datagram_at injected sent p) ∷ [] → more ≡ received ++ p ∷ [] → IsWithin m n p → n ≤ length sent → (alone → m ≡ 0)
     → IsKept alone injected sent places received before → IsKept alone injected sent places more after
 kept_got alone injected sent places received more p m n before after is grew within le none k = record {
@@ -125,15 +125,15 @@ kept_got alone injected sent places received more p m n before after is grew wit
   numbered = unmoved send_in before after (Got (datagram_at injected sent p)) is refl ∙ k.numbered;
   got =
       grown received_datagram before after (Got (datagram_at injected sent p)) is ∙ ap (λ (l : List (List ℕ)). l ++ datagram_at injected sent p ∷ []) k.got
-      ∙ sym (ap (λ (l : List Place). map (datagram_at injected sent) l) grew ∙ map-append (datagram_at injected sent) received (p ∷ []));
+      ∙ sym (ap (λ (l : List Source). map (datagram_at injected sent) l) grew ∙ map-append (datagram_at injected sent) received (p ∷ []));
   honest = λ a. honest_after before after (Got (datagram_at injected sent p)) is (λ d got. was_sent a d p within (let same : datagram_at injected sent p ≡ d = cc in same)) (k.honest a);
 }
   where
-    was_sent : alone → (d : List ℕ) (q : Place) → IsWithin m n q → datagram_at injected sent q ≡ d → Contains before (Sent d)
+    was_sent : alone → (d : List ℕ) (q : Source) → IsWithin m n q → datagram_at injected sent q ≡ d → Contains before (Sent d)
     was_sent a d (place.Injected i) inside same = absurd (omega (arith, inside.among_injected, none a))
     was_sent a d (place.Sent i) inside same =
         kept_sent sent before k.order d (subst (λ (x : List ℕ). Contains sent x) same (Contains-get_or sent i [] (omega (arith, inside.among_sent, le))))
 
 -- before the first entry
-pub kept_none : (alone : Type 0) (injected sent : List (List ℕ)) (places : List (Option ℕ)) (received : List Place) (journal : List Entry) → sent ≡ [] → places ≡ [] → received ≡ [] → journal ≡ [] → IsKept alone injected sent places received journal
+pub kept_none : (alone : Type 0) (injected sent : List (List ℕ)) (places : List (Option ℕ)) (received : List Source) (journal : List Entry) → sent ≡ [] → places ≡ [] → received ≡ [] → journal ≡ [] → IsKept alone injected sent places received journal
 kept_none alone injected sent places received journal no_sent no_places no_received none = rw (no_sent, no_places, no_received, none) (record { order = refl; numbered = refl; got = refl; honest = λ a. ∣ honest_start ∣₁ })

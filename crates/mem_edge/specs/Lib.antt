@@ -3,7 +3,7 @@ pub mod Contents
 pub mod Failings
 pub mod Holds
 pub mod Keeping
-pub mod Lines
+pub mod Transits
 pub mod Marks
 pub mod MemoryFiles
 pub mod MemoryFolders

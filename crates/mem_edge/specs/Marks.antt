@@ -5,8 +5,8 @@ use Rattle.std.specs.List.{flat_map, filter_map}
 use Rattle.std.specs.Option.{option_map}
 use Rattle.std.proofs.Math.Logic.{∥∥₁_prop}
 use Rattle.std.proofs.Props.{props}
-use Rattle.mem_edge.specs.declared.mark.Place.{Place}
-use Rattle.mem_edge.specs.declared.mark.Place.TheVariants as place
+use Rattle.mem_edge.specs.declared.mark.Source.{Source}
+use Rattle.mem_edge.specs.declared.mark.Source.TheVariants as place
 use Rattle.mem_edge.specs.declared.mark.Answer.{Answer}
 use Rattle.mem_edge.specs.declared.mark.Answer.TheVariants as answer
 use Rattle.mem_edge.specs.declared.mark.Mark.{Mark}
@@ -14,20 +14,20 @@ use Rattle.ua_base.specs.Journal.{Entry, Sent, SendFailed, Got, Long, ReceiveFai
 use Rattle.mem_edge.specs.Sends.{sends_in}
 
 -- a datagram by its place
-abbrev pub datagram_at : List (List ℕ) → List (List ℕ) → Place → List ℕ
+abbrev pub datagram_at : List (List ℕ) → List (List ℕ) → Source → List ℕ
 datagram_at injected sent (place.Injected index) = slice_index_or injected index []
 datagram_at injected sent (place.Sent index) = slice_index_or sent index []
 
 -- how many of the first injected, and of the first sent datagrams a place needs
-abbrev pub reach_injected : Place → ℕ
+abbrev pub reach_injected : Source → ℕ
 reach_injected (place.Injected index) = index + 1
 reach_injected (place.Sent index) = 0
 
-abbrev pub reach_sent : Place → ℕ
+abbrev pub reach_sent : Source → ℕ
 reach_sent (place.Injected index) = 0
 reach_sent (place.Sent index) = index + 1
 
-pub record IsWithin (injected sent : ℕ) (there : Place) : Type 0 where
+pub record IsWithin (injected sent : ℕ) (there : Source) : Type 0 where
   pub among_injected : reach_injected there ≤ injected
   pub among_sent : reach_sent there ≤ sent
 
@@ -55,7 +55,7 @@ pub record IsMarkWithin (injected sent : ℕ) (mark : Mark) : Type 0 where
   pub among_injected : answer_injected mark.answer ≤ injected
   pub among_sent : answer_sent mark.answer ≤ sent
 
-abbrev pub entry_of : (Place → List ℕ) → Answer → Entry
+abbrev pub entry_of : (Source → List ℕ) → Answer → Entry
 entry_of shown (answer.Sent index) = Sent (shown (place.Sent index))
 entry_of shown answer.SendFailed = SendFailed
 entry_of shown (answer.Got there) = Got (shown there)
@@ -63,11 +63,11 @@ entry_of shown (answer.Long there) = Long (length (shown there))
 entry_of shown answer.ReceiveFailed = ReceiveFailed
 
 -- an entry, and the answers Nothing right after it
-abbrev pub marked : (Place → List ℕ) → Mark → List Entry
+abbrev pub marked : (Source → List ℕ) → Mark → List Entry
 marked shown mark = entry_of shown mark.answer ∷ replicate mark.nothings Empty
 
 -- the whole journal: the answers Nothing before the first entry, and then the entries
-abbrev pub entries : (Place → List ℕ) → ℕ → List Mark → List Entry
+abbrev pub entries : (Source → List ℕ) → ℕ → List Mark → List Entry
 entries shown first marks = replicate first Empty ++ flat_map (marked shown) marks
 
 -- the datagrams of the sends, by the places in the list of what was sent
@@ -75,18 +75,18 @@ abbrev pub sends_at : List (List ℕ) → List (Option ℕ) → List (Option (Li
 sends_at sent places = map (λ o. option_map (λ index. slice_index_or sent index []) o) places
 
 -- the places of the held datagrams that were sent
-abbrev pub held_places : List (Option ℕ) → List (ℕ × ℕ) → List Place
+abbrev pub held_places : List (Option ℕ) → List (ℕ × ℕ) → List Source
 held_places places held = filter_map (λ h. option_map place.Sent (unwrap_or (slice_get places h.1) None)) held
 
 -- What the lists that a link keeps say of its journal. Where nothing is injected, each received datagram was sent
 -- before (truncated, since a datagram may have been sent more than once).
-pub record IsKept (alone : Type 0) (injected sent : List (List ℕ)) (places : List (Option ℕ)) (received : List Place) (journal : List Entry) : Type 0 where
+pub record IsKept (alone : Type 0) (injected sent : List (List ℕ)) (places : List (Option ℕ)) (received : List Source) (journal : List Entry) : Type 0 where
   pub order : sent_list journal ≡ sent
   pub numbered : sends_in journal ≡ sends_at sent places
   pub got : received_list journal ≡ map (datagram_at injected sent) received
   pub honest : alone → ∥ IsHonest journal ∥₁
 
-pub IsKept-prop : (alone : Type 0) (injected sent : List (List ℕ)) (places : List (Option ℕ)) (received : List Place) (journal : List Entry) → IsProp (IsKept alone injected sent places received journal)
+pub IsKept-prop : (alone : Type 0) (injected sent : List (List ℕ)) (places : List (Option ℕ)) (received : List Source) (journal : List Entry) → IsProp (IsKept alone injected sent places received journal)
 IsKept-prop alone injected sent places received journal = hlevel (props, ∥∥₁_prop)
 
 abbrev pub state_of : Bool → List Entry → List (List ℕ) → Option LinkState

@@ -7,16 +7,16 @@ use Rattle.ua_base.specs.declared.link.Sent.TheVariants as sent
 use Rattle.ua_base.specs.Journal.{Entry, Sent, SendFailed, LinkState, told_more}
 use Rattle.ua_base.specs.Links.{Opening}
 use Rattle.mem_edge.specs.Calls.{is_named}
-use Rattle.mem_edge.specs.Lines.{journal_in, told_in, injected_in}
+use Rattle.mem_edge.specs.Transits.{journal_in, told_in, injected_in}
 use Rattle.mem_edge.specs.Queueing.{queued_by}
 use Rattle.mem_edge.specs.Sends.{sends_in}
 
 -- the journal that it keeps; as long as it tells one, this is the journal that it tells
 abbrev pub journal_of : MemoryLink → List Entry
-journal_of link = journal_in link.line
+journal_of link = journal_in link.transit
 
 abbrev pub told_by : MemoryLink → Option LinkState
-told_by link = told_in link.line
+told_by link = told_in link.transit
 
 abbrev pub faults_of : MemoryLink → ℕ
 faults_of link = link.faults
@@ -30,7 +30,7 @@ fates_of link = link.fates.items
 
 -- the injected datagrams, with the numbers after which they come
 abbrev pub injected_by : MemoryLink → List (ℕ × List ℕ)
-injected_by link = injected_in link.line
+injected_by link = injected_in link.transit
 
 -- the numbers of the sends that fail
 abbrev pub named_sends : MemoryLink → List ℕ

@@ -6,7 +6,6 @@ mod calls;
 mod failing;
 mod gate;
 mod laws;
-mod line;
 mod mark;
 mod memory_folder;
 mod memory_link;
@@ -14,6 +13,7 @@ mod memory_sink;
 mod name;
 mod plan;
 mod timetable;
+mod transit;
 
 pub use gate::OpenGate;
 pub use laws::{

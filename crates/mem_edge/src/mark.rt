@@ -5,11 +5,11 @@ ghost use Rattle.std.specs.Bool.{OnTrue, OnFalse};
 ghost use Rattle.std.specs.List.{All};
 ghost use Rattle.ua_base.specs.Journal.{Empty};
 ghost use Rattle.mem_edge.specs.Marks.{entries, entry_of, EndsInNothings, IsMarkWithin};
-ghost use Rattle.mem_edge.specs.declared.mark.Place.{Place as PlaceValue};
+ghost use Rattle.mem_edge.specs.declared.mark.Source.{Source as PlaceValue};
 
 /// Where a datagram is kept: its index among those that were sent, or among the injected ones.
 #[derive(Clone, Copy)]
-pub enum Place {
+pub enum Source {
     Sent(usize),
     Injected(usize),
 }
@@ -19,8 +19,8 @@ pub enum Place {
 pub enum Answer {
     Sent { index: usize },
     SendFailed,
-    Got { place: Place },
-    Long { place: Place },
+    Got { place: Source },
+    Long { place: Source },
     ReceiveFailed,
 }
 

@@ -9,14 +9,14 @@ ghost use Rattle.ua_base.specs.Net.{Opens, Sends, Queues, Receives, FitsBuffer};
 ghost use Rattle.mem_edge.specs.Calls.{named_from};
 ghost use Rattle.mem_edge.specs.Contents.{injections};
 ghost use Rattle.mem_edge.specs.Failings.{ahead_in, IsAhead};
-ghost use Rattle.mem_edge.specs.Lines.{room_in, injected_in, journal_in};
+ghost use Rattle.mem_edge.specs.Transits.{room_in, injected_in, journal_in};
 ghost use Rattle.mem_edge.specs.Marks.{EndsInNothings};
 ghost use Rattle.mem_edge.specs.Plans.{IsPlan, IsOnce};
 ghost use Rattle.mem_edge.specs.Sends.{sends_in};
 
 use crate::failing::Failing;
-use crate::line::Line;
 use crate::plan::Plan;
+use crate::transit::Transit;
 use std::alloc::{AllocError, Global};
 use ua_base::{Fate, Link, Opened, Received, Sent};
 
@@ -31,7 +31,7 @@ use ua_base::{Fate, Link, Opened, Received, Sent};
 #[derive(Drop)]
 pub struct MemoryLink {
     alloc: Global,
-    line: Line,
+    transit: Transit,
     send_fails: Vec<u64>,
     receive_fails: Vec<u64>,
     open_fails: bool,
@@ -45,11 +45,11 @@ pub struct MemoryLink {
     receives: u128,
     faults: u64,
     is_open: bool,
-    ghost room: { IsTrue is_open → named_from receives receive_fails.items ≤ room_in line },
-    ghost planned: { IsTrue is_open → IsPlan fates.items (injected_in line) plan },
+    ghost room: { IsTrue is_open → named_from receives receive_fails.items ≤ room_in transit },
+    ghost planned: { IsTrue is_open → IsPlan fates.items (injected_in transit) plan },
     ghost once: { IsOnce fates.items },
     ghost sends_ahead: { IsTrue is_open → IsAhead send_fails.items
-        (length (sends_in (journal_in line))) (ahead_in failing_sends) },
+        (length (sends_in (journal_in transit))) (ahead_in failing_sends) },
     ghost receives_ahead: { IsTrue is_open → IsAhead receive_fails.items receives
         (ahead_in failing_receives) },
 }
@@ -78,7 +78,7 @@ impl MemoryLink {
     {
         MemoryLink {
             alloc,
-            line: Line::new(alloc, injected),
+            transit: Transit::new(alloc, injected),
             send_fails,
             receive_fails,
             open_fails,
@@ -101,7 +101,7 @@ impl MemoryLink {
         ensures journal { (state : LinkState)
             → told_by self.now ≡ Some state → state.journal ≡ journal_of self.now }
     {
-        self.line.sent(i)
+        self.transit.sent(i)
     }
 
     /// The i-th datagram that was received since the opening, from 0.
@@ -112,10 +112,10 @@ impl MemoryLink {
         ensures journal { (state : LinkState)
             → told_by self.now ≡ Some state → state.journal ≡ journal_of self.now }
     {
-        self.line.received(i)
+        self.transit.received(i)
     }
 
-    // Opens it anew: sorts the fates, the injected datagrams and the failing calls, empties the line and takes room for
+    // Opens it anew: sorts the fates, the injected datagrams and the failing calls, empties the transit and takes room for
     // the receives that fail.
     fn reopen(&mut self, port: u16, fates: &[(u64, Fate)]) -> Result<(), AllocError>
         requires { IsOnce fates.now }
@@ -132,12 +132,12 @@ impl MemoryLink {
         ensures faults { faults_of self.new ≡ faults_of self.old }
         ensures named { KeepsNamed self.old self.new }
     {
-        let plan = Plan::new(self.alloc, fates, self.line.injected())?;
+        let plan = Plan::new(self.alloc, fates, self.transit.injected())?;
         let given = Vec::from_slice(self.alloc, fates)?;
         let failing_sends = Failing::new(self.alloc, &self.send_fails)?;
         let failing_receives = Failing::new(self.alloc, &self.receive_fails)?;
         let failing = self.receive_fails.len();
-        self.line.clear(failing)?;
+        self.transit.clear(failing)?;
         self.plan = plan;
         self.failing_sends = failing_sends;
         self.failing_receives = failing_receives;
@@ -208,9 +208,9 @@ impl Link for MemoryLink {
         ensures faults { faults_of self.new ≡ counted_if (is_failed result) (faults_of self.old) }
     {
         let failing = self.receive_fails.len();
-        let number = self.line.sends() as u64;
+        let number = self.transit.sends() as u64;
         if self.failing_sends.names(number as u128) {
-            match self.line.fail_send(failing) {
+            match self.transit.fail_send(failing) {
                 Ok(()) => {}
                 Err(_) => return Sent::Memory,
             }
@@ -221,7 +221,7 @@ impl Link for MemoryLink {
         let copies = self.plan.copies(number);
         let held = self.plan.held.at(number);
         let injected = self.plan.injected.at(number);
-        match self.line.send(datagram, copies, held, injected, failing) {
+        match self.transit.send(datagram, copies, held, injected, failing) {
             Ok(()) => {
                 self.failing_sends.pass(number as u128);
                 Sent::Done
@@ -252,9 +252,9 @@ impl Link for MemoryLink {
         self.receives = self.receives.saturating_add(1);
         if named {
             self.faults = self.faults.saturating_add(1);
-            self.line.fail_receive();
+            self.transit.fail_receive();
             return Received::Failed;
         }
-        self.line.receive(into)
+        self.transit.receive(into)
     }
 }

@@ -12,7 +12,7 @@ use Rattle.message_guard.specs.declared.keys.TokenKeys.{TokenKeys}
 use Rattle.message_guard.specs.Protection.{keys_in, keys_with}
 use Rattle.message_guard.specs.Senders.{SenderState, turned, turned_by}
 
-keys_with-map : (sets : List KeySet) (token : ℕ) → keys_with (map keys_in sets) token ≡ option_map keys_in (with_token sets token)
+pub keys_with-map : (sets : List KeySet) (token : ℕ) → keys_with (map keys_in sets) token ≡ option_map keys_in (with_token sets token)
 keys_with-map [] token = refl
 keys_with-map (set ∷ sets) token = first_of_map set (keys_with (map keys_in sets) token) (with_token sets token) (set.token == token) (keys_with-map sets token)
   where
@@ -21,7 +21,7 @@ keys_with-map (set ∷ sets) token = first_of_map set (keys_with (map keys_in se
     first_of_map set found among true rest = refl
     first_of_map set found among false rest = rest
 
-set_of : (o : Option KeySet) (keys : TokenKeys) → option_map keys_in o ≡ Some keys → (set : KeySet) × ((o ≡ Some set) × (keys ≡ keys_in set))
+pub set_of : (o : Option KeySet) (keys : TokenKeys) → option_map keys_in o ≡ Some keys → (set : KeySet) × ((o ≡ Some set) × (keys ≡ keys_in set))
 set_of None keys is = cc
 set_of (Some set) keys is = (set, (refl, cc))
 

@@ -25,7 +25,7 @@ use Rattle.ps_config.specs.declared.parts.ReadGroupPart.{ReadGroupPart}
 use Rattle.reader_group.specs.declared.begun.Carried.{Carried}
 use Rattle.reader_group.specs.declared.begun.Carried.TheVariants as carrieds
 use Rattle.reader_group.specs.declared.begun.Begun.{Begun}
-use Rattle.reader_group.specs.declared.opening.Room.{Room}
+use Rattle.reader_group.specs.declared.opening.Buffers.{Buffers}
 use Rattle.reader_group.specs.declared.refusal.Refusal.{Refusal}
 use Rattle.reader_group.specs.declared.refusal.Refusal.TheVariants as refusals
 use Rattle.reader_group.specs.Filter.{is_ours}
@@ -81,14 +81,14 @@ between bytes at end order =
     let whole : at + (end - at) ≡ end = omega (arith, order) in
     ap (λ (n : ℕ). drop at (take n bytes)) (sym whole) ∙ drop-take at (end - at) bytes
 
-listed-is : (carried : Carried) (room : Room) (payload : List ℕ) → HasListed carried payload room → dynamic_payload (ids_carried carried room.ids.items) payload ≡ listed_in carried room payload
+listed-is : (carried : Carried) (room : Buffers) (payload : List ℕ) → HasListed carried payload room → dynamic_payload (ids_carried carried room.ids.items) payload ≡ listed_in carried room payload
 listed-is carrieds.None room payload has = absurd has
 listed-is carrieds.List room payload has =
     ap (λ (n : ℕ). payloads.Messages (zip (ids_of room.ids.items) (frames_of n payload))) (ids-count room.ids.items)
     ∙ ap (λ (l : List (List ℕ)). payloads.Messages (zip (ids_of room.ids.items) l)) (sym has.frames)
 listed-is (carrieds.Chunk writer) room payload has = refl
 
-held-is : (layout : Layout) (begun : Begun) (room : Room) (bytes : List ℕ) → begun.payload ≤ begun.pass.end → HasFound layout begun.carried (payload_in begun bytes) room
+held-is : (layout : Layout) (begun : Begun) (room : Buffers) (bytes : List ℕ) → begun.payload ≤ begun.pass.end → HasFound layout begun.carried (payload_in begun bytes) room
     → payload_of layout (ids_carried begun.carried room.ids.items) begun.payload (take begun.pass.end bytes) ≡ payload_held layout begun room bytes
 held-is layouts.Fixed begun room bytes order has = refl
 held-is layouts.Dynamic begun room bytes order has =
@@ -131,7 +131,7 @@ judged-begun group setup accepted datagram begun kept order h =
     (between (is_opened setup begun datagram) payload begun.pass.end order)
 
 -- what opening answers, once the messages were looked for
-pub opens-found : (group : ReadGroupPart) (setup : Setup) (accepted : Accepted) (datagram bytes : List ℕ) (begun : Begun) (old new : Room) → begun.payload ≤ begun.pass.end
+pub opens-found : (group : ReadGroupPart) (setup : Setup) (accepted : Accepted) (datagram bytes : List ℕ) (begun : Begun) (old new : Buffers) → begun.payload ≤ begun.pass.end
     → HasBegun group setup accepted datagram begun old.ids.items → bytes ≡ is_opened setup begun datagram
     → Finds group.layout begun.carried (payload_in begun bytes) old new → Opens group (verdict group setup accepted datagram) (Ok begun) new bytes
 opens-found group setup accepted datagram bytes begun old new order h is found =
@@ -143,7 +143,7 @@ opens-found group setup accepted datagram bytes begun old new order h is found =
     ∙ ap (λ (kept : List ℕ). opened_ok begun.pass (payload_of group.layout (ids_carried begun.carried kept) begun.payload (take begun.pass.end bytes))) (sym found.ids)
     ∙ ap (λ (held : Payload). opened_ok begun.pass held) (held-is group.layout begun new bytes order found.found)
 
-pub opens-refused : (group : ReadGroupPart) (setup : Setup) (accepted : Accepted) (datagram bytes : List ℕ) (begun : Begun) (old new : Room) (refusal : Refusal) → begun.payload ≤ begun.pass.end
+pub opens-refused : (group : ReadGroupPart) (setup : Setup) (accepted : Accepted) (datagram bytes : List ℕ) (begun : Begun) (old new : Buffers) (refusal : Refusal) → begun.payload ≤ begun.pass.end
     → HasBegun group setup accepted datagram begun old.ids.items → bytes ≡ is_opened setup begun datagram
     → FindsMessages group.layout begun.carried (payload_in begun bytes) old new (Err refusal) → verdict group setup accepted datagram ≡ Err refusal
 opens-refused group setup accepted datagram bytes begun old new refusal order h is refused =
@@ -203,7 +203,7 @@ frames-count count payload = by_test (nat_lt 1 count) refl
         omega (arith, length-take count (payload ∷ []), one)
 
 -- the messages of a list of ids were found
-pub listed-found : (payload : List ℕ) (count : ℕ) (old new : Room) → AreIds (ListOf old.ids.items) → count ≡ length old.ids.items / 2 → (HasBadSizes count payload → ⊥)
+pub listed-found : (payload : List ℕ) (count : ℕ) (old new : Buffers) → AreIds (ListOf old.ids.items) → count ≡ length old.ids.items / 2 → (HasBadSizes count payload → ⊥)
     → new.ids.items ≡ old.ids.items → map (frame_at payload) new.parts.items ≡ frames_of count payload → All (IsWithin payload) new.parts.items
     → Finds layouts.Dynamic carrieds.List payload old new
 listed-found payload count old new ids is good same frames within =

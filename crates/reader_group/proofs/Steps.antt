@@ -13,7 +13,7 @@ use Rattle.ps_config.specs.Headers.{mode_of}
 use Rattle.reader_group.specs.declared.begun.Begun.{Begun}
 use Rattle.reader_group.specs.declared.group.ReaderGroup.{ReaderGroup}
 use Rattle.reader_group.specs.declared.member.Member.{Member}
-use Rattle.reader_group.specs.declared.opening.Room.{Room}
+use Rattle.reader_group.specs.declared.opening.Buffers.{Buffers}
 use Rattle.reader_group.specs.declared.receipt.Receipt.{Receipt}
 use Rattle.reader_group.specs.declared.refusal.Refusal.{Refusal}
 use Rattle.reader_group.specs.declared.refusal.Taken.{Taken}
@@ -39,7 +39,7 @@ receipt_with moment stamp = record { moment = moment; stamp = stamp }
 
 -- what the group's calls ensured of a datagram that was opened: `guard` and `members` are those before, and `part` is the group's part of the configuration
 pub record IsTaken (config : Config) (part : ReadGroupPart) (plain : PlainGroup) (now : ℕ) (on : List Bool) (datagram bytes : List ℕ) (guard after : Guard) (members new : List Member)
-    (begun : Begun) (room : Room) (raised : Bool) (receipt : Receipt) (payload : Payload) (tally : Tally) : Type 0 where
+    (begun : Begun) (room : Buffers) (raised : Bool) (receipt : Receipt) (payload : Payload) (tally : Tally) : Type 0 where
   pub opens : Opens part (verdict part (setup_of guard) plain.accepted datagram) (Ok begun) room bytes
   pub held : payload ≡ payload_held part.layout begun room bytes
   pub receipt_is : receipt ≡ receipt_with now (stamp_by (mode_of part.security) begun.pass.number)
@@ -49,18 +49,18 @@ pub record IsTaken (config : Config) (part : ReadGroupPart) (plain : PlainGroup)
   pub members_are : AreMembers (setting_by config part).seats (members_in (all_fed (setting_by config part).seats plain.members receipt raised on payload)) new
   pub tally_is : IsTallyOf tally (all_fed (setting_by config part).seats plain.members receipt raised on payload)
 
-abbrev opened_of : ReadGroupPart → Begun → Room → List ℕ → Opened
+abbrev opened_of : ReadGroupPart → Begun → Buffers → List ℕ → Opened
 opened_of part begun room bytes = record { pass = begun.pass; payload = payload_held part.layout begun room bytes }
 
 -- the reading of a datagram that was opened so
-pub verdict-is : (config : Config) (part : ReadGroupPart) (plain : PlainGroup) (datagram bytes : List ℕ) (guard : Guard) (begun : Begun) (room : Room)
+pub verdict-is : (config : Config) (part : ReadGroupPart) (plain : PlainGroup) (datagram bytes : List ℕ) (guard : Guard) (begun : Begun) (room : Buffers)
     → Opens part (verdict part (setup_of guard) plain.accepted datagram) (Ok begun) room bytes → setup_of guard ≡ (setting_by config part).setup
     → verdict_in (setting_by config part) plain datagram ≡ Ok (opened_of part begun room bytes)
 verdict-is config part plain datagram bytes guard begun room opens setup = ap (λ (s : Setup). verdict part s plain.accepted datagram) (sym setup) ∙ opens
 
 -- all readers with what it brought them
 feds-are : (config : Config) (part : ReadGroupPart) (plain : PlainGroup) (now : ℕ) (on : List Bool) (datagram bytes : List ℕ) (guard after : Guard) (members new : List Member)
-    (begun : Begun) (room : Room) (raised : Bool) (receipt : Receipt) (payload : Payload) (tally : Tally)
+    (begun : Begun) (room : Buffers) (raised : Bool) (receipt : Receipt) (payload : Payload) (tally : Tally)
     → IsTaken config part plain now on datagram bytes guard after members new begun room raised receipt payload tally
     → all_fed (setting_by config part).seats plain.members receipt raised on payload ≡ feds (setting_by config part) plain now on (opened_of part begun room bytes)
 feds-are config part plain now on datagram bytes guard after members new begun room raised receipt payload tally h =
@@ -75,7 +75,7 @@ feds-are config part plain now on datagram bytes guard after members new begun r
     ∙ ap (λ (p : Payload). all_fed setting.seats plain.members (receipt_of setting now opened) (is_raised setting plain.accepted opened) on p) h.held
 
 pub taken-step : (config : Config) (part : ReadGroupPart) (plain : PlainGroup) (now : ℕ) (on : List Bool) (datagram bytes : List ℕ) (guard after : Guard) (members new : List Member)
-    (begun : Begun) (room : Room) (raised : Bool) (receipt : Receipt) (payload : Payload) (tally : Tally) (group : ReaderGroup)
+    (begun : Begun) (room : Buffers) (raised : Bool) (receipt : Receipt) (payload : Payload) (tally : Tally) (group : ReaderGroup)
     → IsTaken config part plain now on datagram bytes guard after members new begun room raised receipt payload tally → guard_of group ≡ after → members_of group ≡ new
     → Stands (setting_by config part) (step (setting_by config part) plain (Got now on datagram)) group
 taken-step config part plain now on datagram bytes guard after members new begun room raised receipt payload tally group h guard_is members_is =
@@ -93,7 +93,7 @@ taken-step config part plain now on datagram bytes guard after members new begun
     subst (λ (answer : Result Opened Refusal). Stands setting (taken_on setting plain now on answer) group) (sym read) stands
 
 pub taken-answer : (config : Config) (part : ReadGroupPart) (plain : PlainGroup) (now : ℕ) (on : List Bool) (datagram bytes : List ℕ) (guard after : Guard) (members new : List Member)
-    (begun : Begun) (room : Room) (raised : Bool) (receipt : Receipt) (payload : Payload) (tally : Tally) (taken : Taken)
+    (begun : Begun) (room : Buffers) (raised : Bool) (receipt : Receipt) (payload : Payload) (tally : Tally) (taken : Taken)
     → IsTaken config part plain now on datagram bytes guard after members new begun room raised receipt payload tally
     → taken.parts ≡ part_count on payload → taken.matched ≡ tally.matched → taken.bad ≡ tally.bad
     → Ok taken ≡ answer (setting_by config part) plain now on datagram
@@ -136,7 +136,7 @@ pub stands_part : (config : Config) (group : ReaderGroup) (part : ReadGroupPart)
 stands_part config group part plain made is h = subst (λ (s : Setting). Stands s plain group) (at_part config group part made is) h
 
 pub taken_step : (config : Config) (old new : ReaderGroup) (after : Guard) (members : List Member) (part : ReadGroupPart) (plain : PlainGroup) (now : ℕ) (on : List Bool) (datagram bytes : List ℕ)
-    (begun : Begun) (room : Room) (raised : Bool) (receipt : Receipt) (payload : Payload) (tally : Tally)
+    (begun : Begun) (room : Buffers) (raised : Bool) (receipt : Receipt) (payload : Payload) (tally : Tally)
     → IsMadeOf config old → part ≡ get_or config.readgroup (index_of old) part
     → IsTaken config part plain now on datagram bytes (guard_of old) after (members_of old) members begun room raised receipt payload tally
     → guard_of new ≡ after → members_of new ≡ members
@@ -146,7 +146,7 @@ taken_step config old new after members part plain now on datagram bytes begun r
     (taken-step config part plain now on datagram bytes (guard_of old) after (members_of old) members begun room raised receipt payload tally new taken guard_is members_are)
 
 pub taken_answer : (config : Config) (old : ReaderGroup) (after : Guard) (members : List Member) (part : ReadGroupPart) (plain : PlainGroup) (now : ℕ) (on : List Bool) (datagram bytes : List ℕ)
-    (begun : Begun) (room : Room) (raised : Bool) (receipt : Receipt) (payload : Payload) (tally : Tally) (taken : Taken)
+    (begun : Begun) (room : Buffers) (raised : Bool) (receipt : Receipt) (payload : Payload) (tally : Tally) (taken : Taken)
     → IsMadeOf config old → part ≡ get_or config.readgroup (index_of old) part
     → IsTaken config part plain now on datagram bytes (guard_of old) after (members_of old) members begun room raised receipt payload tally
     → taken.parts ≡ part_count on payload → taken.matched ≡ tally.matched → taken.bad ≡ tally.bad

@@ -14,7 +14,7 @@ use Rattle.ps_config.specs.declared.parts.ReadGroupPart.{ReadGroupPart}
 use Rattle.reader_group.specs.declared.begun.Carried.{Carried}
 use Rattle.reader_group.specs.declared.begun.Carried.TheVariants as carrieds
 use Rattle.reader_group.specs.declared.begun.Begun.{Begun}
-use Rattle.reader_group.specs.declared.opening.Room.{Room}
+use Rattle.reader_group.specs.declared.opening.Buffers.{Buffers}
 use Rattle.reader_group.specs.declared.refusal.Refusal.{Refusal}
 use Rattle.reader_group.specs.Filter.{is_ours}
 use Rattle.reader_group.specs.Payloads as payloads
@@ -36,23 +36,23 @@ pub record HasBegun (group : ReadGroupPart) (setup : Setup) (accepted : Accepted
   pub passed : guards.verdict setup.mode setup.keys accepted header.security datagram begun.payload ≡ Ok begun.pass
   pub ids : ids_carried begun.carried kept ≡ header.ids
 
-abbrev pub IsBegun : ReadGroupPart → Setup → Accepted → List ℕ → Result Begun Refusal → Room → Type 0
+abbrev pub IsBegun : ReadGroupPart → Setup → Accepted → List ℕ → Result Begun Refusal → Buffers → Type 0
 IsBegun group setup accepted datagram (Ok begun) room = HasBegun group setup accepted datagram begun room.ids.items
 IsBegun group setup accepted datagram (Err refusal) room = verdict group setup accepted datagram ≡ Err refusal
 
 -- the places of the messages that a list of ids tells of
-pub record AreListed (payload : List ℕ) (room : Room) : Type 0 where
+pub record AreListed (payload : List ℕ) (room : Buffers) : Type 0 where
   pub frames : map (frame_at payload) room.parts.items ≡ frames_of (length room.ids.items / 2) payload
   pub count : length room.ids.items ≡ 2 * length room.parts.items
   pub within : All (IsWithin payload) room.parts.items
 
 -- where messages are told of by a list, their places are found
-abbrev pub HasListed : Carried → List ℕ → Room → Type 0
+abbrev pub HasListed : Carried → List ℕ → Buffers → Type 0
 HasListed carrieds.None payload room = ⊥
 HasListed carrieds.List payload room = AreListed payload room
 HasListed (carrieds.Chunk writer) payload room = ⊤
 
-abbrev pub HasFound : Layout → Carried → List ℕ → Room → Type 0
+abbrev pub HasFound : Layout → Carried → List ℕ → Buffers → Type 0
 HasFound layouts.Fixed carried payload room = ⊤
 HasFound layouts.Dynamic carried payload room = HasListed carried payload room
 
@@ -60,42 +60,42 @@ HasFound layouts.Dynamic carried payload room = HasListed carried payload room
 abbrev pub payload_in : Begun → List ℕ → List ℕ
 payload_in begun bytes = slice_range bytes begun.payload begun.pass.end
 
-abbrev pub HasMessages : Layout → Begun → Room → List ℕ → Type 0
+abbrev pub HasMessages : Layout → Begun → Buffers → List ℕ → Type 0
 HasMessages layout begun room bytes = HasFound layout begun.carried (payload_in begun bytes) room
 
 -- none of the payload's refusals holds, and the messages are found
-pub record Finds (layout : Layout) (carried : Carried) (payload : List ℕ) (old new : Room) : Type 0 where
+pub record Finds (layout : Layout) (carried : Carried) (payload : List ℕ) (old new : Buffers) : Type 0 where
   pub good : (x : Opened) → judged (payload_refusals layout (ids_carried carried old.ids.items) payload) x ≡ Ok x
   pub ids : new.ids.items ≡ old.ids.items
   pub found : HasFound layout carried payload new
 
-abbrev pub FindsMessages : Layout → Carried → List ℕ → Room → Room → Result (Unit {0}) Refusal → Type 0
+abbrev pub FindsMessages : Layout → Carried → List ℕ → Buffers → Buffers → Result (Unit {0}) Refusal → Type 0
 FindsMessages layout carried payload old new (Ok done) = Finds layout carried payload old new
 FindsMessages layout carried payload old new (Err refusal) =
     (x : Opened) → judged (payload_refusals layout (ids_carried carried old.ids.items) payload) x ≡ Err refusal
 
 -- where a list of ids tells of messages, none of the payload's refusals holds, and the messages are found
-abbrev pub FindsListed : List ℕ → Room → Room → Result (Unit {0}) Refusal → Type 0
+abbrev pub FindsListed : List ℕ → Buffers → Buffers → Result (Unit {0}) Refusal → Type 0
 FindsListed payload old new result = FindsMessages layouts.Dynamic carrieds.List payload old new result
 
 -- in a dynamic layout
-abbrev pub listed_in : Carried → Room → List ℕ → Payload
+abbrev pub listed_in : Carried → Buffers → List ℕ → Payload
 listed_in carrieds.None room payload = Messages []
 listed_in carrieds.List room payload = Messages (zip (ids_of room.ids.items) (map (frame_at payload) room.parts.items))
 listed_in (carrieds.Chunk writer) room payload = payloads.Chunk writer payload
 
 -- what the opened datagram has for the readers
-abbrev pub payload_held : Layout → Begun → Room → List ℕ → Payload
+abbrev pub payload_held : Layout → Begun → Buffers → List ℕ → Payload
 payload_held layouts.Fixed begun room bytes = Slots (take begun.pass.end bytes)
 payload_held layouts.Dynamic begun room bytes = listed_in begun.carried room (payload_in begun bytes)
 
-abbrev pub Opens : ReadGroupPart → Result Opened Refusal → Result Begun Refusal → Room → List ℕ → Type 0
+abbrev pub Opens : ReadGroupPart → Result Opened Refusal → Result Begun Refusal → Buffers → List ℕ → Type 0
 Opens group answer (Ok begun) room bytes =
     answer ≡ Ok (record { pass = begun.pass; payload = payload_held group.layout begun room bytes })
 Opens group answer (Err refusal) room bytes = answer ≡ Err refusal
 
 -- whatever the guard has accepted, the datagram is judged as by the plain definition
-abbrev pub OpensBy : ReadGroupPart → Guard → List ℕ → Result Begun Refusal → Room → List ℕ → Type 0
+abbrev pub OpensBy : ReadGroupPart → Guard → List ℕ → Result Begun Refusal → Buffers → List ℕ → Type 0
 OpensBy group guard datagram result room bytes =
     (accepted : Accepted) → IsGuardOf accepted guard
     → Opens group (verdict group (setup_of guard) accepted datagram) result room bytes
@@ -106,7 +106,7 @@ LeavesBytes group guard datagram bytes =
     (accepted : Accepted) → IsGuardOf accepted guard → bytes ≡ bytes_left group (setup_of guard) accepted datagram
 
 -- whatever the guard has accepted, the datagram is refused for its header, by the filter or by the guard, or its opening is begun
-abbrev pub BeginsBy : ReadGroupPart → Guard → List ℕ → Result Begun Refusal → Room → Type 0
+abbrev pub BeginsBy : ReadGroupPart → Guard → List ℕ → Result Begun Refusal → Buffers → Type 0
 BeginsBy group guard datagram result room =
     (accepted : Accepted) → IsGuardOf accepted guard → IsBegun group (setup_of guard) accepted datagram result room
 

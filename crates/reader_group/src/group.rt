@@ -7,7 +7,7 @@ ghost use Rattle.reader_group.specs.Groups.{AreNew, AreReadersOf};
 use crate::feeding::{expire_all, feed_all, part_count, stop_one};
 use crate::guarding::{guard_of, stamp_of};
 use crate::member::Member;
-use crate::opening::{Room, open, payload_held};
+use crate::opening::{Buffers, open, payload_held};
 use crate::receipt::Receipt;
 use crate::refusal::{Refusal, Taken};
 use arrayvec::ArrayVec;
@@ -25,7 +25,7 @@ pub struct ReaderGroup {
     guard: Guard,
     members: Vec<Member>,
     // room for what one datagram tells; it says nothing between two
-    room: Room,
+    room: Buffers,
 }
 
 impl ReaderGroup {
@@ -48,7 +48,7 @@ impl ReaderGroup {
             index,
             guard,
             members,
-            room: Room {
+            room: Buffers {
                 ids: ArrayVec::new(),
                 parts: ArrayVec::new(),
             },

@@ -17,9 +17,9 @@ use payload_layout::{Parts, split};
 use ps_config::{Layout, ReadGroupPart};
 use uadp_header::{Ids, read_header};
 
-/// Room for the writer ids of a datagram, two bytes each, and for the places of its messages.
+/// Buffers for the writer ids of a datagram, two bytes each, and for the places of its messages.
 #[derive(Drop)]
-pub(crate) struct Room {
+pub(crate) struct Buffers {
     pub ids: ArrayVec<u8, 510>,
     pub parts: Parts,
 }
@@ -29,7 +29,7 @@ pub(crate) struct Room {
 pub(crate) fn open(
     group: &ReadGroupPart,
     guard: &Guard,
-    room: &mut Room,
+    room: &mut Buffers,
     bytes: &mut [u8],
 ) -> Result<Begun, Refusal>
     ensures verdict { OpensBy group.now guard.now bytes.old result room.new bytes.new }
@@ -53,7 +53,7 @@ pub(crate) fn open(
 fn begin(
     group: &ReadGroupPart,
     guard: &Guard,
-    room: &mut Room,
+    room: &mut Buffers,
     bytes: &[u8],
 ) -> Result<Begun, Refusal>
     ensures verdict { BeginsBy group.now guard.now bytes.now result room.new }
@@ -98,7 +98,7 @@ fn carried_by(ids: &Ids<'_>, kept: &mut ArrayVec<u8, 510>) -> Carried
 fn find_messages(
     layout: Layout,
     begun: &Begun,
-    room: &mut Room,
+    room: &mut Buffers,
     payload: &[u8],
 ) -> Result<(), Refusal>
     requires { AreIds (ids_carried begun.now.carried room.old.ids.items) }
@@ -112,7 +112,7 @@ fn find_messages(
 }
 
 // Where the messages are that a list of ids tells of.
-fn find_listed(room: &mut Room, payload: &[u8]) -> Result<(), Refusal>
+fn find_listed(room: &mut Buffers, payload: &[u8]) -> Result<(), Refusal>
     requires { AreIds (ListOf room.old.ids.items) }
     ensures { FindsListed payload.now room.old room.new result }
 {
@@ -125,7 +125,7 @@ fn find_listed(room: &mut Room, payload: &[u8]) -> Result<(), Refusal>
 pub(crate) fn payload_held<'a>(
     layout: Layout,
     begun: &Begun,
-    room: &'a Room,
+    room: &'a Buffers,
     bytes: &'a [u8],
 ) -> Payload<'a>
     requires messages { HasMessages layout begun.now room.now bytes.now }

@@ -9,5 +9,5 @@ mod udp_link;
 
 pub use dir_folder::DirFolder;
 pub use std_sink::StdSink;
-pub use stream::{Taken, take_whole, write_whole};
+pub use stream::{StreamRead, take_whole, write_whole};
 pub use udp_link::{UdpLink, received, sent};

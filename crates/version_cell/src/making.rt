@@ -10,7 +10,7 @@ ghost use Rattle.version_cell.specs.Making.{AreFresh, AreNew, IsFresh, new_known
 
 use crate::cell::{Cell, Words};
 use crate::pass::Pass;
-use crate::places::{Place, join_places, load_words};
+use crate::places::{RowPass, join_places, load_words};
 use crate::rule::{Copies, Enrolling};
 use crate::spelling::{spelled, terms_for};
 use dataset_meta::Meta;
@@ -93,8 +93,8 @@ fn all_enrolled<R: Wait>(
     alloc: Global,
     words: &Words,
     terms: &[u64; 24],
-    first: &mut Place,
-) -> Result<Option<Vec<Place>>, NoMemory>
+    first: &mut RowPass,
+) -> Result<Option<Vec<RowPass>>, NoMemory>
     requires { IsFresh words.now.table.shared.table_id terms.now None 0 first.old }
     ensures { IfOk result (λ r. IfSome r (λ places. (length places.items ≡ 8)
         × AreFresh words.entry.now.table.shared.table_id terms.entry.now places.items
@@ -115,9 +115,9 @@ fn enrolled<R: Wait>(
     rt: &R,
     words: &Words,
     terms: &[u64; 24],
-    first: &mut Place,
+    first: &mut RowPass,
     number: u64,
-) -> Option<Place>
+) -> Option<RowPass>
     requires small { number < 8 }
     requires first { IsFresh words.now.table.shared.table_id terms.now None number first.old }
     ensures { IfSome result (λ place.
@@ -141,8 +141,8 @@ fn passes_of<R: Wait>(
     alloc: Global,
     words: &Words,
     terms: &[u64; 24],
-    first: &mut Place,
-    places: Vec<Place>,
+    first: &mut RowPass,
+    places: Vec<RowPass>,
 ) -> Result<Vec<Pass>, NoMemory>
     requires count { length places.items ≡ 8 }
     requires wide { length terms.now ≡ 24 }
@@ -164,7 +164,7 @@ fn passes_of<R: Wait>(
 }
 
 // The token learns what the other knows.
-fn take_in<R: Wait>(rt: &R, words: &Words, place: &mut Place, other: &mut Place)
+fn take_in<R: Wait>(rt: &R, words: &Words, place: &mut RowPass, other: &mut RowPass)
     requires own { place.old.table_id ≡ words.now.table.shared.table_id }
     requires other { other.old.table_id ≡ words.now.table.shared.table_id }
     ensures name { place.new.table_id ≡ place.old.table_id }
@@ -178,7 +178,7 @@ fn take_in<R: Wait>(rt: &R, words: &Words, place: &mut Place, other: &mut Place)
 }
 
 // A token that knows all numbers is a pass.
-fn pass_of(words: &Words, terms: &[u64; 24], place: Place, author: Option<u8>) -> Pass
+fn pass_of(words: &Words, terms: &[u64; 24], place: RowPass, author: Option<u8>) -> Pass
     requires wide { length terms.now ≡ 24 }
     requires fresh { IsFresh words.now.table.shared.table_id terms.now author 8 place }
     requires number { (t : ℕ) → author ≡ Some t → t < 8 }

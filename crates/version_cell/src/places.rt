@@ -10,10 +10,10 @@ use crossbeam_utils::atomic::seq_cell;
 use std::sync::Wait;
 
 /// A token of the words, with what it has seen.
-pub(crate) type Place = seq_cell::Pass<[u64; 151], View>;
+pub(crate) type RowPass = seq_cell::Pass<[u64; 151], View>;
 
 /// One load.
-pub(crate) fn load_words<R: Wait>(rt: &R, words: &Words, place: &mut Place) -> [u64; 151]
+pub(crate) fn load_words<R: Wait>(rt: &R, words: &Words, place: &mut RowPass) -> [u64; 151]
     requires { place.old.table_id ≡ words.now.table.shared.table_id }
     ensures same { IsSamePass place.old place.new }
     ensures reads { Reads (cell_view place.old) result result (cell_view place.new) }
@@ -22,7 +22,7 @@ pub(crate) fn load_words<R: Wait>(rt: &R, words: &Words, place: &mut Place) -> [
 }
 
 /// The place takes in what another has seen that has made no step yet, and a load ends the join.
-pub(crate) fn join_places<R: Wait>(rt: &R, words: &Words, place: &mut Place, other: Place)
+pub(crate) fn join_places<R: Wait>(rt: &R, words: &Words, place: &mut RowPass, other: RowPass)
     requires own { place.old.table_id ≡ words.now.table.shared.table_id }
     requires other { other.table_id ≡ place.old.table_id }
     requires unmoved { other.me.1 ≡ [] }

@@ -3,6 +3,7 @@ use Rattle.std.proofs.Common.{◌≡◌, ◌≢◌, refl, sym, ap, ◌∙◌, su
 use Rattle.std.specs.Prelude.{◌==◌, if◌then◌else◌}
 use Rattle.std.proofs.lemmas.Bool.Decides.{nat_tests}
 use Rattle.std.proofs.lemmas.List.Elements.{All-head, All-tail}
+use Rattle.std.proofs.lemmas.Option.{none-some}
 use Rattle.uadp_header.specs.Headers.{IdsValue}
 use Rattle.uadp_header.specs.Spelling.{IsShortText, IsWritten, AreIds, IsIds}
 use Rattle.message_guard.specs.declared.mode.Mode.{Mode}
@@ -34,10 +35,7 @@ version-some : (version : ℕ) → version_value version ≢ Some 0
 version-some version = on (version == 0) refl
   where
     on : (b : Bool) → (version == 0) ≡ b → (if b then None else Some version) ≢ Some 0
-    on true is = λ e. absurd (none_some e)
-      where
-        none_some : Path (Option ℕ) None (Some 0) → ⊥
-        none_some e = cc
+    on true is = none-some 0
     on false is = λ e. let zero_is : version ≡ 0 = cc in let no : ⊥ = grind (arith, nat_tests) in no
 
 version-fits : (version : ℕ) → version < 2 ^ 32 → IfSome (version_value version) (λ n. n < 2 ^ 32)

@@ -1,7 +1,7 @@
 use Rattle.std.proofs.Common.{[], ◌∷◌, List, ℕ, ap, sym, ◌∙◌, refl, arith}
 use Rattle.ua_base.specs.Journal.{Sent, SendFailed, told_more}
 use Rattle.mem_edge.specs.Calls.{is_named}
-use Rattle.mem_edge.specs.Lines.{injected_in, journal_in}
+use Rattle.mem_edge.specs.Transits.{injected_in, journal_in}
 use Rattle.mem_edge.specs.MemoryLinks.{told_by}
 use Rattle.mem_edge.specs.Sends.{sends_in}
 use Rattle.mem_edge.proofs.Failings.{next_is}
@@ -13,7 +13,7 @@ pub send-requires-clause-injected : goal.send-requires-clause-injected
 send-requires-clause-injected c =
     let s = c.args.self.now in
     let plan = s.planned (is_open_from s.is_open _ c.requires.open) in
-    injected_low c.sends-number.result (injected_in s.line) c.at-injected.result.now (c.at-injected.ensures ∙ plan.placed c.sends-number.result)
+    injected_low c.sends-number.result (injected_in s.transit) c.at-injected.result.now (c.at-injected.ensures ∙ plan.placed c.sends-number.result)
 
 -- the call is over, and the next has the next number
 pub invariant_of-self-then-names-clause-sends_ahead : goal.invariant_of-self-then-names-clause-sends_ahead
@@ -36,7 +36,7 @@ returns-in-Ok-send-clause-answers c =
     record {
       adds = (
         c.in-Ok-send.ensures.told ∙ ap (λ (more : List (List ℕ)). told_more (told_by s) (Sent c.args.datagram.now ∷ []) more)
-            (queued_is c.sends-number.result c.copies-copies.result s.fates.items (injected_in s.line) s.plan (sends_in (journal_in s.line)) c.args.datagram.now c.at-held.result.now c.at-injected.result.now c.sends-number.ensures plan s.once c.copies-copies.ensures c.at-held.ensures c.at-injected.ensures),
+            (queued_is c.sends-number.result c.copies-copies.result s.fates.items (injected_in s.transit) s.plan (sends_in (journal_in s.transit)) c.args.datagram.now c.at-held.result.now c.at-injected.result.now c.sends-number.ensures plan s.once c.copies-copies.ensures c.at-held.ensures c.at-injected.ensures),
         c.in-Ok-send.ensures.journal,
       );
       failed = λ is. cc;

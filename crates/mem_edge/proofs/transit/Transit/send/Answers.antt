@@ -4,13 +4,13 @@ use Rattle.std.proofs.lemmas.List.{length-map}
 use Rattle.std.proofs.lemmas.Result.{err_from_is_err_and}
 use Rattle.std.proofs.lemmas.List.Elements.{All-push, All-same, All-weaker}
 use Rattle.mem_edge.specs.declared.mark.Mark.{Mark}
-use Rattle.mem_edge.specs.declared.mark.Place.{Place}
+use Rattle.mem_edge.specs.declared.mark.Source.{Source}
 use Rattle.mem_edge.specs.declared.mark.Answer.TheVariants as answer
 use Rattle.mem_edge.specs.Contents.{bytes_of, injections}
 use Rattle.mem_edge.specs.Marks.{reach_send, IsWithin}
 use Rattle.mem_edge.proofs.Comes.{bytes_more, journal_sent, mark_within_more, numbered_more, places_more, queue_within, waiting_more, state_more}
 use Rattle.mem_edge.proofs.Kept.{kept_send, marked_more}
-use Rattle.mem_edge.proofs.line.Line.send.Goals as goal
+use Rattle.mem_edge.proofs.transit.Transit.send.Goals as goal
 
 -- what stands behind what
 joined : {X : Type 0} (a b c d : List X) (own held others : List X) → b ≡ a ++ own → c ≡ b ++ held → d ≡ c ++ others → d ≡ a ++ own ++ held ++ others
@@ -27,9 +27,9 @@ bytes_len sent = omega (arith, length-map sent.items (λ (d : Vec ℕ Global). d
 pub invariant_of-self-in-Break-branch-3 : goal.invariant_of-self-in-Break-branch-3
 invariant_of-self-in-Break-branch-3 c =
     let s = c.args.self.now in
-    let queue : length c.make_room.new.queue.items ≡ length s.queue.items = ap (λ (l : List Place). length l) c.make_room.ensures.queue_items in
+    let queue : length c.make_room.new.queue.items ≡ length s.queue.items = ap (λ (l : List Source). length l) c.make_room.ensures.queue_items in
     let log : length c.make_room.new.log.items ≡ length s.log.items = ap (λ (l : List Mark). length l) c.make_room.ensures.log_items in
-    let received : length c.make_room.new.received.items ≡ length s.received.items = ap (λ (l : List Place). length l) c.make_room.ensures.received_items in
+    let received : length c.make_room.new.received.items ≡ length s.received.items = ap (λ (l : List Source). length l) c.make_room.ensures.received_items in
     record {
       next_in = omega (arith, s.next_in, queue, c.make_room.new.queue.ok.0, s.queue.ok.0);
       queued = rw (c.make_room.ensures.queue_items, c.make_place.ensures.sent_len) s.queued;
@@ -46,7 +46,7 @@ invariant_of-self-in-Break-branch-3 c =
 pub returns-in_err-make_place-clause-refused : goal.returns-in_err-make_place-clause-refused
 returns-in_err-make_place-clause-refused c =
     let s = c.args.self.now in
-    let queue : length c.make_room.new.queue.items ≡ length s.queue.items = ap (λ (l : List Place). length l) c.make_room.ensures.queue_items in
+    let queue : length c.make_room.new.queue.items ≡ length s.queue.items = ap (λ (l : List Source). length l) c.make_room.ensures.queue_items in
     let log : length c.make_room.new.log.items ≡ length s.log.items = ap (λ (l : List Mark). length l) c.make_room.ensures.log_items in
     let p = err_from_is_err_and c.from_residual-in_err-make_place.result c.from_residual-in_err-make_place.ensures.1 in
     rw p.1 (record {

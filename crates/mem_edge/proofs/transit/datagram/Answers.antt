@@ -1,6 +1,6 @@
 use Rattle.std.proofs.Common.{sym, ◌∙◌, arith}
 use Rattle.mem_edge.proofs.Comes.{injected_get}
-use Rattle.mem_edge.proofs.line.datagram.Goals as goal
+use Rattle.mem_edge.proofs.transit.datagram.Goals as goal
 
 pub returns-in-Injected-clause-value : goal.returns-in-Injected-clause-value
 returns-in-Injected-clause-value c =

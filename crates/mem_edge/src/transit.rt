@@ -9,7 +9,7 @@ ghost use Rattle.mem_edge.specs.Keeping.{KeepsJournal, KeepsJournal-prop};
 ghost use Rattle.mem_edge.specs.Marks.{datagram_at, held_places, reach_send, IsWithin, IsMarkWithin, EndsInNothings};
 ghost use Rattle.mem_edge.specs.Sends.{sends_in};
 
-use crate::mark::{Answer, Mark, Place, count_nothing, note};
+use crate::mark::{Answer, Mark, Source, count_nothing, note};
 use std::alloc::{AllocError, Global};
 use ua_base::Received;
 
@@ -17,14 +17,14 @@ use ua_base::Received;
 /// those before `next` taken; the places of what was received; and the journal, whose answers Nothing before the
 /// first other answer are counted in `first`. It tells its journal until a count of Nothing stands at its end.
 #[derive(Drop)]
-pub struct Line {
+pub struct Transit {
     alloc: Global,
     injected: Vec<(u64, Vec<u8>)>,
     sent: Vec<Vec<u8>>,
     places: Vec<Option<usize>>,
-    queue: Vec<Place>,
+    queue: Vec<Source>,
     next: usize,
-    received: Vec<Place>,
+    received: Vec<Source>,
     first: u64,
     log: Vec<Mark>,
     tells: bool,
@@ -43,7 +43,7 @@ pub struct Line {
 }
 
 // The datagram of a place.
-fn datagram<'a>(injected: &'a [(u64, Vec<u8>)], sent: &'a [Vec<u8>], place: Place) -> &'a [u8]
+fn datagram<'a>(injected: &'a [(u64, Vec<u8>)], sent: &'a [Vec<u8>], place: Source) -> &'a [u8]
     requires within { IsWithin (length injected.now) (length sent.now) place }
     requires short { All (λ d. vec_len d < 2 ^ 32) sent.now }
     requires short_injected { All (λ p. vec_len p.1 < 2 ^ 32) injected.now }
@@ -52,13 +52,13 @@ fn datagram<'a>(injected: &'a [(u64, Vec<u8>)], sent: &'a [Vec<u8>], place: Plac
     ensures short { length result.now < 2 ^ 32 }
 {
     match place {
-        Place::Sent(index) => &sent[index],
-        Place::Injected(index) => &injected[index].1,
+        Source::Sent(index) => &sent[index],
+        Source::Injected(index) => &injected[index].1,
     }
 }
 
 // Queues a place, for which the room is there.
-fn queue_one(queue: &mut Vec<Place>, place: Place)
+fn queue_one(queue: &mut Vec<Source>, place: Source)
     requires { vec_len queue.old < vec_capacity queue.old }
     ensures items { queue.new.items ≡ queue.old.items ++ place ∷ [] }
     ensures len { vec_len queue.new ≡ vec_len queue.old + 1 }
@@ -95,7 +95,7 @@ fn number(places: &mut Vec<Option<usize>>, index: Option<usize>)
 }
 
 // Queues a place so many times.
-fn queue_copies(queue: &mut Vec<Place>, place: Place, times: usize)
+fn queue_copies(queue: &mut Vec<Source>, place: Source, times: usize)
     requires { vec_len queue.old + times ≤ vec_capacity queue.old }
     ensures items { queue.new.items ≡ queue.old.items ++ replicate times place }
     ensures capacity { vec_capacity queue.old ≤ vec_capacity queue.new }
@@ -108,7 +108,7 @@ fn queue_copies(queue: &mut Vec<Place>, place: Place, times: usize)
 }
 
 // Queues the held datagrams that were sent.
-fn queue_held(queue: &mut Vec<Place>, places: &[Option<usize>], held: &[(u64, usize)])
+fn queue_held(queue: &mut Vec<Source>, places: &[Option<usize>], held: &[(u64, usize)])
     requires { vec_len queue.old + length held.now ≤ vec_capacity queue.old }
     ensures items { queue.new.items ≡ queue.old.items ++ held_places places.now held.now }
     ensures capacity { vec_capacity queue.old ≤ vec_capacity queue.new }
@@ -123,33 +123,33 @@ fn queue_held(queue: &mut Vec<Place>, places: &[Option<usize>], held: &[(u64, us
 }
 
 // The place of a send's datagram, if it was sent.
-fn place_of(places: &[Option<usize>], number: usize) -> Option<Place>
-    ensures { result ≡ option_map Place.Sent (unwrap_or (slice_get places.now number) None) }
+fn place_of(places: &[Option<usize>], number: usize) -> Option<Source>
+    ensures { result ≡ option_map Source.Sent (unwrap_or (slice_get places.now number) None) }
 {
     match places.get(number) {
-        Some(Some(index)) => Some(Place::Sent(*index)),
+        Some(Some(index)) => Some(Source::Sent(*index)),
         Some(None) => None,
         None => None,
     }
 }
 
 // Queues injected datagrams.
-fn queue_injected(queue: &mut Vec<Place>, injected: &[(u64, usize)])
+fn queue_injected(queue: &mut Vec<Source>, injected: &[(u64, usize)])
     requires { vec_len queue.old + length injected.now ≤ vec_capacity queue.old }
     ensures items { queue.new.items
-        ≡ queue.old.items ++ map (λ p. Place.Injected p.1) injected.now }
+        ≡ queue.old.items ++ map (λ p. Source.Injected p.1) injected.now }
     ensures capacity { vec_capacity queue.old ≤ vec_capacity queue.new }
     ensures len { vec_len queue.new ≡ vec_len queue.old + length injected.now }
 {
     for pair in injected {
-        queue_one(queue, Place::Injected(pair.1));
+        queue_one(queue, Source::Injected(pair.1));
     }
 }
 
 // Takes room for so many more places in the queue and then in what is received, and for their entries and others.
 fn make_room(
-    queue: &mut Vec<Place>,
-    received: &mut Vec<Place>,
+    queue: &mut Vec<Source>,
+    received: &mut Vec<Source>,
     log: &mut Vec<Mark>,
     waiting: usize,
     more: usize,
@@ -185,15 +185,15 @@ fn make_place(sent: &mut Vec<Vec<u8>>, places: &mut Vec<Option<usize>>) -> Resul
     places.reserve(1)
 }
 
-impl Line {
-    ghost use Rattle.mem_edge.specs.Lines.{injected_in, journal_in, waiting_in, told_in, room_in, comes, IsUnchanged};
+impl Transit {
+    ghost use Rattle.mem_edge.specs.Transits.{injected_in, journal_in, waiting_in, told_in, room_in, comes, IsUnchanged};
 
-    pub fn new(alloc: Global, injected: Vec<(u64, Vec<u8>)>) -> Line
+    pub fn new(alloc: Global, injected: Vec<(u64, Vec<u8>)>) -> Transit
         requires { All (λ p. vec_len p.1 < 2 ^ 32) injected.items }
         ensures told { told_in result ≡ Some (record { journal = []; waiting = [] }) }
         ensures injected { injected_in result ≡ injections injected.items }
     {
-        Line {
+        Transit {
             alloc,
             injected,
             sent: Vec::new(alloc),
@@ -281,7 +281,7 @@ impl Line {
         make_place(&mut self.sent, &mut self.places)?;
         let index = self.sent.len();
         keep(&mut self.sent, copy);
-        queue_copies(&mut self.queue, Place::Sent(index), copies);
+        queue_copies(&mut self.queue, Source::Sent(index), copies);
         queue_held(&mut self.queue, &self.places, held);
         queue_injected(&mut self.queue, injected);
         number(&mut self.places, Some(index));

@@ -6,11 +6,11 @@ use Rattle.std.proofs.Math.Seq.{take-append_seam}
 use Rattle.std.proofs.lemmas.List.Elements.{All-push, All-same}
 use Rattle.mem_edge.specs.declared.mark.Mark.{Mark}
 use Rattle.mem_edge.specs.declared.mark.Answer.TheVariants as answer
-use Rattle.mem_edge.specs.Lines.{datagram_in}
+use Rattle.mem_edge.specs.Transits.{datagram_in}
 use Rattle.mem_edge.specs.Marks.{entries, EndsInNothings, IsMarkWithin, IsWithin}
 use Rattle.mem_edge.proofs.Comes.{told_journal, waiting_taken, tells_got, tells_long}
 use Rattle.mem_edge.proofs.Kept.{kept_empty, kept_got, kept_long, marked_more}
-use Rattle.mem_edge.proofs.line.Line.receive.Goals as goal
+use Rattle.mem_edge.proofs.transit.Transit.receive.Goals as goal
 
 -- the marks as they are after the count
 counted : (log : Vec Mark Global) (now : List Mark) → length now ≡ length log.items → (with_items log now).items ≡ now

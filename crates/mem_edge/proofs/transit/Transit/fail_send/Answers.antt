@@ -2,9 +2,9 @@ use Rattle.std.proofs.Common.{◌≤◌, ℕ, Option, None, arith, vec_len}
 use Rattle.std.proofs.lemmas.List.Elements.{All-push, All-same}
 use Rattle.mem_edge.specs.Marks.{reach_send}
 use Rattle.mem_edge.specs.declared.mark.Answer.TheVariants as answer
-use Rattle.mem_edge.specs.Lines.{datagram_in}
+use Rattle.mem_edge.specs.Transits.{datagram_in}
 use Rattle.mem_edge.proofs.Kept.{kept_failed, marked_more}
-use Rattle.mem_edge.proofs.line.Line.fail_send.Goals as goal
+use Rattle.mem_edge.proofs.transit.Transit.fail_send.Goals as goal
 
 pub invariant_of-self-2-clause-marked : goal.invariant_of-self-2-clause-marked
 invariant_of-self-2-clause-marked c = marked_more _ _ _ _ answer.SendFailed (rw c.reserve.ensures.items at c.note.ensures.items) (omega arith) (omega arith) c.args.self.now.marked

@@ -1,5 +1,5 @@
 use Rattle.std.proofs.Common.{◌≡◌, ◌≤◌, ◌+◌, ◌++◌, replicate, vec_len, vec_capacity}
-use Rattle.mem_edge.proofs.line.queue_copies.Given as goal
+use Rattle.mem_edge.proofs.transit.queue_copies.Given as goal
 
 -- so many copies were queued
 abbrev pub invariant-loop-done : goal.invariant-loop-done

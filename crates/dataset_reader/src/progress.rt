@@ -20,7 +20,7 @@ use seq_number::newer;
 const JUMP: u32 = 16384;
 
 #[derive(Drop)]
-pub(crate) struct State {
+pub(crate) struct Progress {
     // the number of the last record
     pub last: Option<u16>,
     pub stamp: Option<u32>,
@@ -35,13 +35,13 @@ pub(crate) struct State {
     pub recent: ArrayVec<Break, 8>,
 }
 
-impl State {
-    ghost use Rattle.dataset_reader.specs.State.{kept_in, IsStateOf};
+impl Progress {
+    ghost use Rattle.dataset_reader.specs.Progress.{kept_in, IsStateOf};
 
-    pub fn new() -> State
+    pub fn new() -> Progress
         ensures { (fields : List Field) → kept_in fields result ≡ fresh }
     {
-        State {
+        Progress {
             last: None,
             stamp: None,
             number: None,

@@ -1,6 +1,6 @@
 use Rattle.std.proofs.Common.{◌≡◌, ◌≤◌, ◌+◌, ◌++◌, map, take, vec_len, vec_capacity}
-use Rattle.mem_edge.specs.declared.mark.Place.TheVariants as place
-use Rattle.mem_edge.proofs.line.queue_injected.Given as goal
+use Rattle.mem_edge.specs.declared.mark.Source.TheVariants as place
+use Rattle.mem_edge.proofs.transit.queue_injected.Given as goal
 
 -- so many are queued
 abbrev pub invariant-loop-pair : goal.invariant-loop-pair

@@ -1,8 +1,8 @@
 use Rattle.std.proofs.Common.{◌≡◌, ◌≤◌, arith, length}
 use Rattle.std.proofs.lemmas.Bool.Decides.{nat_tests}
 use Rattle.dataset_reader.proofs.Notes.{reverse-fewer, reverse-full}
-use Rattle.dataset_reader.proofs.state.push_recent.Goals as goal
-use Rattle.dataset_reader.proofs.state.push_recent.Goals.{then-is_full, else-is_full}
+use Rattle.dataset_reader.proofs.progress.push_recent.Goals as goal
+use Rattle.dataset_reader.proofs.progress.push_recent.Goals.{then-is_full, else-is_full}
 
 pub returns : goal.returns
 returns c =

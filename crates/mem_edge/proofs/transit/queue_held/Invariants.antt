@@ -1,6 +1,6 @@
 use Rattle.std.proofs.Common.{◌≡◌, ◌≤◌, ◌+◌, ◌++◌, take, vec_len, vec_capacity}
 use Rattle.mem_edge.specs.Marks.{held_places}
-use Rattle.mem_edge.proofs.line.queue_held.Given as goal
+use Rattle.mem_edge.proofs.transit.queue_held.Given as goal
 
 -- of so many, those that were sent are queued
 abbrev pub invariant-loop-hold : goal.invariant-loop-hold

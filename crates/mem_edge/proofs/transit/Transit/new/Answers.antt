@@ -3,7 +3,7 @@ use Rattle.mem_edge.specs.Contents.{bytes_of, injections}
 use Rattle.mem_edge.specs.Marks.{datagram_at, entries}
 use Rattle.mem_edge.specs.declared.mark.Mark.{Mark}
 use Rattle.mem_edge.proofs.Kept.{kept_none}
-use Rattle.mem_edge.proofs.line.Line.new.Goals as goal
+use Rattle.mem_edge.proofs.transit.Transit.new.Goals as goal
 
 pub invariant_of-result-clause-kept : goal.invariant_of-result-clause-kept
 invariant_of-result-clause-kept c =
