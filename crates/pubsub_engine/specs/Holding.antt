@@ -1,33 +1,199 @@
--- What a held row is: the row of a key frame of the writer with the held number, and of a sample whose version the writer's log has at this number.
-use Rattle.std.specs.Prelude.{◌≡◌, ◌⊎◌, ℕ, List, [], ◌∷◌, Some, Contains}
-use Rattle.seq_number.specs.Numbers.{number_of_place}
-use Rattle.dataset_meta.specs.Rows.{IsRow}
-use Rattle.pubsub_model.specs.Frames.{Whole}
-use Rattle.pubsub_engine.specs.BuiltIn.{demo_meta}
-use Rattle.pubsub_engine.specs.Samples.{Sample}
-use Rattle.pubsub_engine.specs.Steps.{Step, Tick, Pump}
-use Rattle.pubsub_engine.specs.Publishing.{sampled_in, frames_at, log_at}
-use Rattle.pubsub_engine.specs.Reading.{HeldRow}
-use Rattle.pubsub_engine.specs.Closing.{version_at}
+-- What holds of a session between its calls, whatever it lived through: the conditions of the calls below.
+use Rattle.std.specs.Prelude.{◌≡◌, ◌⊎◌, ⊤, ℕ, ◌+◌, ◌*◌, ◌^◌, ◌<◌, ◌≤◌, Bool, true, false, List, [], ◌∷◌, length, map, drop, slice_set, vec_len}
+use Rattle.std.specs.List.{AllZip}
+use Rattle.dataset_meta.specs.declared.field.Field.{Field}
+use Rattle.dataset_meta.specs.Metas.{MetaData, grown}
+use Rattle.row_words.specs.Belonging.{Belongs}
+use Rattle.ps_config.specs.declared.parts.Config.{Config}
+use Rattle.ps_config.specs.Rooms.{is_fixed}
+use Rattle.ps_config.specs.Sound.{readers}
+use Rattle.ps_config.specs.Types.{HasTypes}
+use Rattle.pubsub_states.specs.Components.{counts_of}
+use Rattle.target_cells.specs.Keeping.{TargetsData, metas_of}
+use Rattle.version_cell.specs.Known.{Known}
+use Rattle.version_cell.specs.Cells.{CellData}
+use Rattle.version_cell.specs.Passes.{Adds}
+use Rattle.version_cell.specs.Sets.{pass_at, ArePassesOf}
+use Rattle.writer_group.specs.Parts.{group_at}
+use Rattle.writer_group.specs.Payloads.{meta_at}
+use Rattle.writer_group.specs.Standing.{IsGood}
+use Rattle.session_model.specs.Steps.{Plan, most_ms}
+use Rattle.session_model.specs.Sets.{AreFit, MayAppend, GrowTo, AreRowsOf, meta_in}
+use Rattle.session_parts.specs.Holding.{HasBuffers, HoldPublisher, HoldSubscriber, MayAllGoOn}
+use Rattle.pubsub_engine.specs.declared.size.Append.{Append}
+use Rattle.pubsub_engine.specs.declared.sets.Sets.{Sets}
+use Rattle.pubsub_engine.specs.declared.sets.Growth.{Growth}
+use Rattle.pubsub_engine.specs.declared.sampling.Samples.{Samples}
+use Rattle.pubsub_engine.specs.declared.storing.Stores.{Stores}
+use Rattle.pubsub_engine.specs.declared.session.Left.{Left}
+use Rattle.pubsub_engine.specs.declared.session.Session.{Session}
 
--- some tick of these steps had this sample
-abbrev pub HasSample : List Step → Sample → Type 0
-HasSample [] sample = ⊥
-HasSample (Tick ms closing now done ∷ before) sample = (sampled_in now ≡ sample) ⊎ HasSample before sample
-HasSample (Pump entries ∷ before) sample = HasSample before sample
+-- ---- the data sets
 
--- each sample has a row of the data set
-abbrev pub SampleRows : List Step → Type 0
-SampleRows [] = Unit {0}
-SampleRows (Tick ms closing now done ∷ before) = IsRow demo_meta (sampled_in now).row × SampleRows before
-SampleRows (Pump entries ∷ before) = SampleRows before
+-- data sets that the session may have at some moment: as many as are configured, fit, those of fixed groups as configured, and grown to the full ones
+pub record AreSets (config : Config) (full metas : List MetaData) : Type 0 where
+  pub count : length metas ≡ length config.dataset
+  pub fit : AreFit config metas
+  pub fixed : (g : ℕ) → g < length config.group → is_fixed (group_at config g).layout ≡ true → (w : ℕ) → w < length (group_at config g).writer
+      → meta_at (group_at config g) metas w ≡ meta_at (group_at config g) config.dataset w
+  pub grow : GrowTo metas full
 
--- the row is that of the writer's key frame with its number, and of the version which the log has at this number
-pub record IsPublished (steps : List Step) (held : HeldRow) : Type 0 where
-  pub place : ℕ
-  pub number_is : held.number ≡ Some (number_of_place place)
-  pub frame : Contains (frames_at steps) (Whole place held.row)
-  pub sample : Sample
-  pub sampled : HasSample steps sample
-  pub row_is : held.row ≡ sample.row
-  pub logged : version_at (log_at steps) held.number ≡ Some sample.version
+-- a data set grows by a field
+pub record Grows (config : Config) (metas : List MetaData) (growth : Growth) : Type 0 where
+  pub may : MayAppend config metas growth.set (slice_set metas growth.set growth.meta)
+  pub field : Field
+  pub meta : growth.meta ≡ grown (meta_in metas growth.set) field
+
+-- the appends that are still to come, in order
+abbrev pub AreToCome : Config → List MetaData → List MetaData → List Growth → Type 0
+AreToCome config full metas [] = AreSets config full metas
+AreToCome config full metas (growth ∷ later) =
+    AreSets config full metas × Grows config metas growth × AreToCome config full (slice_set metas growth.set growth.meta) later
+
+-- what appends make of data sets
+abbrev pub grown_by : List MetaData → Append → List MetaData
+grown_by metas append = slice_set metas append.set (grown (meta_in metas append.set) append.field)
+
+-- the data set that the append names, and what it is behind it
+pub record IsGrowthBy (metas : List MetaData) (append : Append) (growth : Growth) : Type 0 where
+  pub set : growth.set ≡ append.set
+  pub meta : growth.meta ≡ grown (meta_in metas append.set) append.field
+
+abbrev pub full_of : List MetaData → List Append → List MetaData
+full_of metas [] = metas
+full_of metas (append ∷ appends) = full_of (grown_by metas append) appends
+
+-- each append is allowed when it comes
+abbrev pub AreAppends : Config → List MetaData → List Append → Type 0
+AreAppends config metas [] = ⊤
+AreAppends config metas (append ∷ appends) =
+    MayAppend config metas append.set (grown_by metas append) × AreAppends config (grown_by metas append) appends
+
+pub record HoldSets (config : Config) (sets : Sets) : Type 0 where
+  pub made : sets.made ≤ length sets.later.items
+  pub to_come : AreToCome config sets.full.items sets.metas.items (drop sets.made sets.later.items)
+
+-- ---- samples and stores
+
+pub record HoldSamples (full : List MetaData) (samples : Samples) : Type 0 where
+  pub rows : AreRowsOf full samples.taken.items
+  pub cut : vec_len samples.cut ≡ length full
+  pub passes : length samples.passes ≡ length full
+
+-- each reader may be stored so often
+pub record HoldStores (config : Config) (limit left : ℕ) (stores : Stores) : Type 0 where
+  pub count : vec_len stores.last ≡ length (readers config)
+  pub keepers : length stores.keeper ≡ length (readers config)
+  pub room : (k : ℕ) → k < length (readers config) → length (pass_at stores.keeper k).seen + left ≤ limit
+
+-- ---- the session
+
+abbrev pub plan_of : Session → Plan
+plan_of s = record { config = s.config.now; full = s.sets.full.items }
+
+-- what may still come
+abbrev pub left_of : Session → Left
+left_of s = s.left
+
+-- before the first tick, with so many beside the closing one
+abbrev pub opening_left : ℕ → Left
+opening_left ticks = record { ticks = ticks + 1; pumps = 0; stores = ticks + 1; is_closed = false }
+
+-- how many stores a target may have
+abbrev pub stores_limit : Session → ℕ
+stores_limit s = s.left.stores
+
+abbrev pub passes_of : Session → List Known
+passes_of s = s.samples.passes
+
+abbrev pub keeper_of : Session → List Known
+keeper_of s = s.stores.keeper
+
+-- the condition of each call, which each call keeps
+pub record IsSession (s : Session) : Type 0 where
+  pub good : IsGood s.config.now
+  pub sets : HoldSets s.config.now s.sets
+  pub samples : HoldSamples s.sets.full.items s.samples
+  pub publisher : HoldPublisher s.config.now s.publisher
+  pub goes_on : MayAllGoOn s.config.now s.sets.metas.items s.left.ticks s.publisher.groups.items
+  pub subscriber : HoldSubscriber s.config.now s.subscriber
+  pub tree : s.tree.counts ≡ counts_of s.config.now
+  pub buffers : HasBuffers s.receiving
+  pub stores : HoldStores s.config.now s.left.stores (s.left.ticks + s.left.pumps) s.stores
+  pub time : s.moment + s.left.ticks * most_ms < 2 ^ 64
+  pub calls : s.left.ticks + s.left.pumps < 2 ^ 32
+
+-- the closing tick didn't come yet
+abbrev pub IsRunning : Session → Type 0
+IsRunning s = s.left.is_closed ≡ false
+
+-- how many ticks have to be left for one that is the closing one, or isn't: then the closing one has to be left besides
+abbrev pub ticks_needed : Bool → ℕ
+ticks_needed true = 1
+ticks_needed false = 2
+
+-- a tick may come: the closing one didn't yet, and takes no time
+pub record MayTick (ms : ℕ) (closing : Bool) (s : Session) : Type 0 where
+  pub session : IsSession s
+  pub running : IsRunning s
+  pub left : ticks_needed closing ≤ s.left.ticks
+  pub short : ms ≤ most_ms
+  pub still : closing ≡ true → ms ≡ 0
+
+pub record MayPump (s : Session) : Type 0 where
+  pub session : IsSession s
+  pub left : 0 < s.left.pumps
+
+pub record MayAppendNext (s : Session) : Type 0 where
+  pub session : IsSession s
+  pub running : IsRunning s
+  pub left : s.sets.made < length s.sets.later.items
+
+-- a tick came
+pub record CountsTick (closing : Bool) (old new : Left) : Type 0 where
+  pub ticks : new.ticks + 1 ≡ old.ticks
+  pub pumps : new.pumps ≡ old.pumps + 1
+  pub stores : new.stores ≡ old.stores
+  pub is_closed : new.is_closed ≡ closing
+
+-- a pump came
+pub record CountsPump (old new : Left) : Type 0 where
+  pub pumps : new.pumps + 1 ≡ old.pumps
+  pub rest : new ≡ record old { pumps = new.pumps }
+
+-- ---- what a call is given beside the session
+
+-- the bank made the session's passes, and its cells are of the full data sets
+pub record IsBankOf (s : Session) (bank : List CellData) : Type 0 where
+  pub passes : ArePassesOf bank (passes_of s)
+  pub metas : map (λ cell. cell.meta) bank ≡ s.sets.full.items
+
+-- the targets made the session's keeper, and there is one for each reader, of the data set that it is configured for
+pub record AreTargetsOf (s : Session) (targets : TargetsData) : Type 0 where
+  pub keeper : ArePassesOf targets.cells (keeper_of s)
+  pub limit : targets.limit ≡ s.left.stores
+  pub metas : map (λ cell. cell.meta) targets.cells ≡ metas_of s.config.now.dataset (map (λ reader. reader.dataset) (readers s.config.now))
+
+-- ---- what a call changes
+
+abbrev pub ChangesSamples : Session → Session → Type 0
+ChangesSamples old new = new ≡ record old { samples = new.samples }
+
+abbrev pub ChangesStores : Session → Session → Type 0
+ChangesStores old new = new ≡ record old { stores = new.stores }
+
+-- a pass has no store more, or one
+abbrev pub AddsOneAtMost : Known → Known → Type 0
+AddsOneAtMost old new = (new ≡ old) ⊎ ((row : List ℕ) × Adds old new row)
+
+-- what neither a tick nor an append nor a switch changes
+pub record KeepsPasses (old new : Session) : Type 0 where
+  pub plan : plan_of new ≡ plan_of old
+  pub passes : passes_of new ≡ passes_of old
+  pub sampled : new.samples.taken ≡ old.samples.taken
+  pub keeper : keeper_of new ≡ keeper_of old
+  pub stores : new.left.stores ≡ old.left.stores
+
+-- the data sets of the appends that are still to come, in order
+abbrev pub appends_left : Session → List ℕ
+appends_left s = map (λ growth. growth.set) (drop s.sets.made s.sets.later.items)

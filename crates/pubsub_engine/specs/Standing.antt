@@ -1,64 +1,108 @@
--- Where a session stands after these steps, over a link that may tell its journal.
-use Rattle.std.specs.Prelude.{◌≡◌, ℕ, List, ◌∷◌, ◌++◌, length, count_by, Option, Some, Bool}
-use Rattle.seq_number.specs.Numbers.{number_of_place}
-use Rattle.ua_base.specs.Journal.{LinkState, Tells}
-use Rattle.frame_codec.specs.Frames.{Frame}
-use Rattle.dataset_writer.specs.declared.writer.Writer.{Writer}
-use Rattle.dataset_writer.specs.Standing.{IsWriter}
-use Rattle.dataset_reader.specs.Reader.{kept_by}
-use Rattle.pubsub_engine.specs.BuiltIn.{demo_fields, demo_meta, demo_settings}
-use Rattle.pubsub_engine.specs.Samples.{Sample}
-use Rattle.pubsub_engine.specs.declared.subscriber.Subscriber.{Subscriber}
+-- Where a session stands after what it lived through. Lists of steps and of deeds have the latest first.
+use Rattle.std.specs.Prelude.{◌≡◌, ◌≢◌, ℕ, ◌+◌, ◌<◌, ◌≤◌, ◌==◌, List, [], ◌∷◌, ◌++◌, length, map, zip, find, Bool, Option, Some, None, option_and_then}
+use Rattle.std.specs.Option.{option_map_or}
+use Rattle.ua_base.specs.Journal.{LinkState}
+use Rattle.pubsub_model.specs.Answers.{version_of}
+use Rattle.ps_report.specs.Conditions.{writers_of}
+use Rattle.target_cells.specs.declared.origin.Origin.{Origin}
+use Rattle.version_cell.specs.Known.{Known}
+use Rattle.version_cell.specs.Histories.{row_after}
+use Rattle.reader_group.specs.Settings.{group_at as read_group_at}
+use Rattle.reader_group.specs.Members.{seat_at}
+use Rattle.reader_group.specs.Settings.{setting_of}
+use Rattle.writer_group.specs.declared.sampled.Sampled.{Sampled}
+use Rattle.session_model.specs.Steps.{Plan, Step, Tick, moment_of, most_ticks, ticks_in, pumps_in, is_closed}
+use Rattle.session_model.specs.Sets.{metas_at}
+use Rattle.session_model.specs.Deeds.{deeds, log_at}
+use Rattle.session_model.specs.Turns.{TurnsHold}
+use Rattle.session_model.specs.Sends.{IsRun, TellsRun, journal, send_entries, sends_of}
+use Rattle.session_model.specs.Stores.{Store, stores}
+use Rattle.session_model.specs.States.{flags_at}
+use Rattle.session_model.specs.Closing.{MemberPlace, writer_places}
+use Rattle.session_model.specs.Keeping.{AreSteps}
+use Rattle.session_parts.specs.Standing.{AreReceivesIn, AreSendsIn, HasFlags, HaveOutcomes, HavePast, HaveRead, HaveSent, HaveTallied}
 use Rattle.pubsub_engine.specs.declared.session.Session.{Session}
-use Rattle.pubsub_engine.specs.Steps.{Step, Tick, moment_of, send_entries}
-use Rattle.pubsub_engine.specs.Publishing.{deeds, turns_in, writer_past, made_in, last_moment, sends_of, journal, IsRun}
-use Rattle.pubsub_engine.specs.Reading.{messages_at, kept_of, was_held}
-use Rattle.pubsub_engine.specs.Counts.{counted, is_sent, is_send_failed, is_got, is_long, is_broken, is_taken, limits}
-use Rattle.pubsub_engine.specs.Closing.{send_failed}
+use Rattle.pubsub_engine.specs.Holding.{plan_of}
+use Rattle.pubsub_engine.specs.Storing.{HaveStored}
 
--- the publisher's fields after these steps
-pub record IsPublisher (steps : List Step) (moment last : ℕ) (writer : Writer) (sequence : ℕ) : Type 0 where
-  pub moment_is : moment ≡ moment_of steps
-  pub last_is : last ≡ last_moment (turns_in (deeds steps))
-  pub writer_is : IsWriter demo_meta demo_settings (writer_past (deeds steps)) writer
-  pub sequence_is : sequence ≡ number_of_place (made_in (turns_in (deeds steps)))
+-- ---- the samples
 
--- and what came of its sends
-pub record HasSent (steps : List Step) (sent failed : ℕ) (is_failing : Bool) : Type 0 where
-  pub sent_is : counted sent ≡ counted (count_by is_sent (journal steps))
-  pub failed_is : counted failed ≡ counted (count_by is_send_failed (journal steps))
-  pub failing_is : is_failing ≡ send_failed steps
+abbrev pub opening_sample : Sampled
+opening_sample = record { row = record { words = row_after [] }; version = 0 }
 
--- a tick after these steps: how its sends ended, the publisher's fields after it, and what its sends left in the journal
-pub record Ticks (steps : List Step) (ms : ℕ) (closing : Bool) (sample : List Sample) (moment last : ℕ) (writer : Writer) (sequence sent failed : ℕ) (is_failing : Bool) (before after : Option LinkState) : Type 0 where
+-- what passes have seen
+abbrev pub sample_of : Known → Sampled
+sample_of pass = record { row = record { words = row_after pass.seen }; version = length pass.seen }
+
+abbrev pub samples_of : List Known → List Sampled
+samples_of passes = map sample_of passes
+
+-- the last sample
+abbrev pub sampled_by : Session → List Sampled
+sampled_by s = s.samples.taken.items
+
+-- ---- the session
+
+-- it stands where these steps leave it
+pub record Stands (p : Plan) (steps : List Step) (s : Session) : Type 0 where
+  pub plan : plan_of s ≡ p
+  pub run : IsRun p steps
+  pub steps_are : AreSteps p steps
+  pub turns : TurnsHold p steps
+  pub moment : s.moment ≡ moment_of steps
+  pub closed : s.left.is_closed ≡ is_closed steps
+  pub ticks : ticks_in steps + s.left.ticks ≤ most_ticks + 1
+  pub pumps : pumps_in steps + s.left.pumps ≡ ticks_in steps
+  pub metas : s.sets.metas.items ≡ metas_at p.config steps
+  pub groups : HavePast p.config (metas_at p.config steps) (deeds p steps) s.publisher.groups.items
+  pub senders : HaveSent p.config (deeds p steps) s.publisher.senders.items
+  pub outcomes : HaveOutcomes p steps s.publisher.sends.items
+  pub sends : AreSendsIn (journal p steps) s.publisher.link
+  pub readings : HaveRead p.config steps s.subscriber.groups.items
+  pub tallies : HaveTallied p.config steps s.subscriber.tallies.items
+  pub receives : AreReceivesIn (journal p steps) steps s.receiving
+  pub stores_are : HaveStored p.config (λ place. stores p.config place.0 place.1 steps) s.stores
+  pub flags : HasFlags (flags_at p steps) s.tree
+
+-- where one step more leads from one session and link to another: what the link tells is then the journal, if it was before
+pub record Leads (p : Plan) (before : List Step) (step : Step) (told after : Option LinkState) (s : Session) : Type 0 where
+  pub stands : Stands p (step ∷ before) s
+  pub tells : TellsRun p before told → TellsRun p (step ∷ before) after
+
+-- wherever it stood, it still stands
+abbrev pub KeepsStands : Session → Session → Type 0
+KeepsStands old new = (p : Plan) (steps : List Step) → Stands p steps old → Stands p steps new
+
+-- memory ran out at a send of the tick: the first datagrams of the tick were sent, each once, in order, and no further one
+pub record HaltsTick (p : Plan) (before : List Step) (ms : ℕ) (closing : Bool) (samples : List Sampled) (told after : Option LinkState) : Type 0 where
   pub done : List Bool
-  pub each : length done ≡ length (sends_of (Tick ms closing sample done ∷ steps))
-  pub publisher : IsPublisher (Tick ms closing sample done ∷ steps) moment last writer sequence
-  pub has_sent : HasSent (Tick ms closing sample done ∷ steps) sent failed is_failing
-  pub told : Tells before after (λ x y. y.journal ≡ x.journal ++ send_entries (sends_of (Tick ms closing sample done ∷ steps)) done)
+  pub fewer : length done < length (sends_of p (Tick ms closing samples done ∷ before))
+  pub tells : TellsRun p before told → (link : LinkState) → after ≡ Some link
+      → link.journal ≡ journal p before ++ send_entries (sends_of p (Tick ms closing samples done ∷ before)) done
 
--- what the subscriber keeps of these messages
-pub record HasRead (messages : List Frame) (subscriber : Subscriber) : Type 0 where
-  pub kept : kept_by demo_fields subscriber.reader ≡ kept_of messages
-  pub ready : subscriber.ready ≡ was_held messages
+-- ---- where a store comes from
 
--- the receiving side after these steps
-pub record HasReceived (steps : List Step) (subscriber : Subscriber) (limit : ℕ) : Type 0 where
-  pub read : HasRead (messages_at steps) subscriber
-  pub taken : counted subscriber.taken ≡ counted (count_by is_taken (journal steps))
-  pub received : counted subscriber.received ≡ counted (count_by is_got (journal steps))
-  pub broken : counted subscriber.broken ≡ counted (count_by is_broken (journal steps))
-  pub long : counted subscriber.long ≡ counted (count_by is_long (journal steps))
-  pub limit_is : counted limit ≡ counted (limits steps)
+-- the log of this program's writer with an id, empty where there is no such writer
+abbrev pub log_named : Plan → List Step → ℕ → List (ℕ × ℕ)
+log_named p steps id =
+    option_map_or (λ at. log_at p at.1.0 at.1.1 steps) (find (λ at. at.0.id == id) (zip (writers_of p.config.group) (writer_places p.config))) []
 
--- what the link tells is the journal of these steps
-abbrev pub TellsRun : List Step → Option LinkState → Type 0
-TellsRun steps told = (wire : LinkState) → told ≡ Some wire → wire.journal ≡ journal steps
+-- Before the first store it is the opening row, version 0. Else, where the read group's publisher is this program, the version is the one that the writer
+-- whom the reader names logged at the number of the last store.
+abbrev pub IsVersionStored : Plan → List Step → MemberPlace → List Store → Option ℕ → Type 0
+IsVersionStored p steps place [] version = version ≡ Some 0
+IsVersionStored p steps place (last ∷ before) version =
+    ((read_group_at p.config place.0).publisher ≡ p.config.publisher.id
+    → version ≡ option_and_then (version_of (log_named p steps (seat_at (setting_of p.config place.0).seats place.1).part.writer)) last.number)
+    × ((read_group_at p.config place.0).publisher ≢ p.config.publisher.id → version ≡ None)
 
--- the session stands where these steps leave it
-pub record Stands (steps : List Step) (told : Option LinkState) (session : Session) : Type 0 where
-  pub run : IsRun steps
-  pub entries : TellsRun steps told
-  pub publisher : IsPublisher steps session.publisher.moment session.publisher.last session.publisher.writer session.publisher.sequence
-  pub sent : HasSent steps session.publisher.sent session.publisher.failed session.publisher.failing
-  pub subscriber : HasReceived steps session.subscriber session.limit
+-- the number of the last store
+abbrev pub number_stored : List Store → Option ℕ
+number_stored [] = None
+number_stored (last ∷ before) = last.number
+
+-- the stores of the reader with this place
+pub record IsOriginOf (p : Plan) (steps : List Step) (place : MemberPlace) (origin : Origin) : Type 0 where
+  pub store : origin.store ≡ length (stores p.config place.0 place.1 steps)
+  pub number : origin.number ≡ number_stored (stores p.config place.0 place.1 steps)
+  pub version : IsVersionStored p steps place (stores p.config place.0 place.1 steps) origin.version

@@ -1,29 +1,19 @@
-//! A session: a writer group and a reader over a link, and the report of what they did.
+//! A session of any configuration (OPC 10000-14 6.2.3, PubSubConfiguration): samples, ticks and pumps, switches and appended
+//! fields, and what it was when it closed.
 #![tactic(auto)]
 
-mod built_in;
-mod closed;
 mod closing;
-mod datagram;
-mod done;
-mod laws;
-mod plain;
-mod printing;
-mod publisher;
-mod sampled;
+mod ends;
+mod logs;
+mod opening;
+mod sampling;
 mod session;
-mod subscriber;
+mod sets;
+mod size;
+mod storing;
+mod switching;
 
-pub use built_in::built_in_meta;
-pub use closed::{Closed, GroupEnd, HeldEnd, LinkEnd, ReadGroupEnd, ReaderEnd, State, WriterEnd};
-pub use done::Done;
-pub use laws::{
-    a_held_row_is_published, a_journal_has_one_run, a_reader_keeps_records,
-    an_arrival_is_a_frame_of_the_writer, near_arrivals_are_kept,
-};
-pub use plain::Plain;
-pub use printing::report;
-pub use publisher::Publisher;
-pub use sampled::Sampled;
+pub use opening::Opening;
 pub use session::Session;
-pub use subscriber::Subscriber;
+pub use size::{Append, Size};
+pub use ua_base::{Pumped, Ticked};

@@ -1,106 +1,246 @@
 //! A session over a link: samples, ticks and pumps.
-ghost use Rattle.std.specs.Prelude.{◌≡◌, ◌≤◌, ◌<◌, ◌+◌, ◌∷◌, ◌↔◌, [], IsTrue, IfOk, ℕ, List, Bool, Option, Some, count_by, length, vec_len, IsSome};
-ghost use Rattle.ua_base.specs.Journal.{LinkState, Entry, Tells};
+ghost use Rattle.std.specs.Prelude.{◌≡◌, ◌≤◌, ◌<◌, ◌+◌, ◌∷◌, ◌↔◌, IsTrue, IsSome, IfOk, IfSome, ℕ, List, Bool, true, false, count_by, length, map, slice_get, Some};
+ghost use Rattle.dataset_meta.specs.declared.field.Field.{Field};
+ghost use Rattle.ua_base.specs.Journal.{Entry};
 ghost use Rattle.ua_base.specs.Links.{KeepsLink};
-ghost use Rattle.row_words.specs.Belonging.{row_in};
-ghost use Rattle.pubsub_engine.specs.BuiltIn.{demo_fields, demo_meta};
-ghost use Rattle.pubsub_engine.specs.Samples.{sample_of};
-ghost use Rattle.pubsub_engine.specs.Steps.{Step, Tick, Pump};
-ghost use Rattle.pubsub_engine.specs.Counts.{is_datagram};
+ghost use Rattle.ps_config.specs.Sound.{readers};
+ghost use Rattle.version_cell.specs.Passes.{SeesMore, shared_by};
+ghost use Rattle.version_cell.specs.Sets.{ArePassesOf, EachSeesLawful, JoinEach, pass_at};
+ghost use Rattle.target_cells.specs.Keeping.{AreLevel};
+ghost use Rattle.session_model.specs.Steps.{Plan, Step, Append as AppendStep, Tick, Pump};
+ghost use Rattle.session_model.specs.Closing.{MemberPlace, is_datagram, reader_places};
+ghost use Rattle.pubsub_engine.specs.Holding.{AddsOneAtMost, AreTargetsOf, ChangesSamples, ChangesStores, CountsPump, CountsTick, IsBankOf, IsRunning, IsSession, KeepsPasses, MayAppendNext, MayPump, MayTick, appends_left, keeper_of, left_of, passes_of, plan_of};
+ghost use Rattle.pubsub_engine.specs.Standing.{HaltsTick, IsOriginOf, KeepsStands, Leads, Stands, sampled_by, samples_of};
+ghost use Rattle.pubsub_engine.specs.Ticking.{HasBegun};
+ghost use Rattle.pubsub_states.specs.Components.{counts_of};
+ghost use Rattle.session_parts.specs.Holding.{HoldPublisher};
+ghost use Rattle.session_parts.specs.Ticking.{TellsFaults};
+ghost use Rattle.writer_group.specs.Standing.{IsGood};
 
-use crate::built_in::opening;
-use crate::{Plain, Publisher, Sampled, Subscriber, built_in_meta};
-use dataset_meta::Meta;
+use crate::sampling::Samples;
+use crate::sets::Sets;
+use crate::storing::Stores;
+use cell_bank::{Bank, Passes};
+use ps_config::Config;
+use pubsub_states::Tree;
+use session_parts::{Publisher, Receiving, Subscriber, Told};
 use std::alloc::Global;
+use std::sync::Wait;
+use target_cells::{Origin, Passes as Watches, Targets};
 use ua_base::{Link, NoMemory, Pumped, Ticked};
 
-/// The longest datagram that a session receives.
-const BUFFER_LEN: usize = 65_536;
-
-/// The data set, what the last sample saw, the publisher, the subscriber, and the pumps that ended at their limit.
-#[derive(Drop)]
-pub struct Session {
-    pub meta: Meta,
-    pub sampled: Sampled,
-    pub publisher: Publisher,
-    pub subscriber: Subscriber,
-    pub limit: u64,
-    buffer: Vec<u8>,
-    ghost built_in: { meta ≡ demo_meta },
-    ghost room: { vec_len buffer ≡ 65536 },
+/// What may still come.
+#[derive(Clone, Copy, Debug)]
+pub(crate) struct Left {
+    /// Ticks, the closing one included.
+    pub(crate) ticks: u32,
+    /// Pumps of ticks that came.
+    pub(crate) pumps: u32,
+    /// How many stores a target may have.
+    pub(crate) stores: u64,
+    /// Whether the closing tick came.
+    pub(crate) is_closed: bool,
 }
 
-impl Session {
-    ghost use Rattle.pubsub_engine.specs.Standing.{Stands};
-    ghost use Rattle.pubsub_engine.specs.Sending.{SentNothing};
+/// A session of a configuration. All its memory was taken when it was opened.
+#[derive(Drop)]
+pub struct Session<'c> {
+    pub(crate) config: &'c Config,
+    /// Milliseconds since it was opened.
+    pub(crate) moment: u64,
+    pub(crate) left: Left,
+    pub(crate) tree: Tree,
+    pub(crate) sets: Sets,
+    pub(crate) samples: Samples,
+    pub(crate) publisher: Publisher,
+    pub(crate) subscriber: Subscriber,
+    pub(crate) receiving: Receiving,
+    pub(crate) stores: Stores,
+}
 
-    /// A session before its first tick. All its memory is taken here: it has room for so many ticks and the closing one.
-    pub fn open(alloc: Global, ticks: u32) -> Result<Session, NoMemory>
-        requires { ticks ≤ 4096 }
-        ensures stands { IfOk result (λ s. (told : Option LinkState) → ((wire : LinkState) → told ≡ Some wire → wire.journal ≡ []) → Stands [] told s) }
-        ensures room { IfOk result (λ s. s.publisher.left ≡ ticks + 1) }
+impl<'c> Session<'c> {
+    /// Takes a sample for the next tick: one read of each cell, in the order of the data sets.
+    pub fn sample<R: Wait>(&mut self, rt: &R, bank: &Bank)
+        requires session { IsSession self.old }
+        requires bank { IsBankOf self.old bank.now }
+        ensures session { IsSession self.new }
+        ensures bank { IsBankOf self.new bank.now }
+        ensures sampled { sampled_by self.new ≡ samples_of (passes_of self.new) }
+        ensures more { (set : ℕ) → set < length (passes_of self.old)
+            → SeesMore (pass_at (passes_of self.old) set) (pass_at (passes_of self.new) set) }
+        ensures lawful { EachSeesLawful (passes_of self.new) }
+        ensures rest { ChangesSamples self.old self.new }
+        ensures stands { KeepsStands self.old self.new }
     {
-        let buffer = vec![in alloc; 0u8; BUFFER_LEN]?;
-        Ok(Session {
-            meta: built_in_meta(alloc)?,
-            sampled: Sampled {
-                version: 0,
-                row: opening(),
-            },
-            publisher: Publisher::new(alloc, ticks)?,
-            subscriber: Subscriber::new(),
-            limit: 0,
-            buffer,
-        })
+        self.samples.take(rt, bank);
     }
 
-    /// Takes a sample of the data set for the next tick.
-    pub fn sample(&mut self, plain: &Plain)
-        ensures sampled { (self.new.sampled.version ≡ length plain.now.threads.items) × (row_in demo_fields self.new.sampled.row.words ≡ row_in demo_fields plain.now.row.words) }
-        ensures stands { (steps : List Step) (told : Option LinkState) → Stands steps told self.old → Stands steps told self.new }
-        ensures left { self.new.publisher.left ≡ self.old.publisher.left }
+    /// Takes in what a thread's passes have seen.
+    pub fn meet<R: Wait>(&mut self, rt: &R, bank: &Bank, passes: Passes)
+        requires session { IsSession self.old }
+        requires bank { IsBankOf self.old bank.now }
+        requires passes { ArePassesOf bank.now passes }
+        ensures session { IsSession self.new }
+        ensures bank { IsBankOf self.new bank.now }
+        ensures joins { JoinEach (passes_of self.old) passes (passes_of self.new) }
+        ensures lawful { EachSeesLawful (passes_of self.new) }
+        ensures sampled { sampled_by self.new ≡ sampled_by self.old }
+        ensures rest { ChangesSamples self.old self.new }
+        ensures stands { KeepsStands self.old self.new }
     {
-        self.sampled = plain.sampled();
+        bank.join(rt, &mut self.samples.passes, passes);
     }
 
-    /// A tick with the last sample: the moment rises by `ms` milliseconds, and where the writer group is due,
-    /// or the tick is the closing one, it has its turn and its datagrams are sent.
+    /// Passes that have seen what the session has. An error says that memory ran out.
+    pub fn share(&mut self, alloc: Global, bank: &Bank) -> Result<Passes, NoMemory>
+        requires session { IsSession self.old }
+        requires bank { IsBankOf self.old bank.now }
+        ensures session { IsSession self.new }
+        ensures bank { IsBankOf self.new bank.now }
+        ensures same { passes_of self.new ≡ passes_of self.old }
+        ensures given { IfOk result (λ given. given ≡ map shared_by (passes_of self.old)) }
+        ensures own { IfOk result (λ given. ArePassesOf bank.now given) }
+        ensures sampled { sampled_by self.new ≡ sampled_by self.old }
+        ensures rest { ChangesSamples self.old self.new }
+        ensures stands { KeepsStands self.old self.new }
+    {
+        bank.split(alloc, &mut self.samples.passes)
+    }
+
+    /// The passes see exactly the stores that there are.
+    pub fn level<R: Wait>(&mut self, rt: &R, targets: &Targets, looks: &mut Watches)
+        requires session { IsSession self.old }
+        requires targets { AreTargetsOf self.old targets.now }
+        requires own { ArePassesOf targets.now.cells looks.old }
+        ensures session { IsSession self.new }
+        ensures targets { AreTargetsOf self.new targets.now }
+        ensures same { keeper_of self.new ≡ keeper_of self.old }
+        ensures level { AreLevel (keeper_of self.old) looks.old looks.new }
+        ensures lawful { EachSeesLawful looks.new }
+        ensures own { ArePassesOf targets.now.cells looks.new }
+        ensures rest { ChangesStores self.old self.new }
+        ensures stands { KeepsStands self.old self.new }
+    {
+        targets.level(rt, &mut self.stores.keeper, looks);
+    }
+
+    /// A tick with the last sample: time goes on by so many milliseconds, an hour at most; each sender turns to the moment, and a
+    /// new token refreshes its groups' writers; timers expire; each group's send fault is cleared; and each Operational group that
+    /// is due (at the closing tick each Operational one) has its turn, and its datagrams are sent once each, in order. Want of
+    /// memory comes from a send of the link alone; what was done before it stands.
     pub fn tick<L: Link>(&mut self, ms: u64, closing: bool, link: &mut L) -> Ticked
         requires open { IsSome (L.opened_with link.old) }
-        requires left { 0 < self.old.publisher.left }
-        requires short { ms ≤ 3600000 }
-        ensures stands { result ≡ Ticked.Done → (steps : List Step) → Stands steps (L.told link.old) self.old
-            → (done : List Bool) × Stands (Tick ms closing (sample_of self.old.sampled ∷ []) done ∷ steps) (L.told link.new) self.new }
-        ensures sampled { self.new.sampled ≡ self.old.sampled }
-        ensures left { result ≡ Ticked.Done → self.new.publisher.left + 1 ≡ self.old.publisher.left }
+        requires may { MayTick ms closing self.old }
+        ensures session { IsSession self.new }
+        ensures left { CountsTick closing (left_of self.old) (left_of self.new) }
+        ensures leads { result ≡ Ticked.Done → (p : Plan) (steps : List Step) → Stands p steps self.old
+            → (done : List Bool) × Leads p steps (Tick ms closing (sampled_by self.old) done)
+            (L.told link.old) (L.told link.new) self.new }
+        ensures halted { result ≡ Ticked.Memory → (p : Plan) (steps : List Step) → Stands p steps self.old
+            → HaltsTick p steps ms closing (sampled_by self.old) (L.told link.old) (L.told link.new) }
+        ensures passes { KeepsPasses self.old self.new }
         ensures memory { result ≡ Ticked.Memory → IsTrue L.takes_memory }
-
-        // After want of memory the moment has risen and the writer has had its turn, and nothing was sent.
-        ensures kept { result ≡ Ticked.Memory → (self.new.publisher.moment ≡ self.old.publisher.moment + ms)
-            × SentNothing self.old.publisher.last self.old.publisher.sequence self.old.publisher.sent self.old.publisher.failed
-            self.new.publisher.last self.new.publisher.sequence self.new.publisher.sent self.new.publisher.failed }
-        ensures subscriber { (self.new.subscriber ≡ self.old.subscriber) × (self.new.limit ≡ self.old.limit) }
         ensures link { KeepsLink L.opened_with L.faults link.old link.new }
-        ensures untold { result ≡ Ticked.Memory → Tells (L.told link.old) (L.told link.new) (λ before after. after.journal ≡ before.journal) }
     {
-        self.publisher
-            .tick(ms, closing, &self.meta, &self.sampled, link)
+        self.begin(ms, closing);
+        let told = Told {
+            config: self.config,
+            metas: &self.sets.metas,
+            rows: &self.samples.cut,
+            moment: self.moment,
+            closing,
+        };
+        self.publisher.pass_all(&told, &mut self.tree, link)
     }
 
-    /// Receives what came, until nothing waits, a receive fails or 65,536 datagrams were taken.
-    pub fn pump<L: Link>(&mut self, link: &mut L) -> Pumped
-        requires { IsSome (L.opened_with link.old) }
-        ensures stands { (steps : List Step) → Stands steps (L.told link.old) self.old
-            → (entries : List Entry) × Stands (Pump entries ∷ steps) (L.told link.new) self.new × (result.taken ≡ count_by is_datagram entries) }
+    /// What a tick does before the groups' turns: time goes on, senders turn, timers expire, faults of sends are cleared.
+    fn begin(&mut self, ms: u64, closing: bool)
+        requires may { MayTick ms closing self.old }
+        ensures begun { HasBegun ms closing self.old self.new }
+    {
+        self.left.ticks -= 1;
+        self.left.pumps += 1;
+        self.left.is_closed = closing;
+        self.moment += ms;
+        self.publisher.come_to(self.config, self.moment);
+        self.subscriber.expire(self.moment);
+        self.publisher.clear();
+        self.subscriber.tell(self.config, &mut self.tree);
+        self.publisher.tell(self.config, &mut self.tree);
+        self.samples.cut_to(&self.sets);
+    }
+
+    /// Tells the tree which groups have a fault.
+    pub(crate) fn tell_groups(&mut self)
+        requires good { IsGood self.old.config.now }
+        requires holds { HoldPublisher self.old.config.now self.old.publisher }
+        requires tree { self.old.tree.counts ≡ counts_of self.old.config.now }
+        ensures faults { TellsFaults self.old.config.now self.old.publisher self.old.tree self.new.tree }
+        ensures counts { self.new.tree.counts ≡ self.old.tree.counts }
+        ensures rest { self.new ≡ record self.old { tree = self.new.tree } }
+    {
+        self.publisher.tell(self.config, &mut self.tree);
+    }
+
+    /// Receives what came, until nothing waits, a receive fails or 65,536 datagrams were taken; each goes to each Operational read
+    /// group in order. Then each reader that holds another message's row than its last store is stored once.
+    pub fn pump<R: Wait, L: Link>(&mut self, rt: &R, link: &mut L, targets: &Targets) -> Pumped
+        requires open { IsSome (L.opened_with link.old) }
+        requires may { MayPump self.old }
+        requires targets { AreTargetsOf self.old targets.now }
+        ensures session { IsSession self.new }
+        ensures targets { AreTargetsOf self.new targets.now }
+        ensures left { CountsPump (left_of self.old) (left_of self.new) }
+        ensures leads { (p : Plan) (steps : List Step) → Stands p steps self.old
+            → (entries : List Entry) × Leads p steps (Pump entries) (L.told link.old) (L.told link.new) self.new
+            × (result.taken ≡ count_by is_datagram entries) }
         ensures limit { IsTrue result.limit ↔ (result.taken ≡ 65536) }
-        ensures sampled { self.new.sampled ≡ self.old.sampled }
-        ensures left { self.new.publisher.left ≡ self.old.publisher.left }
+        ensures stored { (reader : ℕ) → reader < length (keeper_of self.old)
+            → AddsOneAtMost (pass_at (keeper_of self.old) reader) (pass_at (keeper_of self.new) reader) }
+        ensures passes { passes_of self.new ≡ passes_of self.old }
+        ensures sampled { sampled_by self.new ≡ sampled_by self.old }
+        ensures plan { plan_of self.new ≡ plan_of self.old }
         ensures link { KeepsLink L.opened_with L.faults link.old link.new }
     {
-        let pumped = self.subscriber.pump(link, &self.meta, &mut self.buffer);
-        if pumped.limit {
-            self.limit = self.limit.saturating_add(1);
-        }
+        self.left.pumps -= 1;
+        let pumped = self.receiving.pump(
+            self.config,
+            &self.tree,
+            self.moment,
+            &mut self.subscriber,
+            link,
+        );
+        self.subscriber.tell(self.config, &mut self.tree);
+        self.stores
+            .store_all(rt, self.config, &self.subscriber, targets);
         pumped
+    }
+
+    /// The next append of the session's size takes effect: its data set has a field more, and each of its writers is refreshed.
+    /// The answer is the data set.
+    pub fn append(&mut self) -> u8
+        requires may { MayAppendNext self.old }
+        ensures session { IsSession self.new }
+        ensures appended { (p : Plan) (steps : List Step) → Stands p steps self.old
+            → (field : Field) × Stands p (AppendStep result field ∷ steps) self.new }
+        ensures next { appends_left self.old ≡ result ∷ appends_left self.new }
+        ensures left { left_of self.new ≡ left_of self.old }
+        ensures rest { KeepsPasses self.old self.new }
+    {
+        let set = self.sets.append();
+        self.publisher.refresh_set(self.config, set);
+        set
+    }
+
+    /// Where a reader's last store comes from: how many stores it has, and for the last the number of its message and the version
+    /// that the log of this program's writer has at it. The reader is named by its index over all read groups.
+    pub fn origin(&self, reader: u8) -> Origin
+        requires session { IsSession self.now }
+        requires there { reader < length (readers (plan_of self.now).config) }
+        ensures origin { (p : Plan) (steps : List Step) (place : MemberPlace) → Stands p steps self.now
+            → slice_get (reader_places p.config) reader ≡ Some place
+            → IsOriginOf p steps place result }
+    {
+        self.stores.origin(self.config, &self.publisher, reader)
     }
 }

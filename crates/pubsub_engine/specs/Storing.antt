@@ -1,0 +1,58 @@
+-- Stores of what readers hold, whatever befell their read groups.
+use Rattle.std.specs.Prelude.{◌≡◌, ℕ, ◌+◌, ◌<◌, true, false, List, [], ◌∷◌, length, map, reverse, slice_get, Some, Option, option_map}
+use Rattle.std.specs.List.{HoldsAt}
+use Rattle.dataset_meta.specs.Metas.{MetaData}
+use Rattle.dataset_reader.specs.Kept.{Kept}
+use Rattle.ps_config.specs.declared.parts.Config.{Config}
+use Rattle.ps_config.specs.Sound.{readers}
+use Rattle.reader_group.specs.Members.{seat_at}
+use Rattle.reader_group.specs.Plain.{Event, member_at, plain}
+use Rattle.reader_group.specs.Settings.{setting_of}
+use Rattle.target_cells.specs.Keeping.{TargetsData, metas_of}
+use Rattle.row_words.specs.Belonging.{Belongs, row_in}
+use Rattle.version_cell.specs.Known.{Known}
+use Rattle.version_cell.specs.Sets.{ArePassesOf, pass_at}
+use Rattle.session_model.specs.Closing.{MemberPlace, reader_places}
+use Rattle.session_model.specs.Stores.{Store, held_by, stored_on}
+use Rattle.pubsub_engine.specs.declared.storing.Last.{Last}
+use Rattle.pubsub_engine.specs.declared.storing.Stores.{Stores}
+
+-- what a reader keeps, as a store
+abbrev pub held_in : Kept → Option Store
+held_in kept = option_map (λ row. record { number = kept.number; row = row }) kept.row
+
+-- the targets are those of the readers, and each may have a store more
+pub record MayStore (config : Config) (targets : TargetsData) (stores : Stores) : Type 0 where
+  pub own : ArePassesOf targets.cells stores.keeper
+  pub metas : map (λ cell. cell.meta) targets.cells ≡ metas_of config.dataset (map (λ reader. reader.dataset) (readers config))
+  pub count : length stores.last.items ≡ length (readers config)
+  pub room : (k : ℕ) → k < length (readers config) → length (pass_at stores.keeper k).seen < targets.limit
+
+-- the last of these stores, if there is one
+abbrev pub IsLast : List Store → MetaData → Last → Type 0
+IsLast [] meta last = last.is_there ≡ false
+IsLast (store ∷ before) meta last =
+    (last.is_there ≡ true) × (last.number ≡ store.number) × (row_in meta.fields last.row.words ≡ store.row) × Belongs meta last.row.words
+
+-- the keeper's pass has seen these stores, the first first
+abbrev pub HasStored : List Store → MetaData → Known → Type 0
+HasStored list meta pass = map (λ entry. row_in meta.fields entry.row) pass.seen ≡ map (λ store. store.row) (reverse list)
+
+-- the reader with this index over all read groups has these stores
+pub record IsStoredAs (meta : MetaData) (list : List Store) (s : Stores) (k : ℕ) : Type 0 where
+  pub last : HoldsAt (IsLast list meta) s.last.items k
+  pub seen : HasStored list meta (pass_at s.keeper k)
+
+abbrev pub meta_at_place : Config → MemberPlace → MetaData
+meta_at_place config place = (seat_at (setting_of config place.0).seats place.1).meta
+
+-- each reader has the stores that this gives for its place
+abbrev pub HaveStored : Config → (MemberPlace → List Store) → Stores → Type 0
+HaveStored config list s =
+    (k : ℕ) (place : MemberPlace) → slice_get (reader_places config) k ≡ Some place → IsStoredAs (meta_at_place config place) (list place) s k
+
+-- the stores of a reader once a pump ends, where this befell the read groups
+abbrev pub stored_at : Config → (ℕ → List Event) → (MemberPlace → List Store) → MemberPlace → List Store
+stored_at config befell list place =
+    stored_on (seat_at (setting_of config place.0).seats place.1).part.numbering (list place)
+    (held_by (member_at (plain (setting_of config place.0) (befell place.0)).members place.1))

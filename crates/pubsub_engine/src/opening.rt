@@ -1,0 +1,125 @@
+//! The opening of a session.
+ghost use Rattle.std.specs.Prelude.{◌≡◌, ◌≤◌, ◌+◌, [], All, IfOk, Some, None, false, length, map};
+ghost use Rattle.ps_config.specs.Sound.{readers};
+ghost use Rattle.ps_config.specs.Types.{HasTypes};
+ghost use Rattle.version_cell.specs.Sets.{ArePassesOf, new_passes};
+ghost use Rattle.version_cell.specs.Cells.{IsCell};
+ghost use Rattle.cell_bank.specs.Hands.{AreHands, AreSmall};
+ghost use Rattle.target_cells.specs.Keeping.{AreKept};
+ghost use Rattle.writer_group.specs.Standing.{IsGood};
+ghost use Rattle.session_model.specs.Steps.{most_ticks};
+ghost use Rattle.session_model.specs.Keeping.{IsPlan};
+ghost use Rattle.pubsub_engine.specs.Holding.{AreAppends, AreTargetsOf, IsBankOf, IsSession, appends_left, full_of, keeper_of, left_of, opening_left, passes_of, plan_of};
+ghost use Rattle.pubsub_engine.specs.Standing.{Stands};
+
+use crate::sampling::Samples;
+use crate::session::{Left, Session};
+use crate::sets::Sets;
+use crate::size::Size;
+use crate::storing::Stores;
+use arrayvec::ArrayVec;
+use cell_bank::{Bank, Passes};
+use ps_config::Config;
+use pubsub_states::Tree;
+use session_parts::{Receiving, publisher_of, read_group_part, subscriber_of};
+use std::alloc::Global;
+use std::sync::Wait;
+use target_cells::{Passes as Watches, Targets};
+use ua_base::NoMemory;
+
+/// A new session, the cells of its data sets with the passes of the eight threads, and the targets of its readers with passes that
+/// look at them.
+#[derive(Drop)]
+pub struct Opening<'c> {
+    pub session: Session<'c>,
+    pub bank: Bank,
+    pub hands: Vec<Passes>,
+    pub targets: Targets,
+    pub watches: Watches,
+}
+
+impl<'c> Session<'c> {
+    /// A session of the configuration, with room for so much: all memory is taken here. An error says that it ran out.
+    pub fn open<R: Wait>(
+        rt: &R,
+        alloc: Global,
+        config: &'c Config,
+        size: &Size,
+    ) -> Result<Opening<'c>, NoMemory>
+        requires good { IsGood config.now }
+        requires ticks { size.now.ticks ≤ most_ticks }
+        requires sets { length size.now.writes.items ≡ length config.now.dataset }
+        requires writes { AreSmall size.now.writes.items }
+        requires appends { AreAppends config.now config.now.dataset size.now.appends.items }
+        ensures plan { IfOk result (λ o. plan_of o.session
+            ≡ record { config = config.now; full = full_of config.now.dataset size.now.appends.items }) }
+        ensures is_plan { HasTypes config.now → IfOk result (λ o. IsPlan (plan_of o.session)) }
+        ensures session { IfOk result (λ o. IsSession o.session) }
+        ensures stands { IfOk result (λ o. Stands (plan_of o.session) [] o.session) }
+        ensures left { IfOk result (λ o. left_of o.session ≡ opening_left size.now.ticks) }
+        ensures appends { IfOk result
+            (λ o. appends_left o.session ≡ map (λ append. append.set) size.now.appends.items) }
+        ensures bank { IfOk result (λ o. IsBankOf o.session o.bank) }
+        ensures cells { IfOk result (λ o. All IsCell o.bank) }
+        ensures quotas { IfOk result (λ o. map (λ cell. cell.quotas) o.bank ≡ size.now.writes.items) }
+        ensures passes { IfOk result (λ o. passes_of o.session ≡ new_passes o.bank None) }
+        ensures hands { IfOk result (λ o. AreHands o.bank o.hands.items) }
+        ensures targets { IfOk result (λ o. AreTargetsOf o.session o.targets) }
+        ensures kept { IfOk result (λ o. AreKept o.targets) }
+        ensures keeper { IfOk result (λ o. keeper_of o.session ≡ new_passes o.targets.cells (Some 0)) }
+        ensures watches { IfOk result (λ o. o.watches ≡ new_passes o.targets.cells None) }
+        ensures looks { IfOk result (λ o. ArePassesOf o.targets.cells o.watches) }
+    {
+        let sets = Sets::new(alloc, config, size.appends.as_slice())?;
+        let (bank, passes, hands) = Bank::new(rt, alloc, &sets.full, size.writes.as_slice())?;
+        let turns = size.ticks + 1;
+        let readers = sets_read(config);
+        let (targets, keeper, watches) = Targets::new(
+            rt,
+            alloc,
+            config.dataset.as_slice(),
+            readers.as_slice(),
+            u64::from(turns),
+        )?;
+        let samples = Samples::new(alloc, passes, sets.metas.len())?;
+        let mut session = Session {
+            config,
+            moment: 0,
+            left: Left {
+                ticks: turns,
+                pumps: 0,
+                stores: u64::from(turns),
+                is_closed: false,
+            },
+            tree: Tree::new(alloc, config)?,
+            sets,
+            samples,
+            publisher: publisher_of(alloc, config, turns)?,
+            subscriber: subscriber_of(alloc, config)?,
+            receiving: Receiving::new(alloc)?,
+            stores: Stores::new(alloc, keeper, readers.len())?,
+        };
+        session.tell_groups();
+        Ok(Opening {
+            session,
+            bank,
+            hands,
+            targets,
+            watches,
+        })
+    }
+}
+
+/// The data set of each reader, over all read groups in order.
+fn sets_read(config: &Config) -> ArrayVec<u8, 16>
+    requires few { length (readers config.now) ≤ 16 }
+    ensures { result.items ≡ map (λ reader. reader.dataset) (readers config.now) }
+{
+    let mut sets = ArrayVec::new();
+    for r in 0..config.readgroup.as_slice().len() {
+        for reader in read_group_part(config, r).reader.as_slice() {
+            sets.push(reader.dataset);
+        }
+    }
+    sets
+}

@@ -1,0 +1,164 @@
+//! The stores of what readers hold.
+ghost use Rattle.std.specs.Prelude.{◌≡◌, ◌≢◌, ◌<◌, ◌≤◌, ◌+◌, ℕ, List, Bool, true, false, IfOk, IsTrue, ◌↔◌, length, map, replicate, slice_get, slice_index_or, slice_set, Some, option_map, Option};
+ghost use Rattle.dataset_meta.specs.Metas.{MetaData};
+ghost use Rattle.ps_config.specs.Sound.{readers};
+ghost use Rattle.reader_group.specs.Members.{MemberValue};
+ghost use Rattle.reader_group.specs.Plain.{Event};
+ghost use Rattle.dataset_reader.specs.Reader.{IsReaderOf, kept_by};
+ghost use Rattle.target_cells.specs.Keeping.{TargetsData, metas_of};
+ghost use Rattle.version_cell.specs.Known.{Known};
+ghost use Rattle.version_cell.specs.Sets.{ArePassesOf, cell_at, pass_at};
+ghost use Rattle.writer_group.specs.Standing.{IsGood};
+ghost use Rattle.session_model.specs.Closing.{MemberPlace};
+ghost use Rattle.session_model.specs.Stores.{Store, stored_on};
+ghost use Rattle.pubsub_engine.specs.Holding.{AddsOneAtMost, HoldStores};
+ghost use Rattle.session_parts.specs.Holding.{HoldSubscriber};
+ghost use Rattle.session_parts.specs.Standing.{HaveReadAll};
+ghost use Rattle.pubsub_engine.specs.Storing.{HaveStored, IsStoredAs, MayStore, held_in, stored_at};
+
+use crate::logs::{log_read, version_at};
+use dataset_reader::Reader;
+use ps_config::{Config, NumberingWord, ReaderPart};
+use row_words::Row;
+use session_parts::{Publisher, Subscriber, read_group_part};
+use std::alloc::Global;
+use std::sync::Wait;
+use target_cells::{Keeper, Origin, Targets};
+use ua_base::NoMemory;
+
+/// The last store of a reader, if there is one.
+#[derive(Clone, Copy, Debug)]
+struct Last {
+    is_there: bool,
+    number: Option<u16>,
+    row: Row,
+}
+
+/// The keeper of all readers' targets, and each reader's last store.
+#[derive(Drop)]
+pub(crate) struct Stores {
+    pub(crate) keeper: Keeper,
+    last: Vec<Last>,
+}
+
+impl Stores {
+    /// Before the first store.
+    pub(crate) fn new(alloc: Global, keeper: Keeper, readers: usize) -> Result<Stores, NoMemory>
+        ensures keeper { IfOk result (λ stores. stores.keeper ≡ keeper) }
+        ensures none { IfOk result (λ stores. (k : ℕ) → k < readers
+            → (d : Last) → (slice_index_or stores.last.items k d).is_there ≡ false) }
+        ensures count { IfOk result (λ stores. length stores.last.items ≡ readers) }
+    {
+        let none = Last {
+            is_there: false,
+            number: None,
+            row: Row::opening(),
+        };
+        Ok(Stores {
+            keeper,
+            last: vec![in alloc; none; readers]?,
+        })
+    }
+
+    /// Each reader whose row isn't its last store is stored once.
+    pub(crate) fn store_all<R: Wait>(
+        &mut self,
+        rt: &R,
+        config: &Config,
+        subscriber: &Subscriber,
+        targets: &Targets,
+    )
+        requires good { IsGood config.now }
+        requires holds { HoldSubscriber config.now subscriber.now }
+        requires may { MayStore config.now targets.now self.old }
+        ensures own { ArePassesOf targets.now.cells self.new.keeper }
+        ensures left { (limit left : ℕ) → HoldStores config.now limit (left + 1) self.old
+            → HoldStores config.now limit left self.new }
+        ensures adds { (reader : ℕ) → reader < length self.old.keeper
+            → AddsOneAtMost (pass_at self.old.keeper reader) (pass_at self.new.keeper reader) }
+        ensures stored { (befell : ℕ → List Event) (list : MemberPlace → List Store)
+            → HaveReadAll config.now befell subscriber.now.groups.items
+            → HaveStored config.now list self.old
+            → HaveStored config.now (stored_at config.now befell list) self.new }
+    {
+        let mut k = 0;
+        for r in 0..subscriber.groups.len() {
+            let parts = read_group_part(config, r).reader.as_slice();
+            for i in 0..parts.len() {
+                let reader = subscriber.groups[r].reader(i as u8);
+                self.store(rt, k, &parts[i], reader, targets);
+                k += 1;
+            }
+        }
+    }
+
+    /// Where the last store of the reader with this index over all read groups comes from.
+    pub(crate) fn origin(&self, config: &Config, publisher: &Publisher, reader: u8) -> Origin {
+        let last = &self.last[usize::from(reader)];
+        if !last.is_there {
+            return Origin {
+                store: 0,
+                number: None,
+                version: Some(0),
+            };
+        }
+        let log = log_read(config, publisher, usize::from(reader));
+        Origin {
+            store: self.keeper.pass(reader).version(),
+            number: last.number,
+            version: version_at(log, last.number),
+        }
+    }
+
+    /// Stores what the reader with this index over all read groups holds, if it isn't its last store.
+    fn store<R: Wait>(
+        &mut self,
+        rt: &R,
+        k: usize,
+        part: &ReaderPart,
+        reader: &Reader,
+        targets: &Targets,
+    )
+        requires own { ArePassesOf targets.now.cells self.old.keeper }
+        requires there { k < length targets.now.cells }
+        requires count { length self.old.last.items ≡ length targets.now.cells }
+        requires small { k < 256 }
+        requires room { length (pass_at self.old.keeper k).seen < targets.now.limit }
+        requires reader { IsReaderOf (cell_at targets.now.cells k).meta reader.now }
+        ensures own { ArePassesOf targets.now.cells self.new.keeper }
+        ensures count { length self.new.last.items ≡ length self.old.last.items }
+        ensures adds { AddsOneAtMost (pass_at self.old.keeper k) (pass_at self.new.keeper k) }
+        ensures others { (other : ℕ) → other ≢ k
+            → (pass_at self.new.keeper other ≡ pass_at self.old.keeper other)
+            × ((d : Last) → slice_index_or self.new.last.items other d ≡ slice_index_or self.old.last.items other d) }
+        ensures stored { (stores : List Store) → IsStoredAs (cell_at targets.now.cells k).meta stores self.old k
+            → IsStoredAs (cell_at targets.now.cells k).meta
+            (stored_on part.now.numbering stores (held_in (kept_by (cell_at targets.now.cells k).meta.fields reader.now)))
+            self.new k }
+    {
+        let Some(row) = reader.row() else {
+            return;
+        };
+        let number = reader.number();
+        if self.last[k].is_same(part.numbering, number, row) {
+            return;
+        }
+        targets.store(rt, &mut self.keeper, k as u8, row);
+        self.last[k] = Last {
+            is_there: true,
+            number,
+            row: *row,
+        };
+    }
+}
+
+impl Last {
+    /// Whether it is of this number, or without numbering of this row.
+    fn is_same(&self, numbering: NumberingWord, number: Option<u16>, row: &Row) -> bool {
+        self.is_there
+            && match numbering {
+                NumberingWord::Message => self.number == number,
+                NumberingWord::None => self.row == *row,
+            }
+    }
+}
