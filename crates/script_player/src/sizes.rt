@@ -4,7 +4,7 @@ ghost use Rattle.ps_config.specs.Sound.{IsSound};
 ghost use Rattle.cell_bank.specs.Hands.{AreSmall};
 ghost use Rattle.ps_script.specs.Sound.{IsScript};
 ghost use Rattle.ps_script.specs.Sessions.{ticks_in, writes_in};
-ghost use Rattle.session_model.specs.Steps.{most_ticks};
+ghost use Rattle.session_model.specs.Counts.{most_ticks};
 ghost use Rattle.pubsub_engine.specs.Holding.{AreAppends, full_of};
 ghost use Rattle.script_player.specs.Sizes.{appended_sets, quotas_by};
 
