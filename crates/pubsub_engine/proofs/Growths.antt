@@ -2,7 +2,7 @@
 use Rattle.std.proofs.Common.{◌≡◌, refl, sym, ap, ◌∙◌, subst, arith, ℕ, ◌+◌, ◌<◌, ◌≤◌, List, [], ◌∷◌, length, map, drop, Option, Some, None, get_or}
 use Rattle.std.specs.Prelude.{Vec, slice_get, slice_set}
 use Rattle.std.specs.declared.alloc.Global.{Global}
-use Rattle.std.proofs.lemmas.List.{get_or-set_other}
+use Rattle.std.proofs.lemmas.List.{drop_more, get_or-set_other}
 use Rattle.std.proofs.lemmas.Option.{slice_get-get_or}
 use Rattle.dataset_meta.specs.declared.field.Field.{Field}
 use Rattle.dataset_meta.specs.Metas.{MetaData, grown, no_meta}
@@ -30,6 +30,7 @@ use Rattle.pubsub_engine.specs.declared.sets.Growth.{Growth}
 use Rattle.pubsub_engine.specs.Holding.{AreSets, AreToCome, Grows, HoldSamples, HoldSets, IsSession, KeepsPasses, MayAppendNext, appends_left, plan_of}
 use Rattle.pubsub_engine.specs.Standing.{Stands}
 use Rattle.pubsub_engine.specs.Storing.{HaveStored}
+use Rattle.session_parts.proofs.Passed.{some-of}
 use Rattle.pubsub_engine.proofs.NowSets.{first-of}
 
 -- ---- the data sets
@@ -52,6 +53,40 @@ pub record IsNext (old new : Sets) (set : ℕ) (growth : Growth) : Type 0 where
   pub full : new.full ≡ old.full
   pub count : length new.later.items ≡ length old.later.items
   pub later : drop (old.made + 1) new.later.items ≡ drop (old.made + 1) old.later.items
+
+pub not-none : (a b : ℕ) → a < b → 0 < b
+not-none a b low = omega (arith, low)
+
+-- the growth that is next
+abbrev pub growth-of : (sets : Sets) → sets.made < length sets.later.items → Growth
+growth-of sets left = get_or sets.later.items sets.made (some-of sets.later.items (not-none sets.made (length sets.later.items) left))
+
+-- what the sets' append makes of them, whatever stands for a growth that isn't there
+abbrev pub MakesNext : Sets → Sets → ℕ → Type 0
+MakesNext old new set =
+    (d : Growth) → let growth = get_or old.later.items old.made d in (new.metas.items ≡ slice_set old.metas.items growth.set growth.meta) × (set ≡ growth.set)
+
+next-of : (old new : Sets) (set : ℕ) → (left : old.made < length old.later.items) → MakesNext old new set → new.made ≡ old.made + 1 → new.full ≡ old.full
+    → length new.later.items ≡ length old.later.items → drop (old.made + 1) new.later.items ≡ drop (old.made + 1) old.later.items → IsNext old new set (growth-of old left)
+next-of old new set left makes made full count later =
+    let d : Growth = some-of old.later.items (not-none old.made (length old.later.items) left) in record {
+      left = left;
+      next = drop_more old.later.items old.made d left;
+      set_is = (makes d).1;
+      metas = (makes d).0;
+      made = made;
+      full = full;
+      count = count;
+      later = later;
+    }
+
+-- its data set is there
+pub there-next : (config : Config) (sets : Sets) → HoldSets config sets → sets.made < length sets.later.items → (d : Growth)
+    → (get_or sets.later.items sets.made d).set < length sets.metas.items
+there-next config sets holds left d = first.1.may.there
+  where
+    first : AreToCome config sets.full.items sets.metas.items (get_or sets.later.items sets.made d ∷ drop (sets.made + 1) sets.later.items)
+    first = subst (λ (l : List Growth). AreToCome config sets.full.items sets.metas.items l) (drop_more sets.later.items sets.made d left) holds.to_come
 
 -- it is the first of those to come
 comes : (config : Config) (old new : Sets) (set : ℕ) (growth : Growth) → HoldSets config old → IsNext old new set growth
@@ -90,6 +125,17 @@ pub record AppendsNext (old new : Session) (set : ℕ) (growth : Growth) : Type 
   pub next : IsNext old.sets new.sets set growth
   pub refreshes : Refreshes old.config.now set old.publisher new.publisher
   pub changed : new ≡ record old { sets = new.sets; publisher = new.publisher }
+
+pub appends-of : (old : Session) (sets : Sets) (publisher : Publisher) (set : ℕ) → (left : old.sets.made < length old.sets.later.items) → MakesNext old.sets sets set
+    → sets.made ≡ old.sets.made + 1 → sets.full ≡ old.sets.full → length sets.later.items ≡ length old.sets.later.items
+    → drop (old.sets.made + 1) sets.later.items ≡ drop (old.sets.made + 1) old.sets.later.items
+    → Refreshes old.config.now set old.publisher publisher
+    → AppendsNext old (record old { sets = sets; publisher = publisher }) set (growth-of old.sets left)
+appends-of old sets publisher set left makes made full count later refreshes = record {
+  next = next-of old.sets sets set left makes made full count later;
+  refreshes = refreshes;
+  changed = refl;
+}
 
 holds-refreshed : (config : Config) (set : ℕ) (old new : Publisher) → HoldPublisher config old → Refreshes config set old new → HoldPublisher config new
 holds-refreshed config set old new holds refreshes = subst (HoldPublisher config) (sym refreshes.rest) (record {

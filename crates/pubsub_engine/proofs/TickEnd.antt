@@ -119,6 +119,16 @@ pub record TellsOf (ms : ℕ) (closing : Bool) (old mid : Session) (told : Told)
   pub moment : told.moment ≡ old.moment + ms
   pub closing_is : told.closing ≡ closing
 
+pub tells-of : (ms : ℕ) (closing : Bool) (old mid : Session) (told : Told) → HasBegun ms closing old mid → told.config ≡ mid.config → told.metas.now ≡ mid.sets.metas.items
+    → told.rows.now ≡ mid.samples.cut.items → told.moment ≡ mid.moment → told.closing ≡ closing → TellsOf ms closing old mid told
+tells-of ms closing old mid told begun config metas rows moment closing_is = record {
+  config = ap (λ c. c.now) config ∙ ap (λ (s : Session). s.config.now) begun.changed;
+  metas = metas ∙ ap (λ (s : Session). s.sets.metas.items) begun.changed;
+  rows = rows;
+  moment = moment ∙ ap (λ (s : Session). s.moment) begun.changed;
+  closing_is = closing_is;
+}
+
 pub goes-told : (ms : ℕ) (closing : Bool) (old mid : Session) (told : Told) → HasBegun ms closing old mid → TellsOf ms closing old mid told
     → MayAllGoOn told.config.now told.metas.now (mid.left.ticks + 1) mid.publisher.groups.items
 goes-told ms closing old mid told begun is =

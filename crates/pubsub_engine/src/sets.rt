@@ -62,6 +62,7 @@ impl Sets {
             (self.new.metas.items ≡ slice_set self.old.metas.items growth.set growth.meta) × (result ≡ growth.set) }
         ensures made { self.new.made ≡ self.old.made + 1 }
         ensures full { self.new.full ≡ self.old.full }
+        ensures count { length self.new.later.items ≡ length self.old.later.items }
         ensures later { drop (self.old.made + 1) self.new.later.items ≡ drop (self.old.made + 1) self.old.later.items }
     {
         let growth = &mut self.later[self.made];

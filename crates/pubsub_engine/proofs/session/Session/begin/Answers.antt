@@ -2,14 +2,22 @@ use Rattle.std.proofs.Common.{◌≡◌, ◌+◌, ◌≤◌, ℕ, List, length, 
 use Rattle.session_parts.specs.declared.publisher.Publisher.{Publisher}
 use Rattle.session_parts.specs.declared.subscriber.Subscriber.{Subscriber}
 use Rattle.session_parts.specs.Holding.{MayAllGoOn}
-use Rattle.pubsub_engine.specs.Ticking.{tick_of}
-use Rattle.pubsub_engine.proofs.Beginning.{none-sent}
 use Rattle.pubsub_engine.proofs.Begun.{Begins, hold-cleared, begun-at, begun-read}
 use Rattle.session_parts.proofs.Passed.{knows-told}
-use Rattle.std.proofs.Common.{◌<◌}
+use Rattle.pubsub_engine.specs.Holding.{MayTick}
+use Rattle.pubsub_engine.proofs.TicksLeft.{moment-fits, one-left}
 use Rattle.pubsub_engine.proofs.NowSets.{now-sets}
 use Rattle.std.proofs.lemmas.Slice.Zip.{AllZip-long}
 use Rattle.pubsub_engine.proofs.session.Session.begin.Goals as goal
+
+pub overflow_sub-self-left-ticks : goal.overflow_sub-self-left-ticks
+overflow_sub-self-left-ticks c = one-left c.args.ms c.args.closing c.args.self.now c.requires.may
+
+pub overflow_add-self-left-pumps : goal.overflow_add-self-left-pumps
+overflow_add-self-left-pumps c = let one : 1 ≤ c.args.self.now.left.ticks = one-left c.args.ms c.args.closing c.args.self.now c.requires.may in omega (arith, one, c.requires.may.session.calls)
+
+pub overflow_add-self-moment : goal.overflow_add-self-moment
+overflow_add-self-moment c = moment-fits c.args.ms c.args.closing c.args.self.now c.requires.may
 
 pub tell-requires-clause-holds : goal.tell-requires-clause-holds
 tell-requires-clause-holds c = c.expire.ensures.holds c.args.self.now.config.now c.requires.may.session.subscriber
@@ -31,11 +39,14 @@ cut_to-requires-clause-grow c = (now-sets c.args.self.now.config.now c.args.self
 pub returns : goal.returns
 returns c =
     let old = c.args.self.now in
-    let session = c.requires.may.session in
+    let ms = c.args.ms in
+    let closing = c.args.closing in
+    let may : MayTick ms closing old = c.requires.may in
+    let session = may.session in
     let come = c.come_to.new.self in
     let cleared = c.clear.new.self in
     let subscriber = c.expire.new.self in
-    let does : Begins c.args.ms old come cleared subscriber c.tell.new.tree c.tell-2.new.tree = record {
+    let does : Begins ms old come cleared subscriber c.tell.new.tree c.tell-2.new.tree = record {
       holds = c.come_to.ensures.holds;
       past = c.come_to.ensures.past;
       senders = c.come_to.ensures.senders;
@@ -52,9 +63,7 @@ returns c =
     record {
       begun = record {
         changed = refl;
-        ticks = omega (arith, c.requires.may.left);
-        pumps = refl;
-        stores = refl;
+        counts_tick = record { ticks = omega (arith, one-left ms closing old may); pumps = refl; stores = refl; is_closed = refl };
         taken = c.cut_to.ensures.rest;
         cut = c.cut_to.ensures.cut;
         rows = c.cut_to.ensures.belong;
@@ -64,9 +73,8 @@ returns c =
         goes_on = subst (λ (x : Publisher). MayAllGoOn old.config.now old.sets.metas.items old.left.ticks x.groups.items) (sym c.clear.ensures.rest)
             (c.come_to.ensures.goes_on old.sets.metas.items old.left.ticks session.goes_on);
         subscriber = c.expire.ensures.holds old.config.now session.subscriber;
-        sent = begun-at c.args.ms old come cleared subscriber c.tell.new.tree c.tell-2.new.tree session does;
-        none_sent = λ p before closing stands. none-sent (tick_of p before c.args.ms closing old);
-        read = begun-read c.args.ms old subscriber session c.expire.ensures.read;
+        sent = begun-at ms closing old come cleared subscriber c.tell.new.tree c.tell-2.new.tree session does;
+        read = begun-read ms closing old subscriber session c.expire.ensures.read;
         tallied = ap (λ (s : Subscriber). s.tallies) c.expire.ensures.rest;
       };
     }

@@ -5,7 +5,8 @@ use Rattle.session_parts.specs.declared.publisher.Told.{Told}
 use Rattle.pubsub_engine.specs.declared.session.Session.{Session}
 use Rattle.session_parts.specs.Holding.{HoldPublisher}
 use Rattle.pubsub_engine.specs.Ticking.{tick_of}
-use Rattle.pubsub_engine.proofs.TickEnd.{TellsOf, goes-back, goes-told, may-pass-all, ticked-keeps, ticked-leads, ticked-session, told-of}
+use Rattle.pubsub_engine.proofs.HaltedTick.{halts-tick}
+use Rattle.pubsub_engine.proofs.TickEnd.{goes-back, goes-told, may-pass-all, tells-of, ticked-keeps, ticked-leads, ticked-session, told-of}
 use Rattle.pubsub_engine.proofs.session.Session.tick.Goals as goal
 
 pub pass_all-requires-clause-may : goal.pass_all-requires-clause-may
@@ -14,13 +15,7 @@ pass_all-requires-clause-may g c =
     let mid = c.begin.new.self in
     let begun = c.begin.ensures.begun in
     let told : Told = record { config = mid.config; metas = c.deref.result; rows = c.deref-2.result; moment = mid.moment; closing = c.args.closing } in
-    let tells : TellsOf c.args.ms c.args.closing old mid told = record {
-      config = ap (λ (s : Session). s.config.now) begun.changed;
-      metas = c.deref.ensures.value ∙ ap (λ (s : Session). s.sets.metas.items) begun.changed;
-      rows = c.deref-2.ensures.value;
-      moment = ap (λ (s : Session). s.moment) begun.changed;
-      closing_is = refl;
-    } in
+    let tells = tells-of c.args.ms c.args.closing old mid told begun refl c.deref.ensures.value c.deref-2.ensures.value refl refl in
     may-pass-all c.args.ms c.args.closing old mid told c.requires.may begun tells
 
 pub returns-clause-session : goal.returns-clause-session
@@ -31,14 +26,8 @@ returns-clause-session g c =
     let e = c.pass_all.ensures in
     let s : Session = record mid { publisher = c.pass_all.new.self; tree = c.pass_all.new.tree } in
     let told : Told = record { config = mid.config; metas = c.deref.result; rows = c.deref-2.result; moment = mid.moment; closing = c.args.closing } in
-    let tells : TellsOf c.args.ms c.args.closing old mid told = record {
-      config = ap (λ (s : Session). s.config.now) begun.changed;
-      metas = c.deref.ensures.value ∙ ap (λ (s : Session). s.sets.metas.items) begun.changed;
-      rows = c.deref-2.ensures.value;
-      moment = ap (λ (s : Session). s.moment) begun.changed;
-      closing_is = refl;
-    } in
-    ticked-session c.args.ms old mid s c.requires.may begun refl (subst (λ (k : Config). HoldPublisher k c.pass_all.new.self) tells.config e.holds) (e.tree ∙ begun.counts)
+    let tells = tells-of c.args.ms c.args.closing old mid told begun refl c.deref.ensures.value c.deref-2.ensures.value refl refl in
+    ticked-session c.args.ms c.args.closing old mid s c.requires.may begun refl (subst (λ (k : Config). HoldPublisher k c.pass_all.new.self) tells.config e.holds) (e.tree ∙ begun.counts)
     (goes-back c.args.ms mid.left.ticks c.args.closing old mid told c.pass_all.new.self.groups.items tells (e.goes_on mid.left.ticks (goes-told c.args.ms c.args.closing old mid told begun tells)))
 
 pub returns-clause-leads : goal.returns-clause-leads
@@ -49,19 +38,26 @@ returns-clause-leads g c =
     let begun = c.begin.ensures.begun in
     let s : Session = record mid { publisher = c.pass_all.new.self; tree = c.pass_all.new.tree } in
     let told : Told = record { config = mid.config; metas = c.deref.result; rows = c.deref-2.result; moment = mid.moment; closing = c.args.closing } in
-    let tells : TellsOf c.args.ms c.args.closing old mid told = record {
-      config = ap (λ (s : Session). s.config.now) begun.changed;
-      metas = c.deref.ensures.value ∙ ap (λ (s : Session). s.sets.metas.items) begun.changed;
-      rows = c.deref-2.ensures.value;
-      moment = ap (λ (s : Session). s.moment) begun.changed;
-      closing_is = refl;
-    } in
+    let tells = tells-of c.args.ms c.args.closing old mid told begun refl c.deref.ensures.value c.deref-2.ensures.value refl refl in
     ticked-leads p before c.args.ms (length mid.config.now.group) c.args.closing old mid s (g.L.Link.told c.args.link.now) (g.L.Link.told c.pass_all.new.link) c.requires.may begun refl
     (ap (λ (x : Session). length x.config.now.group) begun.changed) stands
-    (c.pass_all.ensures.passed is_done (tick_of p before c.args.ms c.args.closing old) (told-of c.args.ms c.args.closing old mid told begun tells p before stands)
-    (begun.none_sent p before c.args.closing stands) (begun.sent p before c.args.closing stands))
+    (c.pass_all.ensures.passed is_done (tick_of p before c.args.ms c.args.closing old) (told-of c.args.ms c.args.closing old mid told begun tells p before stands) (begun.sent p before stands))
+
+pub returns-clause-halted : goal.returns-clause-halted
+returns-clause-halted g c =
+    λ no_memory p before stands.
+    let old = c.args.self.now in
+    let mid = c.begin.new.self in
+    let begun = c.begin.ensures.begun in
+    let told : Told = record { config = mid.config; metas = c.deref.result; rows = c.deref-2.result; moment = mid.moment; closing = c.args.closing } in
+    let tells = tells-of c.args.ms c.args.closing old mid told begun refl c.deref.ensures.value c.deref-2.ensures.value refl refl in
+    halts-tick p before c.args.ms c.args.closing old c.pass_all.new.self (g.L.Link.told c.args.link.now) (g.L.Link.told c.pass_all.new.link)
+    (c.pass_all.ensures.halted no_memory (tick_of p before c.args.ms c.args.closing old) (told-of c.args.ms c.args.closing old mid told begun tells p before stands) (begun.sent p before stands))
+
+pub returns-clause-left : goal.returns-clause-left
+returns-clause-left g c = c.begin.ensures.begun.counts_tick
 
 pub returns-clause-passes : goal.returns-clause-passes
 returns-clause-passes g c =
     let s : Session = record c.begin.new.self { publisher = c.pass_all.new.self; tree = c.pass_all.new.tree } in
-    ticked-keeps c.args.ms c.args.self.now c.begin.new.self s c.begin.ensures.begun refl
+    ticked-keeps c.args.ms c.args.closing c.args.self.now c.begin.new.self s c.begin.ensures.begun refl
