@@ -8,3 +8,4 @@ pub mod TickEnd
 pub mod HaltedTick
 pub mod Growths
 pub mod Seen
+pub mod SampleLoop
