@@ -1,4 +1,3 @@
-pub mod Parts
 pub mod Sources
 pub mod Distinct
 pub mod Answering
@@ -20,4 +19,5 @@ pub mod EachTurn
 pub mod Numbers
 pub mod Traces
 pub mod Tokens
+pub mod Counts
 pub mod Ticks
