@@ -1,11 +1,11 @@
 -- The readers of all read groups by their indexes.
-use Rattle.std.proofs.Common.{◌≡◌, refl, sym, ap, ◌∙◌, subst, arith, ℕ, ◌+◌, ◌<◌, ◌≤◌, List, [], ◌∷◌, ◌++◌, length, map, take, get_or, flat_map, slice_get, Some, length-append}
+use Rattle.std.proofs.Common.{◌≡◌, refl, sym, ap, ◌∙◌, subst, arith, ℕ, ◌+◌, ◌<◌, ◌≤◌, List, [], ◌∷◌, ◌++◌, length, map, take, get_or, flat_map, slice_get, Some, length-append, zero-add}
 use Rattle.std.specs.List.{range_with_len}
 use Rattle.std.proofs.lemmas.List.{take-map, take_more, take_all, get_or_default, length-map}
 use Rattle.std.proofs.lemmas.List.Concat.{flat_map-append, get_or-flat_map}
 use Rattle.std.proofs.lemmas.List.Folds.{flat_map-map, length-flat_map-take}
 use Rattle.std.proofs.lemmas.List.FromFn.{fill_by_all, length-range_with_len, length-map-range_with_len, get_or-range_with_len, get_or-map-range_with_len}
-use Rattle.std.proofs.lemmas.Option.{slice_get-get_or}
+use Rattle.std.proofs.lemmas.Option.{slice_get-get_or, slice_get_within}
 use Rattle.std.proofs.Math.ListN as listn
 use Rattle.ps_config.specs.declared.parts.Config.{Config}
 use Rattle.ps_config.specs.declared.parts.ReadGroupPart.{ReadGroupPart}
@@ -56,7 +56,7 @@ place-at config r i there within =
     ∙ slice_get-get_or (reader_places config) (start + i) (0, 0) low
     ∙ ap Some (get_or-flat_map (places_in config) indexes r i 0 (0, 0) r-low (subst (λ s. i < length (places_in config s)) (sym at-r) i-low)
     ∙ ap (λ s. get_or (places_in config s) i (0, 0)) at-r
-    ∙ get_or-map-range_with_len (λ j. (r, j)) 0 (length (group_at config r).reader) i i (0, 0) within refl)
+    ∙ get_or-map-range_with_len (λ j. (r, j)) 0 (length (group_at config r).reader) i i (0, 0) within (zero-add i))
   where
     indexes : List ℕ
     indexes = read_group_indexes config
@@ -68,7 +68,7 @@ place-at config r i there within =
     r-low = subst (λ n. r < n) (sym (length-range_with_len 0 (length config.readgroup))) there
 
     at-r : get_or indexes r 0 ≡ r
-    at-r = get_or-range_with_len 0 (length config.readgroup) r 0 there
+    at-r = get_or-range_with_len 0 (length config.readgroup) r 0 there ∙ zero-add r
 
     i-low : i < length (places_in config r)
     i-low = subst (λ n. i < n) (sym (length-map-range_with_len (λ j. (r, j)) 0 (length (group_at config r).reader))) within
@@ -135,3 +135,12 @@ grouped-places config =
     ∙ flat-same (λ r. map (grouped_at config) (places_in config r)) (λ r. map (λ part. (group_at config r, part)) (group_at config r).reader) (grouped-in config) (read_group_indexes config)
     ∙ sym (flat_map-map (λ (group : ReadGroupPart). map (λ part. (group, part)) group.reader) (group_at config) (read_group_indexes config))
     ∙ ap (flat_map (λ (group : ReadGroupPart). map (λ part. (group, part)) group.reader)) (indexed config.readgroup no_group)
+
+-- there are as many places as readers
+pub within-all : (config : Config) (k : ℕ) (place : MemberPlace) → slice_get (reader_places config) k ≡ Some place → k < length (readers config)
+within-all config k place at = let low : k < length (reader_places config) = slice_get_within (reader_places config) k place at in omega (arith, low, as-many)
+  where
+    as-many : length (reader_places config) ≡ length (readers config)
+    as-many =
+        sym (ap (λ (l : List ℕ). length (flat_map (places_in config) l)) (take_all (length config.readgroup) (read_group_indexes config) (let e = length-range_with_len 0 (length config.readgroup) in omega (arith, e))))
+        ∙ before config (length config.readgroup) ∙ first-all config
