@@ -8,3 +8,7 @@ pub mod TickEnd
 pub mod HaltedTick
 pub mod Growths
 pub mod Seen
+pub mod Places
+pub mod Rows
+pub mod Stored
+pub mod Named
