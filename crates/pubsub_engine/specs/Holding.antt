@@ -17,7 +17,8 @@ use Rattle.version_cell.specs.Sets.{pass_at, ArePassesOf}
 use Rattle.writer_group.specs.Parts.{group_at}
 use Rattle.writer_group.specs.Payloads.{meta_at}
 use Rattle.writer_group.specs.Standing.{IsGood}
-use Rattle.session_model.specs.Steps.{Plan, most_ms}
+use Rattle.session_model.specs.Counts.{most_ms}
+use Rattle.session_model.specs.Steps.{Plan}
 use Rattle.session_model.specs.Sets.{AreFit, MayAppend, GrowTo, AreRowsOf, meta_in}
 use Rattle.session_parts.specs.Holding.{HasBuffers, HoldPublisher, HoldSubscriber, MayAllGoOn}
 use Rattle.pubsub_engine.specs.declared.size.Append.{Append}

@@ -11,7 +11,8 @@ use Rattle.reader_group.specs.Settings.{group_at as read_group_at}
 use Rattle.reader_group.specs.Members.{seat_at}
 use Rattle.reader_group.specs.Settings.{setting_of}
 use Rattle.writer_group.specs.declared.sampled.Sampled.{Sampled}
-use Rattle.session_model.specs.Steps.{Plan, Step, Tick, moment_of, most_ticks, ticks_in, pumps_in, is_closed}
+use Rattle.session_model.specs.Counts.{most_ticks, ticks_in, pumps_in, is_closed}
+use Rattle.session_model.specs.Steps.{Plan, Step, Tick, moment_of}
 use Rattle.session_model.specs.Sets.{metas_at}
 use Rattle.session_model.specs.Deeds.{deeds, log_at}
 use Rattle.session_model.specs.Turns.{TurnsHold}

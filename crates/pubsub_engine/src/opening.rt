@@ -7,7 +7,7 @@ ghost use Rattle.version_cell.specs.Cells.{IsCell};
 ghost use Rattle.cell_bank.specs.Hands.{AreHands, AreSmall};
 ghost use Rattle.target_cells.specs.Keeping.{AreKept};
 ghost use Rattle.writer_group.specs.Standing.{IsGood};
-ghost use Rattle.session_model.specs.Steps.{most_ticks};
+ghost use Rattle.session_model.specs.Counts.{most_ticks};
 ghost use Rattle.session_model.specs.Keeping.{IsPlan};
 ghost use Rattle.pubsub_engine.specs.Holding.{AreAppends, AreTargetsOf, IsBankOf, IsSession, appends_left, full_of, keeper_of, left_of, opening_left, passes_of, plan_of};
 ghost use Rattle.pubsub_engine.specs.Standing.{Stands};

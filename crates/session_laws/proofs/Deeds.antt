@@ -9,7 +9,7 @@ use Rattle.pubsub_states.specs.declared.component.Component.TheVariants.{Group}
 use Rattle.writer_group.specs.declared.sampled.Sampled.{Sampled}
 use Rattle.writer_group.specs.Turns.{GroupDeed, RefreshedWriter}
 use Rattle.session_model.specs.Steps.{Plan, Step}
-use Rattle.session_model.specs.Turns.{HoldsTurn, HoldsIfTurned, turned_to}
+use Rattle.session_model.specs.Turns.{HoldsTurn, HoldsIfTurned, deeds_before}
 use Rattle.session_model.specs.Deeds.{Deed, RefreshedBelow, CameTo, TookTurn, group_past, group_indexes, turn_input, is_rekeyed, rekeyed, has_turn, turn_of, turned_on, tick_deeds, deeds, refreshed_where}
 use Rattle.writer_group.specs.Parts.{group_at}
 
@@ -69,7 +69,7 @@ pub record TickHolds (p : Plan) (before : List Step) (now : ℕ) (closing : Bool
 
 -- what a session promises of the turns of a tick
 abbrev pub HoldsTick : Plan → List Step → ℕ → Bool → List Sampled → Type 0
-HoldsTick p before now closing samples = (g : ℕ) → g < length p.config.group → HoldsIfTurned p before now closing samples (turned_to p before now closing samples g) g
+HoldsTick p before now closing samples = (g : ℕ) → g < length p.config.group → HoldsIfTurned p before now closing samples (deeds_before p before now closing samples g) g
 
 range-end : (a n : ℕ) → range_with_len a (suc n) ≡ range_with_len a n ++ (a + n) ∷ []
 range-end a zero = ap (λ (k : ℕ). k ∷ []) (omega arith)
@@ -80,16 +80,16 @@ fold-end f x [] k = refl
 fold-end f x (j ∷ ks) k = fold-end f (f x j) ks k
 
 pub next-turned : (p : Plan) (before : List Step) (now : ℕ) (closing : Bool) (samples : List Sampled) (g : ℕ)
-    → turned_to p before now closing samples (suc g) ≡ turned_on p before now closing samples (turned_to p before now closing samples g) g
+    → deeds_before p before now closing samples (suc g) ≡ turned_on p before now closing samples (deeds_before p before now closing samples g) g
 next-turned p before now closing samples g =
     ap (fold (turned_on p before now closing samples) (rekeyed p.config now (deeds p before))) (range-end 0 g ∙ ap (λ (k : ℕ). range_with_len 0 g ++ k ∷ []) (omega arith))
     ∙ fold-end (turned_on p before now closing samples) (rekeyed p.config now (deeds p before)) (range_with_len 0 g) g
 
 hold-to : (p : Plan) (before : List Step) (now : ℕ) (closing : Bool) (samples : List Sampled) (P : List Deed → Type 0) → TickHolds p before now closing samples P → HoldsTick p before now closing samples → (g : ℕ) → g ≤ length p.config.group
-    → P (rekeyed p.config now (deeds p before)) → P (turned_to p before now closing samples g)
+    → P (rekeyed p.config now (deeds p before)) → P (deeds_before p before now closing samples g)
 hold-to p before now closing samples P keeps holds zero le h = h
 hold-to p before now closing samples P keeps holds (suc g) le h =
-    let earlier = turned_to p before now closing samples g in
+    let earlier = deeds_before p before now closing samples g in
     let there : g < length p.config.group = omega (arith, le) in
     subst P (sym (next-turned p before now closing samples g))
     (turn-if P (has_turn p before now closing earlier g) (TookTurn g (turn_of p before now closing samples earlier g)) earlier

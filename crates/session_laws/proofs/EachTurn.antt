@@ -34,7 +34,7 @@ use Rattle.session_model.specs.Deeds.{Deed, RefreshedBelow, RefreshedSet, CameTo
 use Rattle.writer_group.specs.Parts.{group_at, no_group}
 use Rattle.session_model.specs.Keeping.{AreSteps, IsPlan}
 use Rattle.ps_config.specs.Types.{HasKeyTypes, HasTypes}
-use Rattle.session_model.specs.Turns.{HoldsTurn, TurnsHold, turned_to}
+use Rattle.session_model.specs.Turns.{HoldsTurn, TurnsHold, deeds_before}
 use Rattle.session_laws.proofs.Deeds.{HoldsTick, TickKeeps, next-turned, refreshed-keeps, tick-keeps}
 use Rattle.session_laws.proofs.Distinct.{at-contains}
 use Rattle.session_laws.proofs.Living.{writer-in}
@@ -200,13 +200,13 @@ narrow-at p (Disable id ∷ before) plan are k = narrow-at p before plan are.1 k
 narrow-at p (Append index field ∷ before) plan are k =
     let metas = metas_at p.config before in
     let new = grown (meta_in metas index) field in
-    let grown_is = grown-is metas index field are.0.there in
-    let own : meta_in (metas_at p.config (Append index field ∷ before)) index ≡ new = ap (λ (l : List MetaData). meta_in l index) grown_is ∙ get_or-set_same metas index new no_meta are.0.there in
-    let minor : new.minor < 2 ^ 32 = subst (λ (m : MetaData). m.minor < 2 ^ 32) own are.0.minor in
-    let major : new.major < 2 ^ 32 = (narrow-at p before plan are.2 index).major in
-    subst (λ (l : List MetaData). IsNarrow (meta_in l k)) (sym grown_is) (narrow-set metas index new are.0.there (record { major = major; minor = minor }) (λ n. narrow-at p before plan are.2 n) k)
-narrow-at p (Tick ms closing samples done ∷ before) plan are k = narrow-at p before plan are.2 k
-narrow-at p (Pump entries ∷ before) plan are k = narrow-at p before plan are k
+    let grown_is = grown-is metas index field are.0.may.there in
+    let own : meta_in (metas_at p.config (Append index field ∷ before)) index ≡ new = ap (λ (l : List MetaData). meta_in l index) grown_is ∙ get_or-set_same metas index new no_meta are.0.may.there in
+    let minor : new.minor < 2 ^ 32 = subst (λ (m : MetaData). m.minor < 2 ^ 32) own are.0.may.minor in
+    let major : new.major < 2 ^ 32 = (narrow-at p before plan are.1 index).major in
+    subst (λ (l : List MetaData). IsNarrow (meta_in l k)) (sym grown_is) (narrow-set metas index new are.0.may.there (record { major = major; minor = minor }) (λ n. narrow-at p before plan are.1 n) k)
+narrow-at p (Tick ms closing samples done ∷ before) plan are k = narrow-at p before plan are.1 k
+narrow-at p (Pump entries ∷ before) plan are k = narrow-at p before plan are.1 k
 
 -- ---- a sender can give fronts
 
@@ -321,14 +321,14 @@ module _ (laws : TurnsLaws) (words : WordLaws) (ring : RingLaw) (p : Plan) (plan
   kept-fresh [] earlier h = h
   kept-fresh (g ∷ gs) earlier h = kept-fresh gs (cons_if (Rattle.session_model.specs.Deeds.is_rekeyed p.config now (deeds p before) g) (RefreshedBelow (Group g)) earlier) (fresh-if g (Rattle.session_model.specs.Deeds.is_rekeyed p.config now (deeds p before) g) earlier h)
 
-  kept-to : (g : ℕ) → g ≤ length p.config.group → Kept (deeds p before) → Kept (turned_to p before now closing samples g)
+  kept-to : (g : ℕ) → g ≤ length p.config.group → Kept (deeds p before) → Kept (deeds_before p before now closing samples g)
   kept-to zero le h = kept-fresh (group_indexes p.config) (CameTo now ∷ deeds p before) (kept-tick.came (deeds p before) h)
   kept-to (suc g) le h =
-      let earlier = turned_to p before now closing samples g in
+      let earlier = deeds_before p before now closing samples g in
       subst Kept (sym (next-turned p before now closing samples g)) (kept-if earlier g (has_turn p before now closing earlier g) refl (omega (arith, le)) (kept-to g (omega (arith, le)) h))
 
   tick-turns : Kept (deeds p before) → HoldsTick p before now closing samples
-  tick-turns h g there has = turn-holds (turned_to p before now closing samples g) g there (kept-to g (omega (arith, there)) h)
+  tick-turns h g there has = turn-holds (deeds_before p before now closing samples g) g there (kept-to g (omega (arith, there)) h)
 
   tick-kept : Kept (deeds p before) → Kept (tick_deeds p before now closing samples (deeds p before))
   tick-kept h = tick-keeps p before now closing samples (deeds p before) Kept kept-tick h
@@ -342,20 +342,20 @@ all-kept laws words ring p (Enable id ∷ before) plan are =
     (senders-fresh p.config (component_at p.config id) (deeds p before) h.0, pasts-below p.config (metas_at p.config before) (component_at p.config id) (deeds p before) h.1)
 all-kept laws words ring p (Disable id ∷ before) plan are = all-kept laws words ring p before plan are.1
 all-kept laws words ring p (Append index field ∷ before) plan are =
-    let h = all-kept laws words ring p before plan are.2 in
+    let h = all-kept laws words ring p before plan are.1 in
     let metas = metas_at p.config before in (
       senders-set p.config index (deeds p before) h.0,
-      subst (λ (l : List MetaData). AllPasts p.config l (RefreshedSet index ∷ deeds p before)) (sym (grown-is metas index field are.0.there)) (pasts-grown p.config metas index (grown (meta_in metas index) field) (deeds p before) h.1),
+      subst (λ (l : List MetaData). AllPasts p.config l (RefreshedSet index ∷ deeds p before)) (sym (grown-is metas index field are.0.may.there)) (pasts-grown p.config metas index (grown (meta_in metas index) field) (deeds p before) h.1),
     )
 all-kept laws words ring p (Tick ms closing samples done ∷ before) plan are =
-    tick-kept laws words ring p plan before are.2 (moment_of before + ms) closing samples are.0 (all-kept laws words ring p before plan are.2)
-all-kept laws words ring p (Pump entries ∷ before) plan are = all-kept laws words ring p before plan are
+    tick-kept laws words ring p plan before are.1 (moment_of before + ms) closing samples are.0.rows (all-kept laws words ring p before plan are.1)
+all-kept laws words ring p (Pump entries ∷ before) plan are = all-kept laws words ring p before plan are.1
 
 pub turns-hold : (laws : TurnsLaws) (words : WordLaws) (ring : RingLaw) (p : Plan) (steps : List Step) → IsPlan p → AreSteps p steps → TurnsHold p steps
 turns-hold laws words ring p [] plan are = tt
 turns-hold laws words ring p (Enable id ∷ before) plan are = turns-hold laws words ring p before plan are.1
 turns-hold laws words ring p (Disable id ∷ before) plan are = turns-hold laws words ring p before plan are.1
-turns-hold laws words ring p (Append index field ∷ before) plan are = turns-hold laws words ring p before plan are.2
+turns-hold laws words ring p (Append index field ∷ before) plan are = turns-hold laws words ring p before plan are.1
 turns-hold laws words ring p (Tick ms closing samples done ∷ before) plan are =
-    (tick-turns laws words ring p plan before are.2 (moment_of before + ms) closing samples are.0 (all-kept laws words ring p before plan are.2), turns-hold laws words ring p before plan are.2)
-turns-hold laws words ring p (Pump entries ∷ before) plan are = turns-hold laws words ring p before plan are
+    (tick-turns laws words ring p plan before are.1 (moment_of before + ms) closing samples are.0.rows (all-kept laws words ring p before plan are.1), turns-hold laws words ring p before plan are.1)
+turns-hold laws words ring p (Pump entries ∷ before) plan are = turns-hold laws words ring p before plan are.1

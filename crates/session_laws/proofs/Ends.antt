@@ -21,7 +21,7 @@ use Rattle.group_laws.specs.Matching.{reader_at as part_at}
 use Rattle.reader_group.specs.Settings.{group_at as read_group_at, no_group as no_read_group}
 use Rattle.writer_group.specs.Payloads.{writer_at, no_writer}
 use Rattle.writer_group.specs.Parts.{group_at, no_group}
-use Rattle.session_model.specs.Closing.{Place, reader_places, writer_places}
+use Rattle.session_model.specs.Closing.{MemberPlace, reader_places, writer_places}
 
 -- ---- lists in step
 
@@ -66,15 +66,15 @@ flattened {X} {Z} f F (x ∷ xs) a d same =
     ap (λ (z : List Z). z ++ flat_map f (range_with_len (a + 1) (length xs))) first ∙ ap (λ (l : List Z). F x ++ l) rest
 
 -- the places of the parts of a list's elements
-abbrev places : {X Y : Type 0} → (X → List Y) → List X → X → List Place
+abbrev places : {X Y : Type 0} → (X → List Y) → List X → X → List MemberPlace
 places parts xs d = flat_map (λ g. map (λ w. (g, w)) (range_with_len 0 (length (parts (slice_index_or xs g d))))) (range_with_len 0 (length xs))
 
 -- what is made of the part at each place
 made-of : {X Y Z : Type 0} (parts : X → List Y) (k : X → Y → Z) (xs : List X) (d : X) (e : Y)
-    → map (λ (at : Place). k (slice_index_or xs at.0 d) (slice_index_or (parts (slice_index_or xs at.0 d)) at.1 e)) (places parts xs d) ≡ flat_map (λ x. map (k x) (parts x)) xs
+    → map (λ (at : MemberPlace). k (slice_index_or xs at.0 d) (slice_index_or (parts (slice_index_or xs at.0 d)) at.1 e)) (places parts xs d) ≡ flat_map (λ x. map (k x) (parts x)) xs
 made-of {X} {Y} {Z} parts k xs d e =
-    let h : Place → Z = λ at. k (slice_index_or xs at.0 d) (slice_index_or (parts (slice_index_or xs at.0 d)) at.1 e) in
-    let f : ℕ → List Place = λ g. map (λ w. (g, w)) (range_with_len 0 (length (parts (slice_index_or xs g d)))) in
+    let h : MemberPlace → Z = λ at. k (slice_index_or xs at.0 d) (slice_index_or (parts (slice_index_or xs at.0 d)) at.1 e) in
+    let f : ℕ → List MemberPlace = λ g. map (λ w. (g, w)) (range_with_len 0 (length (parts (slice_index_or xs g d)))) in
     let own : (g : ℕ) → map h (f g) ≡ map (k (get_or xs g d)) (parts (get_or xs g d)) = λ g.
     map-map h (λ w. (g, w)) (range_with_len 0 (length (parts (slice_index_or xs g d))))
     ∙ mapped (λ w. h (g, w)) (k (get_or xs g d)) (parts (get_or xs g d)) 0 e (λ w below. ap (λ (n : ℕ). h (g, n)) (omega arith)) in
@@ -84,7 +84,7 @@ made-of {X} {Y} {Z} parts k xs d e =
 -- each part has a place
 place-of : {X Y : Type 0} (parts : X → List Y) (xs : List X) (d : X) (g w : ℕ) → g < length xs → w < length (parts (slice_index_or xs g d)) → (index : ℕ) × (slice_get (places parts xs d) index ≡ Some (g, w))
 place-of parts xs d g w here within =
-    let f : ℕ → List Place = λ g. map (λ w. (g, w)) (range_with_len 0 (length (parts (slice_index_or xs g d)))) in
+    let f : ℕ → List MemberPlace = λ g. map (λ w. (g, w)) (range_with_len 0 (length (parts (slice_index_or xs g d)))) in
     let list = range_with_len 0 (length xs) in
     let own : get_or list g 0 ≡ g = get_or-range_with_len 0 (length xs) g 0 here ∙ omega arith in
     let below : g < length list = omega (arith, here, length-range_with_len 0 (length xs)) in
@@ -96,7 +96,7 @@ place-of parts xs d g w here within =
     let at : get_or (flat_map f list) index (0, 0) ≡ (g, w) =
     get_or-flat_map f list g w 0 (0, 0) below inside ∙ ap (λ (n : ℕ). get_or (f n) w (0, 0)) own
     ∙ get_or-map-range_with_len (λ w. (g, w)) 0 (length (parts (slice_index_or xs g d))) w w (0, 0) within (omega arith) in
-    (index, slice_get-get_or (flat_map f list) index (0, 0) there ∙ ap (λ (x : Place). Some x) at)
+    (index, slice_get-get_or (flat_map f list) index (0, 0) there ∙ ap (λ (x : MemberPlace). Some x) at)
 
 -- ---- a writer's
 
@@ -111,16 +111,16 @@ flat-self {X} {Y} parts (x ∷ xs) = ap (λ (l : List Y). l ++ flat_map (λ x. m
 -- the part at a place
 pub writer-part : (config : Config) (index g w : ℕ) → slice_get (writer_places config) index ≡ Some (g, w) → slice_get (writers_of config.group) index ≡ Some (writer_at (group_at config g) w)
 writer-part config index g w at =
-    let h : Place → WriterPart = λ place. writer_at (group_at config place.0) place.1 in
+    let h : MemberPlace → WriterPart = λ place. writer_at (group_at config place.0) place.1 in
     let all : map h (writer_places config) ≡ writers_of config.group = made-of (λ group. group.writer) (λ group part. part) config.group no_group no_writer ∙ flat-self (λ group. group.writer) config.group in
-    ap (λ (l : List WriterPart). slice_get l index) (sym all) ∙ slice_get-map h (writer_places config) index ∙ ap (λ (o : Option Place). option_map h o) at
+    ap (λ (l : List WriterPart). slice_get l index) (sym all) ∙ slice_get-map h (writer_places config) index ∙ ap (λ (o : Option MemberPlace). option_map h o) at
 
 pub reader-part : (config : Config) (index r i : ℕ) → slice_get (reader_places config) index ≡ Some (r, i)
     → slice_get (grouped_readers config.readgroup) index ≡ Some (read_group_at config r, part_at (read_group_at config r) i)
 reader-part config index r i at =
-    let h : Place → ReadGroupPart × ReaderPart = λ place. (read_group_at config place.0, part_at (read_group_at config place.0) place.1) in
+    let h : MemberPlace → ReadGroupPart × ReaderPart = λ place. (read_group_at config place.0, part_at (read_group_at config place.0) place.1) in
     let all : map h (reader_places config) ≡ grouped_readers config.readgroup = made-of (λ group. group.reader) (λ group part. (group, part)) config.readgroup no_read_group no_seat.part in
-    ap (λ (l : List (ReadGroupPart × ReaderPart)). slice_get l index) (sym all) ∙ slice_get-map h (reader_places config) index ∙ ap (λ (o : Option Place). option_map h o) at
+    ap (λ (l : List (ReadGroupPart × ReaderPart)). slice_get l index) (sym all) ∙ slice_get-map h (reader_places config) index ∙ ap (λ (o : Option MemberPlace). option_map h o) at
 
 pub writer-place : (config : Config) (g w : ℕ) → g < length config.group → w < length (group_at config g).writer → (index : ℕ) × (slice_get (writer_places config) index ≡ Some (g, w))
 writer-place config g w here within = place-of (λ group. group.writer) config.group no_group g w here within

@@ -20,4 +20,5 @@ pub mod EachTurn
 pub mod Numbers
 pub mod Traces
 pub mod Tokens
+pub mod Counts
 pub mod Ticks

@@ -252,9 +252,9 @@ past-of laws law p g (Enable id ∷ before) plan are hold rise =
     refreshed-past p (HasSample p before) (metas_at p.config before) g (is_writer_below (component_at p.config id) g) (pasts_at p before g) (writer_indexes (group_at p.config g)) (past-of laws law p g before plan are.1 hold rise)
 past-of laws law p g (Disable id ∷ before) plan are hold rise = past-of laws law p g before plan are.1 hold rise
 past-of laws law p g (Append set field ∷ before) plan are hold rise =
-    subst (λ (metas : List MetaData). IsPastOf p (HasSample p before) metas g (refreshed_where (is_writer_of (group_at p.config g) set) (pasts_at p before g) (writer_indexes (group_at p.config g)))) (sym (grown-is (metas_at p.config before) set field are.0.there))
-    (grow-past p (HasSample p before) (metas_at p.config before) g set field (pasts_at p before g) are.0.there (past-of laws law p g before plan are.2 hold rise))
+    subst (λ (metas : List MetaData). IsPastOf p (HasSample p before) metas g (refreshed_where (is_writer_of (group_at p.config g) set) (pasts_at p before g) (writer_indexes (group_at p.config g)))) (sym (grown-is (metas_at p.config before) set field are.0.may.there))
+    (grow-past p (HasSample p before) (metas_at p.config before) g set field (pasts_at p before g) are.0.may.there (past-of laws law p g before plan are.1 hold rise))
 past-of laws law p g (Tick ms closing samples done ∷ before) plan are hold rise =
-    tick-past laws p plan before are.2 (moment_of before + ms) closing samples are.0 rise.0 law g hold.0 hold.1
-    (past-more p (HasSample p before) (HasSample p (Tick ms closing samples done ∷ before)) (metas_at p.config before) g (pasts_at p before g) (λ index at sample has. inr has) (past-of laws law p g before plan are.2 hold.1 rise.1))
-past-of laws law p g (Pump entries ∷ before) plan are hold rise = past-of laws law p g before plan are hold rise
+    tick-past laws p plan before are.1 (moment_of before + ms) closing samples are.0.rows rise.0 law g hold.0 hold.1
+    (past-more p (HasSample p before) (HasSample p (Tick ms closing samples done ∷ before)) (metas_at p.config before) g (pasts_at p before g) (λ index at sample has. inr has) (past-of laws law p g before plan are.1 hold.1 rise.1))
+past-of laws law p g (Pump entries ∷ before) plan are hold rise = past-of laws law p g before plan are.1 hold rise

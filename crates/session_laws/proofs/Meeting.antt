@@ -9,7 +9,7 @@ use Rattle.frame_codec.specs.Fronts.{flags1_at, flags2_at, times_past as front_t
 use Rattle.frame_codec.specs.Reading.{behind_front, message_at, frame_at}
 use Rattle.pubsub_model.specs.declared.reading.Why.TheVariants.{Start}
 use Rattle.ua_base.specs.Journal.{Entry, Sent, SendFailed, Got, Empty, Long, ReceiveFailed}
-use Rattle.dataset_meta.specs.Metas.{MetaData, HasGrown}
+use Rattle.dataset_meta.specs.Metas.{MetaData, HasGrown, IsMeta}
 use Rattle.row_words.specs.Belonging.{Belongs, row_in, statuses_in, spelled_row, spelled_statuses, cut_words}
 use Rattle.uadp_header.specs.Spelling.{header_len, header_bytes, flags_bytes, group_bytes, security_bytes}
 use Rattle.frame_codec.specs.Spelling.{front_bytes, frame_bytes}
@@ -22,9 +22,10 @@ use Rattle.writer_group.specs.declared.sampled.Sampled.{Sampled}
 use Rattle.writer_group.specs.Turns.{no_sample}
 use Rattle.reader_group.specs.Plain.{Setting}
 use Rattle.reader_group.specs.Settings.{no_keys, setting_of}
-use Rattle.session_model.specs.Steps.{Pump}
-use Rattle.session_model.specs.Sets.{GrowTo, meta_in}
-use Rattle.session_model.specs.Keeping.{AreSteps, IsPlan}
+use Rattle.session_model.specs.Steps.{Step, Pump}
+use Rattle.session_model.specs.Counts.{most_ticks, ticks_in, is_closed}
+use Rattle.session_model.specs.Sets.{AreRowsOf, GrowTo, meta_in}
+use Rattle.session_model.specs.Keeping.{AreSteps, IsPlan, MayCome}
 use Rattle.ps_config.specs.Types.{HasTypes}
 use Rattle.session_model.specs.Sends.{Send, IsRun, journal, send_entries, sends_of}
 use Rattle.pubsub_states.specs.declared.state.State.TheVariants.{Operational}
@@ -56,6 +57,10 @@ grow-to = (grown, tt)
 room-is : (sound : IsSound built_in_config) → All (λ (group : GroupPart). Rattle.ps_config.specs.Rooms.lacks_room built_in_config.publisher.id built_in_config.dataset group ≡ false) built_in_config.group
 room-is sound = λ k d below. (sound.groups k d below).room
 
+whole-metas : IsSound built_in_config → All (λ (meta : MetaData). IsMeta meta.fields) small_plan.full
+unfolding built_in_config small_plan
+whole-metas sound = sound.metas
+
 plan-is : BuiltInLaws → IsPlan small_plan
 unfolding small_plan
 plan-is laws = record {
@@ -63,6 +68,7 @@ plan-is laws = record {
   types = laws.types;
   fit = record { each = laws.sound.metas; room = room-is laws.sound };
   grow = grow-to;
+  whole = whole-metas laws.sound;
 }
 
 seven-belongs : Belongs demo seven.row.words
@@ -82,13 +88,26 @@ seven-belongs = record {
   spelled = refl;
 }
 
-first-are : AreSteps small_plan first_session
+seven-rows : AreRowsOf small_plan.full (seven ∷ [])
 unfolding small_plan
-first-are = ((seven-belongs, tt), lit≤ tt, tt)
+seven-rows = (seven-belongs, tt)
+
+-- a tick of 100 milliseconds behind such steps
+may-tick : (before : List Step) → is_closed before ≡ false → ticks_in before < most_ticks → MayCome small_plan before 100 false (seven ∷ [])
+may-tick before running left = record { rows = seven-rows; short = lit≤ tt; running = running; left = λ is_open. left; still = λ closing. absurd (cc) }
+
+-- the closing one
+may-close : (before : List Step) → is_closed before ≡ false → MayCome small_plan before 0 true (seven ∷ [])
+may-close before running = record { rows = seven-rows; short = lit≤ tt; running = running; left = λ is_open. absurd (cc); still = λ closing. refl }
+
+first-are : AreSteps small_plan first_session
+first-are = (lit< tt, (may-tick [] refl (lit< tt), tt))
+
+lost-are : AreSteps small_plan lost_session
+lost-are = (lit< tt, (may-tick [] refl (lit< tt), tt))
 
 lossy-are : AreSteps small_plan lossy_session
-unfolding small_plan
-lossy-are = ((seven-belongs, tt), lit≤ tt, ((seven-belongs, tt), lit≤ tt, tt))
+lossy-are = (lit< tt, (may-tick lost_session refl (lit< tt), lost-are))
 
 -- ---- what the ticks send
 
@@ -195,7 +214,6 @@ in-first laws = record {
   there = there-is;
   matched = matched-is laws;
   honest = honest-of (setting_of small_plan.config 0) (Sent (small_datagram 0) ∷ Got (small_datagram 0) ∷ Empty ∷ []) (journal small_plan first_session) first-journal ((0, lit< tt, refl), tt);
-  few = lit≤ tt;
 }
 
 -- ---- the whole one
@@ -205,8 +223,7 @@ unfolding small_plan built_in_config built_in_group built_in_writer built_in_rea
 closing-sends = refl
 
 whole-are : AreSteps small_plan whole_session
-unfolding small_plan
-whole-are = ((seven-belongs, tt), lit≤ tt, ((seven-belongs, tt), lit≤ tt, tt))
+whole-are = (lit< tt, (may-close first_session refl, first-are))
 
 whole-run : IsRun small_plan whole_session
 whole-run = ((lit≤ tt, refl), (sym (ap (λ (l : List Send). length l) closing-sends), ((lit≤ tt, refl), (sym (ap (λ (l : List Send). length l) first-sends), tt))))
@@ -233,7 +250,6 @@ in-whole laws = record {
   matched = matched-is laws;
   honest = honest-of (setting_of small_plan.config 0) (Sent (small_datagram 0) ∷ Got (small_datagram 0) ∷ Empty ∷ Sent (small_datagram 1) ∷ Got (small_datagram 1) ∷ Empty ∷ []) (journal small_plan whole_session) whole-journal
       ((0, lit< tt, refl), ((3, lit< tt, refl), tt));
-  few = lit≤ tt;
 }
 
 -- what it closes as
@@ -272,13 +288,9 @@ versions-whole index now sample (inr (inl has)) = subst (λ (s : Sampled). row_i
 versions-whole index now sample (inr (inr none)) = absurd none
 
 pub run-whole : BuiltInLaws → HasRun small_plan whole_session small_rows
-run-whole laws = record { plan = plan-is laws; steps_are = whole-are; run = whole-run; rise = whole-rise; versions = versions-whole; few = lit≤ tt }
+run-whole laws = record { plan = plan-is laws; steps_are = whole-are; run = whole-run; rise = whole-rise; versions = versions-whole }
 
 -- ---- the lost one
-
-lost-are : AreSteps small_plan lost_session
-unfolding small_plan
-lost-are = ((seven-belongs, tt), lit≤ tt, tt)
 
 lost-run : IsRun small_plan lost_session
 lost-run = (refl, (sym (ap (λ (l : List Send). length l) first-sends), tt))
@@ -298,7 +310,6 @@ in-lost laws = record {
   there = there-is;
   matched = matched-is laws;
   honest = honest-of (setting_of small_plan.config 0) (Sent (small_datagram 0) ∷ Empty ∷ []) (journal small_plan lost_session) lost-journal tt;
-  few = lit≤ tt;
 }
 
 pub lost-waits : ((reader_at small_plan.config 0 0 lost_session).kept.row ≡ None) × ((reader_at small_plan.config 0 0 lost_session).kept.why ≡ Start)
@@ -314,5 +325,4 @@ in-lossy laws = record {
   there = there-is;
   matched = matched-is laws;
   honest = honest-of (setting_of small_plan.config 0) (Sent (small_datagram 0) ∷ Empty ∷ Sent (small_datagram 1) ∷ Got (small_datagram 1) ∷ Empty ∷ []) (journal small_plan lossy_session) lossy-journal ((2, lit< tt, refl), tt);
-  few = lit≤ tt;
 }

@@ -93,7 +93,7 @@ meta-of p g group writer (Enable id ∷ before) are at within = meta-of p g grou
 meta-of p g group writer (Disable id ∷ before) are at within = meta-of p g group writer before are.1 at within
 meta-of p g group writer (Append index field ∷ before) are at within =
     let metas = metas_at p.config before in
-    subst (IsMetaOf p.config group writer) (sym (grown-is metas index field are.0.there))
-    (meta-set p.config g group writer metas index field ((writer_at group writer).dataset == index) are.0.told at within are.0.there refl (meta-of p g group writer before are.2 at within))
-meta-of p g group writer (Tick ms closing samples done ∷ before) are at within = meta-of p g group writer before are.2 at within
-meta-of p g group writer (Pump entries ∷ before) are at within = meta-of p g group writer before are at within
+    subst (IsMetaOf p.config group writer) (sym (grown-is metas index field are.0.may.there))
+    (meta-set p.config g group writer metas index field ((writer_at group writer).dataset == index) are.0.may.told at within are.0.may.there refl (meta-of p g group writer before are.1 at within))
+meta-of p g group writer (Tick ms closing samples done ∷ before) are at within = meta-of p g group writer before are.1 at within
+meta-of p g group writer (Pump entries ∷ before) are at within = meta-of p g group writer before are.1 at within

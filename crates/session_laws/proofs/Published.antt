@@ -35,6 +35,7 @@ use Rattle.session_laws.proofs.Rowing.{WordLaws}
 use Rattle.session_laws.proofs.Senders.{RingLaw}
 use Rattle.session_laws.proofs.Sending.{came-as-made, all-restarts}
 use Rattle.reader_group.specs.Signed.{TakesSignedAlone}
+use Rattle.session_laws.proofs.Counts.{ticks-few}
 use Rattle.session_laws.proofs.Ticks.{log-few}
 use Rattle.pubsub_model.proofs.LogVersions.{log-rises}
 
@@ -81,7 +82,7 @@ is-play laws p r i g w steps is = record {
   pasts = pasts-are laws p steps is.plan is.steps_are (laws.hold p steps is.plan is.steps_are) is.rise;
   came = came-as-made (setting_of p.config r) p r steps is.run is.honest;
   restarts = all-restarts p.config r steps;
-  few = let few = is.few in let ticks = log-few p g w steps in let count = length-log_of (settings_at (group_at p.config g) w) (writer_past w (pasts_at p steps g)) in omega (arith, few, ticks, count);
+  few = let few = ticks-few p steps is.steps_are in let ticks = log-few p g w steps in let count = length-log_of (settings_at (group_at p.config g) w) (writer_past w (pasts_at p steps g)) in omega (arith, few, ticks, count);
 }
 
 -- what comes is what the writer answered

@@ -42,17 +42,17 @@ pub fit-at : (p : Plan) (steps : List Step) → IsPlan p → AreSteps p steps �
 fit-at p [] plan are = plan.fit
 fit-at p (Enable id ∷ before) plan are = fit-at p before plan are.1
 fit-at p (Disable id ∷ before) plan are = fit-at p before plan are.1
-fit-at p (Append index field ∷ before) plan are = are.0.fit
-fit-at p (Tick ms closing samples done ∷ before) plan are = fit-at p before plan are.2
-fit-at p (Pump entries ∷ before) plan are = fit-at p before plan are
+fit-at p (Append index field ∷ before) plan are = are.0.may.fit
+fit-at p (Tick ms closing samples done ∷ before) plan are = fit-at p before plan are.1
+fit-at p (Pump entries ∷ before) plan are = fit-at p before plan are.1
 
 pub grow-at : (p : Plan) (steps : List Step) → IsPlan p → AreSteps p steps → GrowTo (metas_at p.config steps) p.full
 grow-at p [] plan are = plan.grow
 grow-at p (Enable id ∷ before) plan are = grow-at p before plan are.1
 grow-at p (Disable id ∷ before) plan are = grow-at p before plan are.1
-grow-at p (Append index field ∷ before) plan are = are.1
-grow-at p (Tick ms closing samples done ∷ before) plan are = grow-at p before plan are.2
-grow-at p (Pump entries ∷ before) plan are = grow-at p before plan are
+grow-at p (Append index field ∷ before) plan are = are.0.grow
+grow-at p (Tick ms closing samples done ∷ before) plan are = grow-at p before plan are.1
+grow-at p (Pump entries ∷ before) plan are = grow-at p before plan are.1
 
 pub as-many : (p : Plan) (steps : List Step) → IsPlan p → AreSteps p steps → length (metas_at p.config steps) ≡ length p.config.dataset
 as-many p steps plan are = length_all_zip HasGrown (metas_at p.config steps) p.full (grow-at p steps plan are) ∙ sym (length_all_zip HasGrown p.config.dataset p.full plan.grow)

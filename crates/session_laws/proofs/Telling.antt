@@ -230,7 +230,6 @@ reader-told-so laws p r i g w steps rows closed is after matched honest =
       there = writer-index p.config g w matched.reads.within;
       matched = matched;
       honest = honest;
-      few = is.few;
     } in
     let ends = laws.there p r i g w steps closed session after in
     record {

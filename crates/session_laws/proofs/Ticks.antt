@@ -15,8 +15,8 @@ use Rattle.writer_group.specs.Turns.{GroupDeed, GroupTurn, HadGroupTurn, took_by
 use Rattle.session_model.specs.Steps.{Plan, Step, Enable, Disable, Append, Tick, Pump, moment_of}
 use Rattle.session_model.specs.Deeds.{Deed, RefreshedBelow, RefreshedSet, CameTo, TookTurn, deeds, component_at, group_past, group_indexes, writer_indexes, refreshed_where, is_writer_below, is_writer_of, is_rekeyed, rekeyed, has_turn, turn_of, log_at, tick_deeds}
 use Rattle.writer_group.specs.Parts.{group_at}
-use Rattle.session_model.specs.Turns.{turned_to}
-use Rattle.session_laws.specs.Headline.{ticks_in}
+use Rattle.session_model.specs.Turns.{deeds_before}
+use Rattle.session_model.specs.Counts.{ticks_in}
 use Rattle.session_laws.specs.Pasts.{settings_at}
 use Rattle.session_laws.specs.Sessions.{pasts_at}
 use Rattle.session_laws.proofs.Deeds.{next-turned, refreshed-keeps}
@@ -101,10 +101,10 @@ most-wider : (config : Config) (g w less more : ℕ) (deeds : List Deed) → les
 unfolding AtMost
 most-wider config g w less more deeds le h = omega (arith, le, h)
 
-most-to : (p : Plan) (before : List Step) (now : ℕ) (closing : Bool) (samples : List Sampled) (g w most k : ℕ) → AtMost p.config g w most (rekeyed p.config now (deeds p before)) → AtMost p.config g w (so_many most g k) (turned_to p before now closing samples k)
-most-to p before now closing samples g w most zero h = most-wider p.config g w most (so_many most g 0) (turned_to p before now closing samples 0) (omega arith) h
+most-to : (p : Plan) (before : List Step) (now : ℕ) (closing : Bool) (samples : List Sampled) (g w most k : ℕ) → AtMost p.config g w most (rekeyed p.config now (deeds p before)) → AtMost p.config g w (so_many most g k) (deeds_before p before now closing samples k)
+most-to p before now closing samples g w most zero h = most-wider p.config g w most (so_many most g 0) (deeds_before p before now closing samples 0) (omega arith) h
 most-to p before now closing samples g w most (suc k) h =
-    let earlier = turned_to p before now closing samples k in
+    let earlier = deeds_before p before now closing samples k in
     subst (AtMost p.config g w (so_many most g (suc k))) (sym (next-turned p before now closing samples k))
     (most-wider p.config g w (so_many most g k + (if k == g then 1 else 0)) (so_many most g (suc k)) (cons_if (has_turn p before now closing earlier k) (TookTurn k (turn_of p before now closing samples earlier k)) earlier) (step-many most g k (k == g) refl)
     (own-most p.config g w (so_many most g k) k (k == g) (has_turn p before now closing earlier k) (turn_of p before now closing samples earlier k) earlier refl (most-to p before now closing samples g w most k h)))

@@ -16,7 +16,7 @@ use Rattle.writer_group.specs.Turns.{GroupDeed, GroupTurn, RefreshedWriter, HadG
 use Rattle.session_model.specs.Steps.{Plan, Step}
 use Rattle.session_model.specs.Deeds.{Deed, RefreshedBelow, CameTo, TookTurn, deeds, group_past, group_indexes, writer_indexes, refreshed_where, is_writer_below, is_rekeyed, rekeyed, has_turn, turn_of}
 use Rattle.writer_group.specs.Parts.{group_at}
-use Rattle.session_model.specs.Turns.{turned_to}
+use Rattle.session_model.specs.Turns.{deeds_before}
 use Rattle.session_laws.proofs.Deeds.{next-turned, refreshed-keeps}
 use Rattle.session_laws.proofs.Living.{writer-in}
 
@@ -94,10 +94,10 @@ other-turn config g w k true turn earlier differ h =
     let other : (k == g) ≡ false = grind (arith, nat_tests, differ) in
     ap (λ (t : Bool). is_refreshed w (cons_if t (HadGroupTurn turn) (group_past config g earlier))) other ∙ h
 
-fresh-to : (p : Plan) (before : List Step) (now : ℕ) (closing : Bool) (samples : List Sampled) (g w k : ℕ) → k ≤ g → IsFreshAt p.config g w (rekeyed p.config now (deeds p before)) → IsFreshAt p.config g w (turned_to p before now closing samples k)
+fresh-to : (p : Plan) (before : List Step) (now : ℕ) (closing : Bool) (samples : List Sampled) (g w k : ℕ) → k ≤ g → IsFreshAt p.config g w (rekeyed p.config now (deeds p before)) → IsFreshAt p.config g w (deeds_before p before now closing samples k)
 fresh-to p before now closing samples g w zero le h = h
 fresh-to p before now closing samples g w (suc k) le h =
-    let earlier = turned_to p before now closing samples k in
+    let earlier = deeds_before p before now closing samples k in
     let differ : k ≢ g = λ same. omega (arith, same, le) in
     subst (IsFreshAt p.config g w) (sym (next-turned p before now closing samples k))
     (other-turn p.config g w k (has_turn p before now closing earlier k) (turn_of p before now closing samples earlier k) earlier differ (fresh-to p before now closing samples g w k (omega (arith, le)) h))
@@ -109,10 +109,10 @@ fresh-use config g w deeds h = h
 -- at a tick that changes the token of the group's key group
 pub new-token : FreshLaw → (p : Plan) (before : List Step) (now : ℕ) (closing : Bool) (samples : List Sampled) (g w : ℕ) (turn : WriterTurn) → g < length p.config.group → w < length (group_at p.config g).writer
     → is_rekeyed p.config now (deeds p before) g ≡ true
-    → (let past = group_past p.config g (turned_to p before now closing samples g) in let s = model_settings (settings_of (writer_at (group_at p.config g) w)) in
+    → (let past = group_past p.config g (deeds_before p before now closing samples g) in let s = model_settings (settings_of (writer_at (group_at p.config g) w)) in
     answer_of (group_at p.config g) past w turn ≡ Some (Whole (next_place s (cadence s (writer_past w past))) turn.row))
 new-token law p before now closing samples g w turn there within e =
-    law (group_at p.config g) (group_past p.config g (turned_to p before now closing samples g)) w turn
-    (fresh-use p.config g w (turned_to p before now closing samples g)
+    law (group_at p.config g) (group_past p.config g (deeds_before p before now closing samples g)) w turn
+    (fresh-use p.config g w (deeds_before p before now closing samples g)
     (fresh-to p before now closing samples g w g (omega arith)
     (rekey-made p.config now (deeds p before) g w (group_indexes p.config) (CameTo now ∷ deeds p before) e within (writer-in (length p.config.group) g there))))

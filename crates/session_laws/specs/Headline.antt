@@ -1,5 +1,5 @@
 -- The headline of a session: what its matched readers hold is what its writers published, of versions that never fall.
-use Rattle.std.specs.Prelude.{◌≡◌, ℕ, ◌%◌, ◌<◌, ◌≤◌, ◌+◌, List, [], ◌∷◌, length, Contains, Option, Some}
+use Rattle.std.specs.Prelude.{◌≡◌, ℕ, ◌%◌, ◌<◌, List, ◌∷◌, length, Contains, Option, Some}
 use Rattle.dataset_meta.specs.DataValues.{DataValue}
 use Rattle.dataset_meta.specs.Metas.{MetaData}
 use Rattle.dataset_meta.specs.Rows.{row_cut}
@@ -9,7 +9,7 @@ use Rattle.writer_group.specs.declared.sampled.Sampled.{Sampled}
 use Rattle.reader_group.specs.Members.{seat_at}
 use Rattle.reader_group.specs.Settings.{setting_of}
 use Rattle.writer_group.specs.Payloads.{writer_at}
-use Rattle.session_model.specs.Steps.{Plan, Step, Enable, Disable, Append, Tick, Pump}
+use Rattle.session_model.specs.Steps.{Plan, Step}
 use Rattle.session_model.specs.Deeds.{answered_at, log_at}
 use Rattle.writer_group.specs.Parts.{group_at}
 use Rattle.session_model.specs.Keeping.{AreSteps, IsPlan}
@@ -19,17 +19,8 @@ use Rattle.pubsub_model.specs.Answers.{version_of}
 use Rattle.session_laws.specs.Plays.{ItemsAre, IsAnswerBy}
 use Rattle.session_laws.specs.Sessions.{HasSample, IsHonestFor, SamplesRise}
 
--- how many ticks there were
-abbrev pub ticks_in : List Step → ℕ
-ticks_in [] = 0
-ticks_in (Enable id ∷ before) = ticks_in before
-ticks_in (Disable id ∷ before) = ticks_in before
-ticks_in (Append set field ∷ before) = ticks_in before
-ticks_in (Tick ms closing samples done ∷ before) = ticks_in before + 1
-ticks_in (Pump entries ∷ before) = ticks_in before
-
 -- The reader with index i of the read group r is matched to the writer with index w of the group g, in a session of the plan; each received datagram was sent
--- before (of a secured read group each that is signed under its ring), and there were at most 16,384 ticks.
+-- before (of a secured read group each that is signed under its ring).
 pub record InSession (p : Plan) (r i g w : ℕ) (steps : List Step) : Type 0 where
   pub plan : IsPlan p
   pub steps_are : AreSteps p steps
@@ -38,7 +29,6 @@ pub record InSession (p : Plan) (r i g w : ℕ) (steps : List Step) : Type 0 whe
   pub there : g < length p.config.group
   pub matched : IsMatchedIn p.config r i g w
   pub honest : IsHonestFor (setting_of p.config r) (journal p steps)
-  pub few : ticks_in steps ≤ 16384
 
 -- the fields of a reader
 abbrev pub meta_of : Plan → ℕ → ℕ → MetaData

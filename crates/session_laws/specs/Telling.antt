@@ -1,5 +1,5 @@
 -- THE HEADLINE, of what a closed session tells, as one record.
-use Rattle.std.specs.Prelude.{◌≡◌, ℕ, ◌<◌, ◌≤◌, List, ◌∷◌, ◌++◌, length, true}
+use Rattle.std.specs.Prelude.{◌≡◌, ℕ, ◌<◌, List, ◌∷◌, ◌++◌, length, true}
 use Rattle.dataset_meta.specs.DataValues.{DataValue}
 use Rattle.pubsub_model.specs.Cadence.{WriterTurn, WriterDeed, HadTurn, is_data}
 use Rattle.ps_report.specs.declared.closed.Closed.{Closed}
@@ -13,7 +13,7 @@ use Rattle.writer_group.specs.Parts.{group_at}
 use Rattle.session_model.specs.Keeping.{AreSteps, IsPlan}
 use Rattle.session_laws.specs.Reading.{IsMatchedIn}
 use Rattle.session_model.specs.Sends.{IsRun, journal}
-use Rattle.session_laws.specs.Headline.{PublishesVersion, answered_turn, ticks_in}
+use Rattle.session_laws.specs.Headline.{PublishesVersion, answered_turn}
 use Rattle.session_laws.specs.Pasts.{settings_at}
 use Rattle.session_laws.specs.Printed.{EndsReader, EndsWriter, TellsReader, TellsWriter}
 use Rattle.session_laws.specs.Sessions.{AreVersions, IsHonestFor, SamplesRise}
@@ -25,7 +25,6 @@ pub record HasRun (p : Plan) (steps : List Step) (rows : ℕ → ℕ → List Da
   pub run : IsRun p steps
   pub rise : SamplesRise p steps
   pub versions : AreVersions p steps rows
-  pub few : ticks_in steps ≤ 16384
 
 -- a writer's told log is its own, and its versions never fall
 pub record IsWriterTold (p : Plan) (g w : ℕ) (steps : List Step) (closed : Closed) : Type 0 where

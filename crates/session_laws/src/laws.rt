@@ -1,5 +1,5 @@
 //! Laws of sessions, each the contract of a function that does nothing.
-ghost use Rattle.std.specs.Prelude.{◌≡◌, ◌<◌, ◌≤◌, ℕ, Bool, true, List, ◌∷◌, ◌++◌, length, Some, AllPairs};
+ghost use Rattle.std.specs.Prelude.{◌≡◌, ◌<◌, ◌≤◌, ◌+◌, ℕ, Bool, true, List, ◌∷◌, ◌++◌, length, Some, AllPairs};
 ghost use Rattle.std.specs.List.Sorted.{IsNonDecreasingBy};
 ghost use Rattle.dataset_meta.specs.DataValues.{DataValue};
 ghost use Rattle.message_guard.specs.Senders.{HaveOtherNumbers};
@@ -13,10 +13,11 @@ ghost use Rattle.session_model.specs.Steps.{Plan, Step};
 ghost use Rattle.session_model.specs.Deeds.{deeds, group_past, is_rekeyed, log_at, writer_deeds};
 ghost use Rattle.writer_group.specs.Parts.{group_at};
 ghost use Rattle.session_model.specs.Events.{reader_at};
+ghost use Rattle.session_model.specs.Counts.{most_ticks, ticks_in};
 ghost use Rattle.session_model.specs.Keeping.{AreSteps, IsPlan};
 ghost use Rattle.session_laws.specs.Reading.{ReadsByRecords, first_number_of};
 ghost use Rattle.session_model.specs.Stores.{stores};
-ghost use Rattle.session_model.specs.Turns.{turned_to};
+ghost use Rattle.session_model.specs.Turns.{deeds_before};
 ghost use Rattle.session_laws.specs.Fresh.{protected_by};
 ghost use Rattle.session_laws.specs.Headline.{InSession, ComesFrom, IsPublished, PublishesVersion, answered_turn};
 ghost use Rattle.session_laws.specs.Pasts.{settings_at};
@@ -98,6 +99,12 @@ pub fn data_messages_stand_for_versions()
     each_turn_of_a_session_holds();
 }
 
+/// A session has 4,097 ticks at most: 4,096, and the closing one.
+pub fn a_session_has_at_most_4097_ticks()
+    ensures { (p : Plan) (steps : List Step) → AreSteps p steps → ticks_in steps ≤ most_ticks + 1 }
+{
+}
+
 /// No two datagrams of a session that one key group protects have the same token and number, over any link.
 pub fn no_token_and_number_come_twice_in_a_session()
     ensures { (p : Plan) (k : ℕ) (steps : List Step) → IsPlan p → AreSteps p steps → k < length p.config.keygroup
@@ -113,7 +120,7 @@ pub fn a_new_token_begins_with_key_frames()
     ensures { (p : Plan) (before : List Step) (now : ℕ) (closing : Bool) (samples : List Sampled) (g w : ℕ) (turn : WriterTurn)
         → g < length p.config.group → w < length (group_at p.config g).writer
         → is_rekeyed p.config now (deeds p before) g ≡ true
-        → let past = group_past p.config g (turned_to p before now closing samples g) in
+        → let past = group_past p.config g (deeds_before p before now closing samples g) in
         let s = settings_at (group_at p.config g) w in
         answer_of (group_at p.config g) past w turn
         ≡ Some (Whole (next_place s (cadence s (writer_past w past))) turn.row) }

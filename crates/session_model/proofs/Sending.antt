@@ -6,7 +6,7 @@ use Rattle.std.proofs.lemmas.List.Sums.{fold-append, sum_by-append, sum_by-cons}
 use Rattle.dataset_meta.specs.Rows.{cons_if}
 use Rattle.pubsub_states.specs.declared.component.Component.{Component}
 use Rattle.session_model.specs.Deeds.{Deed, RefreshedBelow}
-use Rattle.session_model.specs.Sends.{Send, last_sends, send_entry, send_entries, last_failed}
+use Rattle.session_model.specs.Sends.{Send, last_sends, send_entry, send_entries, failing_after, last_failed}
 
 -- ---- refreshes send nothing
 
@@ -37,9 +37,5 @@ count-append {X} p xs ys = sum_by-append (λ (x : X). cond (p x) 1 0) xs ys
 pub count-cons : {X : Type 0} (p : X → Bool) (x : X) (xs : List X) → count_by p (x ∷ xs) ≡ cond (p x) 1 0 + count_by p xs
 count-cons {X} p x xs = sum_by-cons (λ (x : X). cond (p x) 1 0) x xs
 
--- the same of a group's fault, from how it was
-abbrev pub failing_from : ℕ → Bool → List (Send × Bool) → Bool
-failing_from g was sends = fold (λ failed send. if send.0.group == g then not send.1 else failed) was sends
-
-pub failed-append : (g : ℕ) (xs ys : List (Send × Bool)) → last_failed g (xs ++ ys) ≡ failing_from g (last_failed g xs) ys
+pub failed-append : (g : ℕ) (xs ys : List (Send × Bool)) → last_failed g (xs ++ ys) ≡ failing_after g (last_failed g xs) ys
 failed-append g xs ys = fold-append (λ failed send. if send.0.group == g then not send.1 else failed) false xs ys

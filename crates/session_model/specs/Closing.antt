@@ -16,6 +16,7 @@ use Rattle.pubsub_states.specs.declared.component.Component.TheVariants.{Group, 
 use Rattle.reader_group.specs.Members.{MemberValue, seat_at}
 use Rattle.reader_group.specs.Settings.{setting_of}
 use Rattle.session_model.specs.Steps.{Plan, Step, Enable, Disable, Append, Tick, Pump}
+use Rattle.session_model.specs.Counts.{most_taken}
 use Rattle.session_model.specs.Deeds.{group_indexes, writer_indexes, log_at}
 use Rattle.writer_group.specs.Parts.{group_at}
 use Rattle.session_model.specs.Sends.{journal, sent_by}
@@ -66,7 +67,7 @@ limits (Enable id ∷ before) = limits before
 limits (Disable id ∷ before) = limits before
 limits (Append set field ∷ before) = limits before
 limits (Tick ms closing samples done ∷ before) = limits before
-limits (Pump entries ∷ before) = limits before + (if count_by is_datagram entries == 65536 then 1 else 0)
+limits (Pump entries ∷ before) = limits before + (if count_by is_datagram entries == most_taken then 1 else 0)
 
 abbrev pub link_end : Plan → List Step → LinkEnd
 link_end p steps = record {
@@ -84,16 +85,16 @@ abbrev pub group_end : Plan → List Step → ℕ → GroupEnd
 group_end p steps g = record { state = state_at p steps (Group g); sent = counted (sent_by p g steps) }
 
 -- a writer or a reader by its group and its index in this
-abbrev pub Place : Type 0
-Place = ℕ × ℕ
+abbrev pub MemberPlace : Type 0
+MemberPlace = ℕ × ℕ
 
-abbrev pub writer_places : Config → List Place
+abbrev pub writer_places : Config → List MemberPlace
 writer_places config = flat_map (λ g. map (λ w. (g, w)) (writer_indexes (group_at config g))) (group_indexes config)
 
-abbrev pub reader_places : Config → List Place
+abbrev pub reader_places : Config → List MemberPlace
 reader_places config = flat_map (λ r. map (λ i. (r, i)) (reader_indexes config r)) (read_group_indexes config)
 
-pub record IsWriterEnd (p : Plan) (steps : List Step) (place : Place) (end : WriterEnd) : Type 0 where
+pub record IsWriterEnd (p : Plan) (steps : List Step) (place : MemberPlace) (end : WriterEnd) : Type 0 where
   pub state : end.state ≡ state_at p steps (Writer place.0 place.1)
   pub log : end.log ≡ log_at p place.0 place.1 steps
 
@@ -111,7 +112,7 @@ pub record Shows (meta : MetaData) (member : MemberValue) (end : ReaderEnd) : Ty
   pub breaks : end.breaks ≡ member.kept.breaks
   pub recent : end.recent.items ≡ reverse member.kept.recent
 
-pub record IsReaderEnd (p : Plan) (steps : List Step) (place : Place) (end : ReaderEnd) : Type 0 where
+pub record IsReaderEnd (p : Plan) (steps : List Step) (place : MemberPlace) (end : ReaderEnd) : Type 0 where
   pub state : end.state ≡ state_at p steps (Reader place.0 place.1)
   pub shows : Shows (seat_at (setting_of p.config place.0).seats place.1).meta (reader_at p.config place.0 place.1 steps) end
 

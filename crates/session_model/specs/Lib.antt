@@ -1,4 +1,5 @@
 pub mod Steps
+pub mod Counts
 pub mod Sets
 pub mod Deeds
 pub mod Turns

@@ -25,8 +25,8 @@ HoldsIfTurned p before now closing samples so_far g =
     → HoldsTurn p.config (group_at p.config g) (group_past p.config g so_far) (turn_input p before now closing samples so_far g)
 
 -- what the publisher did before the turn of this group
-abbrev pub turned_to : Plan → List Step → ℕ → Bool → List Sampled → ℕ → List Deed
-turned_to p before now closing samples g =
+abbrev pub deeds_before : Plan → List Step → ℕ → Bool → List Sampled → ℕ → List Deed
+deeds_before p before now closing samples g =
     fold (turned_on p before now closing samples) (rekeyed p.config now (deeds p before)) (range_with_len 0 g)
 
 -- all turns of these steps
@@ -37,6 +37,6 @@ TurnsHold p (Disable id ∷ before) = TurnsHold p before
 TurnsHold p (Append set field ∷ before) = TurnsHold p before
 TurnsHold p (Tick ms closing samples done ∷ before) =
     ((g : ℕ) → g < length p.config.group → let now = moment_of before + ms in
-    HoldsIfTurned p before now closing samples (turned_to p before now closing samples g) g)
+    HoldsIfTurned p before now closing samples (deeds_before p before now closing samples g) g)
     × TurnsHold p before
 TurnsHold p (Pump entries ∷ before) = TurnsHold p before

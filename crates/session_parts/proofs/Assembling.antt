@@ -18,7 +18,7 @@ use Rattle.session_parts.specs.declared.publisher.Publisher.{Publisher}
 use Rattle.session_parts.specs.declared.sends.GroupSends.{GroupSends}
 use Rattle.session_parts.specs.declared.sends.LinkSends.{LinkSends}
 use Rattle.session_parts.specs.Standing.{AreSendsIn, HavePast, HaveSent, IsOfGroup}
-use Rattle.session_parts.specs.Ticking.{TickData, HaveBeenSent, IsAt, Noted, NoneFailedFrom, OthersStay, Passes, TellsFaults, now_of}
+use Rattle.session_parts.specs.Ticking.{TickData, HaveBeenSent, IsAt, Noted, NoneFailedFrom, OthersStay, TakesPart, TellsFaults, now_of}
 use Rattle.session_parts.proofs.Turning.{past-turned, outcomes-turned, none-failed-turned, link-turned, tells-turned}
 use Rattle.session_parts.proofs.Flags.{AreKeyed, but-faults, flags-told}
 use Rattle.session_parts.proofs.Passing.{has, turn_in, passes-with}
@@ -34,7 +34,7 @@ pub passes-turned : (t : TickData) (g : ℕ) (so_far : List Deed) (done more : L
     → HaveBeenSent (sends_by g (datagrams_in one.out)) more one two told after
     → two.groups ≡ one.groups → two.senders ≡ one.senders
     → tree.counts ≡ counts_of t.plan.config → new.counts ≡ tree.counts → AreKeyed t.plan.config → TellsFaults t.plan.config two tree new
-    → Passes t g so_far done two new told after
+    → TakesPart t g so_far done two new told after
 passes-turned t g so_far done more zero one two tree new told after d none so at unfailed ticked few others senders same_sends same_link count sent same_groups same_senders counts kept keyed faults =
     passes-with t g so_far done more two new told after so holds is (none-failed-turned g turn so_far done more at.sent unfailed) (tells-turned t g turn so_far done more told after at.sent been.tells)
   where

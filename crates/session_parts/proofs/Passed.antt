@@ -19,7 +19,7 @@ use Rattle.session_parts.specs.declared.publisher.Publisher.{Publisher}
 use Rattle.session_parts.specs.declared.publisher.Told.{Told}
 use Rattle.session_parts.specs.declared.sends.GroupSends.{GroupSends}
 use Rattle.session_parts.specs.Holding.{HoldPublisher}
-use Rattle.session_parts.specs.Ticking.{TickData, HasTurned, HaveBeenSent, IsBefore, KnowsSpent, MayPass, OthersStay, Passes, TellsFaults, is_spent_by}
+use Rattle.session_parts.specs.Ticking.{TickData, HasTurned, HaveBeenSent, IsBefore, KnowsSpent, MayPass, OthersStay, TakesPart, TellsFaults, is_spent_by}
 use Rattle.session_parts.proofs.Few.{keyed}
 use Rattle.session_parts.proofs.Flags.{AreKeyed}
 use Rattle.session_parts.proofs.Passing.{has}
@@ -64,7 +64,7 @@ pub passed : (t : TickData) (g : ℕ) (so_far : List Deed) (done more : List Boo
     → HaveBeenSent (sends_by g (datagrams_in one.out)) more one two before after
     → two ≡ record one { sends = two.sends; link = two.link }
     → new.counts ≡ tree.counts → TellsFaults told.config.now two tree new
-    → Passes t g so_far done two new before after
+    → TakesPart t g so_far done two new before after
 passed t g so_far done more told zero one two tree new before after may is so turned few others same_sends same_link sent rest kept faults =
     passes-turned t g so_far done more zero one two tree new before after some no_sends so is.at is.none_failed turned.ticked few others turned.senders same_sends same_link count sent
     (ap (λ (p : Publisher). p.groups) rest) (ap (λ (p : Publisher). p.senders) rest)

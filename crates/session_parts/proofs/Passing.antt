@@ -20,7 +20,7 @@ use Rattle.session_model.specs.Steps.{is_on}
 use Rattle.session_model.specs.Turns.{HoldsTurn}
 use Rattle.session_parts.specs.declared.publisher.Publisher.{Publisher}
 use Rattle.session_parts.specs.Standing.{HasFlags}
-use Rattle.session_parts.specs.Ticking.{TickData, IsAt, Holds, NoneFailedFrom, Passes, TellsSoFar, flags_in_tick, now_of, turned}
+use Rattle.session_parts.specs.Ticking.{TickData, IsAt, Holds, NoneFailedFrom, TakesPart, TellsSoFar, flags_in_tick, now_of, turned}
 
 -- whether the group has a turn
 abbrev pub has : TickData → List Deed → ℕ → Bool
@@ -45,7 +45,7 @@ none-holds t so_far g not_so = λ so. absurd (apart (sym not_so ∙ so))
     apart same = cc
 
 pub passes-by : (t : TickData) (g : ℕ) (so_far : List Deed) (done : List Bool) (publisher : Publisher) (tree : TreeValue) (told : Option LinkState) → has t so_far g ≡ false
-    → IsAt t so_far done publisher tree → NoneFailedFrom g so_far done → Passes t g so_far done publisher tree told told
+    → IsAt t so_far done publisher tree → NoneFailedFrom g so_far done → TakesPart t g so_far done publisher tree told told
 passes-by t g so_far done publisher tree told not_so at none = record {
   more = [];
   holds = none-holds t so_far g not_so;
@@ -64,7 +64,7 @@ pub passes-with : (t : TickData) (g : ℕ) (so_far : List Deed) (done more : Lis
     → IsAt t (TookTurn g (turn_in t so_far g) ∷ so_far) (done ++ more) publisher tree
     → NoneFailedFrom (g + 1) (TookTurn g (turn_in t so_far g) ∷ so_far) (done ++ more)
     → (TellsSoFar t so_far done told → TellsSoFar t (TookTurn g (turn_in t so_far g) ∷ so_far) (done ++ more) after)
-    → Passes t g so_far done publisher tree told after
+    → TakesPart t g so_far done publisher tree told after
 passes-with t g so_far done more publisher tree told after so holds at none tells = record {
   more = more;
   holds = λ has_one. holds;

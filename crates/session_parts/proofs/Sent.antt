@@ -8,7 +8,7 @@ use Rattle.std.proofs.lemmas.List.Sums.{fold-append}
 use Rattle.ua_base.specs.Cause.{counted_if}
 use Rattle.ua_base.specs.Journal.{LinkState, Entry, Sent, SendFailed, Tells}
 use Rattle.ua_base.proofs.Told.{Tells-refl, Tells-then}
-use Rattle.session_model.specs.Sends.{Send, sends_by, send_entry, send_entries, is_done_by}
+use Rattle.session_model.specs.Sends.{Send, sends_by, send_entry, send_entries, is_done_by, failing_after}
 use Rattle.session_model.specs.Answers.{counted}
 use Rattle.session_model.specs.Closing.{is_sent, is_send_failed}
 use Rattle.session_model.proofs.Sending.{zip-append, entries-append, count-append, count-cons}
@@ -16,7 +16,7 @@ use Rattle.session_parts.specs.declared.publisher.Publisher.{Publisher}
 use Rattle.session_parts.specs.declared.sends.GroupSends.{GroupSends}
 use Rattle.session_parts.specs.declared.sends.LinkSends.{LinkSends}
 use Rattle.session_parts.specs.Standing.{AreSendsIn}
-use Rattle.session_parts.specs.Ticking.{HasNoted, HaveBeenSent, Noted, failing_after}
+use Rattle.session_parts.specs.Ticking.{HasNoted, HaveBeenSent, Noted}
 
 counted-more : (b : Bool) (n : ℕ) → counted_if b (counted n) ≡ counted (n + cond b 1 0)
 counted-more true n = omega arith

@@ -1,5 +1,5 @@
 -- The turns of a tick, one group after another.
-use Rattle.std.proofs.Common.{◌≡◌, sym, ap, ◌∙◌, subst, arith, ℕ, zero, suc, ◌+◌, ◌<◌, ◌≤◌, ◌≢◌, ◌⊎◌, inl, inr, true, false, List, [], ◌++◌, length, Option, get_or}
+use Rattle.std.proofs.Common.{◌≡◌, sym, ap, ◌∙◌, subst, arith, ℕ, zero, suc, ◌+◌, ◌<◌, ◌≤◌, ◌≢◌, ◌⊎◌, inl, inr, true, false, List, [], ◌∷◌, ◌++◌, length, Option, get_or}
 use Rattle.std.specs.Prelude.{◌==◌, zip}
 use Rattle.std.proofs.lemmas.Bool.Decides.{eqb_tells}
 use Rattle.std.proofs.lemmas.List.{get_or-set_other, append-nil}
@@ -9,29 +9,38 @@ use Rattle.dataset_writer.specs.declared.writer.Writer.{Writer}
 use Rattle.ua_base.specs.Journal.{LinkState}
 use Rattle.ps_config.specs.declared.parts.Config.{Config}
 use Rattle.ps_config.specs.declared.parts.GroupPart.{GroupPart}
+use Rattle.pubsub_states.specs.declared.component.Component.TheVariants.{Group as GroupOf}
 use Rattle.pubsub_states.specs.Changes.{TreeValue}
 use Rattle.writer_group.specs.declared.group.Group.{Group}
 use Rattle.writer_group.specs.Standing.{MayGoOn, metas_for}
-use Rattle.session_model.specs.Deeds.{Deed, deeds, rekeyed, turned_on}
+use Rattle.session_model.specs.Deeds.{Deed, CameTo, deeds, group_indexes, is_rekeyed, rekeyed, turned_on}
 use Rattle.writer_group.specs.Parts.{group_at}
 use Rattle.session_model.specs.Sends.{Send, last_sends, last_failed, send_entries, journal}
 use Rattle.session_parts.specs.declared.publisher.Publisher.{Publisher}
-use Rattle.session_parts.specs.Ticking.{TickData, GoesOnAt, HasPassed, Holds, deeds_to, IsAt, NoneFailedFrom, OthersStay, Passes, TellsSoFar, begun, now_of}
+use Rattle.session_parts.specs.Ticking.{TickData, GoesOnAt, HasPassed, Holds, deeds_to, IsAt, NoneFailedFrom, OthersStay, TakesPart, TellsSoFar, begun, now_of}
+use Rattle.session_model.proofs.Sending.{silent-all}
 use Rattle.session_parts.proofs.Counting.{fold-more}
 use Rattle.session_parts.proofs.Passed.{fewer}
 
-pub passed-none : (t : TickData) (publisher : Publisher) (tree : TreeValue) (told : Option LinkState) → last_sends (begun t) ≡ [] → IsAt t (begun t) [] publisher tree
+-- when a tick begins nothing was sent yet
+none-sent : (t : TickData) → last_sends (begun t) ≡ []
+none-sent t =
+    let config = t.plan.config in
+    let earlier = deeds t.plan t.before in
+    silent-all (λ g. is_rekeyed config (now_of t) earlier g) (λ g. GroupOf g) (group_indexes config) (CameTo (now_of t) ∷ earlier)
+
+pub passed-none : (t : TickData) (publisher : Publisher) (tree : TreeValue) (told : Option LinkState) → IsAt t (begun t) [] publisher tree
     → HasPassed t 0 publisher tree told told
-passed-none t publisher tree told none at = record {
+passed-none t publisher tree told at = record {
   done = [];
   at = at;
-  none_failed = λ h low. ap (λ (l : List Send). last_failed h (zip l [])) none;
+  none_failed = λ h low. ap (λ (l : List Send). last_failed h (zip l [])) (none-sent t);
   holds = λ g low. absurd (omega (arith, low));
-  tells = λ run link is. run link is ∙ sym (ap (λ (l : List Send). journal t.plan t.before ++ send_entries l []) none ∙ append-nil (journal t.plan t.before));
+  tells = λ run link is. run link is ∙ sym (ap (λ (l : List Send). journal t.plan t.before ++ send_entries l []) (none-sent t) ∙ append-nil (journal t.plan t.before));
 }
 
 pub passed-more : (t : TickData) (n : ℕ) (old new : Publisher) (tree after : TreeValue) (told mid last : Option LinkState)
-    → (h : HasPassed t n old tree told mid) → Passes t n (deeds_to t n) h.done new after mid last → HasPassed t (n + 1) new after told last
+    → (h : HasPassed t n old tree told mid) → TakesPart t n (deeds_to t n) h.done new after mid last → HasPassed t (n + 1) new after told last
 passed-more t n old new tree after told mid last h passes = record {
   done = h.done ++ passes.more;
   at = subst (λ (d : List Deed). IsAt t d (h.done ++ passes.more) new after) (sym more) passes.at;

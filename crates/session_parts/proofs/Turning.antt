@@ -18,9 +18,9 @@ use Rattle.writer_group.specs.Standing.{IsGroup, metas_for}
 use Rattle.writer_group.specs.Turns.{GroupTurn, GroupDeed, HadGroupTurn}
 use Rattle.session_model.specs.Deeds.{Deed, TookTurn, advanced_if, group_past, is_spent, sender_after}
 use Rattle.writer_group.specs.Parts.{group_at}
-use Rattle.session_model.specs.Sends.{last_sends, sends_by, send_entries, is_done_by, journal, last_failed}
+use Rattle.session_model.specs.Sends.{last_sends, sends_by, send_entries, is_done_by, journal, failing_after, last_failed}
 use Rattle.session_model.specs.Answers.{counted}
-use Rattle.session_model.proofs.Sending.{zip-append, entries-append, count-append, count-cons, failed-append, failing_from}
+use Rattle.session_model.proofs.Sending.{zip-append, entries-append, count-append, count-cons, failed-append}
 use Rattle.session_parts.specs.declared.sends.GroupSends.{GroupSends}
 use Rattle.session_parts.specs.declared.sends.LinkSends.{LinkSends}
 use Rattle.session_parts.specs.Standing.{HavePast, HaveSent, IsOfGroup, AreSendsIn}
@@ -106,11 +106,11 @@ other-count h g (datagram ∷ datagrams) (d ∷ done) other =
       other-count h g datagrams done other,
     )
 
-pub other-failing : (h g : ℕ) (was : Bool) (datagrams : List (List ℕ)) (done : List Bool) → (g == h) ≡ false → failing_from h was (zip (sends_by g datagrams) done) ≡ was
+pub other-failing : (h g : ℕ) (was : Bool) (datagrams : List (List ℕ)) (done : List Bool) → (g == h) ≡ false → failing_after h was (zip (sends_by g datagrams) done) ≡ was
 other-failing h g was [] done other = refl
 other-failing h g was (datagram ∷ datagrams) [] other = refl
 other-failing h g was (datagram ∷ datagrams) (d ∷ done) other =
-    ap (λ (b : Bool). failing_from h (if b then not d else was) (zip (sends_by g datagrams) done)) other
+    ap (λ (b : Bool). failing_after h (if b then not d else was) (zip (sends_by g datagrams) done)) other
     ∙ other-failing h g was datagrams done other
 
 -- the sends of a tick with those of a turn more
@@ -129,7 +129,7 @@ outcomes-turned g h n turn so_far done more old new sent noted is =
     let ys = zip (sends_by g turn.made) more in record {
       done_are = noted.done (n + count_by (is_done_by h) xs) is.done_are
           ∙ ap counted (omega (arith, ap (count_by (is_done_by h)) all ∙ count-append (is_done_by h) xs ys));
-      failing_is = noted.failing ∙ ap (λ (b : Bool). failing_from h b ys) is.failing_is ∙ sym (ap (last_failed h) all ∙ failed-append h xs ys);
+      failing_is = noted.failing ∙ ap (λ (b : Bool). failing_after h b ys) is.failing_is ∙ sym (ap (last_failed h) all ∙ failed-append h xs ys);
     }
 
 -- no group behind this one has a failed send

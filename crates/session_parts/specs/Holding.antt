@@ -8,6 +8,7 @@ use Rattle.writer_group.specs.declared.group.Group.{Group}
 use Rattle.writer_group.specs.Standing.{IsMadeFor, IsReserved, MayGoOn, metas_for, index_of}
 use Rattle.reader_group.specs.declared.group.ReaderGroup.{ReaderGroup}
 use Rattle.reader_group.specs.Groups.{IsMadeOf, index_of as read_index_of}
+use Rattle.session_model.specs.Counts.{longest_datagram}
 use Rattle.session_model.specs.Sets.{meta_in}
 use Rattle.writer_group.specs.Parts.{group_at}
 use Rattle.session_parts.specs.declared.publisher.Publisher.{Publisher}
@@ -56,8 +57,8 @@ pub record HoldSubscriber (config : Config) (subscriber : Subscriber) : Type 0 w
 
 -- room for the longest datagram, twice
 pub record HasBuffers (receiving : Receiving) : Type 0 where
-  pub buffer : vec_len receiving.buffer ≡ 65536
-  pub copy : vec_len receiving.copy ≡ 65536
+  pub buffer : vec_len receiving.buffer ≡ longest_datagram
+  pub copy : vec_len receiving.copy ≡ longest_datagram
 
 -- the metas of the other data sets are as they were
 abbrev pub AreSameButSet : ℕ → List MetaData → List MetaData → Type 0

@@ -14,6 +14,7 @@ use Rattle.reader_group.specs.Groups.{Stands as ReadingStands}
 use Rattle.reader_group.specs.declared.group.ReaderGroup.{ReaderGroup}
 use Rattle.reader_group.specs.Settings.{setting_of}
 use Rattle.session_model.specs.Steps.{Step, Pump, moment_of, is_on}
+use Rattle.session_model.specs.Counts.{longest_datagram, most_taken}
 use Rattle.session_model.specs.Sends.{IsPump}
 use Rattle.session_model.specs.Events.{events, got_on, readers_on, receives, switch_flags}
 use Rattle.session_model.specs.Answers.{counted}
@@ -24,13 +25,13 @@ use Rattle.writer_group.specs.Standing.{IsGood}
 use Rattle.session_parts.specs.Holding.{HoldSubscriber}
 use Rattle.session_parts.specs.Standing.{HaveReadAll, HaveTalliedAll}
 
--- the entry of a receive into a buffer of 65,536 bytes
+-- the entry of a receive into a buffer for the longest datagram
 abbrev pub IsReceive : Entry → Type 0
 IsReceive (Sent bytes) = ⊥
 IsReceive SendFailed = ⊥
-IsReceive (Got bytes) = length bytes ≤ 65536
+IsReceive (Got bytes) = length bytes ≤ longest_datagram
 IsReceive Empty = Unit {0}
-IsReceive (Long size) = 65536 < size
+IsReceive (Long size) = longest_datagram < size
 IsReceive ReceiveFailed = Unit {0}
 
 -- what an entry brings a read group in a pump behind these steps
@@ -106,11 +107,11 @@ pub record Receives (config : Config) (entry : Entry) (old new : Receiving) (sub
 
 -- receives in order, as a pump makes them
 pub record Pumps (config : Config) (entries : List Entry) (old new : Receiving) (subscriber after : Subscriber) (tree : TreeValue) (moment : ℕ) : Type 0 where
-  pub pump : IsPump 65536 entries
+  pub pump : IsPump most_taken entries
   pub received : (n : ℕ) → old.received ≡ counted n → new.received ≡ counted (n + count_by is_got entries)
   pub broken : (n : ℕ) → old.broken ≡ counted n → new.broken ≡ counted (n + count_by is_broken entries)
   pub long : (n : ℕ) → old.long ≡ counted n → new.long ≡ counted (n + count_by is_long entries)
-  pub limit : (n : ℕ) → old.limit ≡ counted n → new.limit ≡ counted (n + (if count_by is_datagram entries == 65536 then 1 else 0))
+  pub limit : (n : ℕ) → old.limit ≡ counted n → new.limit ≡ counted (n + (if count_by is_datagram entries == most_taken then 1 else 0))
   pub hands_on : (before : List Step) → HasSwitches config before tree → moment ≡ moment_of before
       → HaveGot config (λ r. events config r before) subscriber → HaveGot config (λ r. events config r (Pump entries ∷ before)) after
 

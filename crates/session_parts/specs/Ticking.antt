@@ -1,5 +1,5 @@
 -- A session within a tick: after its senders came to the moment, and after some groups had their turns.
-use Rattle.std.specs.Prelude.{◌≡◌, ◌≢◌, ℕ, ◌+◌, ◌<◌, ◌≤◌, ◌==◌, List, [], ◌∷◌, map, ◌++◌, length, zip, fold, count_by, Bool, true, false, not, ◌||◌, nat_lt, None, slice_set, if◌then◌else◌, Option, Some, slice_index_or, take}
+use Rattle.std.specs.Prelude.{◌≡◌, ◌≢◌, ℕ, ◌+◌, ◌<◌, ◌≤◌, ◌==◌, List, [], ◌∷◌, map, ◌++◌, length, zip, count_by, Bool, true, false, not, ◌||◌, nat_lt, None, slice_set, Option, Some, slice_index_or, take}
 use Rattle.std.specs.List.{HoldsAt, AllZip, range_with_len}
 use Rattle.std.specs.Option.{option_map_or}
 use Rattle.dataset_meta.specs.Metas.{MetaData}
@@ -26,8 +26,8 @@ use Rattle.session_model.specs.Steps.{Plan, Step, Tick, moment_of, is_on}
 use Rattle.session_model.specs.Sets.{metas_at, rows_at}
 use Rattle.session_model.specs.Deeds.{Deed, TookTurn, deeds, group_past, opening_sender, turn_input, turn_of, rekeyed, turned_on, is_spent, has_turn}
 use Rattle.writer_group.specs.Parts.{group_at}
-use Rattle.session_model.specs.Turns.{HoldsIfTurned, turned_to as turns_to}
-use Rattle.session_model.specs.Sends.{Send, TellsRun, last_sends, sends_by, send_entries, is_done_by, last_failed, journal, sent_by}
+use Rattle.session_model.specs.Turns.{HoldsIfTurned, deeds_before}
+use Rattle.session_model.specs.Sends.{Send, TellsRun, last_sends, sends_by, send_entries, is_done_by, failing_after, last_failed, journal, sent_by}
 use Rattle.session_model.specs.Events.{reader_at}
 use Rattle.session_model.specs.States.{is_ready}
 use Rattle.session_model.specs.Answers.{counted}
@@ -62,10 +62,6 @@ abbrev pub Holds : TickData → List Deed → ℕ → Type 0
 Holds t so_far g = HoldsIfTurned t.plan t.before (now_of t) t.closing t.samples so_far g
 
 -- ---- sends
-
--- whether the last of these sends of the group failed, or else as it was
-abbrev pub failing_after : ℕ → Bool → List (Send × Bool) → Bool
-failing_after g was sends = fold (λ failed send. if send.0.group == g then not send.1 else failed) was sends
 
 -- what these sends, of which so many were done, make of a group's count
 pub record Noted (sends : List (Send × Bool)) (g : ℕ) (old new : GroupSends) : Type 0 where
@@ -159,7 +155,7 @@ pub record IsToldOf (t : TickData) (told : Told) : Type 0 where
   pub closing : told.closing ≡ t.closing
 
 -- a group's part of the tick: its turn, if it has one, and its sends
-pub record Passes (t : TickData) (g : ℕ) (so_far : List Deed) (done : List Bool) (publisher : Publisher) (tree : TreeValue) (told after : Option LinkState) : Type 0 where
+pub record TakesPart (t : TickData) (g : ℕ) (so_far : List Deed) (done : List Bool) (publisher : Publisher) (tree : TreeValue) (told after : Option LinkState) : Type 0 where
   pub more : List Bool
   pub holds : Holds t so_far g
   pub at : IsAt t (turned t so_far g) (done ++ more) publisher tree
@@ -170,7 +166,7 @@ pub record Passes (t : TickData) (g : ℕ) (so_far : List Deed) (done : List Boo
 abbrev pub HasPart : Told → ℕ → Publisher → Publisher → TreeValue → TreeValue → Option LinkState → Option LinkState → Type 0
 HasPart told g old new tree later link after =
     (t : TickData) (so_far : List Deed) (done : List Bool) → IsToldOf t told → IsAt t so_far done old tree
-    → NoneFailedFrom g so_far done → Passes t g so_far done new later link after
+    → NoneFailedFrom g so_far done → TakesPart t g so_far done new later link after
 
 -- ---- what holds of a tick whatever came before
 
@@ -299,7 +295,7 @@ AreWritersOn tree g count on =
 
 -- what the first n groups did
 abbrev pub deeds_to : TickData → ℕ → List Deed
-deeds_to t n = turns_to t.plan t.before (now_of t) t.closing t.samples n
+deeds_to t n = deeds_before t.plan t.before (now_of t) t.closing t.samples n
 
 -- the groups before this one had their turns
 pub record HasPassed (t : TickData) (n : ℕ) (publisher : Publisher) (tree : TreeValue) (told after : Option LinkState) : Type 0 where
@@ -322,7 +318,7 @@ pub record MayPassAll (told : Told) (publisher : Publisher) (tree : TreeValue) :
 -- from the moment at which a tick began, the groups had their parts
 abbrev pub HaveParts : Told → Publisher → Publisher → TreeValue → TreeValue → Option LinkState → Option LinkState → Type 0
 HaveParts told old new tree later link after =
-    (t : TickData) → IsToldOf t told → last_sends (begun t) ≡ [] → IsAt t (begun t) [] old tree
+    (t : TickData) → IsToldOf t told → IsAt t (begun t) [] old tree
     → HasPassed t (length told.config.now.group) new later link after
 
 -- ---- where memory runs out at a send
@@ -353,4 +349,4 @@ pub record TickHalts (t : TickData) (new : Publisher) (told after : Option LinkS
 -- from the moment at which a tick began, the turn of one group halts
 abbrev pub HaveHalted : Told → Publisher → Publisher → TreeValue → Option LinkState → Option LinkState → Type 0
 HaveHalted told old new tree link after =
-    (t : TickData) → IsToldOf t told → last_sends (begun t) ≡ [] → IsAt t (begun t) [] old tree → TickHalts t new link after
+    (t : TickData) → IsToldOf t told → IsAt t (begun t) [] old tree → TickHalts t new link after

@@ -7,6 +7,7 @@ ghost use Rattle.ua_base.specs.Links.{KeepsLink};
 ghost use Rattle.ua_base.specs.Net.{FitsBuffer, Receives as BringsInto};
 ghost use Rattle.pubsub_states.specs.Components.{counts_of};
 ghost use Rattle.writer_group.specs.Standing.{IsGood};
+ghost use Rattle.session_model.specs.Counts.{longest_datagram, most_taken};
 ghost use Rattle.session_parts.specs.Holding.{HasBuffers, HoldSubscriber};
 ghost use Rattle.session_parts.specs.Pumping.{Counts, HandsOn, PumpsTo, ReceivesOne, HasNoCounts};
 
@@ -73,7 +74,7 @@ impl Receiving {
         ensures room { HasBuffers self.new }
         ensures pumps { PumpsTo config.now tree.now moment result.taken self.old self.new
             subscriber.old subscriber.new (L.told link.old) (L.told link.new) }
-        ensures limit { IsTrue result.limit ↔ (result.taken ≡ 65536) }
+        ensures limit { IsTrue result.limit ↔ (result.taken ≡ most_taken) }
         ensures link { KeepsLink L.opened_with L.faults link.old link.new }
     {
         for taken in 0..MOST_DATAGRAMS {
@@ -89,7 +90,7 @@ impl Receiving {
 
     /// As many datagrams were taken as a pump takes.
     fn note_limit(&mut self) -> Pumped
-        ensures taken { result.taken ≡ 65536 }
+        ensures taken { result.taken ≡ most_taken }
         ensures limit { result.limit ≡ true }
         ensures counts { self.new ≡ record self.old { limit = counted_if true self.old.limit } }
     {
@@ -161,7 +162,7 @@ impl Receiving {
         requires holds { HoldSubscriber config.now subscriber.old }
         requires tree { tree.now.counts ≡ counts_of config.now }
         requires room { HasBuffers self.old }
-        requires end { end ≤ 65536 }
+        requires end { end ≤ longest_datagram }
         ensures taken { result ≡ true }
         ensures holds { HoldSubscriber config.now subscriber.new }
         ensures room { HasBuffers self.new }

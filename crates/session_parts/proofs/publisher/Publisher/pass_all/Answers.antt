@@ -14,7 +14,7 @@ loop-g-init g c =
       spent = may.spent;
       goes_on = λ turns goes. go-none c.args.told.now.config.now c.args.told.now.metas.now turns (turns + 1) c.args.self.now.groups.items refl goes;
       link = KeepsLink-refl g.L.Link.opened_with g.L.Link.faults c.args.link.now;
-      passed = λ t told none at. passed-none t c.args.self.now c.args.tree.now (g.L.Link.told c.args.link.now) none at;
+      passed = λ t told at. passed-none t c.args.self.now c.args.tree.now (g.L.Link.told c.args.link.now) at;
     }
 
 pub pass-requires-clause-open : goal.pass-requires-clause-open
@@ -49,8 +49,8 @@ loop-g-preserved g c =
       spent = e.spent;
       goes_on = λ turns goes. go-more told.config.now told.metas.now turns c.loop-g.g c.loop-g.self.groups.items c.pass.new.self.groups.items low e.others e.goes_on (inv.goes_on turns goes);
       link = KeepsLink-then g.L.Link.opened_with g.L.Link.faults c.args.link.now c.loop-g.link c.pass.new.link inv.link e.link;
-      passed = λ t is none at.
-          let before = inv.passed t is none at in
+      passed = λ t is at.
+          let before = inv.passed t is at in
           passed-more t c.loop-g.g c.loop-g.self c.pass.new.self c.loop-g.tree c.pass.new.tree (g.L.Link.told c.args.link.now) (g.L.Link.told c.loop-g.link) (g.L.Link.told c.pass.new.link)
           before (e.passes refl t _ before.done is before.at before.none_failed);
     }
@@ -75,17 +75,17 @@ returns-clause-goes_on g c =
 
 pub returns-clause-passed : goal.returns-clause-passed
 returns-clause-passed g c =
-    λ is_done t is none at.
+    λ is_done t is at.
     let may = c.requires.may in
     let all : c.loop-g.g ≡ length c.args.told.now.config.now.group
     = omega (arith, c.loop-g-test.false, c.loop-g.auto.g-end, c.len-g-end.ensures, c.args.self.now.groups.ok.0, may.holds.groups.count) in
-    subst (λ (n : ℕ). HasPassed t n c.loop-g.self c.loop-g.tree (g.L.Link.told c.args.link.now) (g.L.Link.told c.loop-g.link)) all (c.loop-g.invariant.passed t is none at)
+    subst (λ (n : ℕ). HasPassed t n c.loop-g.self c.loop-g.tree (g.L.Link.told c.args.link.now) (g.L.Link.told c.loop-g.link)) all (c.loop-g.invariant.passed t is at)
 
 pub returns-in-Memory-clause-halted : goal.returns-in-Memory-clause-halted
 returns-in-Memory-clause-halted g c =
-    λ is_memory t is none at.
+    λ is_memory t is at.
     let may = c.requires.may in
-    let before = c.loop-g.invariant.passed t is none at in
+    let before = c.loop-g.invariant.passed t is at in
     let low : c.loop-g.g < length c.args.told.now.config.now.group = omega (arith, c.loop-g-test.true, c.len-g-end.ensures, c.args.self.now.groups.ok.0, may.holds.groups.count) in
     record {
       group = c.loop-g.g;

@@ -1,6 +1,5 @@
 use Rattle.std.proofs.Common.{◌≡◌, ◌+◌, ℕ, []}
 use Rattle.ua_base.specs.Links.{KeepsLink}
-use Rattle.session_model.specs.Sends.{last_sends}
 use Rattle.session_parts.specs.Holding.{HoldPublisher, MayAllGoOn}
 use Rattle.session_parts.specs.Ticking.{TickData, HasPassed, IsAt, IsToldOf, KnowsSpent, begun}
 use Rattle.session_parts.proofs.Ticks.{GoOn}
@@ -13,6 +12,6 @@ invariant-loop-g g l = record {
   spent : KnowsSpent l.told.config.now l.self.senders.items l.tree;
   goes_on : (turns : ℕ) → MayAllGoOn l.told.config.now l.told.metas.now (turns + 1) l.fn.self.groups.items → GoOn l.told.config.now l.told.metas.now turns l.g l.self.groups.items;
   link : KeepsLink g.L.Link.opened_with g.L.Link.faults l.fn.link l.link;
-  passed : (t : TickData) → IsToldOf t l.told → last_sends (begun t) ≡ [] → IsAt t (begun t) [] l.fn.self l.fn.tree
+  passed : (t : TickData) → IsToldOf t l.told → IsAt t (begun t) [] l.fn.self l.fn.tree
       → HasPassed t l.g l.self l.tree (g.L.Link.told l.fn.link) (g.L.Link.told l.link);
 }

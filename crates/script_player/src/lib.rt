@@ -1,0 +1,10 @@
+//! A script played on one thread: its lines over a session and a link, in order.
+#![tactic(auto)]
+
+mod hand;
+mod play;
+mod player;
+mod sizes;
+
+pub use play::{PlayEnd, play_script};
+pub use sizes::size_of;

@@ -1,0 +1,82 @@
+//! A whole script, from the opening of its session to its close.
+ghost use Rattle.std.specs.Prelude.{◌≡◌, ◌≢◌, ◌≤◌, IfOk, OnOk, Some, Err};
+ghost use Rattle.ua_base.specs.Cause.{Rose};
+ghost use Rattle.ps_config.specs.Types.{HasTypes};
+ghost use Rattle.ps_report.specs.Conditions.{IsClosedOf};
+ghost use Rattle.ps_script.specs.Sound.{IsScript};
+ghost use Rattle.writer_group.specs.Standing.{IsGood};
+ghost use Rattle.script_player.specs.Plays.{IsPlayOf, opening_of};
+
+use crate::player::Player;
+use crate::sizes::size_of;
+use ps_config::Config;
+use ps_report::Closed;
+use ps_script::Script;
+use std::alloc::{AllocError, Global};
+use std::sync::Wait;
+use ua_base::{Link, NoMemory, Opened};
+
+/// Why a script could not be played.
+#[derive(Clone, Copy, Debug, PartialEq, Eq)]
+pub enum PlayEnd {
+    /// Memory ran out.
+    Memory,
+    /// The link could not be opened.
+    Unopened,
+}
+
+impl From<NoMemory> for PlayEnd {
+    ghost use Rattle.std.specs.Prelude.{◌≡◌};
+    ghost use Rattle.script_player.specs.declared.play.PlayEnd.TheVariants.{Memory};
+
+    ghost from_gives = { λ _ end. end ≡ Memory };
+
+    fn from(_: NoMemory) -> PlayEnd {
+        PlayEnd::Memory
+    }
+}
+
+impl From<AllocError> for PlayEnd {
+    ghost use Rattle.std.specs.Prelude.{◌≡◌};
+    ghost use Rattle.script_player.specs.declared.play.PlayEnd.TheVariants.{Memory};
+
+    ghost from_gives = { λ _ end. end ≡ Memory };
+
+    fn from(_: AllocError) -> PlayEnd {
+        PlayEnd::Memory
+    }
+}
+
+/// Plays a script over a link: opens its session, opens the link with the configuration's port and the script's fates, plays the
+/// lines in order, and closes the session with a closing tick and its pump. The session's memory is taken before the link is
+/// opened.
+pub fn play_script<R: Wait, L: Link>(
+    rt: &R,
+    alloc: Global,
+    config: &Config,
+    script: &Script,
+    link: &mut L,
+) -> Result<Closed, PlayEnd>
+    requires good { IsGood config.now }
+    requires types { HasTypes config.now }
+    requires script { IsScript config.now script.now }
+    ensures played { IfOk result (IsPlayOf config.now script.now (L.told link.new)) }
+    ensures closed { IfOk result (IsClosedOf config.now) }
+    ensures opened { OnOk result (L.opened_with link.new ≡ Some (opening_of config.now script.now)) }
+    ensures opens { L.opened_with link.new ≢ L.opened_with link.old
+        → L.opened_with link.new ≡ Some (opening_of config.now script.now) }
+    ensures unopened { result ≡ Err PlayEnd.Unopened → Rose (L.faults link.old) (L.faults link.new) }
+    ensures unused { result ≡ Err PlayEnd.Unopened
+        → (L.told link.new ≡ L.told link.old) × (L.opened_with link.new ≡ L.opened_with link.old) }
+    ensures faults { L.faults link.old ≤ L.faults link.new }
+{
+    let size = size_of(config, script);
+    let mut player = Player::open(rt, alloc, config, &size)?;
+    match link.open(config.publisher.port, &script.fates(alloc)?) {
+        Opened::Done => {}
+        Opened::Failed => return Err(PlayEnd::Unopened),
+        Opened::Memory => return Err(PlayEnd::Memory),
+    }
+    player.play(rt, alloc, script.lines.as_slice(), link)?;
+    Ok(player.close(rt, alloc, link)?)
+}

@@ -1,0 +1,92 @@
+//! How large a session a script asks for.
+ghost use Rattle.std.specs.Prelude.{◌≡◌, ◌≤◌, ◌<◌, length, map};
+ghost use Rattle.ps_config.specs.Sound.{IsSound};
+ghost use Rattle.cell_bank.specs.Hands.{AreSmall};
+ghost use Rattle.ps_script.specs.Sound.{IsScript};
+ghost use Rattle.ps_script.specs.Sessions.{ticks_in, writes_in};
+ghost use Rattle.session_model.specs.Counts.{most_ticks};
+ghost use Rattle.pubsub_engine.specs.Holding.{AreAppends, full_of};
+ghost use Rattle.script_player.specs.Sizes.{appended_sets, quotas_by};
+
+use arrayvec::ArrayVec;
+use dataset_meta::Meta;
+use ps_config::Config;
+use ps_script::{Act, Line, Script};
+use pubsub_engine::{Append, Size};
+
+/// The most data sets of a configuration.
+const MOST_SETS: usize = 8;
+
+/// What a session has to have room for so that it can run the script: its ticks, the writes of each of eight threads, and the
+/// appended fields.
+pub fn size_of(config: &Config, script: &Script) -> Size
+    requires config { IsSound config.now }
+    requires script { IsScript config.now script.now }
+    ensures ticks { result.ticks ≡ ticks_in script.now.lines }
+    ensures few { result.ticks ≤ most_ticks }
+    ensures writes { result.writes.items ≡ quotas_by (length config.now.dataset) script.now.lines }
+    ensures small { AreSmall result.writes.items }
+    ensures appends { AreAppends config.now config.now.dataset result.appends.items }
+    ensures sets { map (λ append. append.set) result.appends.items ≡ appended_sets script.now.lines }
+    ensures full { full_of config.now.dataset result.appends.items ≡ script.now.metas }
+{
+    Size {
+        ticks: script.ticks() as u32,
+        writes: writes_of(script, config.dataset.as_slice().len()),
+        appends: appends_of(config, script),
+    }
+}
+
+/// For each data set the number of writes of each thread.
+fn writes_of(script: &Script, sets: usize) -> ArrayVec<[u64; 8], 8> {
+    let mut writes = ArrayVec::new();
+    for set in 0..sets {
+        writes.push(writes_to(script, set as u8));
+    }
+    writes
+}
+
+/// How often each thread writes a data set.
+fn writes_to(script: &Script, set: u8) -> [u64; 8] {
+    let mut writes = [0; 8];
+    for thread in 0..8 {
+        writes[thread] = script.writes(thread as u8, set) as u64;
+    }
+    writes
+}
+
+/// The appended fields, in the order of the lines.
+fn appends_of(config: &Config, script: &Script) -> ArrayVec<Append, 16> {
+    let mut appends = ArrayVec::new();
+    let mut grown = [0; MOST_SETS];
+    for line in script.lines.as_slice() {
+        append_by(
+            config,
+            script.metas.as_slice(),
+            line,
+            &mut grown,
+            &mut appends,
+        );
+    }
+    appends
+}
+
+/// What a line appends, if it does. `grown` counts the fields that each data set has more.
+fn append_by(
+    config: &Config,
+    full: &[Meta],
+    line: &Line,
+    grown: &mut [usize; MOST_SETS],
+    appends: &mut ArrayVec<Append, 16>,
+) {
+    let Act::Append { set } = line.act else {
+        return;
+    };
+    let at = usize::from(set);
+    let next = config.dataset.as_slice()[at].fields().len() + grown[at];
+    grown[at] += 1;
+    appends.push(Append {
+        set,
+        field: full[at].fields()[next],
+    });
+}
