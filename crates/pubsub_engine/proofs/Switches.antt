@@ -1,8 +1,6 @@
 -- Switches: where they leave the session.
 use Rattle.std.proofs.Common.{◌≡◌, refl, sym, ap, ◌∙◌, subst, arith, ℕ, ◌+◌, ◌<◌, Bool, true, false, List, [], ◌∷◌, length, Some, get_or}
-use Rattle.std.specs.Prelude.{fold, slice_get, unwrap_or, ◌==◌, if◌then◌else◌}
-use Rattle.std.specs.declared.alloc.Global.{Global}
-use Rattle.std.specs.Prelude.{Vec}
+use Rattle.std.specs.Prelude.{fold, slice_get, unwrap_or, vec_len, ◌==◌, if◌then◌else◌}
 use Rattle.std.proofs.lemmas.Option.{slice_get-get_or}
 use Rattle.dataset_meta.specs.Rows.{cons_if}
 use Rattle.ps_config.specs.declared.parts.Config.{Config}
@@ -18,6 +16,7 @@ use Rattle.pubsub_states.specs.Changes.{TreeValue, Changes, flags_in, is_enabled
 use Rattle.pubsub_states.proofs.Places.{placed}
 use Rattle.reader_group.specs.Plain.{Event, Setting, Stopped}
 use Rattle.reader_group.specs.Settings.{setting_of}
+use Rattle.writer_group.specs.Standing.{IsReserved}
 use Rattle.session_model.specs.Steps.{Plan, Step, Enable, Disable, is_on, switches_in}
 use Rattle.session_model.specs.Sets.{metas_at}
 use Rattle.session_model.specs.Deeds.{RefreshedBelow, component_at, deeds}
@@ -26,47 +25,54 @@ use Rattle.session_model.specs.States.{flags_at, has_fault, is_ready}
 use Rattle.session_model.specs.Sends.{journal}
 use Rattle.session_model.specs.Stores.{stores}
 use Rattle.session_model.specs.Answers.{answers}
-use Rattle.session_model.specs.Keeping.{MaySwitch}
 use Rattle.session_parts.specs.declared.publisher.Publisher.{Publisher}
-use Rattle.session_parts.specs.declared.receiving.Receiving.{Receiving}
 use Rattle.session_parts.specs.declared.subscriber.Subscriber.{Subscriber}
 use Rattle.session_parts.specs.declared.tally.Tally.{Tally}
 use Rattle.session_parts.specs.Standing.{AreReceivesIn, AreSendsIn, HasFlags, HaveOutcomes, HavePast, HaveRead, HaveReadAll, HaveSent, HaveTallied, HaveTalliedAll, IsTallyOf}
-use Rattle.session_parts.specs.Refreshed.{HaveDone}
+use Rattle.session_parts.specs.Holding.{AreGroups, AreSenders}
+use Rattle.session_parts.specs.Refreshed.{AllGoOn, HaveDone}
 use Rattle.session_parts.specs.Befalling.{HaveStoppedBelow}
 use Rattle.session_parts.specs.Pumping.{TellsReaders, late_at, ready_at}
 use Rattle.pubsub_engine.specs.declared.session.Session.{Session}
-use Rattle.pubsub_engine.specs.Holding.{IsRunning, plan_of}
+use Rattle.pubsub_engine.specs.Holding.{IsRunning, IsSession, plan_of}
 use Rattle.pubsub_engine.specs.Standing.{Stands}
 use Rattle.pubsub_engine.specs.Storing.{HaveStored}
 
 -- ---- the component with an id
 
-pub component-found : (config : Config) (id : ℕ) → IsId (counts_of config) id → slice_get (components (counts_of config)) id ≡ Some (component_at config id)
+component-found : (config : Config) (id : ℕ) → IsId (counts_of config) id → slice_get (components (counts_of config)) id ≡ Some (component_at config id)
 component-found config id there =
     let found = slice_get-get_or (components (counts_of config)) id Root there in
     found ∙ ap Some (sym (ap (λ o. unwrap_or o Root) found))
 
 -- the component that is found is the one with the id
-pub component-is : (config : Config) (id : ℕ) (component : Component) → slice_get (components (counts_of config)) id ≡ Some component → component_at config id ≡ component
-component-is config id component is = ap (λ o. unwrap_or o Root) is
+pub component-is : (config : Config) (counts : Counts) (id : ℕ) (component : Component) → counts ≡ counts_of config → slice_get (components counts) id ≡ Some component
+    → component_at config id ≡ component
+component-is config counts id component same is =
+    ap (λ o. unwrap_or o Root) (subst (λ (c : Counts). slice_get (components c) id ≡ Some component) same is)
 
 -- the tree has a component as enabled where switches left it on
-pub is-on : (p : Plan) (before : List Step) (id : ℕ) (tree : TreeValue) → tree.counts ≡ counts_of p.config → IsId (counts_of p.config) id → HasFlags (flags_at p before) tree
+is-on : (p : Plan) (before : List Step) (id : ℕ) (tree : TreeValue) → tree.counts ≡ counts_of p.config → IsId (counts_of p.config) id → HasFlags (flags_at p before) tree
     → (changes.flags_at tree id).enabled ≡ is_on p.config before (component_at p.config id)
 is-on p before id tree counts there flags =
     let found = placed (counts_of p.config) id (component_at p.config id) (component-found p.config id there) in
     ap (λ (n : ℕ). (changes.flags_at tree n).enabled) (sym (ap (λ (c : Counts). id_of c (component_at p.config id)) counts ∙ found.1))
     ∙ ap (λ (f : Flags). f.enabled) (flags (component_at p.config id) (subst (λ (c : Counts). IsAmong c (component_at p.config id)) (sym counts) found.0))
 
+pub was-on : (old : Session) (id : ℕ) → IsSession old → IsId (counts_of old.config.now) id → (p : Plan) (before : List Step) → Stands p before old
+    → (changes.flags_at old.tree id).enabled ≡ is_on p.config before (component_at p.config id)
+was-on old id session there p before stands =
+    subst (λ (q : Plan). Stands q before old → (changes.flags_at old.tree id).enabled ≡ is_on q.config before (component_at q.config id)) stands.plan
+    (λ at. is-on (plan_of old) before id old.tree session.tree there at.flags) stands
+
 -- ---- answers
 
 -- a switch on is done where the component was off
-off-where-done : (on : Bool) → Done ≡ (if on then InvalidState else Done) → on ≡ false
+pub off-where-done : (on : Bool) → Done ≡ (if on then InvalidState else Done) → on ≡ false
 off-where-done true is = cc
 off-where-done false is = refl
 
-on-where-done : (on : Bool) → Done ≡ (if on then Done else InvalidState) → on ≡ true
+pub on-where-done : (on : Bool) → Done ≡ (if on then Done else InvalidState) → on ≡ true
 on-where-done true is = refl
 on-where-done false is = cc
 
@@ -151,16 +157,41 @@ pub record DoesEnable (id : ℕ) (component : Component) (old new : Session) : T
   pub switched : Changes (changes.Enable id) old.tree new.tree
   pub past : HaveDone old.config.now (RefreshedBelow component) old.publisher.groups.items new.publisher.groups.items
 
+pub enabled-session : (old : Session) (tree : TreeValue) (publisher : Publisher) → IsSession old → tree.counts ≡ old.tree.counts
+    → publisher ≡ record old.publisher { groups = publisher.groups } → AreGroups old.config.now publisher.groups.items
+    → AllGoOn old.config.now old.publisher.groups.items publisher.groups.items → IsSession (record old { tree = tree; publisher = publisher })
+enabled-session old tree publisher session kept parts groups goes_on = record {
+  good = session.good;
+  sets = session.sets;
+  samples = session.samples;
+  publisher = record {
+    groups = groups;
+    senders = subst (λ (q : Publisher). AreSenders old.config.now q.senders.items) (sym parts) session.publisher.senders;
+    reserved = subst (λ (q : Publisher). IsReserved q.out) (sym parts) session.publisher.reserved;
+    sends = ap (λ (q : Publisher). vec_len q.sends) parts ∙ session.publisher.sends;
+  };
+  goes_on = goes_on old.sets.metas.items old.left.ticks session.goes_on;
+  subscriber = session.subscriber;
+  tree = kept ∙ session.tree;
+  buffers = session.buffers;
+  stores = session.stores;
+  time = session.time;
+  calls = session.calls;
+}
+
 enabled-of : (before : List Step) (id : ℕ) (component : Component) (old new : Session) → DoesEnable id component old new → Stands (plan_of old) before old
     → Stands (plan_of old) (Enable id ∷ before) new
 enabled-of before id component old new does stands = record {
   plan = ap plan_of does.changed;
   run = stands.run;
-  steps_are = (record {
-    there = does.there;
-    was = sym (is-on p before id old.tree does.counts does.there stands.flags) ∙ does.was;
-    running = sym stands.closed ∙ does.running;
-  }, stands.steps_are);
+  steps_are = (
+    record {
+      there = does.there;
+      was = sym (is-on p before id old.tree does.counts does.there stands.flags) ∙ does.was;
+      running = sym stands.closed ∙ does.running;
+    },
+    stands.steps_are,
+  );
   turns = stands.turns;
   moment = ap (λ (s : Session). s.moment) does.changed ∙ stands.moment;
   closed = ap (λ (s : Session). s.left.is_closed) does.changed ∙ stands.closed;
@@ -226,11 +257,14 @@ disabled-of : (before : List Step) (id : ℕ) (component : Component) (old new :
 disabled-of before id component old new tree does stands = record {
   plan = ap plan_of does.changed;
   run = stands.run;
-  steps_are = (record {
-    there = does.there;
-    was = sym (is-on p before id old.tree does.counts does.there stands.flags) ∙ does.was;
-    running = sym stands.closed ∙ does.running;
-  }, stands.steps_are);
+  steps_are = (
+    record {
+      there = does.there;
+      was = sym (is-on p before id old.tree does.counts does.there stands.flags) ∙ does.was;
+      running = sym stands.closed ∙ does.running;
+    },
+    stands.steps_are,
+  );
   turns = stands.turns;
   moment = ap (λ (s : Session). s.moment) does.changed ∙ stands.moment;
   closed = ap (λ (s : Session). s.left.is_closed) does.changed ∙ stands.closed;
