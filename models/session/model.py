@@ -2,10 +2,22 @@
 """An independent model of whole sessions: the script over the groups of models/groups, made from OPC 10000-14 and the documents of
 docs/ (SCRIPT, REPORT, CONFIGURATION), without a look at the crates.
 
-usage: model.py < CASES     (the lines of crates/session_rows/stdin: prints what the runner has to print; it refuses no text)"""
-import copy, os, sys, tomllib
-sys.path.insert(0, os.path.join(os.path.dirname(os.path.abspath(__file__)), "..", "groups"))
-from model import Config, Group, ReaderGroup, Sender, default, parse_text, value_text
+usage: model.py < CASES     (the lines of crates/session_rows/stdin: prints what the runner has to print)
+
+It refuses no text itself: a note `# refused TEXT` says what the next `play` answers."""
+import copy, importlib.util, os, sys, tomllib
+
+def groups_model():
+    """models/groups/model.py"""
+    path = os.path.join(os.path.dirname(os.path.abspath(__file__)), "..", "groups", "model.py")
+    spec = importlib.util.spec_from_file_location("groups_model", path)
+    module = importlib.util.module_from_spec(spec)
+    spec.loader.exec_module(module)
+    return module
+
+groups = groups_model()
+Config, Group, ReaderGroup, Sender = groups.Config, groups.Group, groups.ReaderGroup, groups.Sender
+default, parse_text, value_text = groups.default, groups.parse_text, groups.value_text
 
 BUILT_IN = """[publisher]
 id = "u8:5"
@@ -268,8 +280,13 @@ def bytes_of(words):
     return out
 
 def main():
-    text, script, sends, receives, injected = "", "", [], [], []
+    text, script, sends, receives, injected, refusal = "", "", [], [], [], None
     for line in sys.stdin.read().splitlines():
+        if line == "play" and refusal is not None:
+            print(f"play -> {refusal}")
+            text, script, sends, receives, injected, refusal = "", "", [], [], [], None
+            continue
+        if line.startswith("# refused "): refusal = line[10:]
         print(line + (" ->" if line == "play" else ""))
         word, _, rest = line.partition(" ")
         rest = rest.replace("\\n", "\n")
@@ -280,8 +297,11 @@ def main():
         elif word == "inject":
             at, *words = rest.split()
             injected.append((int(at), bytes_of(words)))
+        elif word == "flood":
+            times, at, *words = rest.split()
+            injected += [(int(at), bytes_of(words))] * int(times)
         elif word == "play":
             for told in played(text, script, sends, receives, injected): print(told)
-            text, script, sends, receives, injected = "", "", [], [], []
+            text, script, sends, receives, injected, refusal = "", "", [], [], [], None
 
 if __name__ == "__main__": main()

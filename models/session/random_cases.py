@@ -3,8 +3,8 @@
 and receives.
 
 usage: random_cases.py FIRST COUNT     (the seeds FIRST to FIRST + COUNT - 1)"""
-import os, random, struct, sys
-sys.path.insert(0, os.path.join(os.path.dirname(os.path.abspath(__file__)), "..", "groups"))
+import os, random, sys
+sys.path.insert(0, os.path.dirname(os.path.abspath(__file__)))
 from model import value_text
 
 SIZES = dict(Boolean=1, SByte=1, Byte=1, Int16=2, UInt16=2, Int32=4, UInt32=4, Int64=8, UInt64=8, Float=4, Double=8, DateTime=8, Guid=16, StatusCode=4)

@@ -36,11 +36,28 @@ impl Case {
             "script" => self.script = line.text(alloc)?,
             "sends" => self.sends = numbers_of(alloc, line)?,
             "receives" => self.receives = numbers_of(alloc, line)?,
-            "inject" => self.injected.push((line.u64()?, line.bytes(alloc)?))?,
+            "inject" => self.inject(alloc, 1, line)?,
+            "flood" => self.flood(alloc, line)?,
             "play" => return self.play(rt, alloc),
             _ => return Err(LineFault::Call),
         }
         Ok(None)
+    }
+
+    /// A datagram comes so often right after the one with a number was sent.
+    fn inject(&mut self, alloc: Global, times: u32, line: &mut Line) -> Result<(), LineFault> {
+        let after = line.u64()?;
+        let datagram = line.bytes(alloc)?;
+        for _ in 0..times {
+            self.injected.push((after, datagram.to_vec(alloc)?))?;
+        }
+        Ok(())
+    }
+
+    /// So many of a datagram come.
+    fn flood(&mut self, alloc: Global, line: &mut Line) -> Result<(), LineFault> {
+        let times = line.u32()?;
+        self.inject(alloc, times, line)
     }
 
     /// Plays the case; the next one begins.

@@ -1,6 +1,6 @@
 //! Cases of whole sessions, in lines. `config` and `script` give the texts, several lines in one; `sends` and `receives` the numbers
-//! of the calls of the link that fail; `inject` a datagram that comes right after the one with a number was sent; and `play` plays
-//! them. Each line is printed again, and behind `play` the report, or why there is none. What isn't given is the built-in
+//! of the calls of the link that fail; `inject` a datagram that comes right after the one with a number was sent, `flood` so many of
+//! it; and `play` plays them. Each line is printed again, and behind `play` the report, or why there is none. What isn't given is the built-in
 //! configuration, an empty script, and a link that doesn't fail.
 #![tactic(auto)]
 
