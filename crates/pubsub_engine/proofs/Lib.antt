@@ -12,3 +12,5 @@ pub mod Places
 pub mod Rows
 pub mod Stored
 pub mod Named
+pub mod Receipts
+pub mod Switches
