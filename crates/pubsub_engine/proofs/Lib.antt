@@ -1,0 +1,4 @@
+pub mod Growing
+pub mod OpenSets
+pub mod ReadSets
+pub mod OpenParts
