@@ -14,3 +14,7 @@ pub mod Stored
 pub mod Named
 pub mod Receipts
 pub mod Switches
+pub mod Growing
+pub mod OpenSets
+pub mod ReadSets
+pub mod OpenParts
