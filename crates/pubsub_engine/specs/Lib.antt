@@ -3,3 +3,4 @@ pub mod Storing
 pub mod Standing
 pub mod Ticking
 pub mod Authored
+pub mod Ending
