@@ -1,11 +1,10 @@
 -- What the parts of a session tell when it is closed.
-use Rattle.std.specs.Prelude.{◌≡◌, ◌≢◌, ℕ, List, [], None, IfSome, ◌++◌, map, option_and_then}
-use Rattle.std.specs.List.{AllZip}
+use Rattle.std.specs.Prelude.{◌≡◌, ◌≢◌, ℕ, List, None, IfSome, map, flat_map, option_and_then}
+use Rattle.std.specs.List.{range_with_len}
 use Rattle.pubsub_model.specs.Answers.{version_of}
 use Rattle.ps_config.specs.declared.parts.Config.{Config}
 use Rattle.ps_report.specs.declared.closed.HeldEnd.{HeldEnd}
 use Rattle.ps_report.specs.declared.closed.ReaderEnd.{ReaderEnd}
-use Rattle.ps_report.specs.declared.closed.WriterEnd.{WriterEnd}
 use Rattle.ps_report.specs.Told.{TellsNumber}
 use Rattle.pubsub_states.specs.Changes.{TreeValue}
 use Rattle.pubsub_states.specs.Components.{counts_of}
@@ -18,7 +17,7 @@ use Rattle.session_model.specs.Sets.{metas_at}
 use Rattle.session_model.specs.Deeds.{deeds, writer_indexes}
 use Rattle.session_model.specs.States.{flags_at}
 use Rattle.session_model.specs.Events.{reader_indexes}
-use Rattle.session_model.specs.Closing.{IsReaderEnd, IsWriterEnd, MemberPlace}
+use Rattle.session_model.specs.Closing.{IsReaderEnd, MemberPlace}
 use Rattle.session_parts.specs.declared.publisher.Publisher.{Publisher}
 use Rattle.session_parts.specs.declared.subscriber.Subscriber.{Subscriber}
 use Rattle.session_parts.specs.Holding.{HoldPublisher, HoldSubscriber}
@@ -63,6 +62,10 @@ places_of_group config g = map (λ w. (g, w)) (writer_indexes (group_at config g
 
 abbrev pub places_of_read_group : Config → ℕ → List MemberPlace
 places_of_read_group config r = map (λ i. (r, i)) (reader_indexes config r)
+
+-- those of the read groups before this one
+abbrev pub reader_places_to : Config → ℕ → List MemberPlace
+reader_places_to config r = flat_map (places_of_read_group config) (range_with_len 0 r)
 
 abbrev pub seat_of_place : Config → MemberPlace → Seat
 seat_of_place config place = seat_at (setting_of config place.0).seats place.1

@@ -1,0 +1,4 @@
+pub mod Pairing
+pub mod PlacesInOrder
+pub mod Authors
+pub mod Watched
