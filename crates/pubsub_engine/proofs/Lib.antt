@@ -2,3 +2,4 @@ pub mod Pairing
 pub mod PlacesInOrder
 pub mod Authors
 pub mod Watched
+pub mod EndParts

@@ -1,15 +1,17 @@
 -- What the parts of a session tell when it is closed.
-use Rattle.std.specs.Prelude.{◌≡◌, ◌≢◌, ℕ, List, None, IfSome, map, flat_map, option_and_then}
+use Rattle.std.specs.Prelude.{◌≡◌, ◌≢◌, ℕ, List, None, IfSome, map, flat_map, option_and_then, slice_index_or}
 use Rattle.std.specs.List.{range_with_len}
 use Rattle.pubsub_model.specs.Answers.{version_of}
 use Rattle.ps_config.specs.declared.parts.Config.{Config}
+use Rattle.ps_config.specs.declared.parts.ReadGroupPart.{ReadGroupPart}
+use Rattle.ps_config.specs.declared.parts.ReaderPart.{ReaderPart}
 use Rattle.ps_report.specs.declared.closed.HeldEnd.{HeldEnd}
 use Rattle.ps_report.specs.declared.closed.ReaderEnd.{ReaderEnd}
 use Rattle.ps_report.specs.Told.{TellsNumber}
 use Rattle.pubsub_states.specs.Changes.{TreeValue}
 use Rattle.pubsub_states.specs.Components.{counts_of}
-use Rattle.reader_group.specs.Members.{Seat, seat_at}
-use Rattle.reader_group.specs.Settings.{setting_of, group_at as read_group_at}
+use Rattle.reader_group.specs.Members.{no_seat}
+use Rattle.reader_group.specs.Settings.{group_at as read_group_at}
 use Rattle.writer_group.specs.Parts.{group_at}
 use Rattle.writer_group.specs.Standing.{IsGood}
 use Rattle.session_model.specs.Steps.{Plan, Step}
@@ -67,17 +69,17 @@ places_of_read_group config r = map (λ i. (r, i)) (reader_indexes config r)
 abbrev pub reader_places_to : Config → ℕ → List MemberPlace
 reader_places_to config r = flat_map (places_of_read_group config) (range_with_len 0 r)
 
-abbrev pub seat_of_place : Config → MemberPlace → Seat
-seat_of_place config place = seat_at (setting_of config place.0).seats place.1
+-- the reader with this place, behind its read group
+abbrev pub reader_in : Config → MemberPlace → ReadGroupPart × ReaderPart
+reader_in config place = (read_group_at config place.0, slice_index_or (read_group_at config place.0).reader place.1 no_seat.part)
 
--- beside a row that the reader with this place holds stand its number, and the version that this program's writer logged at it
-pub record IsNumberedAt (p : Plan) (steps : List Step) (place : MemberPlace) (held : HeldEnd) : Type 0 where
-  pub number : TellsNumber (seat_of_place p.config place).part.numbering held.number
-  pub own : (read_group_at p.config place.0).publisher ≡ p.config.publisher.id
-      → held.version ≡ option_and_then (version_of (log_named p steps (seat_of_place p.config place).part.writer)) held.number
-  pub other : (read_group_at p.config place.0).publisher ≢ p.config.publisher.id → held.version ≡ None
+-- beside a row that a reader holds stand its number, and the version that this program's writer logged at it
+pub record IsNumbered (p : Plan) (steps : List Step) (at : ReadGroupPart × ReaderPart) (held : HeldEnd) : Type 0 where
+  pub number : TellsNumber at.1.numbering held.number
+  pub own : at.0.publisher ≡ p.config.publisher.id → held.version ≡ option_and_then (version_of (log_named p steps at.1.writer)) held.number
+  pub other : at.0.publisher ≢ p.config.publisher.id → held.version ≡ None
 
 -- all that is told of the reader with this place
 pub record IsToldAt (p : Plan) (steps : List Step) (place : MemberPlace) (end : ReaderEnd) : Type 0 where
   pub is : IsReaderEnd p steps place end
-  pub numbered : IfSome end.held (IsNumberedAt p steps place)
+  pub numbered : IfSome end.held (IsNumbered p steps (reader_in p.config place))

@@ -4,3 +4,4 @@ pub mod Standing
 pub mod Ticking
 pub mod Authored
 pub mod Ending
+pub mod Logs
