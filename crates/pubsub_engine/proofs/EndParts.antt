@@ -9,10 +9,10 @@ use Rattle.pubsub_model.specs.Answers.{version_of}
 use Rattle.pubsub_model.specs.Cadence.{WriterDeed, log_of}
 use Rattle.dataset_meta.specs.Metas.{MetaData}
 use Rattle.dataset_writer.specs.declared.settings.WriterSettings.{WriterSettings}
-use Rattle.dataset_writer.specs.declared.writer.Writer.{Writer}
+use Rattle.dataset_writer.specs.declared.writer.Writer.{Writer as DataSetWriter}
 use Rattle.dataset_writer.specs.Standing.{IsWriter}
 use Rattle.dataset_writer.specs.Turns.{model_settings}
-use Rattle.dataset_reader.specs.declared.reader.Reader.{Reader}
+use Rattle.dataset_reader.specs.declared.reader.Reader.{Reader as DataSetReader}
 use Rattle.dataset_reader.specs.Kept.{Kept}
 use Rattle.dataset_reader.specs.Reader.{IsReaderOf, kept_by}
 use Rattle.config_tables.specs.declared.words.NumberingWord.{NumberingWord}
@@ -117,7 +117,7 @@ group-told config p steps tree publisher g state sends may have low is at = λ i
 
 -- ---- writers
 
-pub writer-told : (config : Config) (p : Plan) (steps : List Step) (tree : TreeValue) (publisher : Publisher) (g w : ℕ) (group : WriterGroup) (writer : Writer) (log : List (ℕ × ℕ))
+pub writer-told : (config : Config) (p : Plan) (steps : List Step) (tree : TreeValue) (publisher : Publisher) (g w : ℕ) (group : WriterGroup) (writer : DataSetWriter) (log : List (ℕ × ℕ))
     (end : WriterEnd) → MayTellWriters config tree publisher → HavePublished config p steps tree publisher → g < length config.group → w < length (group_at config g).writer
     → group ≡ get_or publisher.groups.items g group → IsWriterIn group w writer
     → ((meta : MetaData) (settings : WriterSettings) (past : List WriterDeed) → IsWriter meta settings past writer → log ≡ log_of (model_settings settings) past)
@@ -182,7 +182,7 @@ pub seat-part : (config : Config) (r i : ℕ) → i < length (read_group_at conf
 seat-part config r i within = ap (λ (seat : Seat). seat.part) (get_or-map (seat_in config) (read_group_at config r).reader i no_seat.part no_seat within)
 
 pub reader-told : (config : Config) (p : Plan) (steps : List Step) (tree : TreeValue) (publisher : Publisher) (subscriber : Subscriber) (r i : ℕ)
-    (group : ReaderGroup) (reader : Reader) (log : List (ℕ × ℕ)) (end : ReaderEnd)
+    (group : ReaderGroup) (reader : DataSetReader) (log : List (ℕ × ℕ)) (end : ReaderEnd)
     → MayTellReaders config tree subscriber → HavePublished config p steps tree publisher → HaveReceived config p steps tree subscriber
     → r < length config.readgroup → i < length (read_group_at config r).reader
     → ((setting : Setting) (events : List Event) → HaveTheirNumbers setting events)

@@ -3,3 +3,4 @@ pub mod PlacesInOrder
 pub mod Authors
 pub mod Watched
 pub mod EndParts
+pub mod Whole
