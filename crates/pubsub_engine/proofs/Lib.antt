@@ -18,3 +18,9 @@ pub mod Growing
 pub mod OpenSets
 pub mod ReadSets
 pub mod OpenParts
+pub mod Pairing
+pub mod PlacesInOrder
+pub mod Authors
+pub mod Watched
+pub mod EndParts
+pub mod Whole
