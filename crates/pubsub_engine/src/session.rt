@@ -140,6 +140,7 @@ impl<'c> Session<'c> {
         ensures halted { result ≡ Ticked.Memory → (p : Plan) (steps : List Step) → Stands p steps self.old
             → HaltsTick p steps ms closing (sampled_by self.old) (L.told link.old) (L.told link.new) }
         ensures passes { KeepsPasses self.old self.new }
+        ensures appends { appends_left self.new ≡ appends_left self.old }
         ensures memory { result ≡ Ticked.Memory → IsTrue L.takes_memory }
         ensures link { KeepsLink L.opened_with L.faults link.old link.new }
     {
@@ -201,6 +202,7 @@ impl<'c> Session<'c> {
         ensures passes { passes_of self.new ≡ passes_of self.old }
         ensures sampled { sampled_by self.new ≡ sampled_by self.old }
         ensures plan { plan_of self.new ≡ plan_of self.old }
+        ensures appends { appends_left self.new ≡ appends_left self.old }
         ensures link { KeepsLink L.opened_with L.faults link.old link.new }
     {
         self.left.pumps -= 1;
