@@ -83,7 +83,7 @@ pub record HoldSamples (full : List MetaData) (samples : Samples) : Type 0 where
 
 -- each reader may be stored so often
 pub record HoldStores (config : Config) (limit left : ℕ) (stores : Stores) : Type 0 where
-  pub count : vec_len stores.last ≡ length (readers config)
+  pub count : length stores.last.items ≡ length (readers config)
   pub keepers : length stores.keeper ≡ length (readers config)
   pub room : (k : ℕ) → k < length (readers config) → length (pass_at stores.keeper k).seen + left ≤ limit
 

@@ -1,0 +1,7 @@
+pub mod Words
+pub mod Outside
+pub mod Statuses
+pub mod Telling
+pub mod Files
+pub mod Configurations
+pub mod Scripts
