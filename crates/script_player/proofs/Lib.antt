@@ -1,0 +1,5 @@
+mod Lines
+mod Hands
+mod Exact
+mod Writing
+mod Watching
