@@ -101,9 +101,7 @@ check_ends status name old new h reads writes files = record {
   accepts = λ bytes config told ok folder_quiet out_quiet.
       accepts status name (old.file name) old.written new.written bytes config h told ok (λ is. folder_quiet (reads.rose is)) (λ is. out_quiet (writes.rose is));
   long = λ bytes told. too_long status name (old.file name) old.written new.written bytes h told;
-  unread = reads.rose;
-  unwritten = writes.rose;
-  folder_faults = reads.later;
-  out_faults = writes.later;
+  reads = reads;
+  writes = writes;
   files = files;
 }

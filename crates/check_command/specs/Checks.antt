@@ -1,6 +1,6 @@
 -- What the command `check` does, and what each status says of it.
-use Rattle.std.specs.Prelude.{◌≡◌, ◌≤◌, ◌↔◌, ◌⊎◌, ⊤, ℕ, List, ◌++◌, codes, Option, Some, Ok, Err, IsErr}
-use Rattle.ua_base.specs.Cause.{Rose}
+use Rattle.std.specs.Prelude.{◌≡◌, ◌↔◌, ◌⊎◌, ⊤, ℕ, List, ◌++◌, codes, Option, Some, Ok, Err, IsErr}
+use Rattle.ua_base.specs.Cause.{HasCause}
 use Rattle.ua_base.specs.Files.{ToldFile, TellsFile}
 use Rattle.ua_base.specs.Output.{appended, AppendsPrefix}
 use Rattle.ps_config.specs.declared.parts.Config.{Config}
@@ -39,9 +39,7 @@ pub record CheckEnds (status : Status) (name : List ℕ) (old new : Outside) : T
       → IsQuiet old.read_faults new.read_faults → IsQuiet old.write_faults new.write_faults → IsDone status ⊎ IsOutOfMemory status
   pub long : (bytes : List ℕ) → old.file name ≡ Some (Some bytes) → ¬ IsUnread status → ¬ IsOutOfMemory status
       → IsTooLong status ↔ IsLong bytes
-  -- a fault is answered only where the count of faults of its object rose
-  pub unread : IsUnread status → Rose old.read_faults new.read_faults
-  pub unwritten : IsUnwritten status → Rose old.write_faults new.write_faults
-  pub folder_faults : old.read_faults ≤ new.read_faults
-  pub out_faults : old.write_faults ≤ new.write_faults
+  -- a fault is answered only where the count of faults of its object rose, and no count falls
+  pub reads : HasCause old.read_faults new.read_faults (IsUnread status)
+  pub writes : HasCause old.write_faults new.write_faults (IsUnwritten status)
   pub files : (other : List ℕ) → new.file other ≡ old.file other
