@@ -169,7 +169,7 @@ reader-behind config r left group low at behind =
     ∙ slice_get-skip (map (λ part. (group, part)) group.reader) (rest_readers config (r + 1)) (left - length group.reader))
   where
     split : left ≡ length {A = ReadGroupPart × ReaderPart} (map (λ part. (group, part)) group.reader) + (left - length group.reader)
-    split = let e = length-map group.reader (λ (part : ReaderPart). (group, part)) in omega (arith, e, behind)
+    split = let e = length-map {B = ReadGroupPart × ReaderPart} group.reader (λ part. (group, part)) in omega (arith, e, behind)
 
 pub readers-none : (config : Config) (left : ℕ) → slice_get (rest_readers config (length config.readgroup)) left ≡ None
 readers-none config left = ap (λ (groups : List ReadGroupPart). slice_get (grouped_readers groups) left) (drop-length config.readgroup)
