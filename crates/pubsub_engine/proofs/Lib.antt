@@ -25,3 +25,4 @@ pub mod Watched
 pub mod EndParts
 pub mod Whole
 pub mod OpenRows
+pub mod SampleLoop
