@@ -24,5 +24,6 @@ pub mod Authors
 pub mod Watched
 pub mod EndParts
 pub mod Whole
+pub mod OpenRows
 pub mod SampleLoop
 pub mod Origins
