@@ -1,1 +1,3 @@
 pub mod Headline
+pub mod Quotas
+pub mod Appended
