@@ -1,6 +1,6 @@
 //! The command `check`: whether a configuration is accepted.
 #![tactic(auto)]
 
-mod check;
+mod command;
 
-pub use check::check;
+pub use command::check;

@@ -54,14 +54,21 @@ line_feed = 10 ∷ []
 abbrev pub name_numbered : ℕ → List ℕ
 name_numbered code = option_map_or fault_name (find (λ fault. fault_number fault == code) all_faults) []
 
+-- `NAME PATH`
+abbrev pub place_text : ℕ → List ℕ → List ℕ
+place_text code path = name_numbered code ++ codes " " ++ path ++ line_feed
+
 -- `config: Cn NAME PATH`
 abbrev pub config_text : ℕ → List ℕ → List ℕ
-config_text code path = codes "config: C" ++ (decimal code ++ (codes " " ++ (name_numbered code ++ (codes " " ++ (path ++ line_feed)))))
+config_text code path = codes "config: C" ++ decimal code ++ codes " " ++ place_text code path
+
+-- `n NAME`
+abbrev pub fault_text : ScriptFault → List ℕ
+fault_text fault = decimal (script_number fault) ++ codes " " ++ script_fault_name fault ++ line_feed
 
 -- `script: line L Sn NAME`
 abbrev pub script_text : ℕ → ScriptFault → List ℕ
-script_text line fault =
-    codes "script: line " ++ (decimal line ++ (codes " S" ++ (decimal (script_number fault) ++ (codes " " ++ (script_fault_name fault ++ line_feed)))))
+script_text line fault = codes "script: line " ++ decimal line ++ codes " S" ++ fault_text fault
 
 -- the text of a status
 unfoldable pub text_of : Status → List ℕ
@@ -69,8 +76,8 @@ text_of Done = []
 text_of BadWords = codes "usage: uapubsub check --config FILE | play SCRIPT [--config FILE] | run SCRIPT [--config FILE] | load N" ++ line_feed
 text_of (ConfigRefused code path) = config_text code path
 text_of (ScriptRefused line fault) = script_text line fault
-text_of (Unread file) = codes "cannot read " ++ (file.now ++ line_feed)
+text_of (Unread file) = codes "cannot read " ++ file.now ++ line_feed
 text_of Unwritten = []
 text_of OutOfMemory = codes "out of memory" ++ line_feed
 text_of Unopened = codes "cannot open link" ++ line_feed
-text_of (Long file) = codes "file too long: " ++ (file.now ++ line_feed)
+text_of (Long file) = codes "file too long: " ++ file.now ++ line_feed

@@ -1,7 +1,8 @@
 //! How a command ends.
+ghost use Rattle.std.specs.Prelude.{◌≡◌};
+
 use ps_config::Path;
 use ps_script::ScriptFault;
-use ua_base::NoMemory;
 
 /// How a command ends.
 #[derive(Drop)]
@@ -27,8 +28,12 @@ pub enum Status<'w> {
 }
 
 impl<'w> Status<'w> {
+    ghost use Rattle.command_parts.specs.Statuses.{number_of};
+
     /// The exit status of the process.
-    pub fn number(&self) -> u8 {
+    pub fn number(&self) -> u8
+        ensures { result ≡ number_of self.now }
+    {
         match self {
             Status::Done => 0,
             Status::BadWords => 2,

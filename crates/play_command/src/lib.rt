@@ -1,6 +1,6 @@
 //! The command `play`: a script played over a link, and the report of its session.
 #![tactic(auto)]
 
-mod play;
+mod command;
 
-pub use play::play;
+pub use command::play;

@@ -24,3 +24,4 @@ pub mod Authors
 pub mod Watched
 pub mod EndParts
 pub mod Whole
+pub mod SampleLoop

@@ -1,5 +1,5 @@
 -- Switches: where they leave the session.
-use Rattle.std.proofs.Common.{◌≡◌, refl, sym, ap, ◌∙◌, subst, arith, ℕ, ◌+◌, ◌<◌, Bool, true, false, List, [], ◌∷◌, length, Some, get_or}
+use Rattle.std.proofs.Common.{◌≡◌, refl, sym, ap, ◌∙◌, subst, arith, ℕ, Bool, true, false, List, [], ◌∷◌, Some, get_or}
 use Rattle.std.specs.Prelude.{fold, slice_get, unwrap_or, vec_len, ◌==◌, if◌then◌else◌}
 use Rattle.std.proofs.lemmas.Option.{slice_get-get_or}
 use Rattle.dataset_meta.specs.Rows.{cons_if}
@@ -8,9 +8,8 @@ use Rattle.pubsub_model.specs.declared.reading.Why.TheVariants.{Restarted}
 use Rattle.pubsub_states.specs.declared.component.Component.{Component}
 use Rattle.pubsub_states.specs.declared.component.Component.TheVariants.{Root, Connection, Group, Writer, ReadGroup, Reader}
 use Rattle.pubsub_states.specs.declared.flags.Flags.{Flags}
-use Rattle.pubsub_states.specs.declared.tree.Switched.{Switched}
 use Rattle.pubsub_states.specs.declared.tree.Switched.TheVariants.{Done, InvalidState}
-use Rattle.pubsub_states.specs.Components.{Counts, IsAmong, IsId, components, counts_of, id_of, is_at_or_above, is_reader}
+use Rattle.pubsub_states.specs.Components.{Counts, IsAmong, IsId, components, counts_of, id_of, is_at_or_above}
 use Rattle.pubsub_states.specs.Changes as changes
 use Rattle.pubsub_states.specs.Changes.{TreeValue, Changes, flags_in, is_enabled}
 use Rattle.pubsub_states.proofs.Places.{placed}

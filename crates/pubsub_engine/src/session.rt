@@ -29,6 +29,7 @@ use std::alloc::Global;
 use std::sync::Wait;
 use target_cells::{Origin, Passes as Watches, Targets};
 use ua_base::{Link, NoMemory, Pumped, Ticked};
+use version_cell::histories_are_the_models;
 
 /// What may still come.
 #[derive(Clone, Copy, Debug)]
@@ -73,6 +74,7 @@ impl<'c> Session<'c> {
         ensures rest { ChangesSamples self.old self.new }
         ensures stands { KeepsStands self.old self.new }
     {
+        histories_are_the_models();
         self.samples.take(rt, bank);
     }
 

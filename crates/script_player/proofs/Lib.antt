@@ -1,3 +1,8 @@
 pub mod Headline
 pub mod Quotas
 pub mod Appended
+mod Lines
+mod Hands
+mod Exact
+mod Writing
+mod Watching

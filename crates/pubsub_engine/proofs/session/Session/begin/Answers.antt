@@ -1,4 +1,4 @@
-use Rattle.std.proofs.Common.{◌≡◌, ◌+◌, ◌≤◌, ℕ, List, length, refl, ap, sym, ◌∙◌, subst, arith}
+use Rattle.std.proofs.Common.{◌≤◌, refl, ap, sym, ◌∙◌, subst, arith}
 use Rattle.session_parts.specs.declared.publisher.Publisher.{Publisher}
 use Rattle.session_parts.specs.declared.subscriber.Subscriber.{Subscriber}
 use Rattle.session_parts.specs.Holding.{MayAllGoOn}
@@ -10,14 +10,14 @@ use Rattle.pubsub_engine.proofs.NowSets.{now-sets}
 use Rattle.std.proofs.lemmas.Slice.Zip.{AllZip-long}
 use Rattle.pubsub_engine.proofs.session.Session.begin.Goals as goal
 
-pub overflow_sub-self-left-ticks : goal.overflow_sub-self-left-ticks
-overflow_sub-self-left-ticks c = one-left c.args.ms c.args.closing c.args.self.now c.requires.may
+pub overflow_sub-self : goal.overflow_sub-self
+overflow_sub-self c = one-left c.args.ms c.args.closing c.args.self.now c.requires.may
 
-pub overflow_add-self-left-pumps : goal.overflow_add-self-left-pumps
-overflow_add-self-left-pumps c = let one : 1 ≤ c.args.self.now.left.ticks = one-left c.args.ms c.args.closing c.args.self.now c.requires.may in omega (arith, one, c.requires.may.session.calls)
+pub overflow_add-self : goal.overflow_add-self
+overflow_add-self c = let one : 1 ≤ c.args.self.now.left.ticks = one-left c.args.ms c.args.closing c.args.self.now c.requires.may in omega (arith, one, c.requires.may.session.calls)
 
-pub overflow_add-self-moment : goal.overflow_add-self-moment
-overflow_add-self-moment c = moment-fits c.args.ms c.args.closing c.args.self.now c.requires.may
+pub overflow_add-self-2 : goal.overflow_add-self-2
+overflow_add-self-2 c = let fits = moment-fits c.args.ms c.args.closing c.args.self.now c.requires.may in omega (arith, fits)
 
 pub tell-requires-clause-holds : goal.tell-requires-clause-holds
 tell-requires-clause-holds c = c.expire.ensures.holds c.args.self.now.config.now c.requires.may.session.subscriber

@@ -1,4 +1,4 @@
-use Rattle.std.proofs.Common.{◌≡◌, Bool, refl, ap, ◌∙◌}
+use Rattle.std.proofs.Common.{Bool, refl, ap, ◌∙◌}
 use Rattle.std.specs.Prelude.{if◌then◌else◌}
 use Rattle.pubsub_states.specs.declared.tree.Switched.TheVariants.{Done, InvalidState}
 use Rattle.pubsub_engine.specs.declared.session.Session.{Session}

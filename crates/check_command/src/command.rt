@@ -1,4 +1,9 @@
 //! Judging a configuration.
+ghost use Rattle.std.specs.Prelude.{◌≡◌};
+ghost use Rattle.command_parts.specs.Outside.{outside_of};
+ghost use Rattle.command_parts.specs.Statuses.{IsDone, IsUnwritten};
+ghost use Rattle.check_command.specs.Checks.{CheckEnds};
+
 use command_parts::{Status, read_configuration, write_text};
 use std::alloc::Global;
 use ua_base::{Folder, Sink};
@@ -10,7 +15,12 @@ pub fn check<'w, F: Folder, K: Sink>(
     name: &'w str,
     folder: &mut F,
     out: &mut K,
-) -> Status<'w> {
+) -> Status<'w>
+    ensures ends { CheckEnds result name.now
+        (outside_of F.tells F.faults K.written K.faults folder.old out.old)
+        (outside_of F.tells F.faults K.written K.faults folder.new out.new) }
+    ensures silent { ¬ IsDone result → ¬ IsUnwritten result → out.new ≡ out.old }
+{
     match read_configuration(alloc, name, folder) {
         Ok(_) => {}
         Err(status) => return status,
