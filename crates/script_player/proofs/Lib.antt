@@ -1,6 +1,6 @@
-pub mod Headline
-pub mod Quotas
-pub mod Appended
+mod Headline
+mod Quotas
+mod Appended
 mod Lines
 mod Hands
 mod Exact
