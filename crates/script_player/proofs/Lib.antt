@@ -1,4 +1,6 @@
-pub mod Headline
+mod Headline
+mod Quotas
+mod Appended
 mod Lines
 mod Hands
 mod Exact
