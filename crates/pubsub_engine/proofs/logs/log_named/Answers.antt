@@ -1,4 +1,4 @@
-use Rattle.std.proofs.Common.{◌≡◌, ℕ, ◌<◌, ◌≤◌, arith, length, get_or, sym, ◌∙◌, subst, Option, Some, IfSome}
+use Rattle.std.proofs.Common.{ℕ, ◌<◌, arith, length, sym, ◌∙◌, subst, Option, Some, IfSome}
 use Rattle.writer_group.specs.declared.group.Group.{Group}
 use Rattle.writer_group.specs.Parts.{group_at}
 use Rattle.writer_group.specs.Payloads.{writer_at}

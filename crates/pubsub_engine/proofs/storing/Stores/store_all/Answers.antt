@@ -1,10 +1,10 @@
-use Rattle.std.proofs.Common.{◌≡◌, refl, sym, ap, ◌∙◌, subst, arith, ℕ, ◌+◌, ◌<◌, ◌≤◌, length}
+use Rattle.std.proofs.Common.{◌≡◌, sym, ap, ◌∙◌, subst, arith, ℕ, ◌+◌, ◌<◌, length}
 use Rattle.ps_config.specs.declared.parts.ReadGroupPart.{ReadGroupPart}
 use Rattle.ps_config.specs.Sound.{readers}
 use Rattle.reader_group.specs.Settings.{group_at}
 use Rattle.pubsub_engine.specs.Storing.{HaveStoredOn, MayStoreFrom, first_reader}
 use Rattle.pubsub_engine.proofs.Places.{few-readers, first-all, first-more, first-most}
-use Rattle.pubsub_engine.proofs.Stored.{all-stored, cells-count, holds-left, joined-on, may-from, none-on}
+use Rattle.pubsub_engine.proofs.Stored.{all-stored, cells-count, holds-left, joined-on}
 use Rattle.pubsub_engine.proofs.storing.Stores.store_all.Goals as goal
 
 pub overflow_add-first : goal.overflow_add-first

@@ -1,12 +1,10 @@
-use Rattle.std.proofs.Common.{◌≡◌, refl, sym, ap, ◌∙◌, subst, arith, ℕ, ◌+◌, ◌<◌, ◌≤◌, length, get_or, slice_get, List, Some}
-use Rattle.dataset_reader.specs.Reader.{IsReaderOf}
+use Rattle.std.proofs.Common.{◌≡◌, ap, ◌∙◌, subst, arith, ℕ, ◌+◌, ◌<◌, length, get_or, slice_get, List, Some}
 use Rattle.ps_config.specs.declared.parts.ReaderPart.{ReaderPart}
 use Rattle.ps_config.specs.declared.parts.ReadGroupPart.{ReadGroupPart}
-use Rattle.ps_config.specs.Sound.{readers}
 use Rattle.reader_group.specs.Settings.{group_at}
 use Rattle.session_model.specs.Closing.{reader_places}
 use Rattle.pubsub_engine.specs.Storing.{HaveStoredOn, MayStoreFrom, first_reader}
-use Rattle.pubsub_engine.proofs.Places.{few-readers, first-more, first-most, first-within, place-at}
+use Rattle.pubsub_engine.proofs.Places.{few-readers, first-more, first-most, place-at}
 use Rattle.pubsub_engine.proofs.Stored.{cells-count, joined-on, may-more, one-on, placed-on, reader-of}
 use Rattle.pubsub_engine.proofs.storing.Stores.store_group.Goals as goal
 
