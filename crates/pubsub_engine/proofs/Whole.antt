@@ -1,0 +1,144 @@
+-- A closed session as a whole, out of what its parts tell.
+use Rattle.std.proofs.Common.{◌≡◌, ◌≢◌, refl, sym, ap, ◌∙◌, subst, arith, ℕ, ◌<◌, Bool, true, false, cond, List, [], ◌∷◌, length, get_or, Option, Some, None}
+use Rattle.std.specs.Prelude.{◌==◌, map, flat_map, find, zip, All, IfSome, slice_get, option_and_then}
+use Rattle.std.specs.List.{AllZip}
+use Rattle.std.specs.Option.{option_map_or}
+use Rattle.std.proofs.lemmas.List.{get_or-map, length-map, map-id}
+use Rattle.std.proofs.lemmas.List.Elements.{All-get_or}
+use Rattle.std.proofs.lemmas.Option.{slice_get-get_or, slice_get-map}
+use Rattle.pubsub_model.specs.Answers.{version_of}
+use Rattle.dataset_meta.specs.Metas.{MetaData, no_meta}
+use Rattle.row_words.specs.Belonging.{Belongs}
+use Rattle.ps_config.specs.declared.parts.Config.{Config}
+use Rattle.ps_config.specs.declared.parts.GroupPart.{GroupPart}
+use Rattle.ps_config.specs.declared.parts.ReadGroupPart.{ReadGroupPart}
+use Rattle.ps_config.specs.declared.parts.ReaderPart.{ReaderPart}
+use Rattle.ps_config.specs.declared.parts.WriterPart.{WriterPart}
+use Rattle.ps_config.specs.Sound.{IsReadGroup, IsReader, IsSound}
+use Rattle.ps_report.specs.declared.closed.HeldEnd.{HeldEnd}
+use Rattle.ps_report.specs.declared.closed.ReaderEnd.{ReaderEnd}
+use Rattle.ps_report.specs.declared.closed.WriterEnd.{WriterEnd}
+use Rattle.ps_report.specs.Conditions.{BelongsTo, HoldRows, HoldsRow, readers_of, writers_of}
+use Rattle.ps_report.specs.Told.{TellsHeld, TellsReader, grouped_readers, log_of}
+use Rattle.reader_group.specs.Members.{Seat, no_seat, seat_at}
+use Rattle.reader_group.specs.Settings.{group_at as read_group_at, no_group as no_read_group, seat_in, setting_of}
+use Rattle.writer_group.specs.Parts.{no_group}
+use Rattle.writer_group.specs.Payloads.{no_writer}
+use Rattle.session_model.specs.Steps.{Plan, Step}
+use Rattle.session_model.specs.Deeds.{log_at}
+use Rattle.session_model.specs.Closing.{IsReaderEnd, IsWriterEnd, MemberPlace, reader_places, writer_places}
+use Rattle.pubsub_engine.specs.Standing.{log_named}
+use Rattle.pubsub_engine.specs.Ending.{IsNumbered, IsToldAt, reader_in}
+use Rattle.pubsub_engine.proofs.EndParts.{seat-part}
+use Rattle.pubsub_engine.proofs.Pairing.{pairs-length, pairs-map, pairs-weaker}
+use Rattle.pubsub_engine.proofs.PlacesInOrder.{all-to, gathered}
+
+-- ---- the parts at places
+
+-- each reader behind its read group, by places
+pub readers-by-place : (config : Config) → map (reader_in config) (reader_places config) ≡ grouped_readers config.readgroup
+readers-by-place config = gathered (λ (group : ReadGroupPart). group.reader) (λ (group : ReadGroupPart) (part : ReaderPart). (group, part)) config.readgroup no_read_group no_seat.part
+
+parts-by-place : (config : Config) → map (λ place. (reader_in config place).1) (reader_places config) ≡ readers_of config.readgroup
+parts-by-place config =
+    gathered (λ (group : ReadGroupPart). group.reader) (λ (group : ReadGroupPart) (part : ReaderPart). part) config.readgroup no_read_group no_seat.part
+    ∙ ap (λ (f : ReadGroupPart → List ReaderPart). flat_map f config.readgroup) (λ i group. map-id group.reader i)
+
+pub reader-count : (config : Config) → length (reader_places config) ≡ length (readers_of config.readgroup)
+reader-count config = sym (length-map (reader_places config) (λ place. (reader_in config place).1)) ∙ ap length (parts-by-place config)
+
+pub writer-count : (config : Config) → length (writer_places config) ≡ length (writers_of config.group)
+writer-count config =
+    sym (length-map (writer_places config) _)
+    ∙ ap length (gathered (λ (group : GroupPart). group.writer) (λ (group : GroupPart) (part : WriterPart). part) config.group no_group no_writer)
+    ∙ ap (λ (f : GroupPart → List WriterPart). length (flat_map f config.group)) (λ i group. map-id group.writer i)
+
+abbrev IsPlace : Config → MemberPlace → Type 0
+IsPlace config place = (place.0 < length config.readgroup) × (place.1 < length (read_group_at config place.0).reader)
+
+are-places : (config : Config) → All (IsPlace config) (reader_places config)
+are-places config = all-to (IsPlace config) (λ r. length (read_group_at config r).reader) (length config.readgroup) (λ r i low within. (low, within))
+
+-- ---- logs
+
+-- the log that the ends tell for an id is the one that the steps leave
+named-in : (p : Plan) (steps : List Step) (id : ℕ) (parts : List WriterPart) (places : List MemberPlace) (ends : List WriterEnd) → AllZip (IsWriterEnd p steps) places ends
+    → log_of parts ends id ≡ option_map_or (λ (at : WriterPart × MemberPlace). log_at p at.1.0 at.1.1 steps) (find (λ (at : WriterPart × MemberPlace). at.0.id == id) (zip parts places)) []
+named-in p steps id [] places ends pairs = refl
+named-in p steps id (part ∷ parts) [] [] pairs = refl
+named-in p steps id (part ∷ parts) [] (end ∷ ends) pairs = absurd pairs
+named-in p steps id (part ∷ parts) (place ∷ places) [] pairs = absurd pairs
+named-in p steps id (part ∷ parts) (place ∷ places) (end ∷ ends) pairs = go (part.id == id) (named-in p steps id parts places ends pairs.1)
+  where
+    own : WriterPart × WriterEnd → List (ℕ × ℕ)
+    own at = at.1.log
+
+    left : WriterPart × MemberPlace → List (ℕ × ℕ)
+    left at = log_at p at.1.0 at.1.1 steps
+
+    go : (b : Bool) → log_of parts ends id ≡ option_map_or left (find (λ (at : WriterPart × MemberPlace). at.0.id == id) (zip parts places)) []
+        → option_map_or own (cond b (Some (part, end)) (find (λ (at : WriterPart × WriterEnd). at.0.id == id) (zip parts ends))) []
+        ≡ option_map_or left (cond b (Some (part, place)) (find (λ (at : WriterPart × MemberPlace). at.0.id == id) (zip parts places))) []
+    go true rest = pairs.0.log
+    go false rest = rest
+
+pub log-named : (p : Plan) (steps : List Step) (id : ℕ) (ends : List WriterEnd) → AllZip (IsWriterEnd p steps) (writer_places p.config) ends
+    → log_of (writers_of p.config.group) ends id ≡ log_named p steps id
+log-named p steps id ends pairs = named-in p steps id (writers_of p.config.group) (writer_places p.config) ends pairs
+
+-- ---- readers
+
+tells-held : (p : Plan) (steps : List Step) (writers : List WriterEnd) (at : ReadGroupPart × ReaderPart) (held : Option HeldEnd)
+    → ((id : ℕ) → log_of (writers_of p.config.group) writers id ≡ log_named p steps id)
+    → IfSome held (IsNumbered p steps at) → IfSome held (λ held. TellsHeld p.config writers at.0 at.1 held)
+tells-held p steps writers at None logs is = tt
+tells-held p steps writers at (Some held) logs is = record {
+  number = is.number;
+  own = λ same. is.own same ∙ ap (λ (l : List (ℕ × ℕ)). option_and_then (version_of l) held.number) (sym (logs at.1.writer));
+  other = is.other;
+}
+
+-- numbers and versions are told
+pub tells-readers : (p : Plan) (steps : List Step) (writers : List WriterEnd) (readers : List ReaderEnd) → AllZip (IsWriterEnd p steps) (writer_places p.config) writers
+    → AllZip (IsToldAt p steps) (reader_places p.config) readers → AllZip (TellsReader p.config writers) (grouped_readers p.config.readgroup) readers
+tells-readers p steps writers readers logs told =
+    subst (λ (l : List (ReadGroupPart × ReaderPart)). AllZip (TellsReader p.config writers) l readers) (readers-by-place p.config)
+    (pairs-map (TellsReader p.config writers) (reader_in p.config) (reader_places p.config) readers
+    (pairs-weaker (IsPlace p.config) (IsToldAt p steps) (λ place end. TellsReader p.config writers (reader_in p.config place) end)
+    (λ place end there is. tells-held p steps writers (reader_in p.config place) end.held (λ id. log-named p steps id writers logs) is.numbered)
+    (reader_places p.config) readers (are-places p.config) told))
+
+pub are-ends : (p : Plan) (steps : List Step) (readers : List ReaderEnd) → AllZip (IsToldAt p steps) (reader_places p.config) readers
+    → AllZip (IsReaderEnd p steps) (reader_places p.config) readers
+are-ends p steps readers told =
+    pairs-weaker (IsPlace p.config) (IsToldAt p steps) (IsReaderEnd p steps) (λ place end there is. is.is) (reader_places p.config) readers (are-places p.config) told
+
+reader-dataset : (config : Config) (r i : ℕ) → IsSound config → r < length config.readgroup → i < length (read_group_at config r).reader
+    → (reader_in config (r, i)).1.dataset < length config.dataset
+reader-dataset config r i sound low within =
+    (All-get_or (IsReader config) (read_group_at config r).reader i no_seat.part within
+    (All-get_or (IsReadGroup config) config.readgroup r no_read_group low sound.readgroups).readers).dataset
+
+holds-row : (config : Config) (part : ReaderPart) (meta : MetaData) (held : Option HeldEnd) → part.dataset < length config.dataset
+    → meta ≡ get_or config.dataset part.dataset no_meta → IfSome held (λ held. Belongs meta held.row.words)
+    → IfSome held (λ held. BelongsTo (slice_get config.dataset part.dataset) held.row.words)
+holds-row config part meta None there is belongs = tt
+holds-row config part meta (Some held) there is belongs =
+    subst (λ (found : Option MetaData). BelongsTo found held.row.words) (sym (slice_get-get_or config.dataset part.dataset no_meta there))
+    (subst (λ (m : MetaData). Belongs m held.row.words) is belongs)
+
+-- what readers hold are rows of their data sets
+pub holds-rows : (p : Plan) (steps : List Step) (readers : List ReaderEnd) → IsSound p.config → AllZip (IsToldAt p steps) (reader_places p.config) readers
+    → HoldRows p.config.dataset (readers_of p.config.readgroup) readers
+holds-rows p steps readers sound told =
+    subst (λ (l : List ReaderPart). AllZip (HoldsRow p.config.dataset) l readers) (parts-by-place p.config)
+    (pairs-map (HoldsRow p.config.dataset) (λ place. (reader_in p.config place).1) (reader_places p.config) readers
+    (pairs-weaker (IsPlace p.config) (IsToldAt p steps) (λ place end. HoldsRow p.config.dataset (reader_in p.config place).1 end)
+    (λ place end there is.
+    holds-row p.config (reader_in p.config place).1 (seat_at (setting_of p.config place.0).seats place.1).meta end.held
+    (reader-dataset p.config place.0 place.1 sound there.0 there.1) (seat-meta place.0 place.1 there.1) is.is.shows.belongs)
+    (reader_places p.config) readers (are-places p.config) told))
+  where
+    seat-meta : (r i : ℕ) → i < length (read_group_at p.config r).reader
+        → (seat_at (setting_of p.config r).seats i).meta ≡ get_or p.config.dataset (reader_in p.config (r, i)).1.dataset no_meta
+    seat-meta r i within = ap (λ (seat : Seat). seat.meta) (get_or-map (seat_in p.config) (read_group_at p.config r).reader i no_seat.part no_seat within)

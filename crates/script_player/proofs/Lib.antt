@@ -1,0 +1,6 @@
+pub mod Headline
+mod Lines
+mod Hands
+mod Exact
+mod Writing
+mod Watching
