@@ -1,4 +1,4 @@
-use Rattle.std.proofs.Common.{◌≡◌, ℕ, ◌<◌, List, length, Option, None, option_map, sym, ap, ◌∙◌, subst}
+use Rattle.std.proofs.Common.{ℕ, ◌<◌, List, length, option_map, sym, ap, ◌∙◌, subst}
 use Rattle.ps_config.specs.declared.parts.GroupPart.{GroupPart}
 use Rattle.pubsub_engine.specs.Logs.{place_within}
 use Rattle.pubsub_engine.proofs.Named.{group-found, group-other}

@@ -1,4 +1,4 @@
-use Rattle.std.proofs.Common.{◌≡◌, ℕ}
+use Rattle.std.proofs.Common.{◌≡◌}
 use Rattle.pubsub_engine.specs.Logs.{place_named}
 use Rattle.pubsub_engine.proofs.Named.{rest_named}
 use Rattle.pubsub_engine.proofs.logs.writer_named.Given as goal

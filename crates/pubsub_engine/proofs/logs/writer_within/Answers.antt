@@ -1,4 +1,4 @@
-use Rattle.std.proofs.Common.{◌≡◌, ℕ, ◌<◌, List, length, get_or, sym, ap, ◌∙◌, subst}
+use Rattle.std.proofs.Common.{◌<◌, List, length, get_or, sym, ap, ◌∙◌, subst}
 use Rattle.ps_config.specs.declared.parts.WriterPart.{WriterPart}
 use Rattle.pubsub_engine.proofs.Named.{writer-other}
 use Rattle.pubsub_engine.proofs.logs.writer_within.Goals as goal

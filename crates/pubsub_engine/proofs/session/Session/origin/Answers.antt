@@ -1,4 +1,4 @@
-use Rattle.std.proofs.Common.{◌≡◌, sym, ap}
+use Rattle.std.proofs.Common.{sym, ap}
 use Rattle.session_model.specs.Steps.{Plan}
 use Rattle.pubsub_engine.proofs.session.Session.origin.Goals as goal
 

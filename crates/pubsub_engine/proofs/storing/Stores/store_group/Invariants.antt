@@ -1,4 +1,4 @@
-use Rattle.std.proofs.Common.{◌≡◌, ◌+◌}
+use Rattle.std.proofs.Common.{◌+◌}
 use Rattle.pubsub_engine.specs.Storing.{HaveStoredOn, MayStoreFrom}
 use Rattle.pubsub_engine.proofs.storing.Stores.store_group.Given as goal
 
