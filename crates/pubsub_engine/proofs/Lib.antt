@@ -12,6 +12,7 @@ pub mod Places
 pub mod Rows
 pub mod Stored
 pub mod Named
+pub mod Origins
 pub mod Receipts
 pub mod Switches
 pub mod Growing
