@@ -1,8 +1,8 @@
 -- Places of writers and readers, group by group.
 use Rattle.std.proofs.Common.{◌≡◌, refl, sym, ap, ◌∙◌, subst, arith, ℕ, zero, suc, ◌+◌, ◌<◌, ◌≤◌, List, [], ◌∷◌, ◌++◌, length, get_or, take}
 use Rattle.std.specs.Prelude.{map, flat_map, slice_get, Some, All}
-use Rattle.std.specs.List.{range_with_len}
-use Rattle.std.proofs.lemmas.List.{append-nil, map-append, map-id}
+use Rattle.std.specs.List.{AllZip, range_with_len}
+use Rattle.std.proofs.lemmas.List.{append-nil, append_assoc, map-append, map-id}
 use Rattle.std.proofs.lemmas.Simd.{map-map}
 use Rattle.std.proofs.lemmas.List.Concat.{flat_map-append, get_or-flat_map}
 use Rattle.std.proofs.lemmas.List.Elements.{All-nil, All-append, All-map, All-from_get_or}
@@ -10,6 +10,7 @@ use Rattle.std.proofs.lemmas.List.Folds.{flat_map-map, length-flat_map-take}
 use Rattle.std.proofs.lemmas.List.FromFn.{fill_by_all, get_or-range_with_len, get_or-map-range_with_len, length-range_with_len, length-map-range_with_len, map-range_with_len_more, take-map-range_with_len}
 use Rattle.std.proofs.lemmas.Option.{slice_get-get_or}
 use Rattle.session_parts.proofs.Counting.{range-more}
+use Rattle.pubsub_engine.proofs.Pairing.{pairs-push}
 
 -- ---- group by group
 
@@ -23,6 +24,14 @@ group-more f n =
 
 pub member-more : {X : Type 0} (f : ℕ → X) (n : ℕ) → map f (range_with_len 0 (n + 1)) ≡ map f (range_with_len 0 n) ++ f n ∷ []
 member-more f n = map-range_with_len_more f 0 n n (omega arith)
+
+-- one member more, behind other places
+pub pairs-more : {A B : Type 0} (R : A → B → Type 0) (places : List A) (f : ℕ → A) (n : ℕ) (items more : List B) (x : B) → more ≡ items ++ x ∷ [] → R (f n) x
+    → AllZip R (places ++ map f (range_with_len 0 n)) items → AllZip R (places ++ map f (range_with_len 0 (n + 1))) more
+pairs-more {A} {B} R places f n items more x pushed here so_far =
+    subst (λ (l : List B). AllZip R (places ++ map f (range_with_len 0 (n + 1))) l) (sym pushed)
+    (subst (λ (l : List A). AllZip R l (items ++ x ∷ [])) (append_assoc places (map f (range_with_len 0 n)) (f n ∷ []) ∙ ap (λ (l : List A). places ++ l) (sym (member-more f n)))
+    (pairs-push R (places ++ map f (range_with_len 0 n)) items (f n) x so_far here))
 
 range-take : (n k : ℕ) → k < n → take k (range_with_len 0 n) ≡ range_with_len 0 k
 range-take n k low =

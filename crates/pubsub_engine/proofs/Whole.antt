@@ -29,35 +29,8 @@ use Rattle.session_model.specs.Deeds.{log_at}
 use Rattle.session_model.specs.Closing.{IsReaderEnd, IsWriterEnd, MemberPlace, reader_places, writer_places}
 use Rattle.pubsub_engine.specs.Standing.{log_named}
 use Rattle.pubsub_engine.specs.Ending.{IsNumbered, IsToldAt, reader_in}
-use Rattle.pubsub_engine.proofs.EndParts.{seat-part}
-use Rattle.pubsub_engine.proofs.Pairing.{pairs-length, pairs-map, pairs-weaker}
-use Rattle.pubsub_engine.proofs.PlacesInOrder.{all-to, gathered}
-
--- ---- the parts at places
-
--- each reader behind its read group, by places
-pub readers-by-place : (config : Config) → map (reader_in config) (reader_places config) ≡ grouped_readers config.readgroup
-readers-by-place config = gathered (λ (group : ReadGroupPart). group.reader) (λ (group : ReadGroupPart) (part : ReaderPart). (group, part)) config.readgroup no_read_group no_seat.part
-
-parts-by-place : (config : Config) → map (λ place. (reader_in config place).1) (reader_places config) ≡ readers_of config.readgroup
-parts-by-place config =
-    gathered (λ (group : ReadGroupPart). group.reader) (λ (group : ReadGroupPart) (part : ReaderPart). part) config.readgroup no_read_group no_seat.part
-    ∙ ap (λ (f : ReadGroupPart → List ReaderPart). flat_map f config.readgroup) (λ i group. map-id group.reader i)
-
-pub reader-count : (config : Config) → length (reader_places config) ≡ length (readers_of config.readgroup)
-reader-count config = sym (length-map (reader_places config) (λ place. (reader_in config place).1)) ∙ ap length (parts-by-place config)
-
-pub writer-count : (config : Config) → length (writer_places config) ≡ length (writers_of config.group)
-writer-count config =
-    sym (length-map (writer_places config) _)
-    ∙ ap length (gathered (λ (group : GroupPart). group.writer) (λ (group : GroupPart) (part : WriterPart). part) config.group no_group no_writer)
-    ∙ ap (λ (f : GroupPart → List WriterPart). length (flat_map f config.group)) (λ i group. map-id group.writer i)
-
-abbrev IsPlace : Config → MemberPlace → Type 0
-IsPlace config place = (place.0 < length config.readgroup) × (place.1 < length (read_group_at config place.0).reader)
-
-are-places : (config : Config) → All (IsPlace config) (reader_places config)
-are-places config = all-to (IsPlace config) (λ r. length (read_group_at config r).reader) (length config.readgroup) (λ r i low within. (low, within))
+use Rattle.pubsub_engine.proofs.ByPlace.{IsPlace, are-places, parts-by-place, readers-by-place}
+use Rattle.pubsub_engine.proofs.Pairing.{pairs-map, pairs-weaker}
 
 -- ---- logs
 

@@ -114,8 +114,14 @@ fn writer_end(
     let log = publisher.groups[usize::from(group)].writer(writer).log();
     Ok(WriterEnd {
         state: tree.state_of(Component::Writer { group, writer }),
-        log: Parts::new(log.to_vec(alloc)?),
+        log: Parts::new(copied(alloc, log)?),
     })
+}
+
+fn copied(alloc: Global, log: &[(u64, u64)]) -> Result<Vec<(u64, u64)>, NoMemory>
+    ensures { IfOk result (λ copy. copy.items ≡ log.now) }
+{
+    Ok(log.to_vec(alloc)?)
 }
 
 /// The ends of the read groups, in order.
