@@ -1,18 +1,20 @@
 -- The logs of this program's writers, and which of them a reader names.
-use Rattle.std.specs.Prelude.{◌≡◌, ◌≢◌, ℕ, ◌==◌, List, [], zip, find}
+use Rattle.std.specs.Prelude.{◌≡◌, ◌≢◌, ℕ, ◌==◌, List, [], map, zip, find, Option, option_map}
 use Rattle.std.specs.Option.{option_map_or}
 use Rattle.dataset_meta.specs.Metas.{MetaData}
 use Rattle.pubsub_model.specs.Cadence.{log_of}
 use Rattle.dataset_writer.specs.Turns.{model_settings}
 use Rattle.ps_config.specs.declared.parts.Config.{Config}
+use Rattle.ps_config.specs.declared.parts.GroupPart.{GroupPart}
+use Rattle.ps_config.specs.declared.parts.WriterPart.{WriterPart}
 use Rattle.ps_config.specs.declared.parts.ReadGroupPart.{ReadGroupPart}
 use Rattle.ps_config.specs.declared.parts.ReaderPart.{ReaderPart}
 use Rattle.ps_report.specs.Conditions.{writers_of}
 use Rattle.writer_group.specs.Parts.{group_at}
 use Rattle.writer_group.specs.Payloads.{writer_at}
 use Rattle.writer_group.specs.Turns.{settings_of, writer_past}
-use Rattle.session_model.specs.Deeds.{Deed, group_past}
-use Rattle.session_model.specs.Closing.{writer_places}
+use Rattle.session_model.specs.Deeds.{Deed, group_past, writer_indexes}
+use Rattle.session_model.specs.Closing.{MemberPlace, writer_places}
 use Rattle.session_parts.specs.Standing.{HavePast}
 use Rattle.session_parts.specs.declared.publisher.Publisher.{Publisher}
 
@@ -35,3 +37,17 @@ IsLogNamed config publisher id log =
 pub record IsLogRead (config : Config) (publisher : Publisher) (at : ReadGroupPart × ReaderPart) (log : List (ℕ × ℕ)) : Type 0 where
   pub own : at.0.publisher ≡ config.publisher.id → IsLogNamed config publisher at.1.writer log
   pub other : at.0.publisher ≢ config.publisher.id → log ≡ []
+
+-- ---- where a writer with an id stands
+
+-- the place of the first of these writers with the id
+abbrev pub place_in : List WriterPart → List MemberPlace → ℕ → Option MemberPlace
+place_in parts places id = option_map (λ at. at.1) (find (λ at. at.0.id == id) (zip parts places))
+
+-- of the writers of the group with this index
+abbrev pub place_within : GroupPart → ℕ → ℕ → Option MemberPlace
+place_within group g id = place_in group.writer (map (λ w. (g, w)) (writer_indexes group)) id
+
+-- of all writers
+abbrev pub place_named : Config → ℕ → Option MemberPlace
+place_named config id = place_in (writers_of config.group) (writer_places config) id

@@ -1,14 +1,15 @@
 //! The versions that this program's writers logged.
-ghost use Rattle.std.specs.Prelude.{◌≡◌, ◌<◌, length, option_and_then, option_map, slice_get, Some};
+ghost use Rattle.std.specs.Prelude.{◌≡◌, ◌<◌, ℕ, IfSome, length, option_and_then, option_map, slice_get, Some};
 ghost use Rattle.pubsub_model.specs.Answers.{version_of as version_in};
 ghost use Rattle.ps_config.specs.declared.parts.ReadGroupPart.{ReadGroupPart as GroupValue};
 ghost use Rattle.ps_config.specs.declared.parts.ReaderPart.{ReaderPart as PartValue};
 ghost use Rattle.ps_report.specs.Told.{grouped_readers};
+ghost use Rattle.writer_group.specs.Parts.{group_at};
 ghost use Rattle.writer_group.specs.Standing.{IsGood};
 ghost use Rattle.session_parts.specs.Holding.{AreGroups};
-ghost use Rattle.pubsub_engine.specs.Logs.{IsLogNamed, IsLogRead};
+ghost use Rattle.pubsub_engine.specs.Logs.{IsLogNamed, IsLogRead, place_named, place_within};
 
-use ps_config::{Config, ReadGroupPart, ReaderPart};
+use ps_config::{Config, GroupPart, ReadGroupPart, ReaderPart};
 use session_parts::{Publisher, group_part};
 
 /// The log of this program's writer that the reader with this index over all read groups names, empty where the read group's
@@ -54,15 +55,38 @@ fn log_named<'a>(config: &Config, publisher: &'a Publisher, id: u16) -> &'a [(u6
     requires groups { AreGroups config.now publisher.now.groups.items }
     ensures log { IsLogNamed config.now publisher.now id result.now }
 {
-    for g in 0..publisher.groups.len() {
-        let writers = group_part(config, g).writer.as_slice();
-        for w in 0..writers.len() {
-            if writers[w].id == id {
-                return publisher.groups[g].writer(w as u8).log();
-            }
+    match writer_named(config, id) {
+        Some((g, w)) => publisher.groups[g].writer(w as u8).log(),
+        None => &[],
+    }
+}
+
+/// The group of the writer with an id, and its index in this.
+fn writer_named(config: &Config, id: u16) -> Option<(usize, usize)>
+    ensures place { result ≡ place_named config.now id }
+    ensures there { IfSome result (λ at. at.0 < length config.now.group) }
+    ensures within { IfSome result (λ at. at.1 < length (group_at config.now at.0).writer) }
+{
+    for g in 0..config.group.as_slice().len() {
+        if let Some(w) = writer_within(group_part(config, g), id) {
+            return Some((g, w));
         }
     }
-    &[]
+    None
+}
+
+/// The index of the group's writer with an id.
+fn writer_within(group: &GroupPart, id: u16) -> Option<usize>
+    ensures place { (g : ℕ) → option_map (λ w. (g, w)) result ≡ place_within group.now g id }
+    ensures within { IfSome result (λ w. w < length group.now.writer) }
+{
+    let writers = group.writer.as_slice();
+    for w in 0..writers.len() {
+        if writers[w].id == id {
+            return Some(w);
+        }
+    }
+    None
 }
 
 /// The version that a log has at a number.

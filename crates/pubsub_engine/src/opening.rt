@@ -1,5 +1,6 @@
 //! The opening of a session.
-ghost use Rattle.std.specs.Prelude.{◌≡◌, ◌≤◌, ◌+◌, [], All, IfOk, Some, None, false, length, map};
+ghost use Rattle.std.specs.Prelude.{◌≡◌, ◌≤◌, ◌+◌, ◌++◌, [], All, IfOk, Some, None, false, length, map};
+ghost use Rattle.arrayvec.specs.ArrayVec.{array_vec_len};
 ghost use Rattle.ps_config.specs.Sound.{readers};
 ghost use Rattle.ps_config.specs.Types.{HasTypes};
 ghost use Rattle.version_cell.specs.Sets.{ArePassesOf, new_passes};
@@ -19,9 +20,9 @@ use crate::size::Size;
 use crate::storing::Stores;
 use arrayvec::ArrayVec;
 use cell_bank::{Bank, Passes};
-use ps_config::Config;
+use ps_config::{Config, ReaderPart};
 use pubsub_states::Tree;
-use session_parts::{Receiving, publisher_of, read_group_part, subscriber_of};
+use session_parts::{Receiving, publisher_of, subscriber_of};
 use std::alloc::Global;
 use std::sync::Wait;
 use target_cells::{Passes as Watches, Targets};
@@ -116,10 +117,18 @@ fn sets_read(config: &Config) -> ArrayVec<u8, 16>
     ensures { result.items ≡ map (λ reader. reader.dataset) (readers config.now) }
 {
     let mut sets = ArrayVec::new();
-    for r in 0..config.readgroup.as_slice().len() {
-        for reader in read_group_part(config, r).reader.as_slice() {
-            sets.push(reader.dataset);
-        }
+    for group in config.readgroup.as_slice() {
+        add_sets(&mut sets, group.reader.as_slice());
     }
     sets
+}
+
+/// The data set of each of these readers, behind the others.
+fn add_sets(sets: &mut ArrayVec<u8, 16>, readers: &[ReaderPart])
+    requires room { array_vec_len sets.old + length readers.now ≤ 16 }
+    ensures { sets.new.items ≡ sets.old.items ++ map (λ reader. reader.dataset) readers.now }
+{
+    for reader in readers {
+        sets.push(reader.dataset);
+    }
 }

@@ -3,7 +3,7 @@ ghost use Rattle.std.specs.Prelude.{◌≡◌, ◌∷◌, List, if◌then◌else
 ghost use Rattle.pubsub_states.specs.Components.{IsId, counts_of};
 ghost use Rattle.session_model.specs.Steps.{Plan, Step, Enable, Disable, is_on};
 ghost use Rattle.session_model.specs.Deeds.{component_at};
-ghost use Rattle.pubsub_engine.specs.Holding.{IsRunning, IsSession, KeepsPasses, left_of, plan_of};
+ghost use Rattle.pubsub_engine.specs.Holding.{IsRunning, IsSession, KeepsPasses, appends_left, left_of, plan_of};
 ghost use Rattle.pubsub_engine.specs.Standing.{Stands};
 
 use crate::session::Session;
@@ -23,6 +23,7 @@ impl Session<'_> {
             → Stands p steps self.old → Stands p (Enable id ∷ steps) self.new }
         ensures refused { result ≡ Switched.InvalidState → self.new ≡ self.old }
         ensures passes { KeepsPasses self.old self.new }
+        ensures appends { appends_left self.new ≡ appends_left self.old }
         ensures left { left_of self.new ≡ left_of self.old }
     {
         match self.tree.enable(id) {
@@ -48,6 +49,7 @@ impl Session<'_> {
             → Stands p steps self.old → Stands p (Disable id ∷ steps) self.new }
         ensures refused { result ≡ Switched.InvalidState → self.new ≡ self.old }
         ensures passes { KeepsPasses self.old self.new }
+        ensures appends { appends_left self.new ≡ appends_left self.old }
         ensures left { left_of self.new ≡ left_of self.old }
     {
         match self.tree.disable(id) {

@@ -1,3 +1,4 @@
 pub mod Sizes
 pub mod Playing
 pub mod Plays
+pub mod Player

@@ -77,6 +77,6 @@ pub fn play_script<R: Wait, L: Link>(
         Opened::Failed => return Err(PlayEnd::Unopened),
         Opened::Memory => return Err(PlayEnd::Memory),
     }
-    player.play(rt, alloc, script.lines.as_slice(), link)?;
+    player.play(rt, alloc, script, link)?;
     Ok(player.close(rt, alloc, link)?)
 }

@@ -1,4 +1,18 @@
 //! What plays the lines of a script, one by one.
+ghost use Rattle.std.specs.Prelude.{◌≡◌, ◌<◌, ◌≤◌, [], ℕ, length, map, replicate, reverse, slice_index, All, IsSome, IfOk, OnOk};
+ghost use Rattle.ua_base.specs.Links.{KeepsLink};
+ghost use Rattle.version_cell.specs.Passes.{SeesMore};
+ghost use Rattle.version_cell.specs.Sets.{ArePassesOf, pass_at};
+ghost use Rattle.cell_bank.specs.Hands.{AreSmall};
+ghost use Rattle.ps_script.specs.Sound.{IsScript};
+ghost use Rattle.writer_group.specs.Standing.{IsGood};
+ghost use Rattle.ps_config.specs.Types.{HasTypes};
+ghost use Rattle.session_model.specs.Counts.{most_ticks};
+ghost use Rattle.session_model.specs.Keeping.{IsPlan};
+ghost use Rattle.session_model.specs.Steps.{Enable as EnableStep, Disable as DisableStep};
+ghost use Rattle.pubsub_engine.specs.Holding.{AreAppends, appends_left, full_of, left_of, opening_left, plan_of};
+ghost use Rattle.script_player.specs.Player.{Appends, AreDonesOf, Closes, Does, HasPlayed, IsNew, IsPlayer, MayAppend, MayDo, MayPass, MaySwitch, MayWatch, MayWrite, Passes as PassesTick, Switches, Watches as WatchesReader, Writes, config_of};
+
 use crate::hand::Hand;
 use app_threads::Done;
 use cell_bank::{Bank, Passes};
@@ -11,17 +25,16 @@ use std::alloc::Global;
 use std::sync::Wait;
 use target_cells::{Passes as Watches, Targets};
 use ua_base::{Link, NoMemory};
-use version_cell::Wrote;
 
 /// A session, the cells that its application writes, and what each thread has.
 #[derive(Drop)]
 pub(crate) struct Player<'c> {
-    session: Session<'c>,
-    bank: Bank,
-    targets: Targets,
+    pub(crate) session: Session<'c>,
+    pub(crate) bank: Bank,
+    pub(crate) targets: Targets,
     /// Passes that look at the targets, for all threads.
-    watches: Watches,
-    hands: Vec<Hand>,
+    pub(crate) watches: Watches,
+    pub(crate) hands: Vec<Hand>,
 }
 
 impl<'c> Player<'c> {
@@ -31,7 +44,23 @@ impl<'c> Player<'c> {
         alloc: Global,
         config: &'c Config,
         size: &Size,
-    ) -> Result<Player<'c>, NoMemory> {
+    ) -> Result<Player<'c>, NoMemory>
+        requires good { IsGood config.now }
+        requires ticks { size.now.ticks ≤ most_ticks }
+        requires sets { length size.now.writes.items ≡ length config.now.dataset }
+        requires writes { AreSmall size.now.writes.items }
+        requires appends { AreAppends config.now config.now.dataset size.now.appends.items }
+        ensures player { IfOk result IsPlayer }
+        ensures new { IfOk result IsNew }
+        ensures plan { IfOk result (λ player. plan_of player.session
+            ≡ record { config = config.now; full = full_of config.now.dataset size.now.appends.items }) }
+        ensures is_plan { HasTypes config.now → IfOk result (λ player. IsPlan (plan_of player.session)) }
+        ensures left { IfOk result (λ player. left_of player.session ≡ opening_left size.now.ticks) }
+        ensures appends { IfOk result (λ player. appends_left player.session
+            ≡ map (λ append. append.set) size.now.appends.items) }
+        ensures quotas { IfOk result
+            (λ player. map (λ cell. cell.quotas) player.bank ≡ size.now.writes.items) }
+    {
         let Opening {
             session,
             bank,
@@ -48,15 +77,24 @@ impl<'c> Player<'c> {
         })
     }
 
-    /// Plays the lines in order.
+    /// Plays the lines of a script in order.
     pub(crate) fn play<R: Wait, L: Link>(
         &mut self,
         rt: &R,
         alloc: Global,
-        lines: &[Line],
+        script: &Script,
         link: &mut L,
-    ) -> Result<(), NoMemory> {
-        for line in lines {
+    ) -> Result<(), NoMemory>
+        requires open { IsSome (L.opened_with link.old) }
+        requires script { IsScript (config_of self.old) script.now }
+        requires player { IsPlayer self.old }
+        requires played { HasPlayed (config_of self.old) script.now [] (L.told link.old) self.old }
+        ensures player { OnOk result (IsPlayer self.new) }
+        ensures played { OnOk result (HasPlayed (config_of self.old) script.now
+            (reverse script.now.lines) (L.told link.new) self.new) }
+        ensures link { KeepsLink L.opened_with L.faults link.old link.new }
+    {
+        for line in script.lines.as_slice() {
             self.play_line(rt, alloc, line, link)?;
         }
         Ok(())
@@ -69,7 +107,15 @@ impl<'c> Player<'c> {
         alloc: Global,
         line: &Line,
         link: &mut L,
-    ) -> Result<(), NoMemory> {
+    ) -> Result<(), NoMemory>
+        requires open { IsSome (L.opened_with link.old) }
+        requires player { IsPlayer self.old }
+        requires may { MayDo line.now.act self.old }
+        ensures player { OnOk result (IsPlayer self.new) }
+        ensures does { OnOk result
+            (Does line.now.act self.old self.new (L.told link.old) (L.told link.new)) }
+        ensures link { KeepsLink L.opened_with L.faults link.old link.new }
+    {
         match &line.act {
             Act::Write { thread, set, patch } => self.write(rt, alloc, *thread, *set, patch),
             Act::Tick(ms) => self.tick(rt, u64::from(*ms), false, link),
@@ -85,8 +131,7 @@ impl<'c> Player<'c> {
         }
     }
 
-    /// A thread's write, through its own passes: they take in what the session has seen, and the session what they have seen
-    /// then, so that the next write of any thread and the next sample stand behind it.
+    /// A thread's write, through its own passes.
     fn write<R: Wait>(
         &mut self,
         rt: &R,
@@ -94,15 +139,14 @@ impl<'c> Player<'c> {
         thread: u8,
         set: u8,
         patch: &Patch,
-    ) -> Result<(), NoMemory> {
+    ) -> Result<(), NoMemory>
+        requires player { IsPlayer self.old }
+        requires may { MayWrite thread set patch.now self.old }
+        ensures player { OnOk result (IsPlayer self.new) }
+        ensures writes { OnOk result (Writes thread set patch.now self.old self.new) }
+    {
         let hand = &mut self.hands[usize::from(thread)];
-        let seen = self.session.share(alloc, &self.bank)?;
-        self.bank.join(rt, &mut hand.passes, seen);
-        let version = place(rt, &self.bank, &mut hand.passes, set, patch);
-        hand.wrote(set, version)?;
-        let seen = self.bank.split(alloc, &mut hand.passes)?;
-        self.session.meet(rt, &self.bank, seen);
-        Ok(())
+        hand.write(rt, alloc, &self.bank, &mut self.session, set, patch)
     }
 
     /// A sample, a tick with it, and a pump.
@@ -112,7 +156,15 @@ impl<'c> Player<'c> {
         ms: u64,
         closing: bool,
         link: &mut L,
-    ) -> Result<(), NoMemory> {
+    ) -> Result<(), NoMemory>
+        requires open { IsSome (L.opened_with link.old) }
+        requires player { IsPlayer self.old }
+        requires may { MayPass ms closing self.old }
+        ensures player { OnOk result (IsPlayer self.new) }
+        ensures passes { OnOk result
+            (PassesTick ms closing self.old self.new (L.told link.old) (L.told link.new)) }
+        ensures link { KeepsLink L.opened_with L.faults link.old link.new }
+    {
         self.session.sample(rt, &self.bank);
         match self.session.tick(ms, closing, link) {
             Ticked::Done => {}
@@ -123,19 +175,34 @@ impl<'c> Player<'c> {
     }
 
     /// Enables a component.
-    fn enable(&mut self, id: u8) -> Result<(), NoMemory> {
+    fn enable(&mut self, id: u8) -> Result<(), NoMemory>
+        requires player { IsPlayer self.old }
+        requires may { MaySwitch id self.old }
+        ensures player { IsPlayer self.new }
+        ensures switches { Switches (EnableStep id) id false self.old self.new }
+    {
         self.session.enable(id);
         Ok(())
     }
 
     /// Disables a component.
-    fn disable(&mut self, id: u8) -> Result<(), NoMemory> {
+    fn disable(&mut self, id: u8) -> Result<(), NoMemory>
+        requires player { IsPlayer self.old }
+        requires may { MaySwitch id self.old }
+        ensures player { IsPlayer self.new }
+        ensures switches { Switches (DisableStep id) id true self.old self.new }
+    {
         self.session.disable(id);
         Ok(())
     }
 
     /// The next field is appended.
-    fn append(&mut self) -> Result<(), NoMemory> {
+    fn append(&mut self) -> Result<(), NoMemory>
+        requires player { IsPlayer self.old }
+        requires may { MayAppend self.old }
+        ensures player { IsPlayer self.new }
+        ensures appends { Appends self.old self.new }
+    {
         self.session.append();
         Ok(())
     }
@@ -148,7 +215,12 @@ impl<'c> Player<'c> {
         thread: u8,
         reader: u8,
         times: u32,
-    ) -> Result<(), NoMemory> {
+    ) -> Result<(), NoMemory>
+        requires player { IsPlayer self.old }
+        requires may { MayWatch thread reader self.old }
+        ensures player { OnOk result (IsPlayer self.new) }
+        ensures watches { OnOk result (WatchesReader thread reader times self.old self.new) }
+    {
         self.session.level(rt, &self.targets, &mut self.watches);
         let counts = look(rt, alloc, &self.targets, &mut self.watches, reader, times)?;
         self.session.level(rt, &self.targets, &mut self.watches);
@@ -161,7 +233,13 @@ impl<'c> Player<'c> {
         rt: &R,
         alloc: Global,
         link: &mut L,
-    ) -> Result<Closed, NoMemory> {
+    ) -> Result<Closed, NoMemory>
+        requires open { IsSome (L.opened_with link.old) }
+        requires player { IsPlayer self }
+        requires may { MayPass 0 true self }
+        ensures closes { IfOk result (Closes self.entry (L.told link.old) (L.told link.new)) }
+        ensures link { KeepsLink L.opened_with L.faults link.old link.new }
+    {
         self.tick(rt, 0, true, link)?;
         let Player {
             session,
@@ -176,23 +254,16 @@ impl<'c> Player<'c> {
 }
 
 /// A thread for each set of passes, in order.
-fn hands_of(alloc: Global, passes: Vec<Passes>) -> Result<Vec<Hand>, NoMemory> {
+fn hands_of(alloc: Global, passes: Vec<Passes>) -> Result<Vec<Hand>, NoMemory>
+    ensures passes { IfOk result (λ hands. map (λ hand. hand.passes) hands.items ≡ passes.items) }
+    ensures versions { IfOk result (λ hands. All (λ hand. hand.versions.items ≡ []) hands.items) }
+    ensures looks { IfOk result (λ hands. All (λ hand. hand.looks.items ≡ []) hands.items) }
+{
     let mut hands = Vec::with_capacity(alloc, passes.len())?;
     for own in passes {
         hands.push(Hand::new(alloc, own))?;
     }
     Ok(hands)
-}
-
-/// Writes a data set through passes, until the write stands; its version.
-fn place<R: Wait>(rt: &R, bank: &Bank, passes: &mut Passes, set: u8, patch: &Patch) -> u64 {
-    loop {
-        match bank.try_write(rt, set, passes, patch) {
-            Wrote::Wrote(version) => return version,
-            Wrote::Moved { .. } => {}
-            Wrote::Full { .. } => unreachable!(),
-        }
-    }
 }
 
 /// How many stores of a reader there are, so often.
@@ -203,7 +274,16 @@ fn look<R: Wait>(
     watches: &mut Watches,
     reader: u8,
     times: u32,
-) -> Result<Vec<u64>, NoMemory> {
+) -> Result<Vec<u64>, NoMemory>
+    requires own { ArePassesOf targets.now.cells watches.old }
+    requires reader { reader < length targets.now.cells }
+    ensures own { ArePassesOf targets.now.cells watches.new }
+    ensures more { SeesMore (pass_at watches.old reader) (pass_at watches.new reader) }
+    ensures count { IfOk result (λ counts. length counts.items ≡ times) }
+    ensures counted { IfOk result (λ counts. (k : ℕ) → k < length counts.items
+        → (length (pass_at watches.old reader).seen ≤ slice_index counts.items k)
+        × (slice_index counts.items k ≤ length (pass_at watches.new reader).seen)) }
+{
     let mut counts = Vec::with_capacity(alloc, times as usize)?;
     for _ in 0..times {
         counts.push(targets.look(rt, watches, reader))?;
@@ -217,7 +297,11 @@ fn dones_of(
     hands: Vec<Hand>,
     targets: &Targets,
     watches: &mut Watches,
-) -> Result<Vec<Done>, NoMemory> {
+) -> Result<Vec<Done>, NoMemory>
+    requires own { ArePassesOf targets.now.cells watches.old }
+    requires few { length hands.items ≤ 256 }
+    ensures dones { IfOk result (λ dones. AreDonesOf hands.items dones.items) }
+{
     let mut dones = Vec::with_capacity(alloc, hands.len())?;
     for hand in hands {
         let thread = dones.len() as u32;

@@ -102,8 +102,7 @@ pub fn data_messages_stand_for_versions()
 /// A session has 4,097 ticks at most: 4,096, and the closing one.
 pub fn a_session_has_at_most_4097_ticks()
     ensures { (p : Plan) (steps : List Step) → AreSteps p steps → ticks_in steps ≤ most_ticks + 1 }
-{
-}
+{}
 
 /// No two datagrams of a session that one key group protects have the same token and number, over any link.
 pub fn no_token_and_number_come_twice_in_a_session()
