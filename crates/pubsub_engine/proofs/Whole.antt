@@ -29,8 +29,9 @@ use Rattle.session_model.specs.Deeds.{log_at}
 use Rattle.session_model.specs.Closing.{IsReaderEnd, IsWriterEnd, MemberPlace, reader_places, writer_places}
 use Rattle.pubsub_engine.specs.Standing.{log_named}
 use Rattle.pubsub_engine.specs.Ending.{IsNumbered, IsToldAt, reader_in}
-use Rattle.pubsub_engine.proofs.ByPlace.{IsPlace, are-places, parts-by-place, readers-by-place}
+use Rattle.pubsub_engine.proofs.ByPlace.{IsPlace, are-places, parts-by-place}
 use Rattle.pubsub_engine.proofs.Pairing.{pairs-map, pairs-weaker}
+use Rattle.pubsub_engine.proofs.Places.{grouped-places, seat-part}
 
 -- ---- logs
 
@@ -75,7 +76,7 @@ tells-held p steps writers at (Some held) logs is = record {
 pub tells-readers : (p : Plan) (steps : List Step) (writers : List WriterEnd) (readers : List ReaderEnd) → AllZip (IsWriterEnd p steps) (writer_places p.config) writers
     → AllZip (IsToldAt p steps) (reader_places p.config) readers → AllZip (TellsReader p.config writers) (grouped_readers p.config.readgroup) readers
 tells-readers p steps writers readers logs told =
-    subst (λ (l : List (ReadGroupPart × ReaderPart)). AllZip (TellsReader p.config writers) l readers) (readers-by-place p.config)
+    subst (λ (l : List (ReadGroupPart × ReaderPart)). AllZip (TellsReader p.config writers) l readers) (grouped-places p.config)
     (pairs-map (TellsReader p.config writers) (reader_in p.config) (reader_places p.config) readers
     (pairs-weaker (IsPlace p.config) (IsToldAt p steps) (λ place end. TellsReader p.config writers (reader_in p.config place) end)
     (λ place end there is. tells-held p steps writers (reader_in p.config place) end.held (λ id. log-named p steps id writers logs) is.numbered)
@@ -89,8 +90,15 @@ are-ends p steps readers told =
 reader-dataset : (config : Config) (r i : ℕ) → IsSound config → r < length config.readgroup → i < length (read_group_at config r).reader
     → (reader_in config (r, i)).1.dataset < length config.dataset
 reader-dataset config r i sound low within =
+    subst (λ (part : ReaderPart). part.dataset < length config.dataset) (sym (seat-part config r i))
     (All-get_or (IsReader config) (read_group_at config r).reader i no_seat.part within
     (All-get_or (IsReadGroup config) config.readgroup r no_read_group low sound.readgroups).readers).dataset
+
+reader-meta : (config : Config) (r i : ℕ) → i < length (read_group_at config r).reader
+    → (seat_at (setting_of config r).seats i).meta ≡ get_or config.dataset (reader_in config (r, i)).1.dataset no_meta
+reader-meta config r i within =
+    subst (λ (seat : Seat). seat.meta ≡ get_or config.dataset seat.part.dataset no_meta)
+    (sym (get_or-map (seat_in config) (read_group_at config r).reader i no_seat.part no_seat within)) refl
 
 holds-row : (config : Config) (part : ReaderPart) (meta : MetaData) (held : Option HeldEnd) → part.dataset < length config.dataset
     → meta ≡ get_or config.dataset part.dataset no_meta → IfSome held (λ held. Belongs meta held.row.words)
@@ -109,9 +117,5 @@ holds-rows p steps readers sound told =
     (pairs-weaker (IsPlace p.config) (IsToldAt p steps) (λ place end. HoldsRow p.config.dataset (reader_in p.config place).1 end)
     (λ place end there is.
     holds-row p.config (reader_in p.config place).1 (seat_at (setting_of p.config place.0).seats place.1).meta end.held
-    (reader-dataset p.config place.0 place.1 sound there.0 there.1) (seat-meta place.0 place.1 there.1) is.is.shows.belongs)
+    (reader-dataset p.config place.0 place.1 sound there.0 there.1) (reader-meta p.config place.0 place.1 there.1) is.is.shows.belongs)
     (reader_places p.config) readers (are-places p.config) told))
-  where
-    seat-meta : (r i : ℕ) → i < length (read_group_at p.config r).reader
-        → (seat_at (setting_of p.config r).seats i).meta ≡ get_or p.config.dataset (reader_in p.config (r, i)).1.dataset no_meta
-    seat-meta r i within = ap (λ (seat : Seat). seat.meta) (get_or-map (seat_in p.config) (read_group_at p.config r).reader i no_seat.part no_seat within)

@@ -1,6 +1,7 @@
 use Rattle.std.proofs.Common.{ap, arith, ◌<◌, length}
 use Rattle.session_model.specs.Closing.{group_end}
-use Rattle.pubsub_engine.proofs.EndParts.{group-told, pushed-more}
+use Rattle.pubsub_engine.proofs.EndParts.{group-told}
+use Rattle.pubsub_engine.proofs.PlacesInOrder.{pushed-more}
 use Rattle.pubsub_engine.proofs.ends.group_ends.Goals as goal
 
 pub loop-g-preserved : goal.loop-g-preserved

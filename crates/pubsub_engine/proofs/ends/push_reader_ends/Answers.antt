@@ -3,9 +3,11 @@ use Rattle.std.proofs.lemmas.List.{length_push}
 use Rattle.reader_group.specs.Settings.{group_at as read_group_at}
 use Rattle.session_model.specs.Closing.{MemberPlace}
 use Rattle.session_parts.proofs.TellingReaders.{few-readers}
-use Rattle.pubsub_engine.specs.Ending.{IsToldAt, reader_in, reader_places_to}
-use Rattle.pubsub_engine.proofs.ByPlace.{reader-at, readers-more}
+use Rattle.pubsub_engine.specs.Ending.{IsToldAt, reader_in}
+use Rattle.pubsub_engine.specs.Storing.{first_reader}
+use Rattle.pubsub_engine.proofs.ByPlace.{reader-behind}
 use Rattle.pubsub_engine.proofs.EndParts.{reader-told}
+use Rattle.pubsub_engine.proofs.Places.{first-more}
 use Rattle.pubsub_engine.proofs.PlacesInOrder.{pairs-more}
 use Rattle.pubsub_engine.proofs.ends.push_reader_ends.Goals as goal
 
@@ -26,8 +28,8 @@ loop-i-preserved c =
     let end = c.reader_end.result in
     let own = ap (λ (q : ℕ). length (read_group_at config q).reader) c.from-r.ensures in
     let within : i < length (read_group_at config r).reader = omega (arith, own, ap length c.as_slice-i-end.ensures, ap (λ part. length part.reader) c.read_group_part.ensures) in
-    let k : c.len.result ≡ length (reader_places_to config r) + i = omega arith in
-    let read = c.log_read-log.ensures.log (reader_in config (r, i)) (reader-at config r i c.len.result c.requires.within within k) in
+    let k : c.len.result ≡ first_reader config r + i = omega arith in
+    let read = c.log_read-log.ensures.log (reader_in config (r, i)) (reader-behind config r i c.len.result c.requires.within within k) in
     let at = c.index.ensures ∙ ap (λ (q : ℕ). get_or subscriber.groups.items q group) c.from-r.ensures in
     let place : ℕ → MemberPlace = λ i. (r, i) in
     record {
@@ -44,4 +46,4 @@ pub returns-clause-behind : goal.returns-clause-behind
 returns-clause-behind c =
     let config = c.args.config.now in
     let own = ap (λ (r : ℕ). length (read_group_at config r).reader) c.from-r.ensures in
-    omega (arith, own, readers-more config c.args.read_group, ap length c.as_slice-i-end.ensures, ap (λ part. length part.reader) c.read_group_part.ensures)
+    omega (arith, own, first-more config c.args.read_group c.requires.within, ap length c.as_slice-i-end.ensures, ap (λ part. length part.reader) c.read_group_part.ensures)

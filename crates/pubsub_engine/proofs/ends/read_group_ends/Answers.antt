@@ -1,6 +1,7 @@
 use Rattle.std.proofs.Common.{ap, arith, ◌<◌, length}
 use Rattle.session_model.specs.Closing.{read_group_end}
-use Rattle.pubsub_engine.proofs.EndParts.{pushed-more, read-group-told}
+use Rattle.pubsub_engine.proofs.EndParts.{read-group-told}
+use Rattle.pubsub_engine.proofs.PlacesInOrder.{pushed-more}
 use Rattle.pubsub_engine.proofs.ends.read_group_ends.Goals as goal
 
 pub loop-r-preserved : goal.loop-r-preserved
