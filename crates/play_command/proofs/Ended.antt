@@ -1,5 +1,5 @@
 -- How the parts of the command end it.
-use Rattle.std.proofs.Common.{◌≡◌, ◌⊎◌, inl, inr, ℕ, List, Option, Some, None, sym, subst, arith}
+use Rattle.std.proofs.Common.{◌≡◌, ◌⊎◌, inl, inr, ℕ, true, List, Option, Some, None, refl, sym, ap, subst, arith}
 use Rattle.ua_base.specs.Files.{ToldFile, TellsFile}
 use Rattle.ps_config.specs.declared.parts.Config.{Config}
 use Rattle.ps_script.specs.declared.script.Script.{Script}
@@ -10,7 +10,7 @@ use Rattle.command_parts.specs.Files.{IsLong}
 use Rattle.command_parts.specs.Outputs.{EndsWriting}
 use Rattle.command_parts.specs.Outside.{Outside, Wire}
 use Rattle.command_parts.specs.Scripts.{EndsScript}
-use Rattle.command_parts.specs.Statuses.{IsUnread, IsUnwritten, IsUnopened}
+use Rattle.command_parts.specs.Statuses.{IsDone, IsUnread, IsUnwritten, IsUnopened}
 use Rattle.play_command.specs.Plays.{Accepts, EndsPlay, EndsSession, IsBeforeLink, Plays, Reports}
 
 -- the last write ends the command
@@ -110,11 +110,12 @@ ended_not_written (Unread file) tells script_name config_name ends is = omega ar
 ended_not_written OutOfMemory tells script_name config_name ends is = omega arith
 ended_not_written (Long file) tells script_name config_name ends is = omega arith
 
--- a status that writing gives is none of these
+-- writing gives two statuses, and none of those that come before it
 pub record IsLate (status : Status) : Type 0 where
   pub read : IsUnread status → ⊥
   pub opened : IsUnopened status → ⊥
   pub behind_link : IsBeforeLink status → ⊥
+  pub written : (IsDone status → ⊥) → (IsUnwritten status → ⊥) → ⊥
 
 done_late : (n : ℕ) → (n ≡ 3) ⊎ (n ≡ 4) ⊎ (n ≡ 5) ⊎ (n ≡ 9) → (n ≡ 0 → ⊥) × (n ≡ 6 → ⊥)
 done_late n (inl e) = ((λ z. omega arith), (λ z. omega arith))
@@ -123,8 +124,8 @@ done_late n (inr (inr (inl e))) = ((λ z. omega arith), (λ z. omega arith))
 done_late n (inr (inr (inr e))) = ((λ z. omega arith), (λ z. omega arith))
 
 pub written_late : (status : Status) (old new : Option (List ℕ)) (text : List ℕ) → EndsWriting old new text status → IsLate status
-written_late Done old new text written = record { read = λ is. omega arith; opened = λ is. omega arith; behind_link = λ is. (done_late 0 is).0 refl }
-written_late Unwritten old new text written = record { read = λ is. omega arith; opened = λ is. omega arith; behind_link = λ is. (done_late 6 is).1 refl }
+written_late Done old new text written = record { read = λ is. omega arith; opened = λ is. omega arith; behind_link = λ is. (done_late 0 is).0 refl; written = λ a b. a refl }
+written_late Unwritten old new text written = record { read = λ is. omega arith; opened = λ is. omega arith; behind_link = λ is. (done_late 6 is).1 refl; written = λ a b. b refl }
 written_late BadWords old new text written = absurd written
 written_late (ConfigRefused code path) old new text written = absurd written
 written_late (ScriptRefused line fault) old new text written = absurd written

@@ -1,5 +1,5 @@
 -- How the command ends, from what its status says and from the counts.
-use Rattle.std.proofs.Common.{◌≡◌, ◌≤◌, ◌⊎◌, inl, inr, ℕ, List, Option, Err, Result, refl, sym, ap, subst, arith}
+use Rattle.std.proofs.Common.{◌≡◌, ◌≤◌, inl, inr, ℕ, List, Option, Err, Result, ap, arith}
 use Rattle.ua_base.specs.Cause.{Rose, HasCause}
 use Rattle.command_parts.specs.declared.status.Status.{Status}
 use Rattle.command_parts.specs.declared.status.Status.TheVariants.{Unopened}
@@ -43,9 +43,12 @@ ends_written status script_name config_name old new before after text reports wr
     (record { opens = link.opens; unused = λ is. absurd (late.opened is); cause = record { later = link.cause.later; rose = λ is. absurd (late.opened is) } })
     (record { later = later; rose = λ is. absurd (late.read is) }) writes files
 
+abbrev pub ended : {T : Type 0} → Status → Result T Status
+ended status = Err status
+
 -- there was no report
 pub ends_without : {T : Type 0} (status : Status) (script_name : List ℕ) (config_name : Option (List ℕ)) (old new : Outside) (before after : Wire)
-    → EndsPlay old.file script_name config_name status → UsesLink (OpensFor old.file script_name config_name) (Err {T} status ≡ Err Unopened) before after
+    → EndsPlay old.file script_name config_name status → UsesLink (OpensFor old.file script_name config_name) (ended {T = T} status ≡ Err Unopened) before after
     → old.read_faults ≤ new.read_faults → (IsUnread status → Rose old.read_faults new.read_faults) → old.write_faults ≡ new.write_faults
     → ((name : List ℕ) → new.file name ≡ old.file name) → PlayEnds status script_name config_name old new before after
 ends_without status script_name config_name old new before after ends link later rose same files =

@@ -1,10 +1,11 @@
 -- What a status of `play` says, where the folder tells the files.
-use Rattle.std.proofs.Common.{◌≡◌, ◌↔◌, ◌⊎◌, inl, inr, ℕ, List, Option, Some, Result, Ok, Err, refl, sym, ap, ◌∙◌, subst, arith}
+use Rattle.std.proofs.Common.{◌≡◌, ◌↔◌, ◌⊎◌, inl, inr, ℕ, true, List, Option, Some, Result, Ok, Err, refl, sym, ap, ◌∙◌, subst, arith}
 use Rattle.std.specs.Prelude.{IsErr, is_err}
 use Rattle.std.proofs.lemmas.Bool.{false≢true}
 use Rattle.ua_base.specs.Files.{ToldFile, TellsFile}
 use Rattle.ps_config.specs.declared.parts.Config.{Config}
 use Rattle.ps_config.specs.Reading.{configuration}
+use Rattle.ps_script.specs.declared.fault.ScriptFault.{ScriptFault}
 use Rattle.ps_script.specs.declared.script.Script.{Script}
 use Rattle.ps_script.specs.Scripts.{script as script_in}
 use Rattle.ps_script.specs.Values.{ValueReader}
@@ -14,9 +15,9 @@ use Rattle.command_parts.specs.Configurations.{IsConfigured, IsJudged, IsToldCon
 use Rattle.command_parts.specs.Files.{IsLong, IsTold}
 use Rattle.command_parts.specs.Outside.{Outside, Wire}
 use Rattle.command_parts.specs.Scripts.{IsJudgedScript}
-use Rattle.command_parts.specs.Statuses.{number_of, IsDone, IsConfigRefused, IsScriptRefused, IsUnread, IsUnwritten, IsOutOfMemory, IsUnopened, IsTooLong}
+use Rattle.command_parts.specs.Statuses.{IsDone, IsConfigRefused, IsScriptRefused, IsUnread, IsUnwritten, IsOutOfMemory, IsUnopened, IsTooLong}
 use Rattle.command_parts.proofs.Told.{judged_told, script_told, config_told, config_not_refused, config_not_long, long_read, long_judged, long_is, long_short}
-use Rattle.play_command.specs.Plays.{Accepts, AreTold, NamesLong, Plays, Reads, Reports}
+use Rattle.play_command.specs.Plays.{Accepts, AreTold, NamesLong, Plays, Reads}
 
 -- ---- results
 
@@ -172,6 +173,6 @@ completes Unwritten script_name config_name old new after h t a b other = absurd
 completes (ConfigRefused code path) script_name config_name old new after h t a b other = absurd (config_not_refused old.file config_name t.config h.0 (code, path) t.configured h.1 h.2)
 completes (ScriptRefused line fault) script_name config_name old new after h t a b other =
     let judged = script_is t.reader old.file script_name config_name t.config h.0 t.bytes (Err (line, fault)) t.configured h.1 t.told.told h.2 in
-    let both : Ok t.script ≡ Err (line, fault) = sym t.scripted ∙ judged in absurd cc
+    absurd (ok_not_err (script_in t.reader t.config t.bytes true) t.script t.scripted (err_is (script_in t.reader t.config t.bytes true) (line, fault) judged))
 completes (Long file) script_name config_name old new after h t a b other = absurd (not_long old.file script_name config_name t.config t.bytes file.now t.configured t.told h.0 h.1)
 completes BadWords script_name config_name old new after h t a b other = absurd h
