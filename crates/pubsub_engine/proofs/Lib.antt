@@ -28,4 +28,3 @@ pub mod EndParts
 pub mod Whole
 pub mod OpenRows
 pub mod SampleLoop
-pub mod Origins

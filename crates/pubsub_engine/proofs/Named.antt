@@ -1,5 +1,5 @@
 -- Writers by their ids, and readers by their indexes over all read groups.
-use Rattle.std.proofs.Common.{◌≡◌, ◌≢◌, ◌⊎◌, inl, inr, refl, sym, ap, ◌∙◌, subst, arith, ℕ, suc, ◌+◌, ◌-◌, ◌<◌, ◌≤◌, ◌==◌, Bool, true, false, cond, List, [], ◌∷◌, ◌++◌, length, map, drop, zip, find, flat_map, get_or, slice_get, Option, Some, None, option_map, eq-eqb}
+use Rattle.std.proofs.Common.{◌≡◌, ◌≢◌, ◌⊎◌, inl, inr, refl, sym, ap, ◌∙◌, subst, arith, ℕ, suc, ◌+◌, ◌-◌, ◌<◌, ◌≤◌, ◌==◌, Bool, true, false, cond, List, [], ◌∷◌, ◌++◌, length, map, drop, zip, find, flat_map, get_or, slice_get, Option, Some, None, option_map, option_and_then, eq-eqb}
 use Rattle.std.specs.List.{range_with_len}
 use Rattle.std.specs.Option.{option_map_or, option_or}
 use Rattle.std.proofs.lemmas.Bool.{eqb-true, false≢true}
@@ -22,14 +22,17 @@ use Rattle.ps_config.specs.declared.parts.ReaderPart.{ReaderPart}
 use Rattle.ps_report.specs.Conditions.{writers_of}
 use Rattle.ps_report.specs.Told.{grouped_readers}
 use Rattle.writer_group.specs.Parts.{group_at, no_group}
+use Rattle.session_model.specs.Deeds.{writer_indexes}
 use Rattle.session_model.specs.Closing.{MemberPlace, writer_places}
-use Rattle.pubsub_engine.specs.Ending.{places_of_group}
 use Rattle.pubsub_engine.specs.Logs.{is_same_publisher, log_by, place_in, place_named, place_within}
 
 -- ---- lists
 
 rest-more : (a n : ℕ) → a < n → range_with_len a (n - a) ≡ a ∷ range_with_len (a + 1) (n - (a + 1))
 rest-more a n low = let e : n - a ≡ suc (n - (a + 1)) = omega arith in ap (range_with_len a) e
+
+some-else : {X : Type 0} (x : X) (o : Option X) → option_or (Some x) o ≡ Some x
+some-else x o = refl
 
 -- ---- the writers of a group
 
@@ -75,10 +78,13 @@ writer-other group g w id part low at other = sym (one-more group g w id part fa
 
 -- ---- the writers of all groups
 
+abbrev pub places_of : Config → ℕ → List MemberPlace
+places_of config g = map (λ w. (g, w)) (writer_indexes (group_at config g))
+
 -- the place of the first writer with the id in this group and those behind it
 abbrev pub rest_named : Config → ℕ → ℕ → Option MemberPlace
 rest_named config g id =
-    place_in (flat_map (λ group. group.writer) (drop g config.group)) (flat_map (places_of_group config) (range_with_len g (length config.group - g))) id
+    place_in (flat_map (λ group. group.writer) (drop g config.group)) (flat_map (places_of config) (range_with_len g (length config.group - g))) id
 
 -- the first of two lists of writers, if it has one
 joined : (parts others : List WriterPart) (places behind : List MemberPlace) (id : ℕ) → length places ≡ length parts
@@ -96,19 +102,19 @@ joined parts others places behind id same =
 group-more : (config : Config) (g id : ℕ) → g < length config.group
     → rest_named config g id ≡ option_or (place_within (group_at config g) g id) (rest_named config (g + 1) id)
 group-more config g id low =
-    ap (λ (groups : List GroupPart). place_in (flat_map (λ group. group.writer) groups) (flat_map (places_of_group config) (range_with_len g (length config.group - g))) id) (drop_more config.group g no_group low)
-    ∙ ap (λ (l : List ℕ). place_in (flat_map (λ group. group.writer) (group_at config g ∷ drop (g + 1) config.group)) (flat_map (places_of_group config) l) id) (rest-more g (length config.group) low)
-    ∙ joined (group_at config g).writer (flat_map (λ group. group.writer) (drop (g + 1) config.group)) (places_of_group config g)
-    (flat_map (places_of_group config) (range_with_len (g + 1) (length config.group - (g + 1)))) id (length-map-range_with_len (λ w. (g, w)) 0 (length (group_at config g).writer))
+    ap (λ (groups : List GroupPart). place_in (flat_map (λ group. group.writer) groups) (flat_map (places_of config) (range_with_len g (length config.group - g))) id) (drop_more config.group g no_group low)
+    ∙ ap (λ (l : List ℕ). place_in (flat_map (λ group. group.writer) (group_at config g ∷ drop (g + 1) config.group)) (flat_map (places_of config) l) id) (rest-more g (length config.group) low)
+    ∙ joined (group_at config g).writer (flat_map (λ group. group.writer) (drop (g + 1) config.group)) (places_of config g)
+    (flat_map (places_of config) (range_with_len (g + 1) (length config.group - (g + 1)))) id (length-map-range_with_len (λ w. (g, w)) 0 (length (group_at config g).writer))
 
 pub named-all : (config : Config) (id : ℕ) → rest_named config 0 id ≡ place_named config id
 named-all config id =
     let e : length config.group - 0 ≡ length config.group = omega arith in
-    ap (λ (n : ℕ). place_in (writers_of config.group) (flat_map (places_of_group config) (range_with_len 0 n)) id) e
+    ap (λ (n : ℕ). place_in (writers_of config.group) (flat_map (places_of config) (range_with_len 0 n)) id) e
 
 pub named-none : (config : Config) (id : ℕ) → rest_named config (length config.group) id ≡ None
 named-none config id =
-    ap (λ (groups : List GroupPart). place_in (flat_map (λ group. group.writer) groups) (flat_map (places_of_group config) (range_with_len (length config.group) (length config.group - length config.group))) id)
+    ap (λ (groups : List GroupPart). place_in (flat_map (λ group. group.writer) groups) (flat_map (places_of config) (range_with_len (length config.group) (length config.group - length config.group))) id)
     (drop-length config.group)
 
 -- the group has a writer with the id

@@ -1,10 +1,12 @@
 -- Where a reader's last store comes from.
-use Rattle.std.proofs.Common.{◌≡◌, ◌≢◌, refl, sym, ap, ◌∙◌, subst, ℕ, true, false, List, [], ◌∷◌, length, reverse, slice_get, Option, Some, None, option_map, option_and_then}
+use Rattle.std.proofs.Common.{◌≡◌, ◌≢◌, refl, sym, ap, ◌∙◌, subst, ℕ, Bool, true, false, List, [], ◌∷◌, length, map, reverse, slice_get, Option, Some, None, option_map, option_and_then}
 use Rattle.std.proofs.lemmas.Bool.{false≢true}
 use Rattle.std.proofs.lemmas.List.{length-map, length-reverse}
 use Rattle.std.proofs.lemmas.Option.{slice_get-map}
+use Rattle.dataset_meta.specs.DataValues.{DataValue}
 use Rattle.dataset_meta.specs.Metas.{MetaData}
 use Rattle.pubsub_model.specs.Answers.{version_of as version_in}
+use Rattle.ps_config.specs.declared.parts.Config.{Config}
 use Rattle.ps_config.specs.declared.parts.ReadGroupPart.{ReadGroupPart}
 use Rattle.ps_config.specs.declared.parts.ReaderPart.{ReaderPart}
 use Rattle.ps_report.specs.Told.{grouped_readers}
@@ -22,13 +24,10 @@ use Rattle.session_model.specs.Stores.{Store, stores}
 use Rattle.session_parts.specs.declared.publisher.Publisher.{Publisher}
 use Rattle.session_parts.specs.Standing.{HavePast}
 use Rattle.pubsub_engine.specs.declared.storing.Last.{Last}
-use Rattle.pubsub_engine.specs.Ending.{reader_in}
 use Rattle.pubsub_engine.specs.Logs.{IsLogRead}
 use Rattle.pubsub_engine.specs.Standing.{IsOriginOf, IsVersionStored, log_named, number_stored}
 use Rattle.pubsub_engine.specs.Storing.{HasStored, IsLast}
-use Rattle.pubsub_engine.proofs.EndParts.{seat-part}
-use Rattle.pubsub_engine.proofs.Places.{place-there}
-use Rattle.pubsub_engine.proofs.Whole.{readers-by-place}
+use Rattle.pubsub_engine.proofs.Places.{grouped_at, grouped-places}
 
 none-there : (list : List Store) (meta : MetaData) (last : Last) → last.is_there ≡ false → IsLast list meta last → list ≡ []
 none-there [] meta last off is = refl
@@ -63,7 +62,7 @@ no-version (Some n) = refl
 
 version-is : (p : Plan) (steps : List Step) (place : MemberPlace) (list : List Store) (meta : MetaData) (last : Last) (version : Option ℕ) → last.is_there ≡ true → IsLast list meta last
     → ((group_at p.config place.0).publisher ≡ p.config.publisher.id
-    → version ≡ option_and_then (version_in (log_named p steps (seat_at (setting_of p.config place.0).seats place.1).part.writer)) last.number)
+      → version ≡ option_and_then (version_in (log_named p steps (seat_at (setting_of p.config place.0).seats place.1).part.writer)) last.number)
     → ((group_at p.config place.0).publisher ≢ p.config.publisher.id → version ≡ None)
     → IsVersionStored p steps place list version
 version-is p steps place [] meta last version on is own other = absurd (false≢true (sym is ∙ on))
@@ -87,11 +86,7 @@ is-origin p steps place meta last pass publisher log origin k on is seen at past
       (λ apart. is_version ∙ ap (λ (l : List (ℕ × ℕ)). option_and_then (version_in l) last.number) (named.other apart) ∙ no-version last.number);
 }
   where
-    writer : (reader_in p.config place).1 ≡ (seat_at (setting_of p.config place.0).seats place.1).part
-    writer = let there = place-there p.config k place at in sym (seat-part p.config place.0 place.1 there.1)
-
-    named : IsLogRead p.config publisher ((reader_in p.config place).0, (seat_at (setting_of p.config place.0).seats place.1).part) log
-    named = subst (λ (part : ReaderPart). IsLogRead p.config publisher ((reader_in p.config place).0, part) log) writer
-        (read (reader_in p.config place)
-        (ap (λ (l : List (ReadGroupPart × ReaderPart)). slice_get l k) (sym (readers-by-place p.config))
-        ∙ slice_get-map (reader_in p.config) (reader_places p.config) k ∙ ap (option_map (reader_in p.config)) at))
+    named : IsLogRead p.config publisher (grouped_at p.config place) log
+    named = read (grouped_at p.config place)
+        (ap (λ (l : List (ReadGroupPart × ReaderPart)). slice_get l k) (sym (grouped-places p.config))
+        ∙ slice_get-map (grouped_at p.config) (reader_places p.config) k ∙ ap (option_map (grouped_at p.config)) at)

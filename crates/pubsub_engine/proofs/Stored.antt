@@ -20,7 +20,8 @@ use Rattle.reader_group.specs.Members.{Seat, no_seat, seat_at}
 use Rattle.reader_group.specs.Groups.{IsKeptAt, IsMadeAt, Stands as ReadingStands}
 use Rattle.reader_group.specs.Plain.{Event, plain}
 use Rattle.reader_group.specs.Settings.{group_at, seat_in, setting_of}
-use Rattle.row_words.specs.Belonging.{row_in}
+use Rattle.row_words.specs.declared.row.Row.{Row}
+use Rattle.row_words.specs.Belonging.{Belongs, row_in}
 use Rattle.target_cells.specs.Keeping.{TargetsData, metas_of}
 use Rattle.version_cell.specs.declared.rule.Entry.{Entry}
 use Rattle.version_cell.specs.Histories.{entry}
@@ -36,8 +37,7 @@ use Rattle.pubsub_engine.specs.declared.storing.Last.{Last}
 use Rattle.pubsub_engine.specs.declared.storing.Stores.{Stores}
 use Rattle.pubsub_engine.specs.Holding.{AddsOneAtMost, HoldStores}
 use Rattle.pubsub_engine.specs.Storing.{HasStored, HaveStored, HaveStoredOn, IsLast, IsSameAt, IsStoredAs, IsStoredOn, MayStore, MayStoreFrom, first_reader, held_in, meta_at_place, stored_at}
-use Rattle.pubsub_engine.proofs.Places.{first-most, place-within, reader-at}
-use Rattle.pubsub_engine.proofs.EndParts.{seat-part}
+use Rattle.pubsub_engine.proofs.Places.{first-within, reader-at, seat-part, within-all}
 
 -- ---- one reader
 
@@ -183,7 +183,7 @@ cell-at config cells r i metas there within =
     of = λ set. slice_index_or config.dataset set no_meta
 
     low : k < length (readers config)
-    low = omega (arith, first-most config r there, within)
+    low = first-within config r i there within
 
 pub cell-meta : (config : Config) (cells : List CellData) (first r i : ℕ) → first ≡ first_reader config r
     → map (λ cell. cell.meta) cells ≡ metas_of config.dataset (map (λ reader. reader.dataset) (readers config))
@@ -221,8 +221,8 @@ pub placed-on : (config : Config) (cells : List CellData) (groups : List ReaderG
     → r < length config.readgroup → i < length (group_at config r).reader
     → group ≡ get_or groups r group → part ≡ get_or (group_at config r).reader i part → IsKeptAt group i reader
     → ((list : List Store) → IsStoredAs (cell_at cells (first + i)).meta list old (first + i)
-    → IsStoredAs (cell_at cells (first + i)).meta
-    (stored_on part.numbering list (held_in (kept_by (cell_at cells (first + i)).meta.fields reader))) new (first + i))
+      → IsStoredAs (cell_at cells (first + i)).meta
+        (stored_on part.numbering list (held_in (kept_by (cell_at cells (first + i)).meta.fields reader))) new (first + i))
     → IsStoredOn config groups (r, i) old new (first + i)
 placed-on config cells groups group reader part first r i old new is_first metas there within at_r at_i kept stores befell list read is =
     subst (λ (after : List Store). IsStoredAs meta after new k) now
@@ -242,7 +242,7 @@ placed-on config cells groups group reader part first r i old new is_first metas
     stands = subst (λ (g : ReaderGroup). ReadingStands (setting_of config r) (plain (setting_of config r) (befell r)) g) (sym at_r) (read r there group)
 
     numbered : part.numbering ≡ (seat_at (setting_of config r).seats i).part.numbering
-    numbered = ap (λ (p : ReaderPart). p.numbering) (get_or_read (group_at config r).reader i part within at_i no_seat.part ∙ sym (seat-part config r i within))
+    numbered = ap (λ (p : ReaderPart). p.numbering) (get_or_read (group_at config r).reader i part within at_i no_seat.part ∙ sym (seat-part config r i))
 
     now : stored_on part.numbering (list (r, i)) (held_in (kept_by meta.fields reader)) ≡ stored_at config befell list (r, i)
     now =
@@ -290,4 +290,4 @@ pub all-stored : (config : Config) (groups : List ReaderGroup) (old new : Stores
     → HaveStoredOn config groups 0 (length (readers config)) old new → HaveReadAll config befell groups
     → HaveStored config list old → HaveStored config (stored_at config befell list) new
 all-stored config groups old new befell list on read is k place at =
-    on.stored k place (omega arith) (place-within config k place at) at befell list read (is k place at)
+    on.stored k place (omega arith) (within-all config k place at) at befell list read (is k place at)

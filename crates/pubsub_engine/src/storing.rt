@@ -98,8 +98,7 @@ impl Stores {
         requires count { length self.now.last.items ≡ length (readers config.now) }
         requires keepers { length self.now.keeper ≡ length (readers config.now) }
         ensures { (p : Plan) (steps : List Step) (place : MemberPlace) → p.config ≡ config.now
-            → HavePast p.config (metas_at p.config steps) (deeds p steps)
-            publisher.now.groups.items
+            → HavePast p.config (metas_at p.config steps) (deeds p steps) publisher.now.groups.items
             → HaveStored p.config (λ place. stores_of p.config place.0 place.1 steps) self.now
             → slice_get (reader_places p.config) reader ≡ Some place
             → IsOriginOf p steps place result }
@@ -120,8 +119,7 @@ impl Stores {
         }
     }
 
-    /// Stores what each reader of the read group with this index holds, if it isn't its last store. Its first reader has the index
-    /// `first` over all read groups.
+    /// Stores what each reader of a read group holds, if it isn't its last store. So many readers are in the read groups before.
     fn store_group<R: Wait>(
         &mut self,
         rt: &R,
@@ -136,10 +134,9 @@ impl Stores {
         requires there { r < length config.now.readgroup }
         requires first { first ≡ first_reader config.now r }
         requires may { MayStoreFrom config.now targets.now first self.old }
-        ensures may { let next = first_reader config.now (r + 1) in
-            MayStoreFrom config.now targets.now next self.new }
-        ensures stored { let next = first_reader config.now (r + 1) in
-            HaveStoredOn config.now subscriber.now.groups.items first next self.old self.new }
+        ensures may { MayStoreFrom config.now targets.now (first_reader config.now (r + 1)) self.new }
+        ensures stored { HaveStoredOn config.now subscriber.now.groups.items first (first_reader config.now (r + 1))
+            self.old self.new }
     {
         let parts = read_group_part(config, r).reader.as_slice();
         for i in 0..parts.len() {
@@ -194,9 +191,8 @@ impl Last {
         ensures none { (meta : MetaData) → IsLast [] meta self.now → result ≡ false }
         ensures some { (meta : MetaData) (last : Store) (before : List Store)
             → IsLast (last ∷ before) meta self.now → Belongs meta row.now.words
-            → let held = row_in meta.fields row.now.words in
-            let now : Store = record { number = number; row = held } in
-            result ≡ is_same numbering last now }
+            → let words = row.now.words in
+            result ≡ is_same numbering last (record { number = number; row = row_in meta.fields words }) }
     {
         self.is_there
             && match numbering {

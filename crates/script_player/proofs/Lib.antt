@@ -6,3 +6,11 @@ mod Hands
 mod Exact
 mod Writing
 mod Watching
+pub mod Staying
+pub mod Leaving
+pub mod Beginning
+pub mod Passing
+pub mod Looking
+pub mod HandWrites
+pub mod Written
+pub mod Outcomes
