@@ -14,3 +14,4 @@ pub mod Looking
 pub mod HandWrites
 pub mod Written
 pub mod Outcomes
+mod Finished
