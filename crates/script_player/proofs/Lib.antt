@@ -15,3 +15,4 @@ pub mod HandWrites
 pub mod Written
 pub mod Outcomes
 mod Finished
+mod Closing

@@ -56,7 +56,7 @@ use Rattle.script_player.proofs.Exact.{hits, shorter, skips, whole}
 
 module _ (config : Config) (script : Script) (lines : List Line) (told : Option LinkState) (old : Player) (was : IsPlayer old) (h : HasPlayed config script lines told old) where
   module _ (at thread reader times : ℕ) (new : Player) (w : Watches thread reader times old new) (bound : thread < 8) (there : reader < length (readers config))
-    (count_stores : stored old.session reader ≡ stores_at (plan_by config script) h.steps reader) where
+      (count_stores : stored old.session reader ≡ stores_at (plan_by config script) h.steps reader) where
     abbrev watch : Line
     watch = record { at = at; act = act.Watch thread reader times }
 

@@ -133,8 +133,14 @@ module _ (config : Config) (script : Script) (lines : List Line) (told : Option 
           let a = flush set in_metas in
           let b = ap length w.wrote.seen in
           let c = ap length (log_after-write (meta_in script.metas set) set at thread patch lines) in
-          omega (arith, a, b, c, length_push w.wrote.before (entry w.wrote.by (patched_words (cell_at old.bank set).meta.fields patch (row_after w.wrote.before))),
-          length_push (log_after (meta_in script.metas set) set lines) (entry thread (patched_words (meta_in script.metas set).fields patch (row_after (log_after (meta_in script.metas set) set lines)))))
+          omega (
+            arith,
+            a,
+            b,
+            c,
+            length_push w.wrote.before (entry w.wrote.by (patched_words (cell_at old.bank set).meta.fields patch (row_after w.wrote.before))),
+            length_push (log_after (meta_in script.metas set) set lines) (entry thread (patched_words (meta_in script.metas set).fields patch (row_after (log_after (meta_in script.metas set) set lines)))),
+          )
 
       flush_before : IsFlush script.metas lines (passes_of old.session)
       flush_before other lt = go (ℕ_discrete other set)
@@ -244,4 +250,3 @@ module _ (config : Config) (script : Script) (lines : List Line) (told : Option 
 
     pub written : HasPlayed config script (write ∷ lines) told new
     written = subst (λ (player : Player). HasPlayed config script (write ∷ lines) told player) (sym w.rest) written_by
-
