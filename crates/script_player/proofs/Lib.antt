@@ -16,3 +16,4 @@ pub mod Written
 pub mod Outcomes
 mod Finished
 mod Closing
+mod Newly
