@@ -14,3 +14,5 @@ pub mod Looking
 pub mod HandWrites
 pub mod Written
 pub mod Outcomes
+mod Stored
+mod Next
