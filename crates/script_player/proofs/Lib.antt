@@ -17,3 +17,5 @@ pub mod Outcomes
 mod Finished
 mod Closing
 mod Newly
+mod Stored
+mod Next
