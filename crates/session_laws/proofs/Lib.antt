@@ -23,3 +23,4 @@ pub mod Counts
 pub mod Ticks
 mod Refusing
 mod Dividing
+mod Newest
