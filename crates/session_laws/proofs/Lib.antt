@@ -24,3 +24,4 @@ pub mod Ticks
 mod Refusing
 mod Dividing
 mod Newest
+mod Reaching

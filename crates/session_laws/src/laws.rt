@@ -106,9 +106,9 @@ pub fn data_messages_stand_for_versions()
     each_turn_of_a_session_holds();
 }
 
-/// A matched reader to which the last datagram of a pump brings a key frame, alone and taken, holds its row; and where this frame
-/// has the number of the last place in its writer's log, the row of that newest version, cut to the reader's fields. A closing
-/// turn is answered by a key frame, whose place and version are the last in the writer's log.
+/// A reader to which the last datagram of a pump brings a key frame, alone and taken, holds its row; where it is matched to a
+/// writer, and the frame has the number of the last place in the writer's log, this is the row of that newest version, cut to the
+/// reader's fields. A closing turn is answered by a key frame, whose place and version are the last in the writer's log.
 pub fn a_key_frame_that_comes_last_is_held()
     ensures held { (p : Plan) (r i : ℕ) (before : List Step) (entries : List Entry) (row : List DataValue)
         → BringsLast p r i before entries row
