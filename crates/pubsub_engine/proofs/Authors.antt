@@ -1,14 +1,17 @@
 -- The threads that the versions of all threads fill in are those of the history.
-use Rattle.std.proofs.Common.{◌≡◌, ℕ, suc, ◌+◌, ◌-◌, ◌<◌, Bool, true, false, eqb, cond, List, [], ◌∷◌, ◌++◌, length, get_or, map, set, take, replicate, refl, sym, ap, ◌∙◌, subst, arith, length-append, append_assoc}
-use Rattle.std.specs.Prelude.{nat_lt, All}
-use Rattle.std.proofs.lemmas.List.{append-nil, get_or-map, length-map, length-replicate, map_more, length-take-le}
+use Rattle.std.proofs.Common.{◌≡◌, ◌≢◌, ◌⊎◌, inl, inr, ◌≤◌, ℕ, zero, suc, Some, ◌+◌, ◌-◌, ◌<◌, Bool, true, false, eqb, cond, List, [], ◌∷◌, ◌++◌, length, get_or, map, set, take, replicate, refl, sym, ap, ◌∙◌, subst, arith, length-append, append_assoc}
+use Rattle.std.specs.Prelude.{nat_lt, All, option_map, slice_get}
+use Rattle.std.proofs.lemmas.List.{append-nil, get_or-map, length-map, length-replicate, length_push, map_more, length-take-le}
 use Rattle.std.proofs.lemmas.List.Concat.{flat_map-append}
 use Rattle.std.proofs.lemmas.List.Elements.{All-tail, All-head}
-use Rattle.std.proofs.lemmas.Bool.Decides.{nat_tests}
+use Rattle.std.proofs.lemmas.Bool.Decides.{eqb_tells, nat_tests}
 use Rattle.pubsub_model.specs.History.{places}
 use Rattle.app_threads.specs.declared.done.Done.{Done}
 use Rattle.app_threads.specs.Items.{only_at, versions_in}
-use Rattle.pubsub_engine.specs.Authored.{IsAuthored, filled}
+use Rattle.version_cell.specs.Known.{Known}
+use Rattle.version_cell.specs.Sets.{pass_at}
+use Rattle.ps_report.specs.declared.closed.History.{History}
+use Rattle.pubsub_engine.specs.Authored.{AreHistories, HasThreads, IsAuthored, filled}
 
 -- the versions of a data set that each thread was answered
 abbrev pub answers_of : ℕ → List Done → List (List ℕ)
@@ -158,16 +161,50 @@ filled_by-push t (vs ∷ answers) versions l =
     filled_by-push (t + 1) answers versions (filled t vs l) ∙ ap (λ (k : ℕ). filled k versions (filled_by (t + 1) answers (filled t vs l))) (omega arith)
 
 -- the next thread is filled in
-pub filled_by-more : (data_set k : ℕ) (dones : List Done) (done : Done) (l : List ℕ) → k < length dones → done ≡ get_or dones k done
-    → filled_by 0 (answers_of data_set (take (k + 1) dones)) l ≡ filled k (versions_in data_set done.versions) (filled_by 0 (answers_of data_set (take k dones)) l)
-filled_by-more data_set k dones done l low at =
+pub filled_by-more : (data_set k : ℕ) (dones : List Done) (done : Done) (l : List ℕ) → k < length dones
+    → filled_by 0 (answers_of data_set (take (k + 1) dones)) l ≡ filled k (versions_in data_set (get_or dones k done).versions) (filled_by 0 (answers_of data_set (take k dones)) l)
+filled_by-more data_set k dones done l low =
     ap (λ (ws : List (List ℕ)). filled_by 0 ws l) (map_more f dones k done low)
     ∙ filled_by-push 0 (answers_of data_set (take k dones)) (f (get_or dones k done)) l
-    ∙ ap (λ (d : Done). filled (0 + length (answers_of data_set (take k dones))) (f d) (filled_by 0 (answers_of data_set (take k dones)) l)) (sym at)
-    ∙ ap (λ (j : ℕ). filled j (f done) (filled_by 0 (answers_of data_set (take k dones)) l)) long
+    ∙ ap (λ (j : ℕ). filled j (f (get_or dones k done)) (filled_by 0 (answers_of data_set (take k dones)) l)) long
   where
     f : Done → List ℕ
     f d = versions_in data_set d.versions
 
     long : 0 + length (answers_of data_set (take k dones)) ≡ k
     long = omega (arith, length-map (take k dones) f, length-take-le k dones (omega (arith, low)))
+
+-- ---- histories
+
+get-left : {X : Type 0} (xs ys : List X) (k : ℕ) → k < length xs → slice_get (xs ++ ys) k ≡ slice_get xs k
+get-left [] ys k low = absurd (omega (arith, low))
+get-left (x ∷ xs) ys zero low = refl
+get-left (x ∷ xs) ys (suc k) low = get-left xs ys k (omega (arith, low))
+
+get-last : {X : Type 0} (xs : List X) (y : X) (k : ℕ) → length xs ≡ k → slice_get (xs ++ y ∷ []) k ≡ Some y
+get-last [] y zero is = refl
+get-last [] y (suc k) is = absurd (omega (arith, is))
+get-last (x ∷ xs) y zero is = absurd (omega (arith, is))
+get-last (x ∷ xs) y (suc k) is = get-last xs y k (omega (arith, is))
+
+-- the next data set's history
+pub histories-more : (passes : List Known) (dones : List Done) (n : ℕ) (histories : List History) (history : History) → AreHistories passes dones n histories
+    → (length dones ≤ 256 → (threads : List ℕ) → IsAuthored n dones threads → length threads ≡ length (pass_at passes n).seen → history.threads ≡ threads)
+    → AreHistories passes dones (n + 1) (histories ++ history ∷ [])
+histories-more passes dones n histories history so_far own = record {
+  count = length_push histories history ∙ ap (λ k. k + 1) so_far.count;
+  named = λ few set threads low authored long. by_case few set threads low authored long (eqb_tells set n);
+}
+  where
+    threads_are : History → List ℕ
+    threads_are h = h.threads
+
+    by_case : length dones ≤ 256 → (data_set : ℕ) (threads : List ℕ) → data_set < n + 1 → IsAuthored data_set dones threads → length threads ≡ length (pass_at passes data_set).seen
+        → (eqb data_set n ≡ true) × (data_set ≡ n) ⊎ (eqb data_set n ≡ false) × (data_set ≢ n) → HasThreads (histories ++ history ∷ []) data_set threads
+    by_case few data_set threads low authored long (inl same) =
+        ap (option_map threads_are) (get-last histories history data_set (so_far.count ∙ sym same.1))
+        ∙ ap (λ (l : List ℕ). Some l) (own few threads (subst (λ k. IsAuthored k dones threads) same.1 authored) (long ∙ ap (λ k. length (pass_at passes k).seen) same.1))
+    by_case few data_set threads low authored long (inr other) =
+        let before : data_set < n = omega (arith, low, other.1) in
+        ap (option_map threads_are) (get-left histories (history ∷ []) data_set (omega (arith, so_far.count, before)))
+        ∙ so_far.named few data_set threads before authored long

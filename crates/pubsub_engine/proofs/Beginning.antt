@@ -1,16 +1,14 @@
 -- The begin of a tick.
-use Rattle.std.proofs.Common.{◌≡◌, refl, sym, ap, ◌∙◌, subst, arith, ℕ, ◌+◌, ◌<◌, ◌≢◌, Bool, true, false, List, [], ◌∷◌, ◌++◌, length, map, Option, get_or}
-use Rattle.std.specs.Prelude.{zip, count_by, Vec}
-use Rattle.std.specs.declared.alloc.Global.{Global}
-use Rattle.std.specs.List.{HoldsAt}
-use Rattle.std.proofs.lemmas.List.{append-nil, length-map}
+use Rattle.std.proofs.Common.{◌≡◌, refl, sym, ap, ◌∙◌, subst, arith, ℕ, ◌+◌, ◌<◌, ◌≢◌, Bool, false, List, [], ◌∷◌, ◌++◌, length, get_or}
+use Rattle.std.specs.Prelude.{zip, count_by}
+use Rattle.std.proofs.lemmas.List.{append-nil}
 use Rattle.ua_base.specs.Journal.{Entry}
 use Rattle.pubsub_states.specs.declared.component.Component.{Component}
 use Rattle.pubsub_states.specs.declared.component.Component.TheVariants.{Root, Connection, Group, Writer, ReadGroup, Reader}
 use Rattle.pubsub_states.specs.Components.{Counts, IsAmong, counts_of}
 use Rattle.pubsub_states.specs.Changes.{TreeValue, flags_in}
 use Rattle.reader_group.specs.Plain.{Expired}
-use Rattle.session_model.specs.Steps.{Plan, Step, Tick, moment_of}
+use Rattle.session_model.specs.Steps.{Plan, Step, moment_of}
 use Rattle.session_model.specs.Sets.{metas_at}
 use Rattle.session_model.specs.Deeds.{deeds, rekeyed}
 use Rattle.session_model.specs.Sends.{Send, last_sends, last_failed, is_done_by, journal, send_entries, sent_by, is_failing}
@@ -20,11 +18,12 @@ use Rattle.session_parts.specs.declared.publisher.Publisher.{Publisher}
 use Rattle.session_parts.specs.declared.sends.GroupSends.{GroupSends}
 use Rattle.pubsub_engine.specs.declared.session.Session.{Session}
 use Rattle.session_parts.specs.declared.subscriber.Subscriber.{Subscriber}
-use Rattle.session_parts.specs.Standing.{AreSendsIn, HaveOutcomes, HavePast, HaveReadAll, HaveSent, HasFlags, IsOfGroup}
+use Rattle.session_parts.specs.Standing.{AreSendsIn, HavePast, HaveReadAll, HaveSent, IsOfGroup}
 use Rattle.pubsub_engine.specs.Standing.{Stands}
-use Rattle.session_parts.specs.Ticking.{TickData, ClearsSends, IsAt, TellsFaults, begun, flags_in_tick, now_of}
+use Rattle.session_parts.specs.Ticking.{TickData, ClearsSends, IsAt, TellsFaults, begun, flags_in_tick}
 use Rattle.pubsub_engine.specs.Ticking.{tick_of}
 use Rattle.session_parts.specs.Pumping.{TellsReaders, late_at, ready_at}
+use Rattle.session_parts.proofs.Few.{group-among}
 use Rattle.session_parts.proofs.Flags.{AreKeyed, IsButFaults, flags-told}
 use Rattle.session_parts.proofs.Ticks.{none-sent}
 
@@ -46,15 +45,10 @@ but-begun : (p : Plan) (before : List Step) (ms : ℕ) (closing : Bool) (old : S
     → let t = tick_of p before ms closing old in IsButFaults t (begun t) [] tree
 but-begun p before ms closing old subscriber tree stands counts kept read told = record {
   others = other;
-  enabled = λ g low. ap (λ f. f.enabled) (told.others (Group g) (among g low) refl) ∙ ap (λ f. f.enabled) (stands.flags (Group g) (among g low));
-  ready = λ g low. ap (λ f. f.ready) (told.others (Group g) (among g low) refl) ∙ ap (λ f. f.ready) (stands.flags (Group g) (among g low));
+  enabled = λ g low. ap (λ f. f.enabled) (told.others (Group g) (group-among p.config old.tree.counts g counts low) refl) ∙ ap (λ f. f.enabled) (stands.flags (Group g) (group-among p.config old.tree.counts g counts low));
+  ready = λ g low. ap (λ f. f.ready) (told.others (Group g) (group-among p.config old.tree.counts g counts low) refl) ∙ ap (λ f. f.ready) (stands.flags (Group g) (group-among p.config old.tree.counts g counts low));
 }
   where
-    among : (g : ℕ) → g < length p.config.group → IsAmong old.tree.counts (Group g)
-    among g low =
-        subst (λ (c : Counts). IsAmong c (Group g)) (sym counts)
-        (subst (λ (n : ℕ). g < n) (sym (length-map p.config.group (λ group. length group.writer))) low)
-
     back : (c : Component) → IsAmong tree.counts c → IsAmong old.tree.counts c
     back c there = subst (λ (n : Counts). IsAmong n c) kept there
 

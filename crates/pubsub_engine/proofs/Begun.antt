@@ -1,10 +1,9 @@
 -- The begin of a tick, put together.
-use Rattle.std.proofs.Common.{◌≡◌, refl, sym, ap, ◌∙◌, subst, arith, ℕ, ◌+◌, ◌<◌, Bool, List, [], ◌∷◌, length}
+use Rattle.std.proofs.Common.{◌≡◌, sym, ap, ◌∙◌, subst, arith, ℕ, ◌+◌, Bool, List, [], ◌∷◌}
 use Rattle.std.specs.Prelude.{Vec}
 use Rattle.std.specs.declared.alloc.Global.{Global}
 use Rattle.dataset_meta.specs.Metas.{MetaData}
 use Rattle.pubsub_states.specs.Changes.{TreeValue}
-use Rattle.pubsub_states.specs.Components.{counts_of}
 use Rattle.ps_config.specs.declared.parts.Config.{Config}
 use Rattle.reader_group.specs.Plain.{Expired}
 use Rattle.writer_group.specs.declared.group.Group.{Group}
@@ -14,7 +13,6 @@ use Rattle.session_model.specs.Deeds.{Deed, deeds, rekeyed}
 use Rattle.session_model.specs.Events.{events}
 use Rattle.session_parts.specs.declared.publisher.Publisher.{Publisher}
 use Rattle.session_parts.specs.declared.sends.GroupSends.{GroupSends}
-use Rattle.session_parts.specs.declared.sends.LinkSends.{LinkSends}
 use Rattle.pubsub_engine.specs.declared.session.Session.{Session}
 use Rattle.session_parts.specs.declared.subscriber.Subscriber.{Subscriber}
 use Rattle.session_parts.specs.Holding.{HoldPublisher, HoldSubscriber}

@@ -59,16 +59,6 @@ use Rattle.session_parts.proofs.Few.{group-among, writer-among}
 use Rattle.session_parts.proofs.TellingReaders.{low-among}
 use Rattle.pubsub_engine.specs.Ending.{HavePublished, HaveReceived, IsNumbered, IsToldAt, MayTellReaders, MayTellWriters, reader_in}
 use Rattle.pubsub_engine.specs.Logs.{IsLogRead}
-use Rattle.pubsub_engine.proofs.PlacesInOrder.{member-more}
-
--- ---- a loop that pushes one for each index
-
-pub pushed-none : {X : Type 0} (f : ℕ → X) (items : List X) → items ≡ [] → items ≡ map f (range_with_len 0 0)
-pushed-none f items is = is
-
-pub pushed-more : {X : Type 0} (f : ℕ → X) (n : ℕ) (items more : List X) (x : X) → more ≡ items ++ x ∷ [] → x ≡ f n → items ≡ map f (range_with_len 0 n) → more ≡ map f (range_with_len 0 (n + 1))
-pushed-more f n items more x pushed is so_far =
-    pushed ∙ ap (λ l. l ++ x ∷ []) so_far ∙ ap (λ y. map f (range_with_len 0 n) ++ y ∷ []) is ∙ sym (member-more f n)
 
 -- ---- states
 
@@ -177,10 +167,6 @@ numbered-if p steps publisher at meta kept log (Some held) past read has row num
   other = λ differ. version ∙ ap (λ (l : List (ℕ × ℕ)). option_and_then (version_of l) held.number) (read.other differ) ∙ none-logged held.number;
 }
 
--- the part of the reader with this place is that of its seat
-pub seat-part : (config : Config) (r i : ℕ) → i < length (read_group_at config r).reader → (seat_at (setting_of config r).seats i).part ≡ (reader_in config (r, i)).1
-seat-part config r i within = ap (λ (seat : Seat). seat.part) (get_or-map (seat_in config) (read_group_at config r).reader i no_seat.part no_seat within)
-
 pub reader-told : (config : Config) (p : Plan) (steps : List Step) (tree : TreeValue) (publisher : Publisher) (subscriber : Subscriber) (r i : ℕ)
     (group : ReaderGroup) (reader : DataSetReader) (log : List (ℕ × ℕ)) (end : ReaderEnd)
     → MayTellReaders config tree subscriber → HavePublished config p steps tree publisher → HaveReceived config p steps tree subscriber
@@ -198,7 +184,7 @@ reader-told config p steps tree publisher subscriber r i group reader log end ma
   };
   numbered = numbered-if p steps publisher (reader_in p.config (r, i)) meta member.kept log end.held published.groups
       (subst (λ (c : Config). IsLogRead c publisher (reader_in c (r, i)) log) (sym have.plan) read)
-      (subst (λ (part : ReaderPart). HasItsNumber part.numbering member.kept) (seat-part p.config r i within_in) (numbers (setting_of p.config r) (events p.config r steps) i seat_there))
+      (numbers (setting_of p.config r) (events p.config r steps) i seat_there)
       shown.row shown.number version;
 }
   where

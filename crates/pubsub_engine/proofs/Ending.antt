@@ -2,18 +2,15 @@
 use Rattle.std.proofs.Common.{◌≡◌, refl, sym, ap, ◌∙◌, subst, arith, ℕ, ◌+◌, ◌<◌, ◌≤◌, Bool, true, false, List, [], ◌∷◌, length, map, Option}
 use Rattle.std.specs.Prelude.{◌||◌, zip, count_by, Vec}
 use Rattle.std.specs.declared.alloc.Global.{Global}
-use Rattle.std.proofs.lemmas.List.{append-nil}
-use Rattle.ua_base.specs.Journal.{LinkState, Entry, Sent, SendFailed}
-use Rattle.pubsub_states.specs.declared.component.Component.{Component}
+use Rattle.ua_base.specs.Journal.{LinkState, Sent, SendFailed}
 use Rattle.pubsub_states.specs.declared.component.Component.TheVariants.{Root, Connection, Group, Writer, ReadGroup, Reader}
-use Rattle.pubsub_states.specs.Components.{IsAmong}
-use Rattle.pubsub_states.specs.Changes.{TreeValue, flags_in}
+use Rattle.pubsub_states.specs.Changes.{TreeValue}
 use Rattle.session_model.specs.Steps.{Plan, Step, Tick}
 use Rattle.session_model.specs.Sets.{AreRowsOf}
-use Rattle.session_model.specs.Deeds.{Deed, deeds}
+use Rattle.session_model.specs.Deeds.{deeds}
 use Rattle.session_model.specs.Counts.{is_closed, most_ticks, ticks_in}
 use Rattle.session_model.specs.Keeping.{MayCome}
-use Rattle.session_model.specs.Sends.{Send, send_entry, send_entries, sends_of, journal, TellsRun}
+use Rattle.session_model.specs.Sends.{Send, send_entry, sends_of, journal, TellsRun}
 use Rattle.session_model.specs.States.{flags_at}
 use Rattle.session_model.specs.Stores.{stores}
 use Rattle.writer_group.specs.declared.sampled.Sampled.{Sampled}

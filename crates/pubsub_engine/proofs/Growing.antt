@@ -1,10 +1,9 @@
 -- Data sets that have grown.
-use Rattle.std.proofs.Common.{◌≡◌, refl, sym, ap, ◌∙◌, arith, ℕ, suc, zero, ◌<◌, ◌≤◌, List, [], ◌∷◌, length, take, get_or, set}
-use Rattle.std.specs.List.{AllZip}
+use Rattle.std.proofs.Common.{refl, sym, ap, ◌∙◌, arith, ℕ, suc, zero, ◌≤◌, List, [], ◌∷◌, length, take, set}
 use Rattle.std.proofs.lemmas.List.{length-take, take_all, take-take}
 use Rattle.std.proofs.Math.Seq.{take-append_seam}
 use Rattle.dataset_meta.specs.declared.field.Field.{Field}
-use Rattle.dataset_meta.specs.Metas.{MetaData, HasGrown, grown, no_meta}
+use Rattle.dataset_meta.specs.Metas.{MetaData, HasGrown, grown}
 use Rattle.session_model.specs.Sets.{GrowTo, meta_in}
 
 has-grown-self : (meta : MetaData) → HasGrown meta meta

@@ -12,6 +12,7 @@ pub mod Places
 pub mod Rows
 pub mod Stored
 pub mod Named
+pub mod Origins
 pub mod Receipts
 pub mod Switches
 pub mod Growing
@@ -22,6 +23,8 @@ pub mod Pairing
 pub mod PlacesInOrder
 pub mod Authors
 pub mod Watched
+pub mod ByPlace
 pub mod EndParts
 pub mod Whole
+pub mod OpenRows
 pub mod SampleLoop

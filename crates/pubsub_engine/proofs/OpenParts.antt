@@ -1,34 +1,30 @@
 -- A new session: what its parts are when they are made, and that it may be called and stands where no step was.
-use Rattle.std.proofs.Common.{◌≡◌, refl, sym, ap, ◌∙◌, subst, arith, ℕ, zero, suc, ◌+◌, ◌*◌, ◌<◌, ◌≤◌, Bool, true, false, List, [], ◌∷◌, ◌++◌, length, get_or, map, All, Some}
-use Rattle.std.specs.Prelude.{◌||◌, slice_get, vec_len}
-use Rattle.std.specs.List.{HoldsAt, flat_map, range_with_len}
-use Rattle.std.proofs.lemmas.List.{get_or-map, length-append, length-map}
+use Rattle.std.proofs.Common.{◌≡◌, refl, sym, ap, ◌∙◌, subst, arith, ℕ, zero, suc, ◌+◌, ◌<◌, ◌≤◌, Bool, true, false, List, [], ◌∷◌, length, get_or, map, All}
+use Rattle.std.specs.Prelude.{◌||◌, Option, vec_len}
+use Rattle.std.specs.List.{HoldsAt}
+use Rattle.std.proofs.lemmas.List.{get_or-map, length-map}
 use Rattle.std.proofs.lemmas.List.Elements.{length_all_zip}
-use Rattle.std.proofs.lemmas.List.FromFn.{length-range_with_len}
-use Rattle.std.proofs.lemmas.Option.{slice_get_within}
 use Rattle.dataset_meta.specs.Metas.{MetaData, HasGrown, IsMeta}
+use Rattle.row_words.specs.Belonging.{row_in}
 use Rattle.ps_config.specs.declared.parts.Config.{Config}
-use Rattle.ps_config.specs.declared.parts.ReaderPart.{ReaderPart}
 use Rattle.ps_config.specs.Sound.{readers}
 use Rattle.pubsub_states.specs.declared.component.Component.{Component}
 use Rattle.pubsub_states.specs.declared.component.Component.TheVariants.{Root, Connection, Group, Writer, ReadGroup, Reader}
 use Rattle.pubsub_states.specs.declared.flags.Flags.{Flags}
-use Rattle.pubsub_states.specs.Components.{Counts, IsAmong, counts_of}
+use Rattle.pubsub_states.specs.Components.{Counts, IsAmong}
 use Rattle.pubsub_states.specs.Changes.{StandsAfter, TreeValue, flags_in}
 use Rattle.reader_group.specs.Members.{MemberValue, Seat, new_member}
-use Rattle.reader_group.specs.Settings.{group_at as read_group_at, setting_of}
-use Rattle.version_cell.specs.Known.{Known}
+use Rattle.reader_group.specs.Settings.{setting_of}
+use Rattle.version_cell.specs.declared.rule.Entry.{Entry}
+use Rattle.version_cell.specs.Known.{Known, nothing}
 use Rattle.version_cell.specs.Cells.{CellData}
 use Rattle.version_cell.specs.Passes.{new_pass}
 use Rattle.version_cell.specs.Sets.{new_passes, no_cell, pass_at}
 use Rattle.writer_group.specs.Parts.{group_at}
 use Rattle.writer_group.specs.Standing.{IsGood}
 use Rattle.session_model.specs.Counts.{most_ticks}
-use Rattle.session_model.specs.Steps.{Plan}
 use Rattle.session_model.specs.Sets.{AreRowsOf}
-use Rattle.session_model.specs.Events.{reader_at}
 use Rattle.session_model.specs.States.{flags_at}
-use Rattle.session_model.specs.Closing.{MemberPlace, reader_places}
 use Rattle.session_model.specs.Deeds.{is_spent}
 use Rattle.session_parts.specs.declared.publisher.Publisher.{Publisher}
 use Rattle.session_parts.specs.declared.receiving.Receiving.{Receiving}
@@ -48,7 +44,9 @@ use Rattle.pubsub_engine.specs.declared.session.Left.{Left}
 use Rattle.pubsub_engine.specs.declared.session.Session.{Session}
 use Rattle.pubsub_engine.specs.Holding.{AreAppends, HoldSets, IsSession, full_of, plan_of}
 use Rattle.pubsub_engine.specs.Standing.{Stands}
+use Rattle.pubsub_engine.specs.Storing.{meta_at_place}
 use Rattle.pubsub_engine.proofs.OpenSets.{full-metas, grow-full}
+use Rattle.pubsub_engine.proofs.Places.{within-all}
 
 -- ---- the parts
 
@@ -107,19 +105,27 @@ pub record IsFresh (appends : List Append) (turns : ℕ) (s : Session) : Type 0 
   pub tree : IsFreshTree s.config.now s.publisher s.tree
 
 -- new passes have seen nothing
-pub unseen-new : (cells : List CellData) (author : Rattle.std.specs.Prelude.Option ℕ) (k : ℕ) → k < length cells → (pass_at (new_passes cells author) k).seen ≡ []
-unseen-new cells author k low = ap (λ (p : Known). p.seen) (get_or-map (λ (cell : CellData). new_pass cell author) cells k no_cell Rattle.version_cell.specs.Known.nothing low)
+pub unseen-new : (cells : List CellData) (author : Option ℕ) (passes : List Known) → passes ≡ new_passes cells author → (k : ℕ) → k < length passes → (pass_at passes k).seen ≡ []
+unseen-new cells author passes are k low =
+    let count : length passes ≡ length cells = ap (λ (l : List Known). length l) are ∙ length-map cells (λ (cell : CellData). new_pass cell author) in
+    ap (λ (l : List Known). (pass_at l k).seen) are
+    ∙ ap (λ (p : Known). p.seen) (get_or-map (λ (cell : CellData). new_pass cell author) cells k no_cell nothing (omega (arith, low, count)))
+
+-- passes of cells of these metas
+pub count-passes : (cells : List CellData) (author : Option ℕ) (metas : List MetaData) → map (λ cell. cell.meta) cells ≡ metas → length (new_passes cells author) ≡ length metas
+count-passes cells author metas are =
+    length-map cells (λ (cell : CellData). new_pass cell author) ∙ sym (length-map cells (λ (cell : CellData). cell.meta)) ∙ ap (λ (l : List MetaData). length l) are
 
 -- ---- it may be called
 
-full-count : (metas : List MetaData) (appends : List Append) → length (full_of metas appends) ≡ length metas
+pub full-count : (metas : List MetaData) (appends : List Append) → length (full_of metas appends) ≡ length metas
 full-count metas appends = sym (length_all_zip HasGrown metas (full_of metas appends) (grow-full metas appends))
 
 pub fresh-session : (appends : List Append) (turns : ℕ) (s : Session) → IsFresh appends turns s → IsSession s
 fresh-session appends turns s fresh =
     let config = s.config.now in
     let whole : All (λ meta. IsMeta meta.fields) s.sets.full.items =
-        subst (All (λ (meta : MetaData). IsMeta meta.fields)) (sym fresh.full) (full-metas config config.dataset appends fresh.good.sound.metas fresh.may) in
+    subst (All (λ (meta : MetaData). IsMeta meta.fields)) (sym fresh.full) (full-metas config config.dataset appends fresh.good.sound.metas fresh.may) in
     let count : length s.sets.full.items ≡ length config.dataset = ap (λ (l : List MetaData). length l) fresh.full ∙ full-count config.dataset appends in
     let ticks : s.left.ticks ≡ turns = ap (λ (l : Left). l.ticks) fresh.left in
     let pumps : s.left.pumps ≡ 0 = ap (λ (l : Left). l.pumps) fresh.left in
@@ -141,7 +147,7 @@ fresh-session appends turns s fresh =
       tree = fresh.tree.counts ∙ fresh.tree.opening.counts;
       buffers = fresh.receiving.room;
       stores = record {
-        count = let n = fresh.stores.lasts in let ok = s.stores.last.ok.0 in omega (arith, n, ok);
+        count = fresh.stores.lasts;
         keepers = fresh.stores.keepers;
         room = λ k low. let none : length (pass_at s.stores.keeper k).seen ≡ 0 = ap length (fresh.stores.unseen k low) in omega (arith, none, ticks, pumps, limit);
       };
@@ -186,22 +192,6 @@ fresh-flags full config turns publisher tree good fresh is component among = on 
         ∙ is.opening.flags (Reader r i) there
         ∙ ap (λ (m : MemberValue). record { enabled = true; fault = m.late; ready = m.ready }) (sym (always-new (setting_of config r).seats i))
 
--- as many places as readers
-same-counts : {X Y Z : Type 0} (f : ℕ → List Y) (h : X → List Z) (xs : List X) (a : ℕ) (d : X) → ((k : ℕ) → k < length xs → length (f (a + k)) ≡ length (h (get_or xs k d)))
-    → length (flat_map f (range_with_len a (length xs))) ≡ length (flat_map h xs)
-same-counts f h [] a d same = refl
-same-counts f h (x ∷ xs) a d same =
-    let first : length (f a) ≡ length (h x) = ap (λ (n : ℕ). length (f n)) (sym (omega arith)) ∙ same zero (omega arith) in
-    let rest = same-counts f h xs (a + 1) d (λ k below. ap (λ (n : ℕ). length (f n)) (omega arith) ∙ same (suc k) (omega (arith, below))) in
-    length-append (f a) (flat_map f (range_with_len (a + 1) (length xs))) ∙ omega (arith, first, rest, length-append (h x) (flat_map h xs))
-
-count-places : (config : Config) → length (reader_places config) ≡ length (readers config)
-count-places config =
-    same-counts (λ r. map (λ i. (r, i)) (range_with_len 0 (length (read_group_at config r).reader))) (λ group. group.reader) config.readgroup 0 Rattle.reader_group.specs.Settings.no_group
-    (λ k below. length-map (range_with_len 0 (length (read_group_at config (0 + k)).reader)) (λ i. ((0 + k), i))
-    ∙ length-range_with_len 0 (length (read_group_at config (0 + k)).reader)
-    ∙ ap (λ (n : ℕ). length (read_group_at config n).reader) (omega arith))
-
 pub fresh-stands : (appends : List Append) (turns : ℕ) (s : Session) → IsFresh appends turns s → Stands (plan_of s) [] s
 fresh-stands appends turns s fresh =
     let ticks : s.left.ticks ≡ turns = ap (λ (l : Left). l.ticks) fresh.left in
@@ -230,10 +220,10 @@ fresh-stands appends turns s fresh =
         limit = fresh.receiving.counts.3;
       };
       stores_are = λ k place at.
-          let low : k < length (readers s.config.now) = subst (λ (n : ℕ). k < n) (count-places s.config.now) (slice_get_within (reader_places s.config.now) k place at) in
+          let low = within-all s.config.now k place at in
           record {
             last = λ d. fresh.stores.none k low d;
-            seen = ap (map (λ entry. Rattle.row_words.specs.Belonging.row_in (Rattle.pubsub_engine.specs.Storing.meta_at_place s.config.now place).fields entry.row)) (fresh.stores.unseen k low);
+            seen = ap (map (λ (entry : Entry). row_in (meta_at_place s.config.now place).fields entry.row)) (fresh.stores.unseen k low);
           };
       flags = fresh-flags s.sets.full.items s.config.now turns s.publisher s.tree fresh.good fresh.publisher fresh.tree;
     }

@@ -1,13 +1,10 @@
 -- The data sets of a new session: each append is allowed when it comes, and all of them lead to the full data sets.
-use Rattle.std.proofs.Common.{◌≡◌, ◌≢◌, ◌⊎◌, inl, inr, refl, sym, ap, ◌∙◌, subst, arith, ℕ, ◌+◌, ◌<◌, ◌≤◌, true, false, List, [], ◌∷◌, ◌++◌, length, take, drop, get_or, set, map, All}
-use Rattle.std.specs.Prelude.{⊤, ◌==◌}
-use Rattle.std.proofs.lemmas.Bool.Decides.{eqb_tells}
-use Rattle.std.proofs.lemmas.List.{length-set, get_or-set_same, get_or-set_other, take_all, take_more, drop_more}
+use Rattle.std.proofs.Common.{◌≡◌, ◌≢◌, refl, sym, ap, ◌∙◌, subst, arith, ℕ, ◌+◌, ◌<◌, true, false, List, [], ◌∷◌, ◌++◌, length, take, drop, get_or, set, map, All}
+use Rattle.std.specs.Prelude.{⊤}
+use Rattle.std.proofs.lemmas.List.{length-set, get_or-set_other, take_all, take_more, drop_more}
 use Rattle.std.proofs.lemmas.List.Elements.{All-get_or, All-weaker}
-use Rattle.dataset_meta.specs.declared.field.Field.{Field}
-use Rattle.dataset_meta.specs.Metas.{MetaData, IsMeta, MayGrow, grown, no_meta}
+use Rattle.dataset_meta.specs.Metas.{MetaData, IsMeta, grown, no_meta}
 use Rattle.ps_config.specs.declared.parts.Config.{Config}
-use Rattle.ps_config.specs.declared.parts.GroupPart.{GroupPart}
 use Rattle.ps_config.specs.Rooms.{is_fixed, lacks_room}
 use Rattle.ps_config.specs.Sound.{IsGroup}
 use Rattle.ps_config.specs.Types.{HasTypes}
@@ -22,19 +19,6 @@ use Rattle.pubsub_engine.specs.declared.sets.Growth.{Growth}
 use Rattle.pubsub_engine.specs.declared.sets.Sets.{Sets}
 use Rattle.pubsub_engine.specs.Holding.{AreAppends, AreSets, AreToCome, Grows, HoldSets, IsGrowthBy, full_of, grown_by}
 use Rattle.pubsub_engine.proofs.Growing.{grow-self, grow-one, grow-on}
-
--- ---- one append
-
--- what an append makes of its data set makes a meta
-pub may-grow : (config : Config) (metas : List MetaData) (append : Append) → MayAppend config metas append.set (grown_by metas append)
-    → MayGrow (meta_in metas append.set) append.field
-may-grow config metas append may =
-    let own = get_or-set_same metas append.set (grown (meta_in metas append.set) append.field) no_meta may.there in
-    let there : append.set < length (grown_by metas append) = subst (λ (n : ℕ). append.set < n) (sym (length-set metas append.set (grown (meta_in metas append.set) append.field))) may.there in
-    record {
-      fields = subst (λ (meta : MetaData). IsMeta meta.fields) own (All-get_or (λ meta. IsMeta meta.fields) (grown_by metas append) append.set no_meta there may.fit.each);
-      minor = subst (λ (meta : MetaData). meta.minor < 4294967296) own may.minor;
-    }
 
 -- ---- data sets of a moment, whatever is still to come
 
@@ -98,17 +82,18 @@ to-come config metas [] (growth ∷ later) now may are = absurd are
 to-come config metas (append ∷ appends) [] now may are = absurd are
 to-come config metas (append ∷ appends) (growth ∷ later) now may are =
     let next : set metas growth.set growth.meta ≡ grown_by metas append =
-        ap (λ (n : ℕ). set metas n growth.meta) are.0.set ∙ ap (set metas append.set) are.0.meta in
+    ap (λ (n : ℕ). set metas n growth.meta) are.0.set ∙ ap (set metas append.set) are.0.meta in
     let grows : Grows config metas growth = record {
       may = subst (λ (n : ℕ). MayAppend config metas n (set metas growth.set growth.meta)) (sym are.0.set)
           (subst (MayAppend config metas append.set) (sym next) may.0);
       field = append.field;
       meta = are.0.meta ∙ ap (λ (n : ℕ). grown (meta_in metas n) append.field) (sym are.0.set);
-    } in
-    (are-sets config metas (append ∷ appends) now,
-    grows,
-    subst (λ (l : List MetaData). AreToCome config (full_of (grown_by metas append) appends) l later) (sym next)
-    (to-come config (grown_by metas append) appends later (next-now config metas append now may.0) may.1 are.1))
+    } in (
+      are-sets config metas (append ∷ appends) now,
+      grows,
+      subst (λ (l : List MetaData). AreToCome config (full_of (grown_by metas append) appends) l later) (sym next)
+          (to-come config (grown_by metas append) appends later (next-now config metas append now may.0) may.1 are.1),
+    )
 
 -- each full data set makes a meta
 pub full-metas : (config : Config) (metas : List MetaData) (appends : List Append) → All (λ meta. IsMeta meta.fields) metas → AreAppends config metas appends
@@ -154,11 +139,11 @@ growth-sets metas (append ∷ appends) (growth ∷ later) are =
     ap (λ (n : ℕ). n ∷ map (λ growth. growth.set) later) are.0.set
     ∙ ap (λ (l : List ℕ). append.set ∷ l) (growth-sets (grown_by metas append) appends later are.1)
 
-pub made-first : (config : Config) (appends : List Append) → AreAppends config config.dataset appends → HaveMade config appends 0 config.dataset []
+made-first : (config : Config) (appends : List Append) → AreAppends config config.dataset appends → HaveMade config appends 0 config.dataset []
 made-first config appends may = record { full_is = refl; later_are = tt; rest = may }
 
 -- the append that is next
-pub made-next : (config : Config) (appends : List Append) (n : ℕ) (d : Append) (full : List MetaData) (later : List Growth) → n < length appends → HaveMade config appends n full later
+made-next : (config : Config) (appends : List Append) (n : ℕ) (d : Append) (full : List MetaData) (later : List Growth) → n < length appends → HaveMade config appends n full later
     → MayAppend config full (get_or appends n d).set (grown_by full (get_or appends n d))
     × AreAppends config (grown_by full (get_or appends n d)) (drop (n + 1) appends)
 made-next config appends n d full later low made = subst (AreAppends config full) (drop_more appends n d low) made.rest

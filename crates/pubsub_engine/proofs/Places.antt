@@ -15,6 +15,7 @@ use Rattle.ps_config.proofs.Distinct.{map_flat}
 use Rattle.ps_report.specs.Told.{grouped_readers}
 use Rattle.reader_group.specs.Members.{Seat, no_seat, seat_at}
 use Rattle.reader_group.specs.Settings.{group_at, no_group, seat_in, setting_of}
+use Rattle.writer_group.specs.Standing.{IsGood}
 use Rattle.session_model.specs.Events.{reader_indexes, read_group_indexes}
 use Rattle.session_model.specs.Closing.{MemberPlace, reader_places}
 use Rattle.pubsub_engine.specs.Storing.{first_reader}
@@ -96,6 +97,13 @@ pub first-within : (config : Config) (r i : ℕ) → r < length config.readgroup
 first-within config r i there within =
     let fits = length-flat_map-take (λ (group : ReadGroupPart). group.reader) config.readgroup r no_group there in
     omega (arith, fits, within)
+
+pub few-readers : (config : Config) → IsGood config → length (readers config) ≤ 16
+few-readers config good = good.sound.few.readers
+
+-- so many are in the read groups up to one
+pub first-most : (config : Config) (r : ℕ) → r < length config.readgroup → first_reader config r + length (group_at config r).reader ≤ length (readers config)
+first-most config r there = length-flat_map-take (λ (group : ReadGroupPart). group.reader) config.readgroup r no_group there
 
 -- the reader with this index in a read group
 pub reader-at : (config : Config) (r i : ℕ) (d : ReaderPart) → r < length config.readgroup → i < length (group_at config r).reader

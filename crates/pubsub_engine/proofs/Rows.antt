@@ -1,5 +1,6 @@
 -- Equal words are no differences.
-use Rattle.std.proofs.Common.{◌≡◌, refl, sym, ap, ◌∙◌, subst, ℕ, ◌+◌, Bool, true, false, not, List, [], ◌∷◌, length}
+use Rattle.std.proofs.Common.{◌≡◌, refl, sym, ap, ◌∙◌, subst, ℕ, ◌+◌, Bool, true, false, not, List, [], ◌∷◌, Decides}
+use Rattle.std.proofs.lemmas.Bool.Decides.{same_from_decides}
 use Rattle.dataset_meta.specs.DataValues.{DataValue}
 use Rattle.dataset_meta.specs.Metas.{MetaData}
 use Rattle.dataset_meta.specs.Rows.{IsRow, cons_if, differs, differs_from, patched}
@@ -29,3 +30,10 @@ none-words meta one other is_one is_other none =
     ∙ ap (spelled_row meta.fields) (ap (λ (patch : List (ℕ × DataValue)). patched (row_in meta.fields one) patch) (sym (none-same _ none))
     ∙ patched-differs meta.quality meta.fields (row_in meta.fields one) (row_in meta.fields other) is_one.row is_other.row)
     ∙ sym is_other.spelled
+
+-- whether words are equal is whether their rows have no differences
+pub rows-same : (meta : MetaData) (one other : List ℕ) (same : Bool) → Decides same (one ≡ other) → Belongs meta one → Belongs meta other
+    → same ≡ is_none_of (differs (row_in meta.fields one) (row_in meta.fields other))
+rows-same meta one other same decides is_one is_other =
+    same_from_decides same (is_none_of (differs (row_in meta.fields one) (row_in meta.fields other))) decides
+    (none-words meta one other is_one is_other, λ equal. same-none (row_in meta.fields one) (row_in meta.fields other) (ap (row_in meta.fields) equal))

@@ -1,5 +1,5 @@
 -- A session that takes a sample or meets passes: it stands where it stood.
-use Rattle.std.proofs.Common.{◌≡◌, refl, sym, ap, ◌∙◌, subst, arith, ℕ, ◌+◌, ◌<◌, ◌≤◌, List, length, map, get_or}
+use Rattle.std.proofs.Common.{◌≡◌, sym, ap, ◌∙◌, subst, arith, ℕ, ◌<◌, ◌≤◌, List, length, map, get_or}
 use Rattle.std.specs.Prelude.{All}
 use Rattle.std.proofs.lemmas.List.{get_or-map, length-map}
 use Rattle.std.proofs.lemmas.List.Elements.{All-get_or}
@@ -13,7 +13,6 @@ use Rattle.version_cell.specs.Passes.{IsPassOf, SeesLawful}
 use Rattle.version_cell.specs.Sets.{ArePassesOf, EachSeesLawful, cell_at, no_cell, pass_at}
 use Rattle.writer_group.specs.declared.sampled.Sampled.{Sampled}
 use Rattle.writer_group.specs.Turns.{no_sample}
-use Rattle.session_model.specs.Steps.{Plan, Step}
 use Rattle.session_model.specs.Sets.{AreRowsOf}
 use Rattle.pubsub_engine.specs.declared.sampling.Samples.{Samples}
 use Rattle.pubsub_engine.specs.declared.session.Session.{Session}

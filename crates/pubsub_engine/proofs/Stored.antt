@@ -1,5 +1,5 @@
 -- What a reader holds is stored, if it isn't its last store.
-use Rattle.std.proofs.Common.{◌≡◌, ◌≢◌, ◌⊎◌, inl, inr, refl, sym, ap, ◌∙◌, subst, arith, ℕ, ◌+◌, ◌<◌, ◌≤◌, Bool, true, false, not, nat_le, List, [], ◌∷◌, ◌++◌, length, map, reverse, get_or, slice_get, slice_index_or, slice_set, Option, Some, None, length-append}
+use Rattle.std.proofs.Common.{◌≡◌, ◌≢◌, ◌⊎◌, inl, inr, refl, sym, ap, ◌∙◌, subst, arith, ℕ, ◌+◌, ◌<◌, ◌≤◌, Bool, true, false, not, nat_le, List, [], ◌∷◌, ◌++◌, length, map, reverse, get_or, slice_get, slice_index_or, slice_set, Option, Some, None, option_map, length-append}
 use Rattle.std.proofs.lemmas.Bool.{false≢true}
 use Rattle.std.proofs.lemmas.Bool.Decides.{leb_tells}
 use Rattle.std.proofs.lemmas.List.{get_or-set_other, get_or-set_same, get_or_read, get_or-map, map-append, reverse-append, length-map}
@@ -10,14 +10,14 @@ use Rattle.dataset_meta.specs.Metas.{MetaData, no_meta}
 use Rattle.dataset_meta.specs.Rows.{cons_if}
 use Rattle.dataset_reader.specs.declared.reader.Reader.{Reader}
 use Rattle.dataset_reader.specs.Kept.{Kept}
-use Rattle.dataset_reader.specs.Reader.{kept_by}
+use Rattle.dataset_reader.specs.Reader.{IsReaderOf, kept_by}
 use Rattle.config_tables.specs.declared.words.NumberingWord.{NumberingWord}
 use Rattle.ps_config.specs.declared.parts.Config.{Config}
 use Rattle.ps_config.specs.declared.parts.ReaderPart.{ReaderPart}
 use Rattle.ps_config.specs.Sound.{readers}
 use Rattle.reader_group.specs.declared.group.ReaderGroup.{ReaderGroup}
 use Rattle.reader_group.specs.Members.{Seat, no_seat, seat_at}
-use Rattle.reader_group.specs.Groups.{IsKeptAt, Stands as ReadingStands}
+use Rattle.reader_group.specs.Groups.{IsKeptAt, IsMadeAt, Stands as ReadingStands}
 use Rattle.reader_group.specs.Plain.{Event, plain}
 use Rattle.reader_group.specs.Settings.{group_at, seat_in, setting_of}
 use Rattle.row_words.specs.declared.row.Row.{Row}
@@ -31,6 +31,7 @@ use Rattle.version_cell.specs.Passes.{Adds}
 use Rattle.version_cell.specs.Sets.{ArePassesOf, ChangesAt, cell_at, no_cell, pass_at}
 use Rattle.session_model.specs.Closing.{MemberPlace, reader_places}
 use Rattle.session_model.specs.Stores.{Store, is_same, stored_on}
+use Rattle.session_parts.specs.Holding.{AreReadGroups, MayReceive}
 use Rattle.session_parts.specs.Standing.{HaveReadAll}
 use Rattle.pubsub_engine.specs.declared.storing.Last.{Last}
 use Rattle.pubsub_engine.specs.declared.storing.Stores.{Stores}
@@ -64,6 +65,20 @@ pub same-stays : (numbering : NumberingWord) (list : List Store) (now : Store) (
 same-stays numbering [] now meta last same on none some is = absurd (false≢true (sym (none is) ∙ on))
 same-stays numbering (store ∷ before) now meta last same on none some is =
     ap (λ (b : Bool). cons_if (not b) now (store ∷ before)) (sym (some store before is) ∙ on)
+
+abbrev some-store : List DataValue → Option ℕ → Option Store
+some-store row number = Some (record { number = number; row = row })
+
+-- what a reader holds, as a store
+pub held-is : (kept : Kept) (number : Option ℕ) (row : List DataValue) → Some row ≡ kept.row → number ≡ kept.number
+    → held_in kept ≡ Some (record { number = number; row = row })
+held-is kept number row is_row is_number =
+    ap (λ (o : Option (List DataValue)). option_map {U = Store} (λ r. record { number = kept.number; row = r }) o) (sym is_row)
+    ∙ ap (some-store row) (sym is_number)
+
+pub none-held : (numbering : NumberingWord) (list : List Store) (kept : Kept) → None ≡ kept.row → stored_on numbering list (held_in kept) ≡ list
+none-held numbering list kept is =
+    ap (λ (o : Option (List DataValue)). stored_on numbering list (option_map {U = Store} (λ r. record { number = kept.number; row = r }) o)) (sym is)
 
 -- the keeper's pass has seen one store more
 more-seen : (meta : MetaData) (list : List Store) (now : Store) (old new : Known) (row : List ℕ) → Adds old new row → row_in meta.fields row ≡ now.row
@@ -150,11 +165,11 @@ one-on config groups k place old new at adds others stored = record {
 -- ---- the metas of the targets
 
 -- the target of a reader is of the data set of its seat
-pub cell-meta : (config : Config) (cells : List CellData) (r i : ℕ)
+cell-at : (config : Config) (cells : List CellData) (r i : ℕ)
     → map (λ cell. cell.meta) cells ≡ metas_of config.dataset (map (λ reader. reader.dataset) (readers config))
     → r < length config.readgroup → i < length (group_at config r).reader
     → (cell_at cells (first_reader config r + i)).meta ≡ meta_at_place config (r, i)
-cell-meta config cells r i metas there within =
+cell-at config cells r i metas there within =
     sym (listn.get_or-map (λ (cell : CellData). cell.meta) cells k no_cell)
     ∙ ap (λ (l : List MetaData). get_or l k no_meta) metas
     ∙ get_or-map of (map (λ (part : ReaderPart). part.dataset) (readers config)) k 0 no_meta (subst (λ n. k < n) (sym (length-map (readers config) (λ (part : ReaderPart). part.dataset))) low)
@@ -170,28 +185,58 @@ cell-meta config cells r i metas there within =
     low : k < length (readers config)
     low = first-within config r i there within
 
--- what one reader's call ensures, in the terms of the places
-pub placed-on : (config : Config) (cells : List CellData) (groups : List ReaderGroup) (group : ReaderGroup) (reader : Reader) (part : ReaderPart) (r i : ℕ) (old new : Stores)
+pub cell-meta : (config : Config) (cells : List CellData) (first r i : ℕ) → first ≡ first_reader config r
+    → map (λ cell. cell.meta) cells ≡ metas_of config.dataset (map (λ reader. reader.dataset) (readers config))
+    → r < length config.readgroup → i < length (group_at config r).reader
+    → (cell_at cells (first + i)).meta ≡ meta_at_place config (r, i)
+cell-meta config cells first r i is metas there within =
+    ap (λ n. (cell_at cells (n + i)).meta) is ∙ cell-at config cells r i metas there within
+
+-- there is one for each reader
+pub cells-count : (config : Config) (cells : List CellData)
+    → map (λ cell. cell.meta) cells ≡ metas_of config.dataset (map (λ reader. reader.dataset) (readers config)) → length cells ≡ length (readers config)
+cells-count config cells metas =
+    sym (length-map cells (λ (cell : CellData). cell.meta)) ∙ ap length metas
+    ∙ length-map (map (λ (reader : ReaderPart). reader.dataset) (readers config)) (λ (set : ℕ). slice_index_or config.dataset set no_meta)
+    ∙ length-map (readers config) (λ (reader : ReaderPart). reader.dataset)
+
+-- ---- one reader of a read group
+
+-- it holds rows of its target's meta
+pub reader-of : (config : Config) (cells : List CellData) (groups : List ReaderGroup) (group : ReaderGroup) (reader : Reader) (first r i : ℕ) → first ≡ first_reader config r
+    → map (λ cell. cell.meta) cells ≡ metas_of config.dataset (map (λ reader. reader.dataset) (readers config))
+    → r < length config.readgroup → i < length (group_at config r).reader → AreReadGroups config groups
+    → group ≡ get_or groups r group → IsMadeAt group i reader → IsReaderOf (cell_at cells (first + i)).meta reader
+reader-of config cells groups group reader first r i is metas there within holds at made =
+    subst (λ (meta : MetaData). IsReaderOf meta reader) (sym (cell-meta config cells first r i is metas there within))
+    (subst (λ (n : ℕ). IsReaderOf (meta_at_place config (n, i)) reader) may.index (made config may.made))
+  where
+    may : MayReceive config r group
+    may = subst (λ (g : ReaderGroup). MayReceive config r g) (sym at) (holds.each r there group)
+
+-- what its call ensures, in the terms of the places
+pub placed-on : (config : Config) (cells : List CellData) (groups : List ReaderGroup) (group : ReaderGroup) (reader : Reader) (part : ReaderPart) (first r i : ℕ) (old new : Stores)
+    → first ≡ first_reader config r
     → map (λ cell. cell.meta) cells ≡ metas_of config.dataset (map (λ reader. reader.dataset) (readers config))
     → r < length config.readgroup → i < length (group_at config r).reader
     → group ≡ get_or groups r group → part ≡ get_or (group_at config r).reader i part → IsKeptAt group i reader
-    → ((list : List Store) → IsStoredAs (cell_at cells (first_reader config r + i)).meta list old (first_reader config r + i)
-      → IsStoredAs (cell_at cells (first_reader config r + i)).meta
-        (stored_on part.numbering list (held_in (kept_by (cell_at cells (first_reader config r + i)).meta.fields reader))) new (first_reader config r + i))
-    → IsStoredOn config groups (r, i) old new (first_reader config r + i)
-placed-on config cells groups group reader part r i old new metas there within at_r at_i kept stores befell list read is =
+    → ((list : List Store) → IsStoredAs (cell_at cells (first + i)).meta list old (first + i)
+      → IsStoredAs (cell_at cells (first + i)).meta
+        (stored_on part.numbering list (held_in (kept_by (cell_at cells (first + i)).meta.fields reader))) new (first + i))
+    → IsStoredOn config groups (r, i) old new (first + i)
+placed-on config cells groups group reader part first r i old new is_first metas there within at_r at_i kept stores befell list read is =
     subst (λ (after : List Store). IsStoredAs meta after new k) now
     (subst (λ (of : MetaData). IsStoredAs of (stored_on part.numbering (list (r, i)) (held_in (kept_by of.fields reader))) new k) same
     (stores (list (r, i)) (subst (λ (of : MetaData). IsStoredAs of (list (r, i)) old k) (sym same) is)))
   where
     k : ℕ
-    k = first_reader config r + i
+    k = first + i
 
     meta : MetaData
     meta = meta_at_place config (r, i)
 
     same : (cell_at cells k).meta ≡ meta
-    same = cell-meta config cells r i metas there within
+    same = cell-meta config cells first r i is_first metas there within
 
     stands : ReadingStands (setting_of config r) (plain (setting_of config r) (befell r)) group
     stands = subst (λ (g : ReaderGroup). ReadingStands (setting_of config r) (plain (setting_of config r) (befell r)) g) (sym at_r) (read r there group)

@@ -1,6 +1,5 @@
 -- What the parts of a session tell when it is closed.
-use Rattle.std.specs.Prelude.{◌≡◌, ◌≢◌, ℕ, List, None, IfSome, map, flat_map, option_and_then, slice_index_or}
-use Rattle.std.specs.List.{range_with_len}
+use Rattle.std.specs.Prelude.{◌≡◌, ◌≢◌, ℕ, List, None, IfSome, map, option_and_then}
 use Rattle.pubsub_model.specs.Answers.{version_of}
 use Rattle.ps_config.specs.declared.parts.Config.{Config}
 use Rattle.ps_config.specs.declared.parts.ReadGroupPart.{ReadGroupPart}
@@ -10,8 +9,8 @@ use Rattle.ps_report.specs.declared.closed.ReaderEnd.{ReaderEnd}
 use Rattle.ps_report.specs.Told.{TellsNumber}
 use Rattle.pubsub_states.specs.Changes.{TreeValue}
 use Rattle.pubsub_states.specs.Components.{counts_of}
-use Rattle.reader_group.specs.Members.{no_seat}
-use Rattle.reader_group.specs.Settings.{group_at as read_group_at}
+use Rattle.reader_group.specs.Members.{seat_at}
+use Rattle.reader_group.specs.Settings.{group_at as read_group_at, setting_of}
 use Rattle.writer_group.specs.Parts.{group_at}
 use Rattle.writer_group.specs.Standing.{IsGood}
 use Rattle.session_model.specs.Steps.{Plan, Step}
@@ -54,24 +53,21 @@ pub record HaveReceived (config : Config) (p : Plan) (steps : List Step) (tree :
   pub readings : HaveRead p.config steps subscriber.groups.items
   pub tallies : HaveTallied p.config steps subscriber.tallies.items
 
--- ---- the writers
+-- ---- the parts of a group
 
--- the places of the group with this index
+-- the places of the writers of the group with this index
 abbrev pub places_of_group : Config → ℕ → List MemberPlace
 places_of_group config g = map (λ w. (g, w)) (writer_indexes (group_at config g))
 
--- ---- the readers
-
+-- those of the readers of the read group with this index
 abbrev pub places_of_read_group : Config → ℕ → List MemberPlace
 places_of_read_group config r = map (λ i. (r, i)) (reader_indexes config r)
 
--- those of the read groups before this one
-abbrev pub reader_places_to : Config → ℕ → List MemberPlace
-reader_places_to config r = flat_map (places_of_read_group config) (range_with_len 0 r)
+-- ---- the readers
 
 -- the reader with this place, behind its read group
 abbrev pub reader_in : Config → MemberPlace → ReadGroupPart × ReaderPart
-reader_in config place = (read_group_at config place.0, slice_index_or (read_group_at config place.0).reader place.1 no_seat.part)
+reader_in config place = (read_group_at config place.0, (seat_at (setting_of config place.0).seats place.1).part)
 
 -- beside a row that a reader holds stand its number, and the version that this program's writer logged at it
 pub record IsNumbered (p : Plan) (steps : List Step) (at : ReadGroupPart × ReaderPart) (held : HeldEnd) : Type 0 where

@@ -86,12 +86,8 @@ fn threads_of(alloc: Global, set: u8, dones: &[Done], count: u64) -> Result<Vec<
 {
     let mut threads = vec![in alloc; 0u8; count as usize]?;
     for thread in 0..dones.len().min(256) {
-        fill(
-            &mut threads,
-            thread as u8,
-            set,
-            dones[thread].versions.as_slice(),
-        );
+        let versions = dones[thread].versions.as_slice();
+        fill(&mut threads, thread as u8, set, versions);
     }
     Ok(threads)
 }

@@ -19,7 +19,8 @@ ghost use Rattle.session_model.specs.Sends.{journal};
 ghost use Rattle.session_model.specs.Closing.{IsWriterEnd, MemberPlace, Shows, group_end, link_end, read_group_end, reader_places, writer_places};
 ghost use Rattle.writer_group.specs.Parts.{group_at};
 ghost use Rattle.session_parts.specs.Standing.{AreReceivesIn, AreSendsIn};
-ghost use Rattle.pubsub_engine.specs.Ending.{HavePublished, HaveReceived, IsToldAt, MayTellReaders, MayTellWriters, places_of_group, places_of_read_group, reader_places_to};
+ghost use Rattle.pubsub_engine.specs.Storing.{first_reader};
+ghost use Rattle.pubsub_engine.specs.Ending.{HavePublished, HaveReceived, IsToldAt, MayTellReaders, MayTellWriters, places_of_group, places_of_read_group};
 
 use crate::logs::{log_read, version_at};
 use arrayvec::ArrayVec;
@@ -114,8 +115,14 @@ fn writer_end(
     let log = publisher.groups[usize::from(group)].writer(writer).log();
     Ok(WriterEnd {
         state: tree.state_of(Component::Writer { group, writer }),
-        log: Parts::new(log.to_vec(alloc)?),
+        log: Parts::new(copied(alloc, log)?),
     })
+}
+
+fn copied(alloc: Global, log: &[(u64, u64)]) -> Result<Vec<(u64, u64)>, NoMemory>
+    ensures { IfOk result (λ copy. copy.items ≡ log.now) }
+{
+    Ok(log.to_vec(alloc)?)
 }
 
 /// The ends of the read groups, in order.
@@ -178,9 +185,9 @@ fn push_reader_ends(
     requires writers { MayTellWriters config.now tree.now publisher.now }
     requires readers { MayTellReaders config.now tree.now subscriber.now }
     requires within { read_group < length config.now.readgroup }
-    requires behind { length ends.old.items ≡ length (reader_places_to config.now read_group) }
+    requires behind { length ends.old.items ≡ first_reader config.now read_group }
     ensures behind { OnOk result
-        (length ends.new.items ≡ length (reader_places_to config.now (read_group + 1))) }
+        (length ends.new.items ≡ first_reader config.now (read_group + 1)) }
     ensures more { OnOk result ((p : Plan) (steps : List Step) (places : List MemberPlace)
         → HavePublished config.now p steps tree.now publisher.now
         → HaveReceived config.now p steps tree.now subscriber.now

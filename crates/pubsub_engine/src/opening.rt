@@ -52,8 +52,10 @@ impl<'c> Session<'c> {
         requires sets { length size.now.writes.items ≡ length config.now.dataset }
         requires writes { AreSmall size.now.writes.items }
         requires appends { AreAppends config.now config.now.dataset size.now.appends.items }
-        ensures plan { IfOk result (λ o. plan_of o.session
-            ≡ record { config = config.now; full = full_of config.now.dataset size.now.appends.items }) }
+        ensures plan { IfOk result (λ o. plan_of o.session ≡ record {
+          config = config.now;
+          full = full_of config.now.dataset size.now.appends.items;
+        }) }
         ensures is_plan { HasTypes config.now → IfOk result (λ o. IsPlan (plan_of o.session)) }
         ensures session { IfOk result (λ o. IsSession o.session) }
         ensures stands { IfOk result (λ o. Stands (plan_of o.session) [] o.session) }
@@ -62,12 +64,14 @@ impl<'c> Session<'c> {
             (λ o. appends_left o.session ≡ map (λ append. append.set) size.now.appends.items) }
         ensures bank { IfOk result (λ o. IsBankOf o.session o.bank) }
         ensures cells { IfOk result (λ o. All IsCell o.bank) }
-        ensures quotas { IfOk result (λ o. map (λ cell. cell.quotas) o.bank ≡ size.now.writes.items) }
+        ensures quotas { IfOk result
+            (λ o. map (λ cell. cell.quotas) o.bank ≡ size.now.writes.items) }
         ensures passes { IfOk result (λ o. passes_of o.session ≡ new_passes o.bank None) }
         ensures hands { IfOk result (λ o. AreHands o.bank o.hands.items) }
         ensures targets { IfOk result (λ o. AreTargetsOf o.session o.targets) }
         ensures kept { IfOk result (λ o. AreKept o.targets) }
-        ensures keeper { IfOk result (λ o. keeper_of o.session ≡ new_passes o.targets.cells (Some 0)) }
+        ensures keeper { IfOk result
+            (λ o. keeper_of o.session ≡ new_passes o.targets.cells (Some 0)) }
         ensures watches { IfOk result (λ o. o.watches ≡ new_passes o.targets.cells None) }
         ensures looks { IfOk result (λ o. ArePassesOf o.targets.cells o.watches) }
     {

@@ -31,7 +31,8 @@ impl Samples {
     /// Before the first sample: the opening rows.
     pub(crate) fn new(alloc: Global, passes: Passes, sets: usize) -> Result<Samples, NoMemory>
         ensures passes { IfOk result (λ samples. samples.passes ≡ passes) }
-        ensures taken { IfOk result (λ samples. samples.taken.items ≡ replicate sets opening_sample) }
+        ensures taken { IfOk result
+            (λ samples. samples.taken.items ≡ replicate sets opening_sample) }
         ensures rows { IfOk result (λ samples. (full : List MetaData) → length full ≡ sets
             → All (λ meta. IsMeta meta.fields) full → AreRowsOf full samples.taken.items) }
         ensures cut { IfOk result (λ samples. vec_len samples.cut ≡ sets) }

@@ -36,7 +36,8 @@ impl Sets {
         requires appends { AreAppends config.now config.now.dataset appends.now }
         ensures holds { IfOk result (HoldSets config.now) }
         ensures first { IfOk result (λ sets. sets.metas.items ≡ config.now.dataset) }
-        ensures full { IfOk result (λ sets. sets.full.items ≡ full_of config.now.dataset appends.now) }
+        ensures full { IfOk result
+            (λ sets. sets.full.items ≡ full_of config.now.dataset appends.now) }
         ensures later { IfOk result (λ sets. map (λ growth. growth.set) sets.later.items
             ≡ map (λ append. append.set) appends.now) }
         ensures none { IfOk result (λ sets. sets.made ≡ 0) }

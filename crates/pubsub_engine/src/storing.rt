@@ -1,20 +1,22 @@
 //! The stores of what readers hold.
-ghost use Rattle.std.specs.Prelude.{◌≡◌, ◌≢◌, ◌<◌, ◌≤◌, ◌+◌, ℕ, List, Bool, true, false, IfOk, IsTrue, ◌↔◌, length, map, replicate, slice_get, slice_index_or, slice_set, Some, option_map, Option};
+ghost use Rattle.std.specs.Prelude.{◌≡◌, ◌≢◌, ◌<◌, ◌+◌, ◌∷◌, [], ℕ, List, false, IfOk, length, slice_get, slice_index_or, Some};
 ghost use Rattle.dataset_meta.specs.Metas.{MetaData};
 ghost use Rattle.ps_config.specs.Sound.{readers};
-ghost use Rattle.reader_group.specs.Members.{MemberValue};
 ghost use Rattle.reader_group.specs.Plain.{Event};
 ghost use Rattle.dataset_reader.specs.Reader.{IsReaderOf, kept_by};
-ghost use Rattle.target_cells.specs.Keeping.{TargetsData, metas_of};
-ghost use Rattle.version_cell.specs.Known.{Known};
 ghost use Rattle.version_cell.specs.Sets.{ArePassesOf, cell_at, pass_at};
 ghost use Rattle.writer_group.specs.Standing.{IsGood};
-ghost use Rattle.session_model.specs.Closing.{MemberPlace};
-ghost use Rattle.session_model.specs.Stores.{Store, stored_on};
+ghost use Rattle.row_words.specs.Belonging.{Belongs, row_in};
+ghost use Rattle.session_model.specs.Steps.{Plan, Step};
+ghost use Rattle.session_model.specs.Sets.{metas_at};
+ghost use Rattle.session_model.specs.Deeds.{deeds};
+ghost use Rattle.session_model.specs.Closing.{MemberPlace, reader_places};
+ghost use Rattle.session_model.specs.Stores.{Store, is_same, stored_on, stores as stores_of};
 ghost use Rattle.pubsub_engine.specs.Holding.{AddsOneAtMost, HoldStores};
-ghost use Rattle.session_parts.specs.Holding.{HoldSubscriber};
-ghost use Rattle.session_parts.specs.Standing.{HaveReadAll};
-ghost use Rattle.pubsub_engine.specs.Storing.{HaveStored, IsStoredAs, MayStore, held_in, stored_at};
+ghost use Rattle.pubsub_engine.specs.Standing.{IsOriginOf};
+ghost use Rattle.session_parts.specs.Holding.{AreGroups, HoldSubscriber};
+ghost use Rattle.session_parts.specs.Standing.{HavePast, HaveReadAll};
+ghost use Rattle.pubsub_engine.specs.Storing.{HaveStored, HaveStoredOn, IsLast, IsSameAt, IsStoredAs, MayStore, MayStoreFrom, first_reader, held_in, stored_at};
 
 use crate::logs::{log_read, version_at};
 use dataset_reader::Reader;
@@ -97,7 +99,7 @@ impl Stores {
         requires keepers { length self.now.keeper ≡ length (readers config.now) }
         ensures { (p : Plan) (steps : List Step) (place : MemberPlace) → p.config ≡ config.now
             → HavePast p.config (metas_at p.config steps) (deeds p steps) publisher.now.groups.items
-            → HaveStored p.config (stores_at p steps) self.now
+            → HaveStored p.config (λ place. stores_of p.config place.0 place.1 steps) self.now
             → slice_get (reader_places p.config) reader ≡ Some place
             → IsOriginOf p steps place result }
     {
@@ -189,7 +191,8 @@ impl Last {
         ensures none { (meta : MetaData) → IsLast [] meta self.now → result ≡ false }
         ensures some { (meta : MetaData) (last : Store) (before : List Store)
             → IsLast (last ∷ before) meta self.now → Belongs meta row.now.words
-            → result ≡ is_same numbering last (store_of meta number row.now) }
+            → let words = row.now.words in
+            result ≡ is_same numbering last (record { number = number; row = row_in meta.fields words }) }
     {
         self.is_there
             && match numbering {

@@ -1,5 +1,5 @@
 -- The samples of a played script: each is that of the writes before it, so versions rise, and each has its row of the script's histories.
-use Rattle.std.proofs.Common.{◌≡◌, refl, sym, ap, ◌∙◌, subst, arith, ℕ, ◌<◌, ◌≤◌, ◌==◌, ◌⊎◌, inl, inr, Bool, true, false, if◌then◌else◌, List, [], ◌∷◌, ◌++◌, length, length-append, reverse, take, get_or, append_assoc, append-nil}
+use Rattle.std.proofs.Common.{◌≡◌, refl, sym, ap, ◌∙◌, subst, arith, ℕ, ◌<◌, ◌≤◌, ◌==◌, ◌⊎◌, inl, inr, Bool, true, false, if◌then◌else◌, List, [], ◌∷◌, ◌++◌, length, reverse, take, get_or}
 use Rattle.std.proofs.lemmas.Bool.{cases_lt}
 use Rattle.std.proofs.lemmas.List.{get_or_past, take_at}
 use Rattle.std.proofs.lemmas.List.FromFn.{length-map-range_with_len, get_or-map-range_with_len}
@@ -10,6 +10,7 @@ use Rattle.row_words.specs.Belonging.{row_in}
 use Rattle.pubsub_model.specs.History.{row_of}
 use Rattle.ua_base.specs.Journal.{Entry as LinkEntry}
 use Rattle.version_cell.specs.declared.rule.Entry.{Entry}
+use Rattle.version_cell.proofs.Logs.{starts_itself, starts_length, starts_trans}
 use Rattle.version_cell.specs.Histories.{StartsWith, entry, history_of, row_after}
 use Rattle.row_words.specs.Patches.{patched_words}
 use Rattle.ps_config.specs.declared.parts.Config.{Config}
@@ -35,30 +36,18 @@ HistoriesHaveRows =
 
 -- ---- logs grow at their ends
 
-pub starts-itself : (log : List Entry) → StartsWith log log
-starts-itself log = ([], sym (append-nil log))
-
-pub starts-on : (last next first : List Entry) → StartsWith last next → StartsWith next first → StartsWith last first
-starts-on last next first (more, whole) (rest, part) = (
-  rest ++ more,
-  whole ∙ ap (λ (log : List Entry). log ++ more) part ∙ append_assoc first rest more,
-)
-
 starts-if : (b : Bool) (log : List Entry) (e : Entry) → StartsWith (if b then log ++ e ∷ [] else log) log
 starts-if true log e = (e ∷ [], refl)
-starts-if false log e = starts-itself log
+starts-if false log e = starts_itself log
 
-pub starts-with-write : (meta : MetaData) (set : ℕ) (log : List Entry) (a : Act) → StartsWith (with_write meta set log a) log
+starts-with-write : (meta : MetaData) (set : ℕ) (log : List Entry) (a : Act) → StartsWith (with_write meta set log a) log
 starts-with-write meta set log (act.Write thread other patch) = starts-if (other == set) log (entry thread (patched_words meta.fields patch (row_after log)))
-starts-with-write meta set log (act.Tick ms) = starts-itself log
-starts-with-write meta set log (act.Enable id) = starts-itself log
-starts-with-write meta set log (act.Disable id) = starts-itself log
-starts-with-write meta set log (act.Fated k fate) = starts-itself log
-starts-with-write meta set log (act.Watch thread reader times) = starts-itself log
-starts-with-write meta set log (act.Append other) = starts-itself log
-
-pub starts-shorter : (log seen : List Entry) → StartsWith log seen → length seen ≤ length log
-starts-shorter log seen (rest, whole) = omega (arith, ap length whole, length-append seen rest)
+starts-with-write meta set log (act.Tick ms) = starts_itself log
+starts-with-write meta set log (act.Enable id) = starts_itself log
+starts-with-write meta set log (act.Disable id) = starts_itself log
+starts-with-write meta set log (act.Fated k fate) = starts_itself log
+starts-with-write meta set log (act.Watch thread reader times) = starts_itself log
+starts-with-write meta set log (act.Append other) = starts_itself log
 
 starts-taken : (log seen : List Entry) → StartsWith log seen → take (length seen) log ≡ seen
 starts-taken log seen (rest, whole) = ap (take (length seen)) whole ∙ take_at seen rest (length seen) refl
@@ -89,7 +78,7 @@ sampled-now : (full : List MetaData) (lines : List Line) (index : ℕ) (sample :
     → IsSampleBehind full lines index sample
 sampled-now full lines index sample same = record {
   log = log_after (meta_in full index) index lines;
-  starts = starts-itself (log_after (meta_in full index) index lines);
+  starts = starts_itself (log_after (meta_in full index) index lines);
   made = λ there. sym same ∙ sampled-at full lines index there;
   none = λ past. sym same ∙ sampled-past full lines index past;
 }
@@ -100,7 +89,7 @@ sampled-before full line before index sample is = record {
   log = is.log;
   starts =
       let log : List Entry = log_after (meta_in full index) index before in
-      starts-on (with_write (meta_in full index) index log line.act) log is.log (starts-with-write (meta_in full index) index log line.act) is.starts;
+      starts_trans (with_write (meta_in full index) index log line.act) log is.log (starts-with-write (meta_in full index) index log line.act) is.starts;
   made = is.made;
   none = is.none;
 }
@@ -115,7 +104,7 @@ sampled-later full lines index sample is = go (cases_lt index (length full))
         let mine : sample.version ≡ length is.log = ap (λ (s : Sampled). s.version) (is.made there) in
         let now : (get_or (samples_after full lines) index no_sample).version ≡ length (log_after (meta_in full index) index lines) =
         ap (λ (s : Sampled). s.version) (sampled-at full lines index there) in
-        let few : length is.log ≤ length (log_after (meta_in full index) index lines) = starts-shorter (log_after (meta_in full index) index lines) is.log is.starts in
+        let few : length is.log ≤ length (log_after (meta_in full index) index lines) = starts_length (log_after (meta_in full index) index lines) is.log is.starts in
         omega arith
     go (inr past) =
         let mine : sample.version ≡ 0 = ap (λ (s : Sampled). s.version) (is.none past) in
@@ -201,7 +190,7 @@ have-played p (line ∷ before) steps looks (earlier, looked, played, by) =
 -- ---- rows
 
 -- the fields of a script's data sets make metas
-pub script-meta : (config : Config) (script : Script) (index : ℕ) → IsScript config script → index < length script.metas → IsMeta (meta_in script.metas index).fields
+script-meta : (config : Config) (script : Script) (index : ℕ) → IsScript config script → index < length script.metas → IsMeta (meta_in script.metas index).fields
 script-meta config script index is there =
     let few : index < length config.dataset = omega (arith, is.sets) in
     let grown : IsGrown index script.lines (meta_in config.dataset index) (meta_in script.metas index) =
@@ -221,7 +210,7 @@ version-at config script index sample rows is there behind =
     let log : List Entry = log_after (meta_in script.metas index) index (reverse script.lines) in
     ap (λ (s : Sampled). row_in fields s.row.words) (behind.made there)
     ∙ ap (λ (seen : List Entry). row_in fields (row_after seen)) (sym (starts-taken log behind.log behind.starts))
-    ∙ sym (rows fields log (length behind.log) (script-meta config script index is there) (starts-shorter log behind.log behind.starts))
+    ∙ sym (rows fields log (length behind.log) (script-meta config script index is there) (starts_length log behind.log behind.starts))
     ∙ ap (λ (s : Sampled). row_written script index s.version) (sym (behind.made there))
 
 version-past : (script : Script) (index : ℕ) (sample : Sampled) → length script.metas ≤ index → IsSampleBehind script.metas (reverse script.lines) index sample

@@ -56,6 +56,10 @@ pub record IsHand (bank : List CellData) (t : ℕ) (hand : Hand) : Type 0 where
 abbrev pub SeeNoMore : List Known → List Known → Type 0
 SeeNoMore passes others = (set : ℕ) → set < length others → length (pass_at passes set).seen ≤ length (pass_at others set).seen
 
+-- each pass keeps its number
+abbrev pub KeepAuthors : List Known → List Known → Type 0
+KeepAuthors old new = (set : ℕ) → set < length old → (pass_at new set).author ≡ (pass_at old set).author
+
 -- the threads have seen no more than the session
 pub record IsPlayer (player : Player) : Type 0 where
   pub session : IsSession player.session

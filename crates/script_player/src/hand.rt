@@ -5,7 +5,7 @@ ghost use Rattle.version_cell.specs.Passes.{AddsLater, HasLeft};
 ghost use Rattle.version_cell.specs.Sets.{ArePassesOf, ChangesAt, cell_at, pass_at};
 ghost use Rattle.pubsub_engine.specs.Holding.{ChangesSamples, IsBankOf, IsSession, passes_of};
 ghost use Rattle.pubsub_engine.specs.Standing.{KeepsStands};
-ghost use Rattle.script_player.specs.Player.{HasWritten, SeeNoMore};
+ghost use Rattle.script_player.specs.Player.{HasWritten, KeepAuthors, SeeNoMore};
 
 use app_threads::{Done, Looked, Series};
 use cell_bank::{Bank, Passes};
@@ -15,7 +15,7 @@ use std::alloc::Global;
 use std::sync::Wait;
 use target_cells::{Passes as Watches, Targets};
 use ua_base::NoMemory;
-use version_cell::Placed;
+use version_cell::{Placed, passes_see_on};
 
 /// A thread of the application.
 #[derive(Drop)]
@@ -66,15 +66,18 @@ impl Hand {
         ensures own { OnOk result (ArePassesOf bank.now self.new.passes) }
         ensures wrote { OnOk result (HasWritten (cell_at bank.now set) set patch.now
             (passes_of session.old) (passes_of session.new) self.old self.new) }
+        ensures authors { OnOk result (KeepAuthors self.old.passes self.new.passes) }
+        ensures behind { OnOk result (SeeNoMore self.new.passes (passes_of session.new)) }
         ensures samples { OnOk result (ChangesSamples session.old session.new) }
         ensures stands { OnOk result (KeepsStands session.old session.new) }
     {
+        passes_see_on();
         let seen = session.share(alloc, bank)?;
         bank.join(rt, &mut self.passes, seen);
         let version = place(rt, bank, &mut self.passes, set, patch);
         self.versions.push((set, version))?;
-        let seen = bank.split(alloc, &mut self.passes)?;
-        session.meet(rt, bank, seen);
+        let shown = bank.split(alloc, &mut self.passes)?;
+        session.meet(rt, bank, shown);
         Ok(())
     }
 

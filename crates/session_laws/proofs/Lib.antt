@@ -21,3 +21,5 @@ pub mod Traces
 pub mod Tokens
 pub mod Counts
 pub mod Ticks
+mod Refusing
+mod Dividing

@@ -1,4 +1,3 @@
-use Rattle.std.proofs.Common.{refl}
 use Rattle.pubsub_engine.specs.declared.session.Session.{Session}
 use Rattle.pubsub_engine.proofs.Growths.{Refreshes, appended, appended-keeps, appended-next, appended-session, appends-of, growth-of, there-next}
 use Rattle.pubsub_engine.proofs.session.Session.append.Goals as goal

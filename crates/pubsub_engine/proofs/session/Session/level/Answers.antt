@@ -1,6 +1,5 @@
 use Rattle.std.proofs.Common.{List, sym, subst}
 use Rattle.version_cell.specs.Known.{Known}
-use Rattle.pubsub_engine.specs.declared.session.Session.{Session}
 use Rattle.pubsub_engine.specs.Holding.{AreTargetsOf, IsSession}
 use Rattle.pubsub_engine.specs.Standing.{Stands}
 use Rattle.pubsub_engine.proofs.session.Session.level.Goals as goal

@@ -1,6 +1,5 @@
-use Rattle.std.proofs.Common.{◌≡◌, ◌+◌, ℕ, List, length, refl, ap, sym, ◌∙◌, subst}
+use Rattle.std.proofs.Common.{length, refl, ap, ◌∙◌, subst}
 use Rattle.ps_config.specs.declared.parts.Config.{Config}
-use Rattle.session_model.specs.Steps.{Plan, Step}
 use Rattle.session_parts.specs.declared.publisher.Told.{Told}
 use Rattle.pubsub_engine.specs.declared.session.Session.{Session}
 use Rattle.session_parts.specs.Holding.{HoldPublisher}

@@ -18,7 +18,7 @@ loop-append-preserved c =
     let is = subst (λ (a : Append). IsGrowthBy full a growth) c.append-item.is c.in_ok-grow.ensures.growth in
     let more = made-more config appends index append full c.loop-append.later.items growth c.loop-append-test.true c.loop-append.invariant is in
     subst (λ (l : List MetaData). HaveMade config appends (index + 1) l c.push.new.self.items) (sym (c.in_ok-grow.ensures.metas ∙ ap (grown_by full) c.append-item.is))
-    (subst (λ (l : List Growth). HaveMade config appends (index + 1) (grown_by full (get_or appends index append)) l) (sym c.in_ok-push.ensures.items) more)
+    (subst (λ (l : List Growth). HaveMade config appends (index + 1) (grown_by full (get_or appends index append)) l) (sym {A = List Growth} c.in_ok-push.ensures.items) more)
 
 pub returns-clause-holds : goal.returns-clause-holds
 returns-clause-holds c =
