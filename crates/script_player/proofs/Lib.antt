@@ -14,3 +14,8 @@ pub mod Looking
 pub mod HandWrites
 pub mod Written
 pub mod Outcomes
+mod Finished
+mod Closing
+mod Newly
+mod Stored
+mod Next

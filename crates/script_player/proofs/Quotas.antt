@@ -12,7 +12,7 @@ use Rattle.ps_script.specs.Sessions.{is_write, writes_in}
 use Rattle.ps_script.specs.Sound.{AreFew, is_some_write}
 use Rattle.script_player.specs.Sizes.{quotas_by}
 
-abbrev one_if : Bool → ℕ
+abbrev pub one_if : Bool → ℕ
 one_if b = cond b 1 0
 
 -- ---- a write is of one thread
@@ -31,7 +31,7 @@ one-at-most : (b : Bool) → one_if b ≤ 1
 one-at-most true = omega arith
 one-at-most false = omega arith
 
-one-writes : (writer other set from n : ℕ) → sum_by (λ (thread : ℕ). one_if (writer == thread && other == set)) (range_with_len from n) ≤ 1
+pub one-writes : (writer other set from n : ℕ) → sum_by (λ (thread : ℕ). one_if (writer == thread && other == set)) (range_with_len from n) ≤ 1
 one-writes writer other set from zero = omega arith
 one-writes writer other set from (suc n) = go (cases_lt from writer) (one-writes writer other set (from + 1) n)
   where
@@ -48,7 +48,7 @@ one-writes writer other set from (suc n) = go (cases_lt from writer) (one-writes
         let all = sum_by-cons (λ (thread : ℕ). one_if (writer == thread && other == set)) from (range_with_len (from + 1) n) in
         omega arith
 
-sum_by-none : (threads : List ℕ) → sum_by (λ (thread : ℕ). 0) threads ≡ 0
+pub sum_by-none : (threads : List ℕ) → sum_by (λ (thread : ℕ). 0) threads ≡ 0
 sum_by-none [] = refl
 sum_by-none (thread ∷ threads) =
     let all = sum_by-cons (λ (t : ℕ). 0) thread threads in
@@ -66,7 +66,7 @@ act-writes set (act.Append other) = omega (arith, sum_by-none (range_with_len 0 
 
 -- ---- the writes of all lines
 
-sum_by-both : (f g : ℕ → ℕ) (xs : List ℕ) → sum_by (λ x. f x + g x) xs ≡ sum_by f xs + sum_by g xs
+pub sum_by-both : (f g : ℕ → ℕ) (xs : List ℕ) → sum_by (λ x. f x + g x) xs ≡ sum_by f xs + sum_by g xs
 sum_by-both f g [] = refl
 sum_by-both f g (x ∷ xs) =
     let all = sum_by-cons (λ (y : ℕ). f y + g y) x xs in
@@ -75,7 +75,7 @@ sum_by-both f g (x ∷ xs) =
     let later = sum_by-both f g xs in
     omega arith
 
-sum_by-same : (f g : ℕ → ℕ) (xs : List ℕ) → ((x : ℕ) → f x ≡ g x) → sum_by f xs ≡ sum_by g xs
+pub sum_by-same : (f g : ℕ → ℕ) (xs : List ℕ) → ((x : ℕ) → f x ≡ g x) → sum_by f xs ≡ sum_by g xs
 sum_by-same f g [] same = refl
 sum_by-same f g (x ∷ xs) same =
     let one = sum_by-cons f x xs in
@@ -84,7 +84,7 @@ sum_by-same f g (x ∷ xs) same =
     let later = sum_by-same f g xs same in
     omega arith
 
-line-writes : (thread set : ℕ) (line : Line) (lines : List Line) → writes_in thread set (line ∷ lines) ≡ one_if (is_write thread set line.act) + writes_in thread set lines
+pub line-writes : (thread set : ℕ) (line : Line) (lines : List Line) → writes_in thread set (line ∷ lines) ≡ one_if (is_write thread set line.act) + writes_in thread set lines
 line-writes thread set line lines = sum_by-cons (λ (l : Line). one_if (is_write thread set l.act)) line lines
 
 all-writes : (set : ℕ) (lines : List Line) → sum_by (λ (thread : ℕ). writes_in thread set lines) (range_with_len 0 8) ≤ count_by (λ (line : Line). is_some_write line.act) lines
