@@ -3,6 +3,8 @@ mod Turns
 mod Hands
 mod Sharing
 mod Players
+mod Stored
 mod Exact
 mod Writing
 mod Watching
+mod Next

@@ -20,6 +20,7 @@ use ps_config::Config;
 use ps_report::Closed;
 use ps_script::{Act, Line, Script};
 use pubsub_engine::{Opening, Session, Size, Ticked};
+use pubsub_states::{components_are_found_by_their_names, ids_are_places_in_order};
 use row_words::Patch;
 use std::alloc::Global;
 use std::sync::Wait;
@@ -94,6 +95,8 @@ impl<'c> Player<'c> {
             (reverse script.now.lines) (L.told link.new) self.new) }
         ensures link { KeepsLink L.opened_with L.faults link.old link.new }
     {
+        ids_are_places_in_order();
+        components_are_found_by_their_names();
         for line in script.lines.as_slice() {
             self.play_line(rt, alloc, line, link)?;
         }

@@ -1,0 +1,223 @@
+-- The next line of a script: it may be played, and then it has been.
+use Rattle.std.proofs.Common.{◌≡◌, ◌≢◌, ℕ, zero, suc, ◌+◌, ◌<◌, ◌≤◌, Bool, true, false, eqb, cond, ◌&&◌, List, [], ◌∷◌, ◌++◌, length, map, reverse, take, drop, get_or, refl, sym, ap, ◌∙◌, subst, arith, length-append, append_assoc, take-append-drop, eq-eqb, Option, Some, None}
+use Rattle.std.specs.Prelude.{slice_get, slice_index, unwrap_or}
+use Rattle.std.specs.List.{range_with_len}
+use Rattle.std.proofs.lemmas.Bool.{false≢true}
+use Rattle.std.proofs.lemmas.List.{append-nil, append_cancel_left, drop_more, get_or-map, get_or_append_left, get_or_read, length-map, reverse-append, reverse-reverse, take_more}
+use Rattle.std.proofs.lemmas.List.FromFn.{get_or-map-range_with_len}
+use Rattle.std.proofs.lemmas.Option.{same_Some, slice_get-get_or, unwrap_or-slice_get}
+use lib.ListN.{get_or-map as get_or-mapped}
+use Rattle.dataset_meta.specs.declared.field.Field.{Field}
+use Rattle.dataset_meta.specs.Metas.{MetaData, no_meta}
+use Rattle.row_words.specs.declared.patch.Patch.{Patch}
+use Rattle.row_words.specs.Patches.{IsPatchOf}
+use Rattle.row_words.specs.Shapes.{shape_of}
+use Rattle.ua_base.specs.Journal.{LinkState}
+use Rattle.version_cell.specs.Histories.{own}
+use Rattle.version_cell.specs.Known.{Known}
+use Rattle.version_cell.specs.Cells.{CellData, IsCell, terms_of}
+use Rattle.version_cell.specs.Passes.{HasLeft, IsPassOf}
+use Rattle.version_cell.specs.Sets.{cell_at, no_cell, pass_at}
+use Rattle.version_cell.specs.Terms.{quota}
+use Rattle.ps_config.specs.declared.parts.Config.{Config}
+use Rattle.ps_config.specs.Sound.{component_names, readers}
+use Rattle.ps_script.specs.declared.script.Act.{Act}
+use Rattle.ps_script.specs.declared.script.Act.TheVariants as act
+use Rattle.ps_script.specs.declared.script.Line.{Line}
+use Rattle.ps_script.specs.declared.script.Script.{Script}
+use Rattle.ps_script.specs.Sessions.{is_enabled, is_tick, is_write, ticks_in, writes_in}
+use Rattle.ps_script.specs.Sound.{IsAct, IsScript}
+use Rattle.pubsub_states.specs.declared.component.Component.{Component}
+use Rattle.pubsub_states.specs.declared.component.Component.TheVariants.{Root}
+use Rattle.pubsub_states.specs.Changes.{Change, is_enabled as is_enabled_after}
+use Rattle.pubsub_states.specs.Components.{Counts, IsId, components, counts_of, id_of}
+use Rattle.pubsub_states.specs.Names.{name_of}
+use Rattle.session_model.specs.Steps.{Plan, Step, Enable, Disable, Append, is_on, switches_in}
+use Rattle.session_model.specs.Deeds.{component_at}
+use Rattle.session_model.specs.Sends.{TellsRun}
+use Rattle.session_model.specs.Sets.{meta_in}
+use Rattle.pubsub_engine.specs.declared.session.Session.{Session}
+use Rattle.pubsub_engine.specs.Holding.{appends_left}
+use Rattle.pubsub_engine.specs.Standing.{Stands}
+use Rattle.script_player.specs.declared.hand.Hand.{Hand}
+use Rattle.script_player.specs.declared.player.Player.{Player}
+use Rattle.script_player.specs.Plays.{plan_by}
+use Rattle.script_player.specs.Playing.{IsLineBy, log_after, with_write}
+use Rattle.script_player.specs.Player.{Appends, Does, HasPlayed, IsPlayer, MayDo, Switches, config_of, made_at, switches_by, with_switch}
+use Rattle.script_player.specs.Sizes.{appended_by, appended_sets, quotas_by}
+use Rattle.script_player.proofs.Lines.{appended-append, count_by-append, count_by-cons, count_by-reverse, enabled_behind}
+use Rattle.script_player.proofs.Hands.{cell_meta, config_is, count_cells}
+use Rattle.script_player.proofs.Stored.{stored_is}
+use Rattle.script_player.proofs.Exact.{kept, ticked}
+use Rattle.script_player.proofs.Writing.{written}
+use Rattle.script_player.proofs.Watching.{looked_at}
+
+-- behind these lines, the latest first, the script has this line
+pub record IsNext (config : Config) (script : Script) (lines : List Line) (line : Line) : Type 0 where
+  pub rest : List Line
+  pub split : script.lines ≡ reverse lines ++ line ∷ rest
+  pub acts : IsAct config script.metas (reverse lines) line.act
+
+pub next_line : (config : Config) (script : Script) (k : ℕ) (line : Line) → IsScript config script → k < length script.lines → line ≡ get_or script.lines k line
+    → IsNext config script (reverse (take k script.lines)) line
+next_line config script k line is lt read =
+    let more : drop k script.lines ≡ line ∷ drop (k + 1) script.lines = drop_more script.lines k line lt ∙ ap (λ (l : Line). l ∷ drop (k + 1) script.lines) (sym read) in
+    let at : slice_get script.lines k ≡ Some line = slice_get-get_or script.lines k line lt ∙ ap (λ (l : Line). Some l) (sym read) in
+    record {
+      rest = drop (k + 1) script.lines;
+      split = sym (take-append-drop k script.lines) ∙ ap (λ (l : List Line). take k script.lines ++ l) more
+          ∙ ap (λ (l : List Line). l ++ line ∷ drop (k + 1) script.lines) (sym (reverse-reverse (take k script.lines)));
+      acts = subst (λ (l : List Line). IsAct config script.metas l line.act) (sym (reverse-reverse (take k script.lines))) (is.acts k line at);
+    }
+
+-- one line more, turned round
+pub turned_more : (lines : List Line) (k : ℕ) (line : Line) → k < length lines → line ≡ get_or lines k line → reverse (take (k + 1) lines) ≡ line ∷ reverse (take k lines)
+turned_more lines k line lt read =
+    ap reverse (take_more lines k line lt ∙ ap (λ (l : Line). take k lines ++ l ∷ []) (sym read)) ∙ reverse-append (take k lines) (line ∷ [])
+
+-- laws of components
+pub record ComponentLaws : Type 0 where
+  pub ids : (counts : Counts) (id : ℕ) (component : Component) → slice_get (components counts) id ≡ Some component → id_of counts component ≡ id
+  pub names : (config : Config) → map (name_of config) (components (counts_of config)) ≡ component_names config
+
+module _ (laws : ComponentLaws) (config : Config) (script : Script) (lines : List Line) (told : Option LinkState) (player : Player) (is : IsPlayer player) (h : HasPlayed config script lines told player) where
+  there_is : (id : ℕ) → id < length (component_names config) → IsId (counts_of config) id
+  there_is id lt = let e = ap length (laws.names config) in let m = length-map (components (counts_of config)) (name_of config) in omega arith
+
+  id_at : (id : ℕ) → id < length (component_names config) → id_of (counts_of config) (component_at config id) ≡ id
+  id_at id lt =
+      laws.ids (counts_of config) id (component_at config id)
+      (slice_get-get_or (components (counts_of config)) id Root (there_is id lt) ∙ ap (λ (c : Component). Some c) (sym (unwrap_or-slice_get (components (counts_of config)) id Root)))
+
+  -- whether a component is on
+  was_on : (id : ℕ) (on : Bool) → id < length (component_names config) → is_enabled id (reverse lines) ≡ on → is_on config h.steps (component_at config id) ≡ on
+  was_on id on lt was =
+      ap (is_enabled_after (switches_in h.steps)) (id_at id lt) ∙ ap (λ (changes : List Change). is_enabled_after changes id) h.switches ∙ enabled_behind id lines ∙ was
+
+  -- ---- the quota of a thread is the number of its writes
+
+  quota_is : (t set : ℕ) (p : Known) → t < 8 → set < length player.bank → IsPassOf (cell_at player.bank set) p → IsCell (cell_at player.bank set) → length player.bank ≡ length config.dataset
+      → quota t p.terms ≡ writes_in t set script.lines
+  quota_is t set p lt here of cell count =
+      let cells = player.bank in
+      ap (quota t) of.terms ∙ get_or_append_left (cell_at cells set).quotas (shape_of (cell_at cells set).meta) 0 t (let e = cell.eight in omega arith)
+      ∙ ap (λ (l : List ℕ). slice_index l t)
+      (sym (get_or-mapped (λ (c : CellData). c.quotas) cells set no_cell) ∙ ap (λ (l : List (List ℕ)). get_or l set []) h.quotas
+      ∙ get_or-map-range_with_len (λ (s : ℕ). map (λ (thread : ℕ). writes_in thread s script.lines) (range_with_len 0 8)) 0 (length config.dataset) set set [] (omega arith) (omega arith))
+      ∙ get_or-map-range_with_len (λ (thread : ℕ). writes_in thread set script.lines) 0 8 t t 0 lt (omega arith)
+
+  -- ---- the appends that are to come begin with the next line's
+
+  left_next : (at set : ℕ) (next : IsNext config script lines (record { at = at; act = act.Append set })) → appends_left player.session ≡ set ∷ appended_sets next.rest
+  left_next at set next =
+      append_cancel_left (appended_sets (reverse lines)) (appends_left player.session) (set ∷ appended_sets next.rest)
+      (h.appends ∙ ap appended_sets next.split ∙ appended-append (reverse lines) (record { at = at; act = act.Append set } ∷ next.rest))
+
+  -- ---- the next line may be played
+
+  module _ (at : ℕ) (scripts : IsScript config script) where
+    pub may_do : (what : Act) → IsNext config script lines (record { at = at; act = what }) → MayDo what player
+    may_do (act.Write thread set patch) next =
+        let w = next.acts in
+        let here : set < length player.bank = (let e = count_cells config script h.steps player is h.stands in let t = w.there in omega arith) in
+        record {
+          bound = w.bound;
+          there = here;
+          of = subst (λ (meta : MetaData). IsPatchOf meta patch) (sym (cell_meta config script h.steps player is h.stands set)) (w.of no_meta);
+          left = λ d t author.
+          (let hand = is.hands thread w.bound d in
+          let same : t ≡ thread = same_Some t thread (sym author ∙ hand.author set here) in
+          let e = count_cells config script h.steps player is h.stands in
+          let s = scripts.sets in
+          let q = quota_is thread set (pass_at (get_or player.hands.items thread d).passes set) w.bound here (hand.own.each set here) (is.cells set no_cell here) (omega arith) in
+          let made : length (own thread (pass_at (get_or player.hands.items thread d).passes set).seen) ≡ writes_in thread set lines =
+          ap (λ (l : List Known). length (own thread (pass_at l set).seen)) (sym (get_or-map (λ (x : Hand). x.passes) player.hands.items thread d [] (let n = is.eight in let b = w.bound in omega arith))) ∙ h.made thread set w.bound here in
+          let test : Line → Bool = λ l. is_write thread set l.act in
+          let line : Line = record { at = at; act = act.Write thread set patch } in
+          let all : writes_in thread set script.lines ≡ writes_in thread set (reverse lines ++ line ∷ next.rest) = ap (writes_in thread set) next.split in
+          let hit : test line ≡ true = ap (λ (b : Bool). b && eqb set set) (eq-eqb thread thread refl) ∙ eq-eqb set set refl in
+          let one : cond (test line) 1 0 ≡ 1 = ap {B = ℕ} (λ (b : Bool). cond b 1 0) hit in
+          let less : length (own thread (pass_at (get_or player.hands.items thread d).passes set).seen) < quota thread (pass_at (get_or player.hands.items thread d).passes set).terms =
+          omega (arith, made, q, all, one, count_by-append test (reverse lines) (line ∷ next.rest), count_by-reverse test lines, count_by-cons test line next.rest) in
+          subst (λ (u : ℕ). length (own u (pass_at (get_or player.hands.items thread d).passes set).seen) < quota u (pass_at (get_or player.hands.items thread d).passes set).terms) (sym same) less);
+        }
+    may_do (act.Tick ms) next =
+        let test : Line → Bool = λ l. is_tick l.act in
+        let line : Line = record { at = at; act = act.Tick ms } in
+        let all : ticks_in script.lines ≡ ticks_in (reverse lines ++ line ∷ next.rest) = ap ticks_in next.split in
+        record {
+          running = h.running;
+          left = omega (arith, h.ticks, all, count_by-append test (reverse lines) (line ∷ next.rest), count_by-reverse test lines, count_by-cons test line next.rest);
+          short = next.acts.1;
+          still = λ e. absurd (false≢true e);
+        }
+    may_do (act.Enable id) next = record {
+      running = h.running;
+      there = subst (λ (c : Config). IsId (counts_of c) id) (sym (config_is config script h.steps player is h.stands)) (there_is id next.acts.there);
+    }
+    may_do (act.Disable id) next = record {
+      running = h.running;
+      there = subst (λ (c : Config). IsId (counts_of c) id) (sym (config_is config script h.steps player is h.stands)) (there_is id next.acts.there);
+    }
+    may_do (act.Fated k fate) next = tt
+    may_do (act.Watch thread reader times) next = record {
+      bound = next.acts.bound;
+      there = subst (λ (c : Config). reader < length (readers c)) (sym (config_is config script h.steps player is h.stands)) next.acts.there;
+    }
+    may_do (act.Append set) next = record {
+      running = h.running;
+      left = (let e = ap length (left_next at set next) in omega arith);
+    }
+
+  -- ---- and then it was played
+
+  switched : (at id : ℕ) (was : Bool) (what : Act) (step : Step) (new : Player) → Switches step id was player new
+      → Stands (plan_by config script) (step ∷ h.steps) new.session → TellsRun (plan_by config script) (step ∷ h.steps) told
+      → switches_in (step ∷ h.steps) ≡ with_switch (switches_in h.steps) what
+      → is_tick what ≡ false → ((t set : ℕ) → is_write t set what ≡ false) → appended_by what ≡ []
+      → ((meta : MetaData) (set : ℕ) → with_write meta set (log_after meta set lines) what ≡ log_after meta set lines)
+      → IsLineBy (plan_by config script) lines what h.steps (step ∷ h.steps) h.looks h.looks
+      → HasPlayed config script (record { at = at; act = what } ∷ lines) told new
+  switched at id was what step new w stands tells switches no_tick no_write none logs by =
+      subst (λ (x : Player). HasPlayed config script (record { at = at; act = what } ∷ lines) told x) (sym w.rest)
+      (kept config script lines told player is h at what new.session (step ∷ h.steps) stands tells switches w.keeps.passes w.left no_tick no_write
+      (ap (λ (l : List ℕ). (appended_sets (reverse lines) ++ l) ++ appends_left new.session) none
+      ∙ ap (λ (l : List ℕ). l ++ appends_left new.session) (append-nil (appended_sets (reverse lines)))
+      ∙ ap (λ (l : List ℕ). appended_sets (reverse lines) ++ l) w.appends ∙ h.appends)
+      logs by)
+
+  pub played_next : (at : ℕ) (what : Act) (after : Option LinkState) (new : Player) → IsPlayer new → IsNext config script lines (record { at = at; act = what })
+      → Does what player new told after → HasPlayed config script (record { at = at; act = what } ∷ lines) after new
+  played_next at (act.Write thread set patch) after new now next (w, same) =
+      let w' = next.acts in
+      subst (λ (t : Option LinkState). HasPlayed config script (record { at = at; act = act.Write thread set patch } ∷ lines) t new) (sym same)
+      (written config script lines told player is h at thread set patch new w w'.bound (let e = count_cells config script h.steps player is h.stands in let t = w'.there in omega arith))
+  played_next at (act.Tick ms) after new now next w = ticked config script lines told player is h at ms after new now w
+  played_next at (act.Enable id) after new now next (w, same) =
+      subst (λ (t : Option LinkState). HasPlayed config script (record { at = at; act = act.Enable id } ∷ lines) t new) (sym same)
+      (switched at id false (act.Enable id) (Enable id) new w (w.stands (plan_by config script) h.steps h.stands (was_on id false next.acts.there next.acts.was)) h.tells refl refl (λ t set. refl) refl
+      (λ meta set. refl) (refl, refl))
+  played_next at (act.Disable id) after new now next (w, same) =
+      subst (λ (t : Option LinkState). HasPlayed config script (record { at = at; act = act.Disable id } ∷ lines) t new) (sym same)
+      (switched at id true (act.Disable id) (Disable id) new w (w.stands (plan_by config script) h.steps h.stands (was_on id true next.acts.there next.acts.was)) h.tells refl refl (λ t set. refl) refl
+      (λ meta set. refl) (refl, refl))
+  played_next at (act.Fated k fate) after new now next (unchanged, same) =
+      subst (λ (t : Option LinkState). HasPlayed config script (record { at = at; act = act.Fated k fate } ∷ lines) t new) (sym same)
+      (subst (λ (x : Player). HasPlayed config script (record { at = at; act = act.Fated k fate } ∷ lines) told x) (sym unchanged)
+      (kept config script lines told player is h at (act.Fated k fate) player.session h.steps h.stands h.tells refl refl refl refl (λ t set. refl)
+      (ap (λ (l : List ℕ). l ++ appends_left player.session) (append-nil (appended_sets (reverse lines))) ∙ h.appends) (λ meta set. refl) (refl, refl)))
+  played_next at (act.Watch thread reader times) after new now next (w, same) =
+      subst (λ (t : Option LinkState). HasPlayed config script (record { at = at; act = act.Watch thread reader times } ∷ lines) t new) (sym same)
+      (looked_at config script lines told player is h at thread reader times new w next.acts.bound next.acts.there
+      (stored_is (plan_by config script) h.steps player.session reader h.stands next.acts.there))
+  played_next at (act.Append set) after new now next (w, same) =
+      let left = left_next at set next in
+      let set_is : w.set ≡ set = (let e = w.next in cc) in
+      let rest_is : appends_left new.session ≡ appended_sets next.rest = (let e = w.next in cc) in
+      let stands = w.stands (plan_by config script) h.steps h.stands in
+      let stands_set = subst (λ (s : ℕ). Stands (plan_by config script) (Append s stands.0 ∷ h.steps) new.session) set_is stands.1 in
+      subst (λ (t : Option LinkState). HasPlayed config script (record { at = at; act = act.Append set } ∷ lines) t new) (sym same)
+      (subst (λ (x : Player). HasPlayed config script (record { at = at; act = act.Append set } ∷ lines) told x) (sym w.rest)
+      (kept config script lines told player is h at (act.Append set) new.session (Append set stands.0 ∷ h.steps) stands_set h.tells refl w.keeps.passes w.left refl (λ t other. refl)
+      (append_assoc (appended_sets (reverse lines)) (set ∷ []) (appends_left new.session) ∙ ap (λ (l : List ℕ). appended_sets (reverse lines) ++ l) (ap (λ (s : ℕ). s ∷ appends_left new.session) (sym set_is) ∙ sym w.next) ∙ h.appends)
+      (λ meta other. refl) ((stands.0, refl), refl)))

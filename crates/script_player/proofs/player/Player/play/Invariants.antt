@@ -1,0 +1,11 @@
+use Rattle.std.proofs.Common.{IsSome, reverse, take}
+use Rattle.ua_base.specs.Links.{KeepsLink}
+use Rattle.script_player.specs.Player.{HasPlayed, IsPlayer, config_of}
+use Rattle.script_player.proofs.player.Player.play.Given as goal
+
+abbrev pub invariant-loop-line : goal.invariant-loop-line
+invariant-loop-line g l = record {
+  player : IsPlayer l.self;
+  played : HasPlayed (config_of l.fn.self) l.script (reverse (take l.line-index l.script.lines)) (g.L.Link.told l.link) l.self;
+  link : KeepsLink g.L.Link.opened_with g.L.Link.faults l.fn.link l.link;
+}
