@@ -3,8 +3,10 @@ mod Turns
 mod Hands
 mod Sharing
 mod Players
+mod Opened
 mod Stored
 mod Exact
 mod Writing
 mod Watching
 mod Next
+mod Closing

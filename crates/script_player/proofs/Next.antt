@@ -3,7 +3,7 @@ use Rattle.std.proofs.Common.{◌≡◌, ◌≢◌, ℕ, zero, suc, ◌+◌, ◌
 use Rattle.std.specs.Prelude.{slice_get, slice_index, unwrap_or}
 use Rattle.std.specs.List.{range_with_len}
 use Rattle.std.proofs.lemmas.Bool.{false≢true}
-use Rattle.std.proofs.lemmas.List.{append-nil, append_cancel_left, drop_more, get_or-map, get_or_append_left, get_or_read, length-map, reverse-append, reverse-reverse, take_more}
+use Rattle.std.proofs.lemmas.List.{append-nil, append_cancel_left, drop_more, get_or-map, get_or_append_left, get_or_default, length-map, reverse-append, reverse-reverse, take_more}
 use Rattle.std.proofs.lemmas.List.FromFn.{get_or-map-range_with_len}
 use Rattle.std.proofs.lemmas.Option.{same_Some, slice_get-get_or, unwrap_or-slice_get}
 use lib.ListN.{get_or-map as get_or-mapped}
@@ -69,6 +69,11 @@ next_line config script k line is lt read =
           ∙ ap (λ (l : List Line). l ++ line ∷ drop (k + 1) script.lines) (sym (reverse-reverse (take k script.lines)));
       acts = subst (λ (l : List Line). IsAct config script.metas l line.act) (sym (reverse-reverse (take k script.lines))) (is.acts k line at);
     }
+
+-- a line that is read in the lines
+pub read_at : (items lines : List Line) (k : ℕ) (d : Line) → items ≡ lines → k < length items → get_or items k d ≡ get_or lines k (get_or items k d)
+read_at items lines k d same lt =
+    get_or_default items k d (get_or items k d) lt ∙ ap (λ (l : List Line). get_or l k (get_or items k d)) same
 
 -- one line more, turned round
 pub turned_more : (lines : List Line) (k : ℕ) (line : Line) → k < length lines → line ≡ get_or lines k line → reverse (take (k + 1) lines) ≡ line ∷ reverse (take k lines)

@@ -1,7 +1,7 @@
 -- A player stays one, and what a sample, a tick and a pump make of it.
 use Rattle.std.proofs.Common.{◌≡◌, ◌≢◌, ℕ, ◌+◌, ◌<◌, ◌≤◌, Bool, List, [], ◌∷◌, ◌++◌, length, get_or, set, refl, sym, ap, ◌∙◌, subst, arith, get_or-set_same, get_or-set_other, length-set, Option, Some, Vec}
 use Rattle.std.specs.List.{HoldsAt}
-use Rattle.std.proofs.lemmas.List.{length_push}
+use Rattle.std.proofs.lemmas.List.{get_or_read, length_push}
 use native.Mathlib.Decide.{ℕ_discrete}
 use Rattle.std.specs.declared.alloc.Global.{Global}
 use Rattle.row_words.specs.declared.patch.Patch.{Patch}
@@ -26,6 +26,14 @@ use Rattle.script_player.specs.declared.player.Player.{Player}
 use Rattle.script_player.specs.Player.{ChangesHand, HasWritten, IsHand, IsPlayer, KeepAuthors, LeadsPast, Passes, SeeNoMore, WritesThrough, Writes}
 
 -- ---- a thread changes
+
+-- a thread is written at its index
+pub changed_at : (hands : List Hand) (thread index : ℕ) (hand after : Hand) → index ≡ thread → thread < length hands → hand ≡ get_or hands index hand
+    → ChangesHand thread hands (set hands index after) hand after
+changed_at hands thread index hand after same lt read = record {
+  was = λ d. sym (get_or_read hands thread hand lt (subst (λ (k : ℕ). hand ≡ get_or hands k hand) same read) d);
+  hands = ap (λ (k : ℕ). set hands k after) same;
+}
 
 -- a write leaves no pass of the session behind
 pub write_rises : (cell : CellData) (set : ℕ) (patch : Patch) (old new : List Known) (hand after : Hand) (w : HasWritten cell set patch old new hand after)

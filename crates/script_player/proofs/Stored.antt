@@ -11,7 +11,11 @@ use Rattle.version_cell.specs.declared.rule.Entry.{Entry}
 use Rattle.version_cell.specs.Known.{Known}
 use Rattle.version_cell.specs.Sets.{pass_at}
 use Rattle.version_cell.proofs.Logs.{starts_length}
-use Rattle.target_cells.specs.Keeping.{AreLevel}
+use Rattle.target_cells.specs.Keeping.{AreLevel, TargetsData}
+use Rattle.dataset_meta.specs.Metas.{no_meta}
+use Rattle.version_cell.specs.Cells.{CellData}
+use Rattle.ps_config.specs.declared.parts.ReaderPart.{ReaderPart}
+use Rattle.pubsub_engine.specs.Holding.{AreTargetsOf}
 use Rattle.ps_config.specs.declared.parts.Config.{Config}
 use Rattle.ps_config.specs.declared.parts.ReadGroupPart.{ReadGroupPart}
 use Rattle.ps_config.specs.Sound.{readers}
@@ -71,3 +75,10 @@ counts_exact keeper before first last after reader times counts there still leve
     (let a = starts_length (pass_at after reader).seen (pass_at last reader).seen (again reader still).more.seen in let b = ap length (again reader still).seen in omega arith) in
     ext_get_or 0 counts (replicate times n) (count ∙ sym (length-replicate times n))
     (λ k lt. (let c = counted k lt in let exact : get_or counts k 0 ≡ n = (let c0 = c.0 in let c1 = c.1 in omega arith) in exact ∙ sym (get_or-replicate times k n 0 (omega arith))))
+
+-- there is a target for each reader
+pub count_targets : (s : Session) (targets : TargetsData) → AreTargetsOf s targets → length targets.cells ≡ length (readers s.config.now)
+count_targets s targets are =
+    let sets = map (λ (reader : ReaderPart). reader.dataset) (readers s.config.now) in
+    sym (length-map targets.cells (λ (cell : CellData). cell.meta)) ∙ ap length are.metas
+    ∙ length-map sets (λ (set : ℕ). get_or s.config.now.dataset set no_meta) ∙ length-map (readers s.config.now) (λ (reader : ReaderPart). reader.dataset)

@@ -19,7 +19,7 @@ loop-hand-preserved c =
     let more : c.push.new.self.items ≡ was ++ done ∷ [] = c.in_ok-push.ensures.items in
     let count : length c.push.new.self.items ≡ length was + 1 = ap length more ∙ length_push was done in
     let taken : take (length c.push.new.self.items) hands ≡ take (length was) hands ++ hand ∷ [] = ap (λ (n : ℕ). take n hands) count ∙ next.0 in
-    let number : done.list ≡ length was = c.in_ok-done.ensures.list ∙ c.len-thread.ensures ∙ sym c.loop-hand.dones.ok.0 in
+    let number : done.list ≡ length was = c.in_ok-done.ensures.list ∙ c.len-thread.ensures ∙ c.loop-hand.dones.ok.0 in
     record {
       left = ap (λ (n : ℕ). drop n hands) count ∙ next.1;
       own = subst (λ (l : List Known). ArePassesOf c.args.targets.now.cells l) (sym c.in_ok-done.ensures.same) c.loop-hand.invariant.own;
