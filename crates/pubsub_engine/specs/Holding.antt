@@ -1,5 +1,5 @@
 -- What holds of a session between its calls, whatever it lived through: the conditions of the calls below.
-use Rattle.std.specs.Prelude.{◌≡◌, ◌⊎◌, ⊤, ℕ, ◌+◌, ◌*◌, ◌^◌, ◌<◌, ◌≤◌, Bool, true, false, List, [], ◌∷◌, length, map, drop, slice_set, vec_len}
+use Rattle.std.specs.Prelude.{◌≡◌, ◌⊎◌, ⊤, ℕ, ◌+◌, ◌*◌, ◌^◌, ◌<◌, ◌≤◌, Bool, true, false, List, [], ◌∷◌, length, map, drop, slice_set, vec_len, All}
 use Rattle.std.specs.List.{AllZip}
 use Rattle.dataset_meta.specs.declared.field.Field.{Field}
 use Rattle.dataset_meta.specs.Metas.{MetaData, grown}
@@ -11,7 +11,7 @@ use Rattle.ps_config.specs.Types.{HasTypes}
 use Rattle.pubsub_states.specs.Components.{counts_of}
 use Rattle.target_cells.specs.Keeping.{TargetsData, metas_of}
 use Rattle.version_cell.specs.Known.{Known}
-use Rattle.version_cell.specs.Cells.{CellData}
+use Rattle.version_cell.specs.Cells.{CellData, IsCell}
 use Rattle.version_cell.specs.Passes.{Adds}
 use Rattle.version_cell.specs.Sets.{pass_at, ArePassesOf}
 use Rattle.writer_group.specs.Parts.{group_at}
@@ -83,7 +83,7 @@ pub record HoldSamples (full : List MetaData) (samples : Samples) : Type 0 where
 
 -- each reader may be stored so often
 pub record HoldStores (config : Config) (limit left : ℕ) (stores : Stores) : Type 0 where
-  pub count : vec_len stores.last ≡ length (readers config)
+  pub count : length stores.last.items ≡ length (readers config)
   pub keepers : length stores.keeper ≡ length (readers config)
   pub room : (k : ℕ) → k < length (readers config) → length (pass_at stores.keeper k).seen + left ≤ limit
 
@@ -164,10 +164,11 @@ pub record CountsPump (old new : Left) : Type 0 where
 
 -- ---- what a call is given beside the session
 
--- the bank made the session's passes, and its cells are of the full data sets
+-- the bank made the session's passes, and its cells are sound ones of the full data sets
 pub record IsBankOf (s : Session) (bank : List CellData) : Type 0 where
   pub passes : ArePassesOf bank (passes_of s)
   pub metas : map (λ cell. cell.meta) bank ≡ s.sets.full.items
+  pub cells : All IsCell bank
 
 -- the targets made the session's keeper, and there is one for each reader, of the data set that it is configured for
 pub record AreTargetsOf (s : Session) (targets : TargetsData) : Type 0 where

@@ -3,3 +3,5 @@ pub mod Storing
 pub mod Standing
 pub mod Ticking
 pub mod Authored
+pub mod Ending
+pub mod Logs

@@ -1,15 +1,17 @@
 //! The end of a session.
-ghost use Rattle.std.specs.Prelude.{◌≡◌, ◌<◌, ◌≤◌, ℕ, List, All, IfOk, length, map, option_map, slice_get, Some};
+ghost use Rattle.std.specs.Prelude.{◌≡◌, ◌<◌, ◌≤◌, ◌++◌, ◌-◌, ℕ, List, All, IfOk, OnOk, length, map, option_map, slice_get, slice_set, Some};
 ghost use Rattle.ps_report.specs.Conditions.{IsClosedOf};
 ghost use Rattle.session_model.specs.Steps.{Plan, Step};
 ghost use Rattle.session_model.specs.Closing.{IsClosedAfter};
 ghost use Rattle.pubsub_engine.specs.Holding.{IsSession, passes_of, plan_of};
 ghost use Rattle.pubsub_engine.specs.Standing.{Stands};
-ghost use Rattle.pubsub_engine.specs.Authored.{AreInOrder, AreLooksAt, IsAuthored, watches_of};
+ghost use Rattle.pubsub_engine.specs.Authored.{AreHistories, AreInOrder, AreLooksAt, HasThreads, IsAuthored, byte_of, filled, watch_of, watches_in_bytes, watches_of};
+ghost use Rattle.app_threads.specs.Items.{versions_in};
 ghost use Rattle.ps_config.specs.Sound.{readers};
 ghost use Rattle.version_cell.specs.Sets.{pass_at};
 
 use crate::ends::{group_ends, link_end, read_group_ends, reader_ends, writer_ends};
+use crate::sampling::Samples;
 use crate::session::Session;
 use app_threads::{Done, Looked};
 use ps_config::Parts;
@@ -23,15 +25,19 @@ impl Session<'_> {
         requires session { IsSession self }
         ensures closed { (p : Plan) (steps : List Step) → Stands p steps self.entry → AreInOrder dones.now
             → IfOk result (IsClosedAfter p steps) }
-        ensures histories { IfOk result (λ closed. (set : ℕ) (threads : List ℕ) → set < length (passes_of self.entry)
+        ensures histories { length dones.now ≤ 256
+            → IfOk result (λ closed. (set : ℕ) (threads : List ℕ) → set < length (passes_of self.entry)
             → IsAuthored set dones.now threads → length threads ≡ length (pass_at (passes_of self.entry) set).seen
-            → option_map (λ history. history.threads) (slice_get closed.histories set) ≡ Some threads) }
-        ensures watches { IfOk result (λ closed. closed.watches ≡ watches_of dones.now) }
+            → HasThreads closed.histories set threads) }
+        ensures watches { AreInOrder dones.now → IfOk result (λ closed. closed.watches ≡ watches_of dones.now) }
         ensures of { IfOk result (λ closed. (steps : List Step) → Stands (plan_of self.entry) steps self.entry
             → AreLooksAt (readers (plan_of self.entry).config) dones.now → IsClosedOf (plan_of self.entry).config closed) }
     {
-        let histories = histories(alloc, &self, dones)?;
+        let sets = self.sets.metas.len() as u8;
+        let histories = histories(alloc, &self.samples, sets, dones)?;
+        let groups = group_ends(alloc, self.config, &self.tree, &self.publisher)?;
         let writers = writer_ends(alloc, self.config, &self.tree, &self.publisher)?;
+        let read_groups = read_group_ends(alloc, self.config, &self.tree, &self.subscriber)?;
         let readers = reader_ends(
             alloc,
             self.config,
@@ -39,26 +45,33 @@ impl Session<'_> {
             &self.publisher,
             &self.subscriber,
         )?;
+        let watches = watches(alloc, dones)?;
         Ok(Closed {
             histories: Parts::new(histories),
-            groups: Parts::new(group_ends(alloc, &self.tree, &self.publisher)?),
+            groups: Parts::new(groups),
             writers: Parts::new(writers),
-            read_groups: Parts::new(read_group_ends(alloc, &self.tree, &self.subscriber)?),
+            read_groups: Parts::new(read_groups),
             readers: Parts::new(readers),
-            watches: Parts::new(watches(alloc, dones)?),
+            watches: Parts::new(watches),
             link: link_end(&self.publisher, &self.receiving),
         })
     }
 }
 
+/// The histories of so many data sets.
 fn histories(
     alloc: Global,
-    session: &Session<'_>,
+    samples: &Samples,
+    sets: u8,
     dones: &[Done],
-) -> Result<Vec<History>, NoMemory> {
+) -> Result<Vec<History>, NoMemory>
+    requires { sets ≤ length samples.now.passes }
+    ensures { IfOk result
+        (λ histories. AreHistories samples.now.passes dones.now sets histories.items) }
+{
     let mut histories = Vec::new(alloc);
-    for set in 0..session.sets.metas.len() as u8 {
-        let count = session.samples.version(set);
+    for set in 0..sets {
+        let count = samples.version(set);
         histories.push(History {
             threads: Parts::new(threads_of(alloc, set, dones, count)?),
         })?;
@@ -67,21 +80,22 @@ fn histories(
 }
 
 /// The thread of each of so many versions of a data set.
-fn threads_of(alloc: Global, set: u8, dones: &[Done], count: u64) -> Result<Vec<u8>, NoMemory> {
+fn threads_of(alloc: Global, set: u8, dones: &[Done], count: u64) -> Result<Vec<u8>, NoMemory>
+    ensures { (threads : List ℕ) → length dones.now ≤ 256 → IsAuthored set dones.now threads
+        → length threads ≡ count → IfOk result (λ made. made.items ≡ threads) }
+{
     let mut threads = vec![in alloc; 0u8; count as usize]?;
     for thread in 0..dones.len().min(256) {
-        fill(
-            &mut threads,
-            thread as u8,
-            set,
-            dones[thread].versions.as_slice(),
-        );
+        let versions = dones[thread].versions.as_slice();
+        fill(&mut threads, thread as u8, set, versions);
     }
     Ok(threads)
 }
 
 /// Notes a thread at each of its versions of a data set.
-fn fill(threads: &mut Vec<u8>, thread: u8, set: u8, versions: &[(u8, u64)]) {
+fn fill(threads: &mut Vec<u8>, thread: u8, set: u8, versions: &[(u8, u64)])
+    ensures { threads.new.items ≡ filled thread (versions_in set versions.now) threads.old.items }
+{
     for (written, version) in versions {
         if *written == set {
             put(threads, thread, *version);
@@ -89,7 +103,10 @@ fn fill(threads: &mut Vec<u8>, thread: u8, set: u8, versions: &[(u8, u64)]) {
     }
 }
 
-fn put(threads: &mut Vec<u8>, thread: u8, version: u64) {
+/// Notes a thread at one of its versions.
+fn put(threads: &mut Vec<u8>, thread: u8, version: u64)
+    ensures { threads.new.items ≡ slice_set threads.old.items (version - 1) thread }
+{
     let place = version.saturating_sub(1) as usize;
     if place < threads.len() {
         threads[place] = thread;
@@ -97,17 +114,31 @@ fn put(threads: &mut Vec<u8>, thread: u8, version: u64) {
 }
 
 /// The looks of all threads, in the order of threads.
-fn watches(alloc: Global, dones: &[Done]) -> Result<Vec<WatchEnd>, NoMemory> {
+fn watches(alloc: Global, dones: &[Done]) -> Result<Vec<WatchEnd>, NoMemory>
+    ensures { IfOk result (λ watches. watches.items ≡ watches_in_bytes dones.now) }
+{
     let mut watches = Vec::new(alloc);
     for done in dones {
-        for looked in done.looks.as_slice() {
-            watches.push(watch_end(alloc, done.list as u8, looked)?)?;
-        }
+        push_watches(alloc, &mut watches, done)?;
     }
     Ok(watches)
 }
 
-fn watch_end(alloc: Global, thread: u8, looked: &Looked) -> Result<WatchEnd, NoMemory> {
+/// The looks of a thread.
+fn push_watches(alloc: Global, watches: &mut Vec<WatchEnd>, done: &Done) -> Result<(), NoMemory>
+    ensures { OnOk result (watches.new.items
+        ≡ watches.old.items ++ map (watch_of (byte_of done.now.list)) done.now.looks) }
+{
+    let thread = done.list.min(255) as u8;
+    for looked in done.looks.as_slice() {
+        watches.push(watch_end(alloc, thread, looked)?)?;
+    }
+    Ok(())
+}
+
+fn watch_end(alloc: Global, thread: u8, looked: &Looked) -> Result<WatchEnd, NoMemory>
+    ensures { IfOk result (λ end. end ≡ watch_of thread looked.now) }
+{
     Ok(WatchEnd {
         thread,
         reader: looked.reader,

@@ -1,4 +1,27 @@
 //! The ends of the parts of a session.
+ghost use Rattle.std.specs.Prelude.{◌≡◌, ◌<◌, ◌++◌, ◌+◌, ℕ, List, None, IfOk, IfSome, OnOk, length, map, option_map, option_and_then, reverse, slice_index_or};
+ghost use Rattle.std.specs.List.{AllZip};
+ghost use Rattle.ua_base.specs.Journal.{Entry};
+ghost use Rattle.dataset_meta.specs.declared.field.Field.{Field};
+ghost use Rattle.dataset_meta.specs.Metas.{MetaData};
+ghost use Rattle.row_words.specs.Belonging.{Belongs, row_in};
+ghost use Rattle.pubsub_model.specs.Answers.{version_of};
+ghost use Rattle.dataset_reader.specs.Reader.{IsReaderOf, kept_by};
+ghost use Rattle.reader_group.specs.Members.{MemberValue};
+ghost use Rattle.pubsub_states.specs.Components.{IsAmong};
+ghost use Rattle.pubsub_states.specs.Changes.{flags_in};
+ghost use Rattle.pubsub_states.specs.States.{state_of};
+ghost use Rattle.pubsub_states.specs.declared.component.Component.TheVariants.{Writer as WriterOf};
+ghost use Rattle.session_model.specs.Steps.{Plan, Step};
+ghost use Rattle.session_model.specs.Deeds.{group_indexes};
+ghost use Rattle.session_model.specs.Events.{read_group_indexes};
+ghost use Rattle.session_model.specs.Sends.{journal};
+ghost use Rattle.session_model.specs.Closing.{IsWriterEnd, MemberPlace, Shows, group_end, link_end, read_group_end, reader_places, writer_places};
+ghost use Rattle.writer_group.specs.Parts.{group_at};
+ghost use Rattle.session_parts.specs.Standing.{AreReceivesIn, AreSendsIn};
+ghost use Rattle.pubsub_engine.specs.Storing.{first_reader};
+ghost use Rattle.pubsub_engine.specs.Ending.{HavePublished, HaveReceived, IsToldAt, MayTellReaders, MayTellWriters, places_of_group, places_of_read_group};
+
 use crate::logs::{log_read, version_at};
 use arrayvec::ArrayVec;
 use dataset_reader::Reader;
@@ -6,17 +29,25 @@ use ps_config::{Config, Parts};
 use ps_report::{GroupEnd, HeldEnd, LinkEnd, ReadGroupEnd, ReaderEnd, WriterEnd};
 use pubsub_model::Break;
 use pubsub_states::{Component, State, Tree};
+use reader_group::each_held_row_has_its_number;
 use session_parts::{Publisher, Receiving, Subscriber, group_part, read_group_part};
 use std::alloc::Global;
 use ua_base::NoMemory;
 
+/// The ends of the groups, in order.
 pub(crate) fn group_ends(
     alloc: Global,
+    config: &Config,
     tree: &Tree,
     publisher: &Publisher,
-) -> Result<Vec<GroupEnd>, NoMemory> {
+) -> Result<Vec<GroupEnd>, NoMemory>
+    requires { MayTellWriters config.now tree.now publisher.now }
+    ensures { IfOk result (λ ends. (p : Plan) (steps : List Step)
+        → HavePublished config.now p steps tree.now publisher.now
+        → ends.items ≡ map (group_end p steps) (group_indexes p.config)) }
+{
     let mut ends = Vec::new(alloc);
-    for g in 0..publisher.groups.len() {
+    for g in 0..config.group.as_slice().len() {
         ends.push(GroupEnd {
             state: tree.state_of(Component::Group { group: g as u8 }),
             sent: publisher.sends[g].done,
@@ -25,42 +56,89 @@ pub(crate) fn group_ends(
     Ok(ends)
 }
 
+/// The ends of the writers, over all groups in order.
 pub(crate) fn writer_ends(
     alloc: Global,
     config: &Config,
     tree: &Tree,
     publisher: &Publisher,
-) -> Result<Vec<WriterEnd>, NoMemory> {
+) -> Result<Vec<WriterEnd>, NoMemory>
+    requires { MayTellWriters config.now tree.now publisher.now }
+    ensures { IfOk result (λ ends. (p : Plan) (steps : List Step)
+        → HavePublished config.now p steps tree.now publisher.now
+        → AllZip (IsWriterEnd p steps) (writer_places p.config) ends.items) }
+{
     let mut ends = Vec::new(alloc);
-    for g in 0..publisher.groups.len() {
-        for w in 0..group_part(config, g).writer.as_slice().len() {
-            ends.push(writer_end(alloc, tree, publisher, g, w as u8)?)?;
-        }
+    for g in 0..config.group.as_slice().len() {
+        push_writer_ends(alloc, &mut ends, config, tree, publisher, g as u8)?;
     }
     Ok(ends)
 }
 
-fn writer_end(
+/// Behind other ends those of the writers of a group.
+fn push_writer_ends(
     alloc: Global,
+    ends: &mut Vec<WriterEnd>,
+    config: &Config,
     tree: &Tree,
     publisher: &Publisher,
-    g: usize,
+    group: u8,
+) -> Result<(), NoMemory>
+    requires may { MayTellWriters config.now tree.now publisher.now }
+    requires within { group < length config.now.group }
+    ensures { OnOk result ((p : Plan) (steps : List Step) (places : List MemberPlace)
+        → HavePublished config.now p steps tree.now publisher.now
+        → AllZip (IsWriterEnd p steps) places ends.old.items
+        → AllZip (IsWriterEnd p steps) (places ++ places_of_group p.config group) ends.new.items) }
+{
+    for w in 0..group_part(config, usize::from(group)).writer.as_slice().len() {
+        ends.push(writer_end(alloc, config, tree, publisher, group, w as u8)?)?;
+    }
+    Ok(())
+}
+
+fn writer_end(
+    alloc: Global,
+    config: &Config,
+    tree: &Tree,
+    publisher: &Publisher,
+    group: u8,
     writer: u8,
-) -> Result<WriterEnd, NoMemory> {
-    let group = g as u8;
+) -> Result<WriterEnd, NoMemory>
+    requires may { MayTellWriters config.now tree.now publisher.now }
+    requires within { group < length config.now.group }
+    requires there { writer < length (group_at config.now group).writer }
+    ensures { IfOk result (λ end. (p : Plan) (steps : List Step)
+        → HavePublished config.now p steps tree.now publisher.now
+        → IsWriterEnd p steps (group, writer) end) }
+{
+    let log = publisher.groups[usize::from(group)].writer(writer).log();
     Ok(WriterEnd {
         state: tree.state_of(Component::Writer { group, writer }),
-        log: Parts::new(publisher.groups[g].writer(writer).log().to_vec(alloc)?),
+        log: Parts::new(copied(alloc, log)?),
     })
 }
 
+fn copied(alloc: Global, log: &[(u64, u64)]) -> Result<Vec<(u64, u64)>, NoMemory>
+    ensures { IfOk result (λ copy. copy.items ≡ log.now) }
+{
+    Ok(log.to_vec(alloc)?)
+}
+
+/// The ends of the read groups, in order.
 pub(crate) fn read_group_ends(
     alloc: Global,
+    config: &Config,
     tree: &Tree,
     subscriber: &Subscriber,
-) -> Result<Vec<ReadGroupEnd>, NoMemory> {
+) -> Result<Vec<ReadGroupEnd>, NoMemory>
+    requires { MayTellReaders config.now tree.now subscriber.now }
+    ensures { IfOk result (λ ends. (p : Plan) (steps : List Step)
+        → HaveReceived config.now p steps tree.now subscriber.now
+        → ends.items ≡ map (read_group_end p steps) (read_group_indexes p.config)) }
+{
     let mut ends = Vec::new(alloc);
-    for r in 0..subscriber.groups.len() {
+    for r in 0..config.readgroup.as_slice().len() {
         let tally = &subscriber.tallies[r];
         ends.push(ReadGroupEnd {
             state: tree.state_of(Component::ReadGroup {
@@ -73,29 +151,67 @@ pub(crate) fn read_group_ends(
     Ok(ends)
 }
 
+/// The ends of the readers, over all read groups in order.
 pub(crate) fn reader_ends(
     alloc: Global,
     config: &Config,
     tree: &Tree,
     publisher: &Publisher,
     subscriber: &Subscriber,
-) -> Result<Vec<ReaderEnd>, NoMemory> {
+) -> Result<Vec<ReaderEnd>, NoMemory>
+    requires writers { MayTellWriters config.now tree.now publisher.now }
+    requires readers { MayTellReaders config.now tree.now subscriber.now }
+    ensures { IfOk result (λ ends. (p : Plan) (steps : List Step)
+        → HavePublished config.now p steps tree.now publisher.now
+        → HaveReceived config.now p steps tree.now subscriber.now
+        → AllZip (IsToldAt p steps) (reader_places p.config) ends.items) }
+{
     let mut ends = Vec::new(alloc);
-    for r in 0..subscriber.groups.len() {
-        for i in 0..read_group_part(config, r).reader.as_slice().len() {
-            let reader = Component::Reader {
-                read_group: r as u8,
-                reader: i as u8,
-            };
-            let state = tree.state_of(reader);
-            let log = log_read(config, publisher, ends.len());
-            ends.push(reader_end(state, subscriber.groups[r].reader(i as u8), log))?;
-        }
+    for r in 0..config.readgroup.as_slice().len() {
+        push_reader_ends(&mut ends, config, tree, publisher, subscriber, r as u8)?;
     }
     Ok(ends)
 }
 
-fn reader_end(state: State, reader: &Reader, log: &[(u64, u64)]) -> ReaderEnd {
+/// Behind the ends of the readers of the read groups before it those of a read group.
+fn push_reader_ends(
+    ends: &mut Vec<ReaderEnd>,
+    config: &Config,
+    tree: &Tree,
+    publisher: &Publisher,
+    subscriber: &Subscriber,
+    read_group: u8,
+) -> Result<(), NoMemory>
+    requires writers { MayTellWriters config.now tree.now publisher.now }
+    requires readers { MayTellReaders config.now tree.now subscriber.now }
+    requires within { read_group < length config.now.readgroup }
+    requires behind { length ends.old.items ≡ first_reader config.now read_group }
+    ensures behind { OnOk result
+        (length ends.new.items ≡ first_reader config.now (read_group + 1)) }
+    ensures more { OnOk result ((p : Plan) (steps : List Step) (places : List MemberPlace)
+        → HavePublished config.now p steps tree.now publisher.now
+        → HaveReceived config.now p steps tree.now subscriber.now
+        → AllZip (IsToldAt p steps) places ends.old.items
+        → AllZip (IsToldAt p steps) (places ++ places_of_read_group p.config read_group) ends.new.items) }
+{
+    each_held_row_has_its_number();
+    let r = usize::from(read_group);
+    for i in 0..read_group_part(config, r).reader.as_slice().len() {
+        let reader = i as u8;
+        let state = tree.state_of(Component::Reader { read_group, reader });
+        let log = log_read(config, publisher, ends.len());
+        ends.push(reader_end(state, subscriber.groups[r].reader(reader), log))?;
+    }
+    Ok(())
+}
+
+fn reader_end(state: State, reader: &Reader, log: &[(u64, u64)]) -> ReaderEnd
+    ensures state { result.state ≡ state }
+    ensures shows { (meta : MetaData) (member : MemberValue) → IsReaderOf meta reader.now
+        → kept_by meta.fields reader.now ≡ member.kept → Shows meta member result }
+    ensures version { IfSome result.held
+        (λ held. held.version ≡ option_and_then (version_of log.now) held.number) }
+{
     ReaderEnd {
         state,
         held: held_end(reader, log),
@@ -105,7 +221,17 @@ fn reader_end(state: State, reader: &Reader, log: &[(u64, u64)]) -> ReaderEnd {
     }
 }
 
-fn held_end(reader: &Reader, log: &[(u64, u64)]) -> Option<HeldEnd> {
+/// What a reader holds, if anything.
+fn held_end(reader: &Reader, log: &[(u64, u64)]) -> Option<HeldEnd>
+    ensures row { (fields : List Field) → option_map (λ held. row_in fields held.row.words) result
+        ≡ (kept_by fields reader.now).row }
+    ensures number { (fields : List Field)
+        → IfSome result (λ held. held.number ≡ (kept_by fields reader.now).number) }
+    ensures belongs { (meta : MetaData) → IsReaderOf meta reader.now
+        → IfSome result (λ held. Belongs meta held.row.words) }
+    ensures version { IfSome result
+        (λ held. held.version ≡ option_and_then (version_of log.now) held.number) }
+{
     let Some(row) = reader.row() else {
         return None;
     };
@@ -118,7 +244,9 @@ fn held_end(reader: &Reader, log: &[(u64, u64)]) -> Option<HeldEnd> {
 }
 
 /// The last eight breaks, the oldest first.
-fn recent_breaks(reader: &Reader) -> ArrayVec<Break, 8> {
+fn recent_breaks(reader: &Reader) -> ArrayVec<Break, 8>
+    ensures { (fields : List Field) → result.items ≡ reverse (kept_by fields reader.now).recent }
+{
     let mut recent = ArrayVec::new();
     match recent.try_extend_from_slice(reader.recent()) {
         Ok(()) => recent,
@@ -126,7 +254,11 @@ fn recent_breaks(reader: &Reader) -> ArrayVec<Break, 8> {
     }
 }
 
-pub(crate) fn link_end(publisher: &Publisher, receiving: &Receiving) -> LinkEnd {
+/// What came of all sends and receives.
+pub(crate) fn link_end(publisher: &Publisher, receiving: &Receiving) -> LinkEnd
+    ensures { (p : Plan) (steps : List Step) → AreSendsIn (journal p steps) publisher.now.link
+        → AreReceivesIn (journal p steps) steps receiving.now → result ≡ link_end p steps }
+{
     LinkEnd {
         sent: publisher.link.done,
         failed: publisher.link.failed,

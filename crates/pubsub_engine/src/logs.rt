@@ -1,24 +1,57 @@
 //! The versions that this program's writers logged.
-use ps_config::{Config, ReadGroupPart, ReaderPart};
-use session_parts::{Publisher, group_part, read_group_part};
+ghost use Rattle.std.specs.Prelude.{◌≡◌, ◌<◌, ℕ, IfSome, length, option_and_then, option_map, slice_get, Some};
+ghost use Rattle.pubsub_model.specs.Answers.{version_of as version_in};
+ghost use Rattle.ps_config.specs.declared.parts.ReadGroupPart.{ReadGroupPart as GroupValue};
+ghost use Rattle.ps_config.specs.declared.parts.ReaderPart.{ReaderPart as PartValue};
+ghost use Rattle.ps_report.specs.Told.{grouped_readers};
+ghost use Rattle.writer_group.specs.Parts.{group_at};
+ghost use Rattle.writer_group.specs.Standing.{IsGood};
+ghost use Rattle.session_parts.specs.Holding.{AreGroups};
+ghost use Rattle.pubsub_engine.specs.Logs.{IsLogNamed, IsLogRead, is_same_publisher, place_named, place_within};
+
+use ps_config::{Config, GroupPart, Publisher, ReadGroupPart, ReaderPart};
+use session_parts::{Publisher as Publishing, group_part};
 
 /// The log of this program's writer that the reader with this index over all read groups names, empty where the read group's
 /// publisher is another, or has no such writer.
 pub(crate) fn log_read<'a>(
     config: &Config,
-    publisher: &'a Publisher,
+    publisher: &'a Publishing,
     reader: usize,
-) -> &'a [(u64, u64)] {
+) -> &'a [(u64, u64)]
+    requires good { IsGood config.now }
+    requires groups { AreGroups config.now publisher.now.groups.items }
+    ensures log { (at : GroupValue × PartValue)
+        → slice_get (grouped_readers config.now.readgroup) reader ≡ Some at
+        → IsLogRead config.now publisher.now at result.now }
+{
     match reader_part(config, reader) {
-        Some((group, part)) if group.publisher == config.publisher.id => {
+        Some((group, part)) if is_same_publisher(&group.publisher, &config.publisher.id) => {
             log_named(config, publisher, part.writer)
         }
         _ => &[],
     }
 }
 
+/// Whether both are one publisher.
+fn is_same_publisher(one: &Publisher, other: &Publisher) -> bool
+    ensures { result ≡ is_same_publisher one.now other.now }
+{
+    match (one, other) {
+        (Publisher::U8(id), Publisher::U8(other)) => *id == *other,
+        (Publisher::U16(id), Publisher::U16(other)) => *id == *other,
+        (Publisher::U32(id), Publisher::U32(other)) => *id == *other,
+        (Publisher::U64(id), Publisher::U64(other)) => *id == *other,
+        (Publisher::Text(text), Publisher::Text(other)) => text.as_bytes() == other.as_bytes(),
+        _ => false,
+    }
+}
+
 /// The reader with this index over all read groups, with its read group.
-fn reader_part(config: &Config, reader: usize) -> Option<(&ReadGroupPart, &ReaderPart)> {
+fn reader_part(config: &Config, reader: usize) -> Option<(&ReadGroupPart, &ReaderPart)>
+    ensures { option_map (λ at. (at.0.now, at.1.now)) result
+        ≡ slice_get (grouped_readers config.now.readgroup) reader }
+{
     let mut left = reader;
     for group in config.readgroup.as_slice() {
         let readers = group.reader.as_slice();
@@ -31,20 +64,49 @@ fn reader_part(config: &Config, reader: usize) -> Option<(&ReadGroupPart, &Reade
 }
 
 /// The log of this program's writer with an id, empty where there is none.
-fn log_named<'a>(config: &Config, publisher: &'a Publisher, id: u16) -> &'a [(u64, u64)] {
-    for g in 0..publisher.groups.len() {
-        let writers = group_part(config, g).writer.as_slice();
-        for w in 0..writers.len() {
-            if writers[w].id == id {
-                return publisher.groups[g].writer(w as u8).log();
-            }
+fn log_named<'a>(config: &Config, publisher: &'a Publishing, id: u16) -> &'a [(u64, u64)]
+    requires good { IsGood config.now }
+    requires groups { AreGroups config.now publisher.now.groups.items }
+    ensures log { IsLogNamed config.now publisher.now id result.now }
+{
+    match writer_named(config, id) {
+        Some((g, w)) => publisher.groups[g].writer(w as u8).log(),
+        None => &[],
+    }
+}
+
+/// The group of the writer with an id, and its index in this.
+fn writer_named(config: &Config, id: u16) -> Option<(usize, usize)>
+    ensures place { result ≡ place_named config.now id }
+    ensures there { IfSome result (λ at. at.0 < length config.now.group) }
+    ensures within { IfSome result (λ at. at.1 < length (group_at config.now at.0).writer) }
+{
+    for g in 0..config.group.as_slice().len() {
+        if let Some(w) = writer_within(group_part(config, g), id) {
+            return Some((g, w));
         }
     }
-    &[]
+    None
+}
+
+/// The index of the group's writer with an id.
+fn writer_within(group: &GroupPart, id: u16) -> Option<usize>
+    ensures place { (g : ℕ) → option_map (λ w. (g, w)) result ≡ place_within group.now g id }
+    ensures within { IfSome result (λ w. w < length group.now.writer) }
+{
+    let writers = group.writer.as_slice();
+    for w in 0..writers.len() {
+        if writers[w].id == id {
+            return Some(w);
+        }
+    }
+    None
 }
 
 /// The version that a log has at a number.
-pub(crate) fn version_at(log: &[(u64, u64)], number: Option<u16>) -> Option<u64> {
+pub(crate) fn version_at(log: &[(u64, u64)], number: Option<u16>) -> Option<u64>
+    ensures { result ≡ option_and_then (version_in log.now) number }
+{
     match number {
         Some(number) => version_of(log, number),
         None => None,
@@ -52,7 +114,9 @@ pub(crate) fn version_at(log: &[(u64, u64)], number: Option<u16>) -> Option<u64>
 }
 
 /// The version of the last data frame with this number.
-fn version_of(log: &[(u64, u64)], number: u16) -> Option<u64> {
+fn version_of(log: &[(u64, u64)], number: u16) -> Option<u64>
+    ensures { result ≡ version_in log.now number }
+{
     let mut version = None;
     for (place, logged) in log {
         if *place % 65_536 == u64::from(number) {

@@ -1,5 +1,6 @@
 //! The opening of a session.
-ghost use Rattle.std.specs.Prelude.{◌≡◌, ◌≤◌, ◌+◌, [], All, IfOk, Some, None, false, length, map};
+ghost use Rattle.std.specs.Prelude.{◌≡◌, ◌≤◌, ◌+◌, ◌++◌, [], All, IfOk, Some, None, false, length, map};
+ghost use Rattle.arrayvec.specs.ArrayVec.{array_vec_len};
 ghost use Rattle.ps_config.specs.Sound.{readers};
 ghost use Rattle.ps_config.specs.Types.{HasTypes};
 ghost use Rattle.version_cell.specs.Sets.{ArePassesOf, new_passes};
@@ -19,9 +20,9 @@ use crate::size::Size;
 use crate::storing::Stores;
 use arrayvec::ArrayVec;
 use cell_bank::{Bank, Passes};
-use ps_config::Config;
+use ps_config::{Config, ReaderPart};
 use pubsub_states::Tree;
-use session_parts::{Receiving, publisher_of, read_group_part, subscriber_of};
+use session_parts::{Receiving, publisher_of, subscriber_of};
 use std::alloc::Global;
 use std::sync::Wait;
 use target_cells::{Passes as Watches, Targets};
@@ -51,8 +52,10 @@ impl<'c> Session<'c> {
         requires sets { length size.now.writes.items ≡ length config.now.dataset }
         requires writes { AreSmall size.now.writes.items }
         requires appends { AreAppends config.now config.now.dataset size.now.appends.items }
-        ensures plan { IfOk result (λ o. plan_of o.session
-            ≡ record { config = config.now; full = full_of config.now.dataset size.now.appends.items }) }
+        ensures plan { IfOk result (λ o. plan_of o.session ≡ record {
+          config = config.now;
+          full = full_of config.now.dataset size.now.appends.items;
+        }) }
         ensures is_plan { HasTypes config.now → IfOk result (λ o. IsPlan (plan_of o.session)) }
         ensures session { IfOk result (λ o. IsSession o.session) }
         ensures stands { IfOk result (λ o. Stands (plan_of o.session) [] o.session) }
@@ -61,12 +64,14 @@ impl<'c> Session<'c> {
             (λ o. appends_left o.session ≡ map (λ append. append.set) size.now.appends.items) }
         ensures bank { IfOk result (λ o. IsBankOf o.session o.bank) }
         ensures cells { IfOk result (λ o. All IsCell o.bank) }
-        ensures quotas { IfOk result (λ o. map (λ cell. cell.quotas) o.bank ≡ size.now.writes.items) }
+        ensures quotas { IfOk result
+            (λ o. map (λ cell. cell.quotas) o.bank ≡ size.now.writes.items) }
         ensures passes { IfOk result (λ o. passes_of o.session ≡ new_passes o.bank None) }
         ensures hands { IfOk result (λ o. AreHands o.bank o.hands.items) }
         ensures targets { IfOk result (λ o. AreTargetsOf o.session o.targets) }
         ensures kept { IfOk result (λ o. AreKept o.targets) }
-        ensures keeper { IfOk result (λ o. keeper_of o.session ≡ new_passes o.targets.cells (Some 0)) }
+        ensures keeper { IfOk result
+            (λ o. keeper_of o.session ≡ new_passes o.targets.cells (Some 0)) }
         ensures watches { IfOk result (λ o. o.watches ≡ new_passes o.targets.cells None) }
         ensures looks { IfOk result (λ o. ArePassesOf o.targets.cells o.watches) }
     {
@@ -116,10 +121,18 @@ fn sets_read(config: &Config) -> ArrayVec<u8, 16>
     ensures { result.items ≡ map (λ reader. reader.dataset) (readers config.now) }
 {
     let mut sets = ArrayVec::new();
-    for r in 0..config.readgroup.as_slice().len() {
-        for reader in read_group_part(config, r).reader.as_slice() {
-            sets.push(reader.dataset);
-        }
+    for group in config.readgroup.as_slice() {
+        add_sets(&mut sets, group.reader.as_slice());
     }
     sets
+}
+
+/// The data set of each of these readers, behind the others.
+fn add_sets(sets: &mut ArrayVec<u8, 16>, readers: &[ReaderPart])
+    requires room { array_vec_len sets.old + length readers.now ≤ 16 }
+    ensures { sets.new.items ≡ sets.old.items ++ map (λ reader. reader.dataset) readers.now }
+{
+    for reader in readers {
+        sets.push(reader.dataset);
+    }
 }

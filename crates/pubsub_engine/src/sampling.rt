@@ -1,7 +1,7 @@
 //! Samples of the data sets.
-ghost use Rattle.std.specs.Prelude.{◌≡◌, ◌<◌, ◌≤◌, ℕ, List, IfOk, length, map, replicate, vec_len};
+ghost use Rattle.std.specs.Prelude.{◌≡◌, ◌<◌, ◌≤◌, ℕ, List, All, IfOk, length, map, replicate, vec_len};
 ghost use Rattle.std.specs.List.{AllZip};
-ghost use Rattle.dataset_meta.specs.Metas.{HasGrown};
+ghost use Rattle.dataset_meta.specs.Metas.{HasGrown, IsMeta, MetaData};
 ghost use Rattle.row_words.specs.Belonging.{Belongs};
 ghost use Rattle.version_cell.specs.Passes.{SeesMore};
 ghost use Rattle.version_cell.specs.Sets.{ArePassesOf, EachSeesLawful, pass_at};
@@ -31,7 +31,10 @@ impl Samples {
     /// Before the first sample: the opening rows.
     pub(crate) fn new(alloc: Global, passes: Passes, sets: usize) -> Result<Samples, NoMemory>
         ensures passes { IfOk result (λ samples. samples.passes ≡ passes) }
-        ensures taken { IfOk result (λ samples. samples.taken.items ≡ replicate sets opening_sample) }
+        ensures taken { IfOk result
+            (λ samples. samples.taken.items ≡ replicate sets opening_sample) }
+        ensures rows { IfOk result (λ samples. (full : List MetaData) → length full ≡ sets
+            → All (λ meta. IsMeta meta.fields) full → AreRowsOf full samples.taken.items) }
         ensures cut { IfOk result (λ samples. vec_len samples.cut ≡ sets) }
     {
         Ok(Samples {
@@ -85,7 +88,8 @@ impl Samples {
 
 /// The opening row, of no write.
 fn opening() -> Sampled
-    ensures { result ≡ opening_sample }
+    ensures opening { result ≡ opening_sample }
+    ensures belongs { (meta : MetaData) → IsMeta meta.fields → Belongs meta result.row.words }
 {
     Sampled {
         row: Row::opening(),

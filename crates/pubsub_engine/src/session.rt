@@ -8,6 +8,7 @@ ghost use Rattle.version_cell.specs.Passes.{SeesMore, shared_by};
 ghost use Rattle.version_cell.specs.Sets.{ArePassesOf, EachSeesLawful, JoinEach, pass_at};
 ghost use Rattle.target_cells.specs.Keeping.{AreLevel};
 ghost use Rattle.session_model.specs.Steps.{Plan, Step, Append as AppendStep, Tick, Pump};
+ghost use Rattle.session_model.specs.Counts.{most_taken};
 ghost use Rattle.session_model.specs.Closing.{MemberPlace, is_datagram, reader_places};
 ghost use Rattle.pubsub_engine.specs.Holding.{AddsOneAtMost, AreTargetsOf, ChangesSamples, ChangesStores, CountsPump, CountsTick, IsBankOf, IsRunning, IsSession, KeepsPasses, MayAppendNext, MayPump, MayTick, appends_left, keeper_of, left_of, passes_of, plan_of};
 ghost use Rattle.pubsub_engine.specs.Standing.{HaltsTick, IsOriginOf, KeepsStands, Leads, Stands, sampled_by, samples_of};
@@ -28,6 +29,7 @@ use std::alloc::Global;
 use std::sync::Wait;
 use target_cells::{Origin, Passes as Watches, Targets};
 use ua_base::{Link, NoMemory, Pumped, Ticked};
+use version_cell::histories_are_the_models;
 
 /// What may still come.
 #[derive(Clone, Copy, Debug)]
@@ -72,6 +74,7 @@ impl<'c> Session<'c> {
         ensures rest { ChangesSamples self.old self.new }
         ensures stands { KeepsStands self.old self.new }
     {
+        histories_are_the_models();
         self.samples.take(rt, bank);
     }
 
@@ -195,7 +198,7 @@ impl<'c> Session<'c> {
         ensures leads { (p : Plan) (steps : List Step) → Stands p steps self.old
             → (entries : List Entry) × Leads p steps (Pump entries) (L.told link.old) (L.told link.new) self.new
             × (result.taken ≡ count_by is_datagram entries) }
-        ensures limit { IsTrue result.limit ↔ (result.taken ≡ 65536) }
+        ensures limit { IsTrue result.limit ↔ (result.taken ≡ most_taken) }
         ensures stored { (reader : ℕ) → reader < length (keeper_of self.old)
             → AddsOneAtMost (pass_at (keeper_of self.old) reader) (pass_at (keeper_of self.new) reader) }
         ensures passes { passes_of self.new ≡ passes_of self.old }

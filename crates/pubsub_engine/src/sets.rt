@@ -6,7 +6,7 @@ ghost use Rattle.session_model.specs.Sets.{meta_in};
 ghost use Rattle.pubsub_engine.specs.Holding.{AreAppends, HoldSets, IsGrowthBy, full_of, grown_by};
 
 use crate::size::Append;
-use dataset_meta::Meta;
+use dataset_meta::{Meta, copies};
 use ps_config::Config;
 use std::alloc::Global;
 use std::mem;
@@ -36,7 +36,8 @@ impl Sets {
         requires appends { AreAppends config.now config.now.dataset appends.now }
         ensures holds { IfOk result (HoldSets config.now) }
         ensures first { IfOk result (λ sets. sets.metas.items ≡ config.now.dataset) }
-        ensures full { IfOk result (λ sets. sets.full.items ≡ full_of config.now.dataset appends.now) }
+        ensures full { IfOk result
+            (λ sets. sets.full.items ≡ full_of config.now.dataset appends.now) }
         ensures later { IfOk result (λ sets. map (λ growth. growth.set) sets.later.items
             ≡ map (λ append. append.set) appends.now) }
         ensures none { IfOk result (λ sets. sets.made ≡ 0) }
@@ -62,6 +63,7 @@ impl Sets {
             (self.new.metas.items ≡ slice_set self.old.metas.items growth.set growth.meta) × (result ≡ growth.set) }
         ensures made { self.new.made ≡ self.old.made + 1 }
         ensures full { self.new.full ≡ self.old.full }
+        ensures count { length self.new.later.items ≡ length self.old.later.items }
         ensures later { drop (self.old.made + 1) self.new.later.items ≡ drop (self.old.made + 1) self.old.later.items }
     {
         let growth = &mut self.later[self.made];
@@ -88,15 +90,4 @@ fn grow(alloc: Global, metas: &mut Vec<Meta>, append: &Append) -> Result<Growth,
         set: append.set,
         meta,
     })
-}
-
-/// The same data sets.
-fn copies(alloc: Global, metas: &[Meta]) -> Result<Vec<Meta>, NoMemory>
-    ensures { IfOk result (λ copies. copies.items ≡ metas.now) }
-{
-    let mut copies = Vec::with_capacity(alloc, metas.len())?;
-    for meta in metas {
-        copies.push(meta.copy(alloc)?)?;
-    }
-    Ok(copies)
 }

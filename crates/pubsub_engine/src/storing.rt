@@ -1,20 +1,22 @@
 //! The stores of what readers hold.
-ghost use Rattle.std.specs.Prelude.{◌≡◌, ◌≢◌, ◌<◌, ◌≤◌, ◌+◌, ℕ, List, Bool, true, false, IfOk, IsTrue, ◌↔◌, length, map, replicate, slice_get, slice_index_or, slice_set, Some, option_map, Option};
+ghost use Rattle.std.specs.Prelude.{◌≡◌, ◌≢◌, ◌<◌, ◌+◌, ◌∷◌, [], ℕ, List, false, IfOk, length, slice_get, slice_index_or, Some};
 ghost use Rattle.dataset_meta.specs.Metas.{MetaData};
 ghost use Rattle.ps_config.specs.Sound.{readers};
-ghost use Rattle.reader_group.specs.Members.{MemberValue};
 ghost use Rattle.reader_group.specs.Plain.{Event};
 ghost use Rattle.dataset_reader.specs.Reader.{IsReaderOf, kept_by};
-ghost use Rattle.target_cells.specs.Keeping.{TargetsData, metas_of};
-ghost use Rattle.version_cell.specs.Known.{Known};
 ghost use Rattle.version_cell.specs.Sets.{ArePassesOf, cell_at, pass_at};
 ghost use Rattle.writer_group.specs.Standing.{IsGood};
-ghost use Rattle.session_model.specs.Closing.{MemberPlace};
-ghost use Rattle.session_model.specs.Stores.{Store, stored_on};
+ghost use Rattle.row_words.specs.Belonging.{Belongs, row_in};
+ghost use Rattle.session_model.specs.Steps.{Plan, Step};
+ghost use Rattle.session_model.specs.Sets.{metas_at};
+ghost use Rattle.session_model.specs.Deeds.{deeds};
+ghost use Rattle.session_model.specs.Closing.{MemberPlace, reader_places};
+ghost use Rattle.session_model.specs.Stores.{Store, is_same, stored_on, stores as stores_of};
 ghost use Rattle.pubsub_engine.specs.Holding.{AddsOneAtMost, HoldStores};
-ghost use Rattle.session_parts.specs.Holding.{HoldSubscriber};
-ghost use Rattle.session_parts.specs.Standing.{HaveReadAll};
-ghost use Rattle.pubsub_engine.specs.Storing.{HaveStored, IsStoredAs, MayStore, held_in, stored_at};
+ghost use Rattle.pubsub_engine.specs.Standing.{IsOriginOf};
+ghost use Rattle.session_parts.specs.Holding.{AreGroups, HoldSubscriber};
+ghost use Rattle.session_parts.specs.Standing.{HavePast, HaveReadAll};
+ghost use Rattle.pubsub_engine.specs.Storing.{HaveStored, HaveStoredOn, IsLast, IsSameAt, IsStoredAs, MayStore, MayStoreFrom, first_reader, held_in, stored_at};
 
 use crate::logs::{log_read, version_at};
 use dataset_reader::Reader;
@@ -81,19 +83,26 @@ impl Stores {
             → HaveStored config.now list self.old
             → HaveStored config.now (stored_at config.now befell list) self.new }
     {
-        let mut k = 0;
+        let mut first = 0;
         for r in 0..subscriber.groups.len() {
-            let parts = read_group_part(config, r).reader.as_slice();
-            for i in 0..parts.len() {
-                let reader = subscriber.groups[r].reader(i as u8);
-                self.store(rt, k, &parts[i], reader, targets);
-                k += 1;
-            }
+            self.store_group(rt, config, subscriber, targets, r, first);
+            first += read_group_part(config, r).reader.as_slice().len();
         }
     }
 
     /// Where the last store of the reader with this index over all read groups comes from.
-    pub(crate) fn origin(&self, config: &Config, publisher: &Publisher, reader: u8) -> Origin {
+    pub(crate) fn origin(&self, config: &Config, publisher: &Publisher, reader: u8) -> Origin
+        requires good { IsGood config.now }
+        requires groups { AreGroups config.now publisher.now.groups.items }
+        requires there { reader < length (readers config.now) }
+        requires count { length self.now.last.items ≡ length (readers config.now) }
+        requires keepers { length self.now.keeper ≡ length (readers config.now) }
+        ensures { (p : Plan) (steps : List Step) (place : MemberPlace) → p.config ≡ config.now
+            → HavePast p.config (metas_at p.config steps) (deeds p steps) publisher.now.groups.items
+            → HaveStored p.config (λ place. stores_of p.config place.0 place.1 steps) self.now
+            → slice_get (reader_places p.config) reader ≡ Some place
+            → IsOriginOf p steps place result }
+    {
         let last = &self.last[usize::from(reader)];
         if !last.is_there {
             return Origin {
@@ -107,6 +116,32 @@ impl Stores {
             store: self.keeper.pass(reader).version(),
             number: last.number,
             version: version_at(log, last.number),
+        }
+    }
+
+    /// Stores what each reader of a read group holds, if it isn't its last store. So many readers are in the read groups before.
+    fn store_group<R: Wait>(
+        &mut self,
+        rt: &R,
+        config: &Config,
+        subscriber: &Subscriber,
+        targets: &Targets,
+        r: usize,
+        first: usize,
+    )
+        requires good { IsGood config.now }
+        requires holds { HoldSubscriber config.now subscriber.now }
+        requires there { r < length config.now.readgroup }
+        requires first { first ≡ first_reader config.now r }
+        requires may { MayStoreFrom config.now targets.now first self.old }
+        ensures may { MayStoreFrom config.now targets.now (first_reader config.now (r + 1)) self.new }
+        ensures stored { HaveStoredOn config.now subscriber.now.groups.items first (first_reader config.now (r + 1))
+            self.old self.new }
+    {
+        let parts = read_group_part(config, r).reader.as_slice();
+        for i in 0..parts.len() {
+            let reader = subscriber.groups[r].reader(i as u8);
+            self.store(rt, first + i, &parts[i], reader, targets);
         }
     }
 
@@ -128,13 +163,11 @@ impl Stores {
         ensures own { ArePassesOf targets.now.cells self.new.keeper }
         ensures count { length self.new.last.items ≡ length self.old.last.items }
         ensures adds { AddsOneAtMost (pass_at self.old.keeper k) (pass_at self.new.keeper k) }
-        ensures others { (other : ℕ) → other ≢ k
-            → (pass_at self.new.keeper other ≡ pass_at self.old.keeper other)
-            × ((d : Last) → slice_index_or self.new.last.items other d ≡ slice_index_or self.old.last.items other d) }
-        ensures stored { (stores : List Store) → IsStoredAs (cell_at targets.now.cells k).meta stores self.old k
-            → IsStoredAs (cell_at targets.now.cells k).meta
-            (stored_on part.now.numbering stores (held_in (kept_by (cell_at targets.now.cells k).meta.fields reader.now)))
-            self.new k }
+        ensures others { (other : ℕ) → other ≢ k → IsSameAt self.old self.new other }
+        ensures stored { (stores : List Store) → let meta = (cell_at targets.now.cells k).meta in
+            let held = held_in (kept_by meta.fields reader.now) in
+            IsStoredAs meta stores self.old k
+            → IsStoredAs meta (stored_on part.now.numbering stores held) self.new k }
     {
         let Some(row) = reader.row() else {
             return;
@@ -154,7 +187,13 @@ impl Stores {
 
 impl Last {
     /// Whether it is of this number, or without numbering of this row.
-    fn is_same(&self, numbering: NumberingWord, number: Option<u16>, row: &Row) -> bool {
+    fn is_same(&self, numbering: NumberingWord, number: Option<u16>, row: &Row) -> bool
+        ensures none { (meta : MetaData) → IsLast [] meta self.now → result ≡ false }
+        ensures some { (meta : MetaData) (last : Store) (before : List Store)
+            → IsLast (last ∷ before) meta self.now → Belongs meta row.now.words
+            → let words = row.now.words in
+            result ≡ is_same numbering last (record { number = number; row = row_in meta.fields words }) }
+    {
         self.is_there
             && match numbering {
                 NumberingWord::Message => self.number == number,

@@ -19,7 +19,6 @@ use Rattle.pubsub_model.specs.History.{places}
 use Rattle.version_cell.specs.declared.rule.Entry.{Entry}
 use Rattle.version_cell.specs.Histories.{StartsWith, entry, own, row_after}
 use Rattle.version_cell.specs.Known.{Known, nothing}
-use Rattle.version_cell.proofs.Logs.{starts_length, whole}
 use Rattle.version_cell.specs.Sets.{cell_at, pass_at}
 use Rattle.ps_config.specs.declared.parts.Config.{Config}
 use Rattle.ps_config.specs.declared.parts.ReadGroupPart.{ReadGroupPart}
@@ -61,6 +60,17 @@ skips test line lines fails = let b = ap {B = ℕ} (λ (b : Bool). cond b 1 0) f
 
 pub hits : (test : Line → Bool) (line : Line) (lines : List Line) → test line ≡ true → count_by test (line ∷ lines) ≡ count_by test lines + 1
 hits test line lines passes = let b = ap {B = ℕ} (λ (b : Bool). cond b 1 0) passes in omega (arith, count_by-cons test line lines, b)
+
+-- ---- beginnings
+
+pub shorter : (log seen : List Entry) → StartsWith log seen → length seen ≤ length log
+shorter log seen p = omega (arith, ap length p.1, length-append seen p.0)
+
+-- a list that begins with another and is no longer is the other
+pub whole : (log seen : List Entry) → StartsWith log seen → length log ≤ length seen → log ≡ seen
+whole log seen p h =
+    let n : length p.0 ≡ 0 = omega (arith, ap length p.1, length-append seen p.0) in
+    p.1 ∙ ap (λ l. seen ++ l) (nil_from_length p.0 n) ∙ append-nil seen
 
 -- ---- samples
 
@@ -138,7 +148,7 @@ module _ (config : Config) (script : Script) (lines : List Line) (told : Option 
 
     exact_after : IsFlush script.metas lines (passes_of new.session) → IsExact (plan_by config script) (tick ∷ lines) steps_after h.looks (record old { session = new.session })
     exact_after flush =
-        let e = h.exact (λ set lt. (let a = flush set lt in let b = starts_length (pass_at (passes_of new.session) set).seen (pass_at (passes_of old.session) set).seen (more set lt) in omega arith)) in
+        let e = h.exact (λ set lt. (let a = flush set lt in let b = shorter (pass_at (passes_of new.session) set).seen (pass_at (passes_of old.session) set).seen (more set lt) in omega arith)) in
         let seen : (set : ℕ) → set < length script.metas → (pass_at (passes_of new.session) set).seen ≡ log_after (meta_in script.metas set) set lines = λ set lt.
         (whole (pass_at (passes_of new.session) set).seen (pass_at (passes_of old.session) set).seen (more set lt) (let a = flush set lt in let b = ap length (e.seen set lt) in omega arith) ∙ e.seen set lt) in
         let counted : length (passes_of new.session) ≡ length script.metas = is.bank.passes.count ∙ count_cells config script steps_after new is led.2 in

@@ -1,12 +1,21 @@
+mod Headline
+mod Quotas
+mod Appended
 mod Lines
-mod Turns
 mod Hands
-mod Sharing
-mod Players
-mod Opened
-mod Stored
 mod Exact
 mod Writing
 mod Watching
-mod Next
+pub mod Staying
+pub mod Leaving
+pub mod Beginning
+pub mod Passing
+pub mod Looking
+pub mod HandWrites
+pub mod Written
+pub mod Outcomes
+mod Finished
 mod Closing
+mod Newly
+mod Stored
+mod Next

@@ -3,7 +3,7 @@ use Rattle.std.proofs.Common.{◌≡◌, ◌≢◌, ℕ, zero, suc, ◌+◌, ◌
 use Rattle.std.specs.Prelude.{slice_get, slice_index, unwrap_or}
 use Rattle.std.specs.List.{range_with_len}
 use Rattle.std.proofs.lemmas.Bool.{false≢true}
-use Rattle.std.proofs.lemmas.List.{append-nil, append_cancel_left, drop_more, get_or-map, get_or_append_left, get_or_default, length-map, reverse-append, reverse-reverse, take_more}
+use Rattle.std.proofs.lemmas.List.{append-nil, append_cancel_left, drop_more, get_or-map, get_or_append_left, length-map, reverse-append, reverse-reverse, take_all, take_more}
 use Rattle.std.proofs.lemmas.List.FromFn.{get_or-map-range_with_len}
 use Rattle.std.proofs.lemmas.Option.{same_Some, slice_get-get_or, unwrap_or-slice_get}
 use lib.ListN.{get_or-map as get_or-mapped}
@@ -32,6 +32,8 @@ use Rattle.pubsub_states.specs.declared.component.Component.TheVariants.{Root}
 use Rattle.pubsub_states.specs.Changes.{Change, is_enabled as is_enabled_after}
 use Rattle.pubsub_states.specs.Components.{Counts, IsId, components, counts_of, id_of}
 use Rattle.pubsub_states.specs.Names.{name_of}
+use Rattle.pubsub_states.proofs.NamesInOrder.{names_in_order}
+use Rattle.pubsub_states.proofs.Places.{placed}
 use Rattle.session_model.specs.Steps.{Plan, Step, Enable, Disable, Append, is_on, switches_in}
 use Rattle.session_model.specs.Deeds.{component_at}
 use Rattle.session_model.specs.Sends.{TellsRun}
@@ -53,46 +55,36 @@ use Rattle.script_player.proofs.Writing.{written}
 use Rattle.script_player.proofs.Watching.{looked_at}
 
 -- behind these lines, the latest first, the script has this line
-pub record IsNext (config : Config) (script : Script) (lines : List Line) (line : Line) : Type 0 where
+pub record IsNextLine (config : Config) (script : Script) (lines : List Line) (line : Line) : Type 0 where
   pub rest : List Line
   pub split : script.lines ≡ reverse lines ++ line ∷ rest
   pub acts : IsAct config script.metas (reverse lines) line.act
 
-pub next_line : (config : Config) (script : Script) (k : ℕ) (line : Line) → IsScript config script → k < length script.lines → line ≡ get_or script.lines k line
-    → IsNext config script (reverse (take k script.lines)) line
-next_line config script k line is lt read =
-    let more : drop k script.lines ≡ line ∷ drop (k + 1) script.lines = drop_more script.lines k line lt ∙ ap (λ (l : Line). l ∷ drop (k + 1) script.lines) (sym read) in
-    let at : slice_get script.lines k ≡ Some line = slice_get-get_or script.lines k line lt ∙ ap (λ (l : Line). Some l) (sym read) in
+pub next_line : (config : Config) (script : Script) (k : ℕ) (d : Line) → IsScript config script → k < length script.lines
+    → IsNextLine config script (reverse (take k script.lines)) (get_or script.lines k d)
+next_line config script k d is lt =
+    let line : Line = get_or script.lines k d in
     record {
       rest = drop (k + 1) script.lines;
-      split = sym (take-append-drop k script.lines) ∙ ap (λ (l : List Line). take k script.lines ++ l) more
+      split = sym (take-append-drop k script.lines) ∙ ap (λ (l : List Line). take k script.lines ++ l) (drop_more script.lines k d lt)
           ∙ ap (λ (l : List Line). l ++ line ∷ drop (k + 1) script.lines) (sym (reverse-reverse (take k script.lines)));
-      acts = subst (λ (l : List Line). IsAct config script.metas l line.act) (sym (reverse-reverse (take k script.lines))) (is.acts k line at);
+      acts = subst (λ (l : List Line). IsAct config script.metas l line.act) (sym (reverse-reverse (take k script.lines)))
+          (is.acts k line (slice_get-get_or script.lines k d lt));
     }
 
--- a line that is read in the lines
-pub read_at : (items lines : List Line) (k : ℕ) (d : Line) → items ≡ lines → k < length items → get_or items k d ≡ get_or lines k (get_or items k d)
-read_at items lines k d same lt =
-    get_or_default items k d (get_or items k d) lt ∙ ap (λ (l : List Line). get_or l k (get_or items k d)) same
-
 -- one line more, turned round
-pub turned_more : (lines : List Line) (k : ℕ) (line : Line) → k < length lines → line ≡ get_or lines k line → reverse (take (k + 1) lines) ≡ line ∷ reverse (take k lines)
-turned_more lines k line lt read =
-    ap reverse (take_more lines k line lt ∙ ap (λ (l : Line). take k lines ++ l ∷ []) (sym read)) ∙ reverse-append (take k lines) (line ∷ [])
+turned_more : (lines : List Line) (k : ℕ) (d : Line) → k < length lines → reverse (take (k + 1) lines) ≡ get_or lines k d ∷ reverse (take k lines)
+turned_more lines k d lt = ap reverse (take_more lines k d lt) ∙ reverse-append (take k lines) (get_or lines k d ∷ [])
 
--- laws of components
-pub record ComponentLaws : Type 0 where
-  pub ids : (counts : Counts) (id : ℕ) (component : Component) → slice_get (components counts) id ≡ Some component → id_of counts component ≡ id
-  pub names : (config : Config) → map (name_of config) (components (counts_of config)) ≡ component_names config
-
-module _ (laws : ComponentLaws) (config : Config) (script : Script) (lines : List Line) (told : Option LinkState) (player : Player) (is : IsPlayer player) (h : HasPlayed config script lines told player) where
+module _ (config : Config) (script : Script) (lines : List Line) (told : Option LinkState) (player : Player) (is : IsPlayer player) (h : HasPlayed config script lines told player) where
   there_is : (id : ℕ) → id < length (component_names config) → IsId (counts_of config) id
-  there_is id lt = let e = ap length (laws.names config) in let m = length-map (components (counts_of config)) (name_of config) in omega arith
+  there_is id lt = let e = ap length (names_in_order config) in let m = length-map (components (counts_of config)) (name_of config) in omega arith
 
   id_at : (id : ℕ) → id < length (component_names config) → id_of (counts_of config) (component_at config id) ≡ id
   id_at id lt =
-      laws.ids (counts_of config) id (component_at config id)
-      (slice_get-get_or (components (counts_of config)) id Root (there_is id lt) ∙ ap (λ (c : Component). Some c) (sym (unwrap_or-slice_get (components (counts_of config)) id Root)))
+      (placed (counts_of config) id (component_at config id)
+      (slice_get-get_or (components (counts_of config)) id Root (there_is id lt)
+      ∙ ap (λ (c : Component). Some c) (sym (unwrap_or-slice_get (components (counts_of config)) id Root)))).1
 
   -- whether a component is on
   was_on : (id : ℕ) (on : Bool) → id < length (component_names config) → is_enabled id (reverse lines) ≡ on → is_on config h.steps (component_at config id) ≡ on
@@ -113,7 +105,7 @@ module _ (laws : ComponentLaws) (config : Config) (script : Script) (lines : Lis
 
   -- ---- the appends that are to come begin with the next line's
 
-  left_next : (at set : ℕ) (next : IsNext config script lines (record { at = at; act = act.Append set })) → appends_left player.session ≡ set ∷ appended_sets next.rest
+  left_next : (at set : ℕ) (next : IsNextLine config script lines (record { at = at; act = act.Append set })) → appends_left player.session ≡ set ∷ appended_sets next.rest
   left_next at set next =
       append_cancel_left (appended_sets (reverse lines)) (appends_left player.session) (set ∷ appended_sets next.rest)
       (h.appends ∙ ap appended_sets next.split ∙ appended-append (reverse lines) (record { at = at; act = act.Append set } ∷ next.rest))
@@ -121,7 +113,7 @@ module _ (laws : ComponentLaws) (config : Config) (script : Script) (lines : Lis
   -- ---- the next line may be played
 
   module _ (at : ℕ) (scripts : IsScript config script) where
-    pub may_do : (what : Act) → IsNext config script lines (record { at = at; act = what }) → MayDo what player
+    pub may_do : (what : Act) → IsNextLine config script lines (record { at = at; act = what }) → MayDo what player
     may_do (act.Write thread set patch) next =
         let w = next.acts in
         let here : set < length player.bank = (let e = count_cells config script h.steps player is h.stands in let t = w.there in omega arith) in
@@ -191,7 +183,7 @@ module _ (laws : ComponentLaws) (config : Config) (script : Script) (lines : Lis
       ∙ ap (λ (l : List ℕ). appended_sets (reverse lines) ++ l) w.appends ∙ h.appends)
       logs by)
 
-  pub played_next : (at : ℕ) (what : Act) (after : Option LinkState) (new : Player) → IsPlayer new → IsNext config script lines (record { at = at; act = what })
+  pub played_next : (at : ℕ) (what : Act) (after : Option LinkState) (new : Player) → IsPlayer new → IsNextLine config script lines (record { at = at; act = what })
       → Does what player new told after → HasPlayed config script (record { at = at; act = what } ∷ lines) after new
   played_next at (act.Write thread set patch) after new now next (w, same) =
       let w' = next.acts in
@@ -226,3 +218,40 @@ module _ (laws : ComponentLaws) (config : Config) (script : Script) (lines : Lis
       (kept config script lines told player is h at (act.Append set) new.session (Append set stands.0 ∷ h.steps) stands_set h.tells refl w.keeps.passes w.left refl (λ t other. refl)
       (append_assoc (appended_sets (reverse lines)) (set ∷ []) (appends_left new.session) ∙ ap (λ (l : List ℕ). appended_sets (reverse lines) ++ l) (ap (λ (s : ℕ). s ∷ appends_left new.session) (sym set_is) ∙ sym w.next) ∙ h.appends)
       (λ meta other. refl) ((stands.0, refl), refl)))
+
+-- ---- the lines in order
+
+-- what stands for a line where there is none
+abbrev pub no_line : Line
+no_line = record { at = 0; act = act.Write 0 0 (record { mask = 0; row = record { words = [] } }) }
+
+module _ (config : Config) (script : Script) (items : List Line) (k : ℕ) (told : Option LinkState) (player : Player) (scripts : IsScript config script) (same : items ≡ script.lines)
+    (is : IsPlayer player) (h : HasPlayed config script (reverse (take k script.lines)) told player) (lt : k < length items) where
+  abbrev line : Line
+  line = get_or items k no_line
+
+  within : k < length script.lines
+  within = omega (arith, lt, ap length same)
+
+  next : IsNextLine config script (reverse (take k script.lines)) line
+  next = subst (λ (l : List Line). IsNextLine config script (reverse (take k script.lines)) (get_or l k no_line)) (sym same) (next_line config script k no_line scripts within)
+
+  turned : reverse (take (k + 1) script.lines) ≡ line ∷ reverse (take k script.lines)
+  turned = turned_more script.lines k no_line within ∙ ap (λ (l : List Line). get_or l k no_line ∷ reverse (take k script.lines)) (sym same)
+
+  pub next-may : MayDo line.act player
+  next-may = may_do config script (reverse (take k script.lines)) told player is h line.at scripts line.act next
+
+  pub next-played : (after : Option LinkState) (new : Player) → IsPlayer new → Does line.act player new told after
+      → HasPlayed config script (reverse (take (k + 1) script.lines)) after new
+  next-played after new now does =
+      subst (λ (l : List Line). HasPlayed config script l after new) (sym turned)
+      (played_next config script (reverse (take k script.lines)) told player is h line.at line.act after new now next does)
+
+pub none-played : (config : Config) (script : Script) (told : Option LinkState) (player : Player) → HasPlayed config script [] told player
+    → HasPlayed config script (reverse (take 0 script.lines)) told player
+none-played config script told player h = h
+
+pub all-played : (config : Config) (script : Script) (k : ℕ) (told : Option LinkState) (player : Player) → length script.lines ≤ k
+    → HasPlayed config script (reverse (take k script.lines)) told player → HasPlayed config script (reverse script.lines) told player
+all-played config script k told player end h = subst (λ (l : List Line). HasPlayed config script (reverse l) told player) (take_all k script.lines end) h

@@ -11,11 +11,7 @@ use Rattle.version_cell.specs.declared.rule.Entry.{Entry}
 use Rattle.version_cell.specs.Known.{Known}
 use Rattle.version_cell.specs.Sets.{pass_at}
 use Rattle.version_cell.proofs.Logs.{starts_length}
-use Rattle.target_cells.specs.Keeping.{AreLevel, TargetsData}
-use Rattle.dataset_meta.specs.Metas.{no_meta}
-use Rattle.version_cell.specs.Cells.{CellData}
-use Rattle.ps_config.specs.declared.parts.ReaderPart.{ReaderPart}
-use Rattle.pubsub_engine.specs.Holding.{AreTargetsOf}
+use Rattle.target_cells.specs.Keeping.{AreLevel}
 use Rattle.ps_config.specs.declared.parts.Config.{Config}
 use Rattle.ps_config.specs.declared.parts.ReadGroupPart.{ReadGroupPart}
 use Rattle.ps_config.specs.Sound.{readers}
@@ -61,24 +57,3 @@ stored_is p steps s reader stands lt =
     sym (length-map entries (λ (entry : Entry). row_in (meta_at_place p.config place).fields entry.row)) ∙ ap length seen
     ∙ length-map (reverse list) (λ (store : Store). store.row) ∙ length-reverse list
     ∙ sym (ap (λ (o : Option MemberPlace). option_map_or (λ (m : MemberPlace). length (stores p.config m.0 m.1 steps)) o 0) at)
-
--- ---- looks between two levels count what the keeper has made
-
-pub counts_exact : (keeper before first last after : List Known) (reader times : ℕ) (counts : List ℕ) → reader < length before → reader < length last
-    → AreLevel keeper before first → AreLevel keeper last after → length counts ≡ times
-    → ((k : ℕ) → k < length counts → (length (pass_at first reader).seen ≤ slice_index counts k) × (slice_index counts k ≤ length (pass_at last reader).seen))
-    → counts ≡ replicate times (length (pass_at keeper reader).seen)
-counts_exact keeper before first last after reader times counts there still level again count counted =
-    let n = length (pass_at keeper reader).seen in
-    let low : length (pass_at first reader).seen ≡ n = ap length (level reader there).seen in
-    let high : length (pass_at last reader).seen ≤ n =
-    (let a = starts_length (pass_at after reader).seen (pass_at last reader).seen (again reader still).more.seen in let b = ap length (again reader still).seen in omega arith) in
-    ext_get_or 0 counts (replicate times n) (count ∙ sym (length-replicate times n))
-    (λ k lt. (let c = counted k lt in let exact : get_or counts k 0 ≡ n = (let c0 = c.0 in let c1 = c.1 in omega arith) in exact ∙ sym (get_or-replicate times k n 0 (omega arith))))
-
--- there is a target for each reader
-pub count_targets : (s : Session) (targets : TargetsData) → AreTargetsOf s targets → length targets.cells ≡ length (readers s.config.now)
-count_targets s targets are =
-    let sets = map (λ (reader : ReaderPart). reader.dataset) (readers s.config.now) in
-    sym (length-map targets.cells (λ (cell : CellData). cell.meta)) ∙ ap length are.metas
-    ∙ length-map sets (λ (set : ℕ). get_or s.config.now.dataset set no_meta) ∙ length-map (readers s.config.now) (λ (reader : ReaderPart). reader.dataset)

@@ -52,12 +52,11 @@ use Rattle.script_player.specs.Player.{HasPlayed, HasWritten, IsExact, IsFlush, 
 use Rattle.script_player.specs.Sizes.{appended_by, appended_sets}
 use Rattle.script_player.proofs.Lines.{appended-cons, authors-push, count_by-cons, length-authors, log_after-write, log_after-write_other, places_push, places_push_other, versions_in-push, versions_in-push_other, write_line}
 use Rattle.script_player.proofs.Hands.{at_new, at_old, at_other, cell_meta, count_cells, count_same}
-use Rattle.version_cell.proofs.Logs.{starts_length, whole}
-use Rattle.script_player.proofs.Exact.{hits, skips}
+use Rattle.script_player.proofs.Exact.{hits, shorter, skips, whole}
 
 module _ (config : Config) (script : Script) (lines : List Line) (told : Option LinkState) (old : Player) (was : IsPlayer old) (h : HasPlayed config script lines told old) where
   module _ (at thread reader times : ℕ) (new : Player) (w : Watches thread reader times old new) (bound : thread < 8) (there : reader < length (readers config))
-    (count_stores : stored old.session reader ≡ stores_at (plan_by config script) h.steps reader) where
+      (count_stores : stored old.session reader ≡ stores_at (plan_by config script) h.steps reader) where
     abbrev watch : Line
     watch = record { at = at; act = act.Watch thread reader times }
 

@@ -56,7 +56,7 @@ pub record IsHand (bank : List CellData) (t : ℕ) (hand : Hand) : Type 0 where
 abbrev pub SeeNoMore : List Known → List Known → Type 0
 SeeNoMore passes others = (set : ℕ) → set < length others → length (pass_at passes set).seen ≤ length (pass_at others set).seen
 
--- each pass has the number that it had
+-- each pass keeps its number
 abbrev pub KeepAuthors : List Known → List Known → Type 0
 KeepAuthors old new = (set : ℕ) → set < length old → (pass_at new set).author ≡ (pass_at old set).author
 
@@ -133,23 +133,14 @@ pub record HasWritten (cell : CellData) (set : ℕ) (patch : Patch) (old new : L
   pub versions : after.versions.items ≡ hand.versions.items ++ (set, length before + 1) ∷ []
   pub looks : after.looks ≡ hand.looks
 
--- the same, of a session that stays one of the bank, and of a thread that has seen no more than it
-pub record WritesThrough (bank : List CellData) (set : ℕ) (patch : Patch) (old new : Session) (hand after : Hand) : Type 0 where
-  pub session : IsSession new
-  pub bank_is : IsBankOf new bank
-  pub own_passes : ArePassesOf bank after.passes
-  pub authors_stay : KeepAuthors hand.passes after.passes
-  pub behind : SeeNoMore after.passes (passes_of new)
-  pub wrote : HasWritten (cell_at bank set) set patch (passes_of old) (passes_of new) hand after
-  pub samples : ChangesSamples old new
-  pub stands : KeepsStands old new
-
 -- a thread wrote
 pub record Writes (thread set : ℕ) (patch : Patch) (old new : Player) : Type 0 where
   pub hand : Hand
   pub after : Hand
   pub hands : ChangesHand thread old.hands.items new.hands.items hand after
-  pub through : WritesThrough old.bank set patch old.session new.session hand after
+  pub wrote : HasWritten (cell_at old.bank set) set patch (passes_of old.session) (passes_of new.session) hand after
+  pub samples : ChangesSamples old.session new.session
+  pub stands : KeepsStands old.session new.session
   pub rest : new ≡ record old { session = new.session; hands = new.hands }
 
 -- wherever the session stood, it stands a tick with these samples and a pump later, and what the link tells is then the journal, if it was before

@@ -3,8 +3,9 @@ ghost use Rattle.std.specs.Prelude.{◌≡◌, ◌<◌, ◌++◌, ◌∷◌, [],
 ghost use Rattle.row_words.specs.Patches.{IsPatchOf};
 ghost use Rattle.version_cell.specs.Passes.{AddsLater, HasLeft};
 ghost use Rattle.version_cell.specs.Sets.{ArePassesOf, ChangesAt, cell_at, pass_at};
-ghost use Rattle.pubsub_engine.specs.Holding.{IsBankOf, IsSession, passes_of};
-ghost use Rattle.script_player.specs.Player.{SeeNoMore, WritesThrough};
+ghost use Rattle.pubsub_engine.specs.Holding.{ChangesSamples, IsBankOf, IsSession, passes_of};
+ghost use Rattle.pubsub_engine.specs.Standing.{KeepsStands};
+ghost use Rattle.script_player.specs.Player.{HasWritten, KeepAuthors, SeeNoMore};
 
 use app_threads::{Done, Looked, Series};
 use cell_bank::{Bank, Passes};
@@ -60,15 +61,23 @@ impl Hand {
         requires numbered { IsSome (pass_at self.old.passes set).author }
         requires patch { IsPatchOf (cell_at bank.now set).meta patch.now }
         requires left { HasLeft (pass_at self.old.passes set) }
-        ensures { OnOk result (WritesThrough bank.now set patch.now
-            session.old session.new self.old self.new) }
+        ensures session { OnOk result (IsSession session.new) }
+        ensures bank { OnOk result (IsBankOf session.new bank.now) }
+        ensures own { OnOk result (ArePassesOf bank.now self.new.passes) }
+        ensures wrote { OnOk result (HasWritten (cell_at bank.now set) set patch.now
+            (passes_of session.old) (passes_of session.new) self.old self.new) }
+        ensures authors { OnOk result (KeepAuthors self.old.passes self.new.passes) }
+        ensures behind { OnOk result (SeeNoMore self.new.passes (passes_of session.new)) }
+        ensures samples { OnOk result (ChangesSamples session.old session.new) }
+        ensures stands { OnOk result (KeepsStands session.old session.new) }
     {
+        passes_see_on();
         let seen = session.share(alloc, bank)?;
         bank.join(rt, &mut self.passes, seen);
         let version = place(rt, bank, &mut self.passes, set, patch);
         self.versions.push((set, version))?;
-        let seen = bank.split(alloc, &mut self.passes)?;
-        session.meet(rt, bank, seen);
+        let shown = bank.split(alloc, &mut self.passes)?;
+        session.meet(rt, bank, shown);
         Ok(())
     }
 
@@ -122,7 +131,6 @@ fn place<R: Wait>(rt: &R, bank: &Bank, passes: &mut Passes, set: u8, patch: &Pat
     ensures others { ChangesAt set passes.old passes.new }
     ensures own { ArePassesOf bank.now passes.new }
 {
-    passes_see_on();
     match bank.write(rt, set, passes, patch) {
         Placed::Wrote(version) => version,
         Placed::Full { .. } => unreachable!(),

@@ -12,9 +12,11 @@ use crate::sizes::size_of;
 use ps_config::Config;
 use ps_report::Closed;
 use ps_script::Script;
+use session_laws::a_closed_session_tells_the_headline;
 use std::alloc::{AllocError, Global};
 use std::sync::Wait;
 use ua_base::{Link, NoMemory, Opened};
+use version_cell::histories_are_the_models;
 
 /// Why a script could not be played.
 #[derive(Clone, Copy, Debug, PartialEq, Eq)]
@@ -70,6 +72,8 @@ pub fn play_script<R: Wait, L: Link>(
         → (L.told link.new ≡ L.told link.old) × (L.opened_with link.new ≡ L.opened_with link.old) }
     ensures faults { L.faults link.old ≤ L.faults link.new }
 {
+    histories_are_the_models();
+    a_closed_session_tells_the_headline();
     let size = size_of(config, script);
     let mut player = Player::open(rt, alloc, config, &size)?;
     match link.open(config.publisher.port, &script.fates(alloc)?) {

@@ -20,7 +20,6 @@ use ps_config::Config;
 use ps_report::Closed;
 use ps_script::{Act, Line, Script};
 use pubsub_engine::{Opening, Session, Size, Ticked};
-use pubsub_states::{components_are_found_by_their_names, ids_are_places_in_order};
 use row_words::Patch;
 use std::alloc::Global;
 use std::sync::Wait;
@@ -95,8 +94,6 @@ impl<'c> Player<'c> {
             (reverse script.now.lines) (L.told link.new) self.new) }
         ensures link { KeepsLink L.opened_with L.faults link.old link.new }
     {
-        ids_are_places_in_order();
-        components_are_found_by_their_names();
         for line in script.lines.as_slice() {
             self.play_line(rt, alloc, line, link)?;
         }
@@ -288,7 +285,7 @@ fn look<R: Wait>(
         × (slice_index counts.items k ≤ length (pass_at watches.new reader).seen)) }
 {
     let mut counts = Vec::with_capacity(alloc, times as usize)?;
-    for _ in 0..times {
+    for _look in 0..times {
         counts.push(targets.look(rt, watches, reader))?;
     }
     Ok(counts)

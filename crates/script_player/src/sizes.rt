@@ -1,21 +1,19 @@
 //! How large a session a script asks for.
 ghost use Rattle.std.specs.Prelude.{◌≡◌, ◌≤◌, ◌<◌, length, map};
+ghost use Rattle.std.specs.List.{range_with_len};
 ghost use Rattle.ps_config.specs.Sound.{IsSound};
 ghost use Rattle.cell_bank.specs.Hands.{AreSmall};
 ghost use Rattle.ps_script.specs.Sound.{IsScript};
 ghost use Rattle.ps_script.specs.Sessions.{ticks_in, writes_in};
 ghost use Rattle.session_model.specs.Counts.{most_ticks};
 ghost use Rattle.pubsub_engine.specs.Holding.{AreAppends, full_of};
-ghost use Rattle.script_player.specs.Sizes.{appended_sets, quotas_by};
+ghost use Rattle.script_player.specs.Sizes.{AppendsBy, HasNext, IsNext, appended_sets, appends_to, quotas_by};
 
 use arrayvec::ArrayVec;
 use dataset_meta::Meta;
 use ps_config::Config;
-use ps_script::{Act, Line, Script};
+use ps_script::{Act, Script};
 use pubsub_engine::{Append, Size};
-
-/// The most data sets of a configuration.
-const MOST_SETS: usize = 8;
 
 /// What a session has to have room for so that it can run the script: its ticks, the writes of each of eight threads, and the
 /// appended fields.
@@ -38,7 +36,10 @@ pub fn size_of(config: &Config, script: &Script) -> Size
 }
 
 /// For each data set the number of writes of each thread.
-fn writes_of(script: &Script, sets: usize) -> ArrayVec<[u64; 8], 8> {
+fn writes_of(script: &Script, sets: usize) -> ArrayVec<[u64; 8], 8>
+    requires { sets ≤ 8 }
+    ensures { result.items ≡ quotas_by sets script.now.lines }
+{
     let mut writes = ArrayVec::new();
     for set in 0..sets {
         writes.push(writes_to(script, set as u8));
@@ -47,7 +48,9 @@ fn writes_of(script: &Script, sets: usize) -> ArrayVec<[u64; 8], 8> {
 }
 
 /// How often each thread writes a data set.
-fn writes_to(script: &Script, set: u8) -> [u64; 8] {
+fn writes_to(script: &Script, set: u8) -> [u64; 8]
+    ensures { result ≡ map (λ thread. writes_in thread set script.now.lines) (range_with_len 0 8) }
+{
     let mut writes = [0; 8];
     for thread in 0..8 {
         writes[thread] = script.writes(thread as u8, set) as u64;
@@ -56,37 +59,43 @@ fn writes_to(script: &Script, set: u8) -> [u64; 8] {
 }
 
 /// The appended fields, in the order of the lines.
-fn appends_of(config: &Config, script: &Script) -> ArrayVec<Append, 16> {
+fn appends_of(config: &Config, script: &Script) -> ArrayVec<Append, 16>
+    requires { IsScript config.now script.now }
+    ensures { AppendsBy config.now script.now script.now.lines result.items }
+{
     let mut appends = ArrayVec::new();
-    let mut grown = [0; MOST_SETS];
     for line in script.lines.as_slice() {
-        append_by(
-            config,
+        let Act::Append { set } = line.act else {
+            continue;
+        };
+        let append = next_append(
+            config.dataset.as_slice(),
             script.metas.as_slice(),
-            line,
-            &mut grown,
-            &mut appends,
+            set,
+            appends.as_slice(),
         );
+        appends.push(append);
     }
     appends
 }
 
-/// What a line appends, if it does. `grown` counts the fields that each data set has more.
-fn append_by(
-    config: &Config,
-    full: &[Meta],
-    line: &Line,
-    grown: &mut [usize; MOST_SETS],
-    appends: &mut ArrayVec<Append, 16>,
-) {
-    let Act::Append { set } = line.act else {
-        return;
-    };
+/// The append that comes next for a data set: of all its fields the first that it hasn't yet.
+fn next_append(configured: &[Meta], full: &[Meta], set: u8, appends: &[Append]) -> Append
+    requires { HasNext configured.now full.now set appends.now }
+    ensures { IsNext configured.now full.now set appends.now result }
+{
     let at = usize::from(set);
-    let next = config.dataset.as_slice()[at].fields().len() + grown[at];
-    grown[at] += 1;
-    appends.push(Append {
+    let next = configured[at].fields().len() + appends_to(set, appends);
+    let _minor = full[at].minor();
+    Append {
         set,
         field: full[at].fields()[next],
-    });
+    }
+}
+
+/// How many of the appends are of a data set.
+fn appends_to(set: u8, appends: &[Append]) -> usize
+    ensures { result ≡ appends_to set appends.now }
+{
+    appends.iter().filter(|append| append.set == set).count()
 }

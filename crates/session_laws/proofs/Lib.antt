@@ -1,4 +1,3 @@
-pub mod Parts
 pub mod Sources
 pub mod Distinct
 pub mod Answering
@@ -22,3 +21,5 @@ pub mod Traces
 pub mod Tokens
 pub mod Counts
 pub mod Ticks
+mod Refusing
+mod Dividing

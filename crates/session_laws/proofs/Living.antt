@@ -40,6 +40,7 @@ pub record IsVersionTurn (p : Plan) (S : ℕ → MetaData → Sampled → Type 0
   pub now : MetaData
   pub sampled : S index now sample
   pub version : turn.version ≡ sample.version
+  pub fields : IsRow now turn.row
   pub had : turn.row ≡ row_cut now (row_in (meta_in p.full index).fields sample.row.words)
   pub row : row_cut conf turn.row ≡ row_cut conf (row_in (meta_in p.full index).fields sample.row.words)
 
@@ -85,7 +86,7 @@ life-turn p S now conf index (Some t) past is h =
 life-more : (p : Plan) (S T : ℕ → MetaData → Sampled → Type 0) (now conf : MetaData) (index : ℕ) (past : List WriterDeed) → ((at : MetaData) (sample : Sampled) → S index at sample → T index at sample) → IsLife p S now conf index past → IsLife p T now conf index past
 life-more p S T now conf index past more h = record {
   rows = h.rows;
-  turns = turns-more (IsVersionTurn p S conf index) (IsVersionTurn p T conf index) (λ turn is. record { sample = is.sample; now = is.now; sampled = more is.now is.sample is.sampled; version = is.version; had = is.had; row = is.row }) past h.turns;
+  turns = turns-more (IsVersionTurn p S conf index) (IsVersionTurn p T conf index) (λ turn is. record { sample = is.sample; now = is.now; sampled = more is.now is.sample is.sampled; version = is.version; fields = is.fields; had = is.had; row = is.row }) past h.turns;
   never = h.never;
 }
 
@@ -147,6 +148,7 @@ module _ (laws : WordLaws) (p : Plan) (plan : IsPlan p) (before : List Step) (ar
           now = full;
           sampled = inl (refl, refl);
           version = is.version;
+          fields = is.fits;
           had = is.row;
           row = ap (row_cut conf) is.row ∙ take-take (length conf.fields) (length full.fields) (row_in (meta_in p.full index).fields sample.row.words) le;
         },

@@ -20,7 +20,7 @@ use Rattle.pubsub_model.specs.Cadence.{Answered}
 use Rattle.session_laws.specs.Pasts.{AreTurns, CameAsMade, settings_at}
 use Rattle.session_laws.specs.Plays.{Play, IsPlay, its_setting, its_way, its_meta, its_past, its_answers, its_marks}
 use Rattle.session_laws.proofs.Answering.{spelled_at}
-use Rattle.session_laws.proofs.Parts.{IsPieceOf, keep-parts}
+use Rattle.reader_group.proofs.KeptParts.{IsPieceOf, keep-parts}
 use Rattle.session_laws.proofs.Pieces.{TurnLaws, made-pieces}
 use Rattle.pubsub_model.proofs.AnswerPlaces.{answers-span}
 use Rattle.reader_group.specs.Signed.{TakesSignedAlone}

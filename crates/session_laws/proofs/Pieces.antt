@@ -42,7 +42,7 @@ use Rattle.pubsub_model.specs.Answers.{IsAnswer}
 use Rattle.session_laws.specs.Pasts.{IsTurn, AreTurns, IsPast, WasMade, IsMade, answered_by}
 use Rattle.session_laws.proofs.Answering.{answer-now, answer-stays, refresh-same, spelled_at, spelled-now, spelled-stays}
 use Rattle.session_laws.proofs.Distinct.{IsAt, at-sound, ids-differ, writers-differ, writer-id}
-use Rattle.session_laws.proofs.Parts.{OfRead, IsPieceOf, weaker-piece}
+use Rattle.reader_group.proofs.KeptParts.{OfRead, IsPieceOf, weaker-piece}
 use Rattle.session_laws.proofs.Sources.{IsOfAnswer, IsChunkOf}
 
 -- ---- the laws of turns, as `group_laws` has them

@@ -157,11 +157,14 @@ publishes words ring p g w steps rows later before turn plan are hold rise versi
     let own = rows-behind (meta_at group (metas_at p.config steps) w) later (HadTurn turn ∷ before) (subst (HasRowsOf (meta_at group (metas_at p.config steps) w)) split life.rows) in
     let is = (turns-behind P later (HadTurn turn ∷ before) (subst (TurnsAre P) split life.turns)).0 in
     let last = last-is turn (answer s (is_fresh before) (cadence s before) turn) (cadence s before) e in
+    let its_row : turn.row ≡ row_cut is.now (rows index turn.version) =
+    is.had ∙ ap (row_cut is.now) (versions index is.now is.sample is.sampled ∙ ap (rows index) (sym is.version)) in
     record {
       sample = is.sample;
       now = is.now;
       sampled = is.sampled;
       version = is.version;
-      row = cadence-publishes own.0 s (HadTurn turn ∷ before) own.1 ∙ ap (λ (t : WriterTurn). t.row) last ∙ is.had
-          ∙ ap (row_cut is.now) (versions index is.now is.sample is.sampled ∙ ap (rows index) (sym is.version));
+      fields = is.fields;
+      turn_row = its_row;
+      row = cadence-publishes own.0 s (HadTurn turn ∷ before) own.1 ∙ ap (λ (t : WriterTurn). t.row) last ∙ its_row;
     }

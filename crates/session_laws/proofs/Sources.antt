@@ -24,7 +24,7 @@ use Rattle.pubsub_model.specs.Frames.{placed_cut}
 use Rattle.pubsub_model.specs.Answers.{IsAnswer, without_place}
 use Rattle.session_laws.specs.Plays.{ItemsAre, IsAnswerBy}
 use Rattle.pubsub_model.specs.Answers.{InSpan}
-use Rattle.session_laws.proofs.Parts.{OfRead, Keep}
+use Rattle.reader_group.proofs.KeptParts.{OfRead, Keep}
 
 -- ---- of an answer
 

@@ -2,7 +2,7 @@
 use Rattle.std.specs.Prelude.{◌≡◌, ℕ, ◌%◌, ◌<◌, List, ◌∷◌, length, Contains, Option, Some}
 use Rattle.dataset_meta.specs.DataValues.{DataValue}
 use Rattle.dataset_meta.specs.Metas.{MetaData}
-use Rattle.dataset_meta.specs.Rows.{row_cut}
+use Rattle.dataset_meta.specs.Rows.{IsRow, row_cut}
 use Rattle.pubsub_model.specs.Cadence.{Settings, WriterTurn, WriterDeed, HadTurn, Answered, answer, cadence, frames_of, is_fresh}
 use Rattle.pubsub_model.specs.Frames.{published}
 use Rattle.writer_group.specs.declared.sampled.Sampled.{Sampled}
@@ -56,10 +56,13 @@ pub record IsPublished (p : Plan) (r i g w : ℕ) (steps : List Step) (rows : �
 abbrev pub answered_turn : Settings → List WriterDeed → WriterTurn → Answered
 answered_turn s before turn = record { turn = turn; answer = answer s (is_fresh before) (cadence s before) turn }
 
--- What the writer's frames up to this turn publish is the row of the turn's version, which some tick sampled, cut to the fields that the data set had then.
+-- What the writer's frames up to this turn publish is the turn's own row: that of its version, which some tick sampled, cut to the fields that the data set had
+-- then, which are those of the turn's row.
 pub record PublishesVersion (p : Plan) (steps : List Step) (s : Settings) (index : ℕ) (rows : ℕ → ℕ → List DataValue) (before : List WriterDeed) (turn : WriterTurn) : Type 0 where
   pub sample : Sampled
   pub now : MetaData
   pub sampled : HasSample p steps index now sample
   pub version : turn.version ≡ sample.version
+  pub fields : IsRow now turn.row
+  pub turn_row : turn.row ≡ row_cut now (rows index turn.version)
   pub row : published (frames_of (cadence s (HadTurn turn ∷ before))) ≡ row_cut now (rows index turn.version)

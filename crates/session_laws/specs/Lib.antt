@@ -8,3 +8,4 @@ pub mod Witness
 pub mod Telling
 pub mod Fresh
 pub mod Twins
+pub mod Courses

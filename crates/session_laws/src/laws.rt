@@ -1,5 +1,5 @@
 //! Laws of sessions, each the contract of a function that does nothing.
-ghost use Rattle.std.specs.Prelude.{◌≡◌, ◌<◌, ◌≤◌, ◌+◌, ℕ, Bool, true, List, ◌∷◌, ◌++◌, length, Some, AllPairs};
+ghost use Rattle.std.specs.Prelude.{◌≡◌, ◌<◌, ◌≤◌, ◌+◌, ℕ, Bool, true, List, ◌∷◌, ◌++◌, length, Some, AllPairs, filter, is_ok};
 ghost use Rattle.std.specs.List.Sorted.{IsNonDecreasingBy};
 ghost use Rattle.dataset_meta.specs.DataValues.{DataValue};
 ghost use Rattle.message_guard.specs.Senders.{HaveOtherNumbers};
@@ -8,16 +8,21 @@ ghost use Rattle.pubsub_model.specs.Frames.{Whole};
 ghost use Rattle.writer_group.specs.declared.sampled.Sampled.{Sampled};
 ghost use Rattle.writer_group.specs.Turns.{answer_of, writer_past};
 ghost use Rattle.writer_group.specs.Payloads.{writer_at};
+ghost use Rattle.pubsub_states.specs.declared.component.Component.{Component};
 ghost use Rattle.reader_group.specs.Agreeing.{MemberIs};
 ghost use Rattle.session_model.specs.Steps.{Plan, Step};
 ghost use Rattle.session_model.specs.Deeds.{deeds, group_past, is_rekeyed, log_at, writer_deeds};
 ghost use Rattle.writer_group.specs.Parts.{group_at};
+ghost use Rattle.session_model.specs.Answers.{answers_at, taken_by};
 ghost use Rattle.session_model.specs.Events.{reader_at};
 ghost use Rattle.session_model.specs.Counts.{most_ticks, ticks_in};
 ghost use Rattle.session_model.specs.Keeping.{AreSteps, IsPlan};
 ghost use Rattle.session_laws.specs.Reading.{ReadsByRecords, first_number_of};
+ghost use Rattle.session_model.specs.Sends.{IsRun, journal};
+ghost use Rattle.session_model.specs.States.{state_at};
 ghost use Rattle.session_model.specs.Stores.{stores};
 ghost use Rattle.session_model.specs.Turns.{deeds_before};
+ghost use Rattle.session_laws.specs.Courses.{HaveOneCourse};
 ghost use Rattle.session_laws.specs.Fresh.{protected_by};
 ghost use Rattle.session_laws.specs.Headline.{InSession, ComesFrom, IsPublished, PublishesVersion, answered_turn};
 ghost use Rattle.session_laws.specs.Pasts.{settings_at};
@@ -102,8 +107,7 @@ pub fn data_messages_stand_for_versions()
 /// A session has 4,097 ticks at most: 4,096, and the closing one.
 pub fn a_session_has_at_most_4097_ticks()
     ensures { (p : Plan) (steps : List Step) → AreSteps p steps → ticks_in steps ≤ most_ticks + 1 }
-{
-}
+{}
 
 /// No two datagrams of a session that one key group protects have the same token and number, over any link.
 pub fn no_token_and_number_come_twice_in_a_session()
@@ -129,7 +133,8 @@ pub fn a_new_token_begins_with_key_frames()
 }
 
 /// Two courses of a session whose pumps differ in datagrams alone that read groups refuse where they stand, as where the second has
-/// further ones: the groups do the same, each reader is the same, and has the same stores.
+/// further ones: the groups do the same, each reader is the same and has the same stores, each read group takes the same
+/// datagrams with the same answers, and each component has the same state.
 pub fn refused_datagrams_leave_no_trace_in_a_session()
     ensures groups { (p : Plan) (twins : List TwinStep) → deeds p (firsts twins) ≡ deeds p (seconds twins) }
     ensures further { (p : Plan) (twins : List TwinStep) → AddRefused p twins → AreTwins p twins }
@@ -137,6 +142,19 @@ pub fn refused_datagrams_leave_no_trace_in_a_session()
         → reader_at p.config r i (firsts twins) ≡ reader_at p.config r i (seconds twins) }
     ensures stores { (p : Plan) (twins : List TwinStep) → AreTwins p twins → (r i : ℕ)
         → stores p.config r i (firsts twins) ≡ stores p.config r i (seconds twins) }
+    ensures answers { (p : Plan) (twins : List TwinStep) → AreTwins p twins → (r : ℕ)
+        → filter is_ok (answers_at p.config r (firsts twins)) ≡ filter is_ok (answers_at p.config r (seconds twins)) }
+    ensures taken { (p : Plan) (twins : List TwinStep) → AreTwins p twins → (r : ℕ)
+        → taken_by (answers_at p.config r (firsts twins)) ≡ taken_by (answers_at p.config r (seconds twins)) }
+    ensures states { (p : Plan) (twins : List TwinStep) → AreTwins p twins → (component : Component)
+        → state_at p (firsts twins) component ≡ state_at p (seconds twins) component }
 {
     refused_datagrams_leave_no_trace();
 }
+
+/// Of the switches, appends and ticks with their samples, and of the places of the pumps, a journal has one division into the
+/// sends and receives of a session: which sends were done and what each pump got can be read off it.
+pub fn a_journal_has_one_run()
+    ensures { (p : Plan) (first second : List Step) → HaveOneCourse first second → IsRun p first → IsRun p second
+        → journal p first ≡ journal p second → first ≡ second }
+{}

@@ -1,17 +1,15 @@
 -- Timers are looked at.
-use Rattle.std.proofs.Common.{◌≡◌, ap, ◌∙◌, arith, ℕ, ◌<◌, List, ◌∷◌, length, get_or}
-use Rattle.std.specs.Prelude.{Vec}
-use Rattle.std.specs.declared.alloc.Global.{Global}
-use Rattle.session_parts.specs.declared.tally.Tally.{Tally}
+use Rattle.std.proofs.Common.{◌≡◌, arith, ℕ, ◌<◌, List, ◌∷◌, length}
 use Rattle.ps_config.specs.declared.parts.Config.{Config}
 use Rattle.reader_group.specs.declared.group.ReaderGroup.{ReaderGroup}
 use Rattle.reader_group.specs.Groups.{IsMadeOf, Stands, index_of}
 use Rattle.reader_group.specs.Plain.{Event, Expired, PlainGroup, Setting, plain, step}
 use Rattle.reader_group.specs.Settings.{setting_of}
 use Rattle.session_parts.specs.declared.subscriber.Subscriber.{Subscriber}
-use Rattle.session_parts.specs.Holding.{HoldSubscriber, MayReceive}
+use Rattle.session_parts.specs.Holding.{HoldSubscriber}
 use Rattle.session_parts.specs.Standing.{HaveReadAll}
 use Rattle.session_parts.proofs.Each.{EachTo}
+use Rattle.session_parts.proofs.Staying.{still-hold}
 
 pub record Expires (moment : ℕ) (old new : ReaderGroup) : Type 0 where
   pub index : index_of new ≡ index_of old
@@ -23,22 +21,8 @@ ExpiresAt moment r old new = Expires moment old new
 
 pub expired-hold : (moment : ℕ) (old new : Subscriber) → EachTo (ExpiresAt moment) (length old.groups.items) old.groups.items new.groups.items → new.tallies ≡ old.tallies
     → (config : Config) → HoldSubscriber config old → HoldSubscriber config new
-expired-hold moment old new each same config holds = record {
-  groups = record {
-    count = each.count ∙ holds.groups.count;
-    each = λ r low d. one r low d;
-  };
-  tallies = ap (λ (v : Vec Tally Global). v.len) same ∙ holds.tallies;
-}
-  where
-    one : (r : ℕ) → r < length config.readgroup → (d : ReaderGroup) → MayReceive config r (get_or new.groups.items r d)
-    one r low d =
-        let there : r < length old.groups.items = omega (arith, low, holds.groups.count) in
-        let does = each.done r there there d in
-        record {
-          index = does.index ∙ (holds.groups.each r low d).index;
-          made = does.made config (holds.groups.each r low d).made;
-        }
+expired-hold moment old new each same config holds =
+    still-hold (ExpiresAt moment) (λ r one other does. record { index = does.index; made = does.made }) old new each same config holds
 
 pub expired-read : (moment : ℕ) (old new : Subscriber) → EachTo (ExpiresAt moment) (length old.groups.items) old.groups.items new.groups.items
     → (config : Config) (befell : ℕ → List Event) → HoldSubscriber config old → HaveReadAll config befell old.groups.items → HaveReadAll config (λ r. Expired moment ∷ befell r) new.groups.items

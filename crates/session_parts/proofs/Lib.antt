@@ -14,6 +14,7 @@ pub mod Taking
 pub mod TurnParts
 pub mod Passed
 pub mod TellingReaders
+pub mod Staying
 pub mod Expiring
 pub mod Ticks
 pub mod RefreshingSets

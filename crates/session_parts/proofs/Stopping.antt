@@ -1,7 +1,6 @@
 -- Readers of read groups are cut.
-use Rattle.std.proofs.Common.{◌≡◌, refl, sym, ap, ◌∙◌, subst, arith, ℕ, ◌+◌, ◌<◌, Bool, List, [], length, get_or}
-use Rattle.std.specs.Prelude.{fold, Vec}
-use Rattle.std.specs.declared.alloc.Global.{Global}
+use Rattle.std.proofs.Common.{◌≡◌, refl, sym, ap, ◌∙◌, subst, arith, ℕ, ◌+◌, ◌<◌, Bool, List, [], length}
+use Rattle.std.specs.Prelude.{fold}
 use Rattle.std.specs.List.{range_with_len}
 use Rattle.dataset_meta.specs.Rows.{cons_if}
 use Rattle.pubsub_model.specs.declared.reading.Why.TheVariants.{Restarted}
@@ -14,12 +13,12 @@ use Rattle.reader_group.specs.Groups.{IsMadeOf, Stands, index_of, reader_count}
 use Rattle.reader_group.specs.Plain.{Event, Setting, Stopped, plain}
 use Rattle.reader_group.specs.Settings.{setting_of}
 use Rattle.session_model.specs.Events.{stopped_below}
-use Rattle.session_parts.specs.declared.tally.Tally.{Tally}
 use Rattle.session_parts.specs.declared.subscriber.Subscriber.{Subscriber}
-use Rattle.session_parts.specs.Holding.{HoldSubscriber, MayReceive}
+use Rattle.session_parts.specs.Holding.{HoldSubscriber}
 use Rattle.session_parts.specs.Standing.{HaveReadAll}
 use Rattle.session_parts.proofs.Counting.{fold-more}
 use Rattle.session_parts.proofs.Each.{EachTo}
+use Rattle.session_parts.proofs.Staying.{still-hold}
 
 -- what is cut of these readers, in their order
 abbrev pub stopped_of : ℕ → Component → List Event → List ℕ → List Event
@@ -65,22 +64,8 @@ pub record StopsAt (config : Config) (component : Component) (r : ℕ) (old new 
 
 pub stopped-hold : (config : Config) (component : Component) (old new : Subscriber) → EachTo (StopsAt config component) (length old.groups.items) old.groups.items new.groups.items
     → new.tallies ≡ old.tallies → HoldSubscriber config old → HoldSubscriber config new
-stopped-hold config component old new each same holds = record {
-  groups = record {
-    count = each.count ∙ holds.groups.count;
-    each = λ r low d. one r low d;
-  };
-  tallies = ap (λ (v : Vec Tally Global). v.len) same ∙ holds.tallies;
-}
-  where
-    one : (r : ℕ) → r < length config.readgroup → (d : ReaderGroup) → MayReceive config r (get_or new.groups.items r d)
-    one r low d =
-        let there : r < length old.groups.items = omega (arith, low, holds.groups.count) in
-        let does = each.done r there there d in
-        record {
-          index = does.index ∙ (holds.groups.each r low d).index;
-          made = does.made config (holds.groups.each r low d).made;
-        }
+stopped-hold config component old new each same holds =
+    still-hold (StopsAt config component) (λ r one other does. record { index = does.index; made = does.made }) old new each same config holds
 
 pub stopped-read : (config : Config) (component : Component) (old new : Subscriber) → EachTo (StopsAt config component) (length old.groups.items) old.groups.items new.groups.items
     → HoldSubscriber config old → (befell : ℕ → List Event) → HaveReadAll config befell old.groups.items

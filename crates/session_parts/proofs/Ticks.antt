@@ -23,7 +23,7 @@ use Rattle.session_parts.proofs.Counting.{fold-more}
 use Rattle.session_parts.proofs.Passed.{fewer}
 
 -- when a tick begins nothing was sent yet
-none-sent : (t : TickData) → last_sends (begun t) ≡ []
+pub none-sent : (t : TickData) → last_sends (begun t) ≡ []
 none-sent t =
     let config = t.plan.config in
     let earlier = deeds t.plan t.before in

@@ -224,13 +224,7 @@ impl Publisher {
     /// The part of one group in a tick (OPC 10000-14 6.2.6, PublishingInterval): its turn, if it has one, and one send of each
     /// datagram of it, in order; then the tree is told of faults. A send that fails is counted, and the next datagram is sent
     /// all the same. Want of memory comes from a send of the link alone; the datagrams behind it aren't sent.
-    fn pass<L: Link>(
-        &mut self,
-        told: &Told<'_>,
-        g: usize,
-        tree: &mut Tree,
-        link: &mut L,
-    ) -> Ticked
+    fn pass<L: Link>(&mut self, told: &Told<'_>, g: usize, tree: &mut Tree, link: &mut L) -> Ticked
         requires open { IsSome (L.opened_with link.old) }
         requires may { MayPass told.now g self.old tree.old }
         ensures holds { HoldPublisher told.now.config.now self.new }

@@ -1,39 +1,21 @@
 //! The program `uapubsub`.
 #![tactic(auto)]
 
-ghost use Rattle.std.specs.Prelude.{◌≡◌, ◌≢◌, []};
-ghost use Rattle.std.specs.Process.{exit_status};
-ghost use Rattle.std.specs.declared.io.ErrorKind.TheVariants.{OutOfMemory};
-ghost use Rattle.uapubsub.specs.declared.status.Status.TheVariants.{BadWords, OutOfMemory as NoMemoryLeft};
-ghost use Rattle.uapubsub.specs.Status.{number_of, text_of};
-ghost use Rattle.uapubsub.specs.Telling.{WritesText};
-
-mod application;
-mod check;
-mod file;
-mod laws;
-mod play;
-mod player;
-mod script;
-mod status;
-mod telling;
 #[cfg(test)]
 mod tests;
 mod top;
 mod words;
 
+use command_parts::{Status, Word, tell};
 use mem_edge::{MemoryLink, OpenGate};
-use status::Status;
 use std::alloc::Global;
 use std::env;
 use std::io::{self, ErrorKind};
 use std::process::ExitCode;
 use std::rt::Env;
-use telling::tell;
 use top::top;
 use ua_base::Sink;
 use udp_edge::{DirFolder, StdSink};
-use words::Word;
 
 /// The words after the program's name.
 fn words_of(rt: &(impl Env + AllocGlobal), alloc: Global) -> io::Result<Vec<Word>> {
@@ -45,10 +27,7 @@ fn words_of(rt: &(impl Env + AllocGlobal), alloc: Global) -> io::Result<Vec<Word
 }
 
 /// Why the words can't be read: memory ran out, or one of them isn't UTF-8.
-fn refusal(kind: ErrorKind) -> Status
-    ensures memory { kind ≡ OutOfMemory → result ≡ NoMemoryLeft }
-    ensures words { kind ≢ OutOfMemory → result ≡ BadWords }
-{
+fn refusal(kind: ErrorKind) -> Status<'static> {
     match kind {
         ErrorKind::OutOfMemory => Status::OutOfMemory,
         _ => Status::BadWords,
@@ -56,11 +35,8 @@ fn refusal(kind: ErrorKind) -> Status
 }
 
 /// Tells the status, and ends with it.
-fn refuse<E: Sink>(status: &Status, err: &mut E) -> ExitCode
-    ensures told { WritesText (E.written err.old) (E.written err.new) (E.faults err.old) (E.faults err.new) (text_of status.now []) }
-    ensures status { exit_status result ≡ number_of status.now }
-{
-    tell(err, status, "");
+fn refuse<E: Sink>(status: &Status<'_>, err: &mut E) -> ExitCode {
+    tell(err, status);
     ExitCode::from(status.number())
 }
 

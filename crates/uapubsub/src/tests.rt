@@ -1,6 +1,6 @@
 //! Whole runs over an outside in memory, and what each leaves.
 use crate::top::top;
-use crate::words::Word;
+use command_parts::Word;
 use itoa::Buffer;
 use mem_edge::{MemoryFolder, MemoryLink, MemorySink, Name, OpenGate};
 use std::alloc::{AllocError, Global};
@@ -8,9 +8,9 @@ use std::sync::Wait;
 use std::test::Fail;
 use std::thread::Threads;
 
-/// The runs. The first line of each has the words; the file `s`, in which a slash is a line feed; the calls that fail,
-/// by their numbers from 0; and what the run shows. Below stands what it leaves: the output, the status, and the error
-/// output in brackets.
+/// The runs. The first line of each has the words; the file `s`, and behind ` | ` the file `c`, in which a slash is a line
+/// feed; the calls that fail, by their numbers from 0; and what the run shows. Below stands what it leaves: the output, the
+/// status, and the error output in brackets.
 const RUNS: &str = "play s; write 0 demo a=7/tick 100/; none; a report
 history demo 1: 0
 group g1 operational sent 2
@@ -139,6 +139,57 @@ gaps r1 0:
 link sent 2 failed 0 received 2 broken 0 long 0 limit 0
 end
 status 0, error output []
+$ play s --config c; write 0 demo a=7/tick 100/ | [publisher]/id = \"u8:5\"/[[dataset]]/name = \"demo\"/[[dataset.field]]/name = \"a\"/kind = \"UInt32\"/[[dataset.field]]/name = \"b\"/kind = \"UInt32\"/[[dataset.field]]/name = \"c\"/kind = \"UInt32\"/[[dataset.field]]/name = \"d\"/kind = \"UInt32\"/[[group]]/name = \"g1\"/id = 1/interval = 100/[[group.writer]]/name = \"w1\"/id = 1/dataset = \"demo\"/[[readgroup]]/name = \"rg1\"/publisher = \"u8:5\"/group = 1/[[readgroup.reader]]/name = \"r1\"/writer = 1/dataset = \"demo\"/; none; the built-in configuration from its text
+history demo 1: 0
+group g1 operational sent 2
+writer w1 operational 2: 0=1 1=1
+readgroup rg1 operational taken 2:
+reader r1 operational number 1 version 1: a=7 b=0 c=0 d=0
+gaps r1 0:
+link sent 2 failed 0 received 2 broken 0 long 0 limit 0
+end
+status 0, error output []
+$ play s --config c; tick 0/ | x = 1; none; a refused configuration, and no script is judged for it
+status 3, error output [config: C2 UnknownKey .
+]
+$ play s --config c; no file | x = 1; none; nor is one read
+status 3, error output [config: C2 UnknownKey .
+]
+$ play s --config c; write 0 demo a=7/ | [publisher]/id = \"u8:5\"/; none; a data set that this configuration lacks
+status 4, error output [script: line 1 S6 UnknownName
+]
+$ play s; write 0 demo a=7/write 0 demo e=1/; none; the second line is refused
+status 4, error output [script: line 2 S7 BadField
+]
+$ play s; tick 0; err3; a part of the refusal is told
+status 4, error output [script: line 1 S]
+$ play s; too long; none; a script of one byte more than there may be
+status 9, error output [file too long: s
+]
+$ play s --config c; write 0 demo a=7/ | too long; none; so with a configuration
+status 9, error output [file too long: c
+]
+$ play s --config c; too long | [publisher]/id = \"u8:5\"/; none; and with a script behind one
+status 9, error output [file too long: s
+]
+$ play s --config c; write 0 demo a=7/ | no file; none; no configuration
+status 5, error output [cannot read c
+]
+$ play s --config c; no file | [publisher]/id = \"u8:5\"/; none; no script
+status 5, error output [cannot read s
+]
+$ play s --config c; write 0 demo a=7/ | [publisher]/id = \"u8:5\"/; read1; the script is not read
+status 5, error output [cannot read s
+]
+$ play s --configs c; write 0 demo a=7/; none; another option
+status 2, error output [usage: uapubsub check --config FILE | play SCRIPT [--config FILE] | run SCRIPT [--config FILE] | load N
+]
+$ play s --config -c; write 0 demo a=7/; none; a word that names no file
+status 2, error output [usage: uapubsub check --config FILE | play SCRIPT [--config FILE] | run SCRIPT [--config FILE] | load N
+]
+$ play s --config; write 0 demo a=7/; none; an option without its word
+status 2, error output [usage: uapubsub check --config FILE | play SCRIPT [--config FILE] | run SCRIPT [--config FILE] | load N
+]
 $ check --config s; [publisher]/id = \"u8:5\"/; none; a configuration
 ok
 status 0, error output []
@@ -177,20 +228,47 @@ fn failing<N: From<u8> + Drop>(alloc: Global, fails: &str, call: &str) -> Result
     Ok(numbers)
 }
 
-/// The folder with the file `s`, where there is one.
-fn folder_with(alloc: Global, file: &str, fails: &str) -> Result<MemoryFolder, Fail> {
-    let mut files = Vec::new(alloc);
-    if file != "no file" {
-        let name = Name::new(b"s").ok_or("no name")?;
-        let mut bytes = Vec::from_slice(alloc, file.as_bytes())?;
-        for byte in &mut bytes {
-            if *byte == b'/' {
-                *byte = b'\n';
-            }
-        }
-        files.push((name, bytes)).ok().ok_or("memory")?;
+/// The folder with the files `s` and `c`, where there are such.
+fn folder_with(alloc: Global, files: &str, fails: &str) -> Result<MemoryFolder, Fail> {
+    let (script, config) = match files.split_once(" | ") {
+        Some((script, config)) => (script, config),
+        None => (files, "no file"),
+    };
+    let mut there = Vec::new(alloc);
+    add_file(alloc, &mut there, b"s", script)?;
+    add_file(alloc, &mut there, b"c", config)?;
+    Ok(MemoryFolder::new(there, failing(alloc, fails, "read")?))
+}
+
+/// The file that a text stands for.
+fn add_file(
+    alloc: Global,
+    files: &mut Vec<(Name, Vec<u8>)>,
+    name: &[u8],
+    text: &str,
+) -> Result<(), Fail> {
+    if text == "no file" {
+        return Ok(());
     }
-    Ok(MemoryFolder::new(files, failing(alloc, fails, "read")?))
+    let name = Name::new(name).ok_or("no name")?;
+    let bytes = if text == "too long" {
+        vec![in alloc; b'#'; 1_048_577]?
+    } else {
+        with_lines(alloc, text)?
+    };
+    files.push((name, bytes)).ok().ok_or("memory")?;
+    Ok(())
+}
+
+/// The bytes of a text, in which a slash is a line feed.
+fn with_lines(alloc: Global, text: &str) -> Result<Vec<u8>, AllocError> {
+    let mut bytes = Vec::from_slice(alloc, text.as_bytes())?;
+    for byte in &mut bytes {
+        if *byte == b'/' {
+            *byte = b'\n';
+        }
+    }
+    Ok(bytes)
 }
 
 fn link_with(alloc: Global, fails: &str) -> Result<MemoryLink, Fail> {
@@ -213,16 +291,16 @@ fn words_in(alloc: Global, text: &str) -> Result<Vec<Word>, AllocError> {
     Ok(words)
 }
 
-/// Runs the program with these words, this file `s`, and these calls that fail.
+/// Runs the program with these words, these files, and these calls that fail.
 fn run<R: Threads + Wait + Sync>(
     rt: &R,
     alloc: Global,
     words: &str,
-    file: &str,
+    files: &str,
     fails: &str,
 ) -> Result<Ran, Fail> {
     let words = words_in(alloc, words)?;
-    let mut folder = folder_with(alloc, file, fails)?;
+    let mut folder = folder_with(alloc, files, fails)?;
     let mut lab = link_with(alloc, fails)?;
     let mut wire = link_with(alloc, fails)?;
     let mut out = sink_with(alloc, fails, "out")?;
@@ -268,9 +346,9 @@ fn told(alloc: Global, line: &str, ran: &Ran) -> Result<Vec<u8>, AllocError> {
 /// Runs the program as the first line of a run says.
 fn run_line<R: Threads + Wait + Sync>(rt: &R, alloc: Global, line: &str) -> Result<Ran, Fail> {
     let (words, rest) = line.split_once("; ").ok_or("no file")?;
-    let (file, rest) = rest.split_once("; ").ok_or("no failing calls")?;
+    let (files, rest) = rest.split_once("; ").ok_or("no failing calls")?;
     let (fails, _) = rest.split_once("; ").ok_or("it shows nothing")?;
-    run(rt, alloc, words, file, fails)
+    run(rt, alloc, words, files, fails)
 }
 
 #[test]

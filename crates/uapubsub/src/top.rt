@@ -1,22 +1,8 @@
 //! The whole program over an outside that is handed in.
-ghost use Rattle.std.specs.Prelude.{◌≡◌, ◌≢◌, ◌↔◌, ◌<◌, ◌≤◌, ◌⊎◌, ℕ, List, Some, None, Ok, length, IsErr};
-ghost use Rattle.ua_base.specs.Cause.{Rose};
-ghost use Rattle.ps_config.specs.declared.parts.Config.{Config};
-ghost use Rattle.ps_config.specs.Reading.{configuration};
-ghost use Rattle.uapubsub.specs.declared.script.Line.{Line};
-ghost use Rattle.uapubsub.specs.Words.{checked_of, script_of, file_of, HaveNoShape};
-ghost use Rattle.uapubsub.specs.Script.{IsScript};
-ghost use Rattle.uapubsub.specs.Status.{IsLong, number_of, text_of};
-ghost use Rattle.uapubsub.specs.Telling.{WritesText};
-ghost use Rattle.uapubsub.specs.Play.{IsRefused};
-ghost use Rattle.uapubsub.specs.Ends.{ChecksAs, PlaysAs, TellsAs, IsQuiet};
-ghost use Rattle.uapubsub.specs.PlayEnds.{built_in_opening};
-
-use crate::check::check;
-use crate::play::play;
-use crate::status::Status;
-use crate::telling::tell;
-use crate::words::{Command, Word, command_in};
+use crate::words::{Command, command_in};
+use check_command::check;
+use command_parts::{Status, Word, tell};
+use play_command::play;
 use std::alloc::Global;
 use std::sync::Wait;
 use std::thread::Threads;
@@ -38,88 +24,25 @@ pub fn top<R: Threads + Wait + Sync, F: Folder, A: Link, B: Link, G: Gate, K: Si
     gate: &G,
     out: &mut K,
     err: &mut E,
-) -> u8
-    ensures words { (result ≡ 2) ↔ HaveNoShape words.now }
-
-    // The command `check`.
-    ensures checks { (file : List ℕ) → checked_of words.now ≡ Some file
-        → ChecksAs result file (F.tells folder.old file) (K.written out.old) (K.written out.new) (E.written err.old) (E.written err.new) (E.faults err.old) (E.faults err.new) }
-    ensures refuses { (file bytes : List ℕ) → checked_of words.now ≡ Some file → F.tells folder.old file ≡ Some (Some bytes)
-        → length bytes ≤ 1048576 → result ≢ 5 → result ≢ 7 → (result ≡ 3) ↔ IsErr (configuration bytes) }
-    ensures accepts { (file bytes : List ℕ) (config : Config) → checked_of words.now ≡ Some file → F.tells folder.old file ≡ Some (Some bytes)
-        → length bytes ≤ 1048576 → configuration bytes ≡ Ok config
-        → IsQuiet (F.faults folder.old) (F.faults folder.new) → IsQuiet (K.faults out.old) (K.faults out.new)
-        → (result ≡ 0) ⊎ (result ≡ 7) }
-    ensures no_link { (file : List ℕ) → checked_of words.now ≡ Some file → lab.new ≡ lab.old }
-
-    // The command `play`.
-    ensures plays { (script : List ℕ) → script_of words.now ≡ Some script
-        → PlaysAs result (F.tells folder.old script) (A.told lab.new) (K.written out.old) (K.written out.new) }
-    ensures refused { (script bytes : List ℕ) → script_of words.now ≡ Some script → F.tells folder.old script ≡ Some (Some bytes)
-        → result ≢ 5 → result ≢ 7 → (result ≡ 4) ↔ IsRefused bytes }
-
-    // Where the session was played, its link was opened at port 0 and without fates. With no status is it opened
-    // otherwise.
-    ensures opened { (script : List ℕ) → script_of words.now ≡ Some script
-        → (result ≡ 0) ⊎ (result ≡ 6) → A.opened_with lab.new ≡ Some built_in_opening }
-    ensures opens { A.opened_with lab.new ≢ A.opened_with lab.old
-        → A.opened_with lab.new ≡ Some built_in_opening }
-
-    // A file that is too long is told as such. Whether the file is, is known where the folder tells it.
-    ensures long { (file bytes : List ℕ) → file_of words.now ≡ Some file → F.tells folder.old file ≡ Some (Some bytes)
-        → result ≢ 5 → result ≢ 7 → (result ≡ 9) ↔ IsLong bytes }
-
-    // An answer of a fault comes only where the count of faults of its object rose in this call.
-    ensures unread { result ≡ 5 → Rose (F.faults folder.old) (F.faults folder.new) }
-    ensures unwritten { result ≡ 6 → Rose (K.faults out.old) (K.faults out.new) }
-    ensures unopened { result ≡ 8 → Rose (A.faults lab.old) (A.faults lab.new) }
-    ensures complete { (script bytes : List ℕ) (lines : List Line) → script_of words.now ≡ Some script → F.tells folder.old script ≡ Some (Some bytes)
-        → length bytes ≤ 1048576 → IsScript bytes lines
-        → IsQuiet (F.faults folder.old) (F.faults folder.new) → IsQuiet (K.faults out.old) (K.faults out.new) → IsQuiet (A.faults lab.old) (A.faults lab.new)
-        → (result ≡ 0) ⊎ (result ≡ 7) }
-    ensures complete_but_for_opening { (script bytes : List ℕ) (lines : List Line) → script_of words.now ≡ Some script → F.tells folder.old script ≡ Some (Some bytes)
-        → length bytes ≤ 1048576 → IsScript bytes lines
-        → IsQuiet (F.faults folder.old) (F.faults folder.new) → IsQuiet (K.faults out.old) (K.faults out.new)
-        → (result ≡ 0) ⊎ (result ≡ 7) ⊎ (result ≡ 8) }
-
-    // What an answer other than 0 leaves.
-    ensures untouched { result ≡ 2 → folder.new ≡ folder.old }
-    ensures files { (name : List ℕ) → F.tells folder.new name ≡ F.tells folder.old name }
-    ensures unlinked { (result ≡ 2) ⊎ (result ≡ 3) ⊎ (result ≡ 4) ⊎ (result ≡ 5) ⊎ (result ≡ 9) → lab.new ≡ lab.old }
-    ensures unused { result ≡ 8 → (A.told lab.new ≡ A.told lab.old) × (A.opened_with lab.new ≡ A.opened_with lab.old) }
-    ensures silent { result ≢ 0 → result ≢ 6 → out.new ≡ out.old }
-    ensures told { TellsAs result (file_of words.now) (E.written err.old) (E.written err.new) (E.faults err.old) (E.faults err.new) }
-    ensures wire { wire.new ≡ wire.old }
-
-    // No count of faults falls.
-    ensures folder_faults { F.faults folder.old ≤ F.faults folder.new }
-    ensures link_faults { A.faults lab.old ≤ A.faults lab.new }
-    ensures out_faults { K.faults out.old ≤ K.faults out.new }
-    ensures err_faults { E.faults err.old ≤ E.faults err.new }
-{
-    // Neither command uses the other link, threads or the gate.
-    let _ = rt;
+) -> u8 {
+    // No command uses the other link or the gate.
     let _ = wire;
     let _ = gate;
     match command_in(words) {
-        None => told(err, &Status::BadWords, ""),
-        Some(Command::Check(file)) => {
-            let status = check(alloc, file, folder, out);
-            told(err, &status, file)
+        None => told(err, &Status::BadWords),
+        Some(Command::Check { config }) => {
+            let status = check(alloc, config, folder, out);
+            told(err, &status)
         }
-        Some(Command::Play(script)) => {
-            let status = play(alloc, script, folder, lab, out);
-            told(err, &status, script)
+        Some(Command::Play { script, config }) => {
+            let status = play(rt, alloc, script, config, folder, lab, out);
+            told(err, &status)
         }
     }
 }
 
 /// Writes the text of the status, and answers its number.
-fn told<E: Sink>(err: &mut E, status: &Status, file: &str) -> u8
-    ensures number { result ≡ number_of status.now }
-    ensures told { WritesText (E.written err.old) (E.written err.new) (E.faults err.old) (E.faults err.new) (text_of status.now file.now) }
-    ensures faults { E.faults err.old ≤ E.faults err.new }
-{
-    tell(err, status, file);
+fn told<E: Sink>(err: &mut E, status: &Status<'_>) -> u8 {
+    tell(err, status);
     status.number()
 }

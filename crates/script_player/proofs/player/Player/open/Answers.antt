@@ -1,15 +1,33 @@
-use Rattle.script_player.proofs.Opened.{is_new, is_player}
+use Rattle.std.proofs.Common.{List, sym, subst}
+use Rattle.version_cell.specs.Known.{Known}
+use Rattle.cell_bank.specs.Hands.{AreHands}
+use Rattle.script_player.specs.declared.player.Player.{Player}
+use Rattle.script_player.proofs.Beginning.{IsOpened, player-new, player-opened}
 use Rattle.script_player.proofs.player.Player.open.Goals as goal
 
-pub returns-clause-player : goal.returns-clause-player
-returns-clause-player g c =
+pub returns : goal.returns
+returns g c =
     let o = c.in_ok-session.field-0 in
-    let e = c.in_ok-session.ensures in
-    is_player o.session o.bank o.targets o.watches c.in_ok-hands_of.field-0 o.hands.items e.passes e.hands c.in_ok-hands_of.ensures.passes e.session e.bank e.cells e.targets e.looks
-
-pub returns-clause-new : goal.returns-clause-new
-returns-clause-new g c =
-    let o = c.in_ok-session.field-0 in
-    let e = c.in_ok-session.ensures in
-    is_new o.session o.bank o.targets o.watches c.in_ok-hands_of.field-0 o.hands.items e.passes e.hands c.in_ok-hands_of.ensures.passes e.stands
-    c.in_ok-hands_of.ensures.versions c.in_ok-hands_of.ensures.looks
+    let hands = c.in_ok-hands_of.field-0 in
+    let player : Player = record { session = o.session; bank = o.bank; targets = o.targets; watches = o.watches; hands = hands } in
+    let opened : IsOpened player = record {
+      session = c.in_ok-session.ensures.session;
+      stands = c.in_ok-session.ensures.stands;
+      bank = c.in_ok-session.ensures.bank;
+      cells = c.in_ok-session.ensures.cells;
+      passes = c.in_ok-session.ensures.passes;
+      hands = subst (λ (l : List (List Known)). AreHands o.bank l) (sym c.in_ok-hands_of.ensures.passes) c.in_ok-session.ensures.hands;
+      versions = c.in_ok-hands_of.ensures.versions;
+      looks = c.in_ok-hands_of.ensures.looks;
+      targets = c.in_ok-session.ensures.targets;
+      watches = c.in_ok-session.ensures.looks;
+    } in
+    record {
+      player = player-opened player opened;
+      new = player-new player opened;
+      plan = c.in_ok-session.ensures.plan;
+      is_plan = c.in_ok-session.ensures.is_plan;
+      left = c.in_ok-session.ensures.left;
+      appends = c.in_ok-session.ensures.appends;
+      quotas = c.in_ok-session.ensures.quotas;
+    }

@@ -1,12 +1,51 @@
-use Rattle.std.proofs.Common.{refl}
-use Rattle.script_player.proofs.Players.{passed}
+use Rattle.std.proofs.Common.{refl, ◌∙◌, arith}
+use Rattle.script_player.proofs.Passing.{AreTurns, player-passed, player-passes, pump-may, targets-ticked, tick-may}
 use Rattle.script_player.proofs.player.Player.tick.Goals as goal
 
-pub returns-clause-passes : goal.returns-clause-passes
-returns-clause-passes g c =
-    passed c.args.ms c.args.closing c.args.self.now c.sample.new.self c.tick.new.self c.pump.new.self
-    (g.L.Link.told c.args.link.now) (g.L.Link.told c.tick.new.link) (g.L.Link.told c.pump.new.link)
-    c.sample.ensures.more c.sample.ensures.lawful c.sample.ensures.sampled c.sample.ensures.rest c.sample.ensures.stands
-    c.tick.ensures.left (c.in-Done.ensures.leads refl) c.tick.ensures.passes c.tick.ensures.appends
-    c.pump.ensures.left (λ p steps stands. (let led = c.pump.ensures.leads p steps stands in (led.0, led.1)))
-    c.pump.ensures.passes c.pump.ensures.plan c.pump.ensures.appends
+pub tick-requires-clause-may : goal.tick-requires-clause-may
+tick-requires-clause-may g c =
+    tick-may c.args.ms c.args.closing c.args.self.now c.sample.new.self c.requires.may c.sample.ensures.session c.sample.ensures.rest
+
+pub pump-requires-clause-may : goal.pump-requires-clause-may
+pump-requires-clause-may g c = pump-may c.args.closing c.sample.new.self c.tick.new.self c.tick.ensures.session c.tick.ensures.left
+
+pub pump-requires-clause-targets : goal.pump-requires-clause-targets
+pump-requires-clause-targets g c =
+    targets-ticked c.args.self.now c.sample.new.self c.tick.new.self c.requires.player c.sample.ensures.rest c.tick.ensures.passes
+
+pub returns : goal.returns
+returns g c =
+    let player = c.args.self.now in
+    let told = g.L.Link.told c.args.link.now in
+    let between = g.L.Link.told c.tick.new.link in
+    let after = g.L.Link.told c.pump.new.link in
+    let sampled = c.sample.new.self in
+    let ticked = c.tick.new.self in
+    let new = c.pump.new.self in
+    let s = c.sample.ensures in
+    let t = c.tick.ensures in
+    let u = c.pump.ensures in
+    let turns : AreTurns c.args.ms c.args.closing player.session sampled ticked new told between after = record {
+      sample_is = s.sampled;
+      more = s.more;
+      lawful = s.lawful;
+      changes = s.rest;
+      stood = s.stands;
+      counts = t.left;
+      leads = c.in-Done.ensures.leads refl;
+      keeps = t.passes;
+      appends = t.appends;
+      pumped = u.left;
+      leads_on = λ p steps stands. let on = u.leads p steps stands in (on.0, on.1);
+      passes = u.passes;
+      plan = u.plan;
+      appends_then = u.appends;
+    } in
+    record {
+      player = player-passed c.args.ms c.args.closing player c.requires.player sampled ticked new told between after turns u.session u.targets s.bank;
+      passes = player-passes c.args.ms c.args.closing player c.requires.player sampled ticked new told between after turns;
+      link = record {
+        opening = u.link.opening ∙ t.link.opening;
+        counted = omega (arith, u.link.counted, t.link.counted);
+      };
+    }

@@ -1,40 +1,51 @@
-use Rattle.std.proofs.Common.{◌∙◌, ◌<◌, ◌∷◌, ◌++◌, [], ℕ, List, length, refl, ap, arith, subst}
+use Rattle.std.proofs.Common.{refl, arith}
+use Rattle.std.specs.Vec.{with_item}
 use Rattle.std.proofs.lemmas.Result.{on_ok_weaker}
-use Rattle.version_cell.specs.Known.{Known}
-use Rattle.target_cells.specs.Keeping.{AreLevel}
-use Rattle.app_threads.specs.declared.done.Looked.{Looked}
-use Rattle.pubsub_engine.specs.declared.session.Session.{Session}
-use Rattle.pubsub_engine.specs.Holding.{keeper_of}
-use Rattle.script_player.specs.declared.hand.Hand.{Hand}
-use Rattle.script_player.proofs.Players.{changed_at}
-use Rattle.script_player.proofs.Stored.{count_targets, counts_exact}
+use Rattle.script_player.proofs.Looking.{AreLooks, player-watched, player-watches, targets-count}
 use Rattle.script_player.proofs.player.Player.watch.Goals as goal
 
-pub returns-clause-watches : goal.returns-clause-watches
-returns-clause-watches g c =
-    let player = c.args.self.now in
-    let is = c.requires.player in
-    let hand = c.index_mut.result.now in
-    let last = c.look.new.watches in
-    let count = count_targets player.session player.targets is.targets in
-    let own = c.in_ok-counts.ensures.own.count in
-    let looks = is.watches.count in
+pub look-requires-clause-reader : goal.look-requires-clause-reader
+look-requires-clause-reader g c =
+    let n = targets-count c.args.self.now.session c.args.self.now c.requires.player.targets in
     let lt = c.requires.may.there in
-    let bound = c.requires.may.bound in
-    let eight = is.eight in
-    let again = subst (λ (keeper : List Known). AreLevel keeper last c.level-2.new.looks) c.level.ensures.same c.level-2.ensures.level in
-    let exact = counts_exact (keeper_of player.session) player.watches c.level.new.looks last c.level-2.new.looks c.args.reader c.args.times c.in_ok-counts.counts.items
-    (omega arith) (omega arith) c.level.ensures.level again c.in_ok-counts.ensures.count c.in_ok-counts.ensures.counted in
-    on_ok_weaker c.looked.result
-    (λ looks. record {
-      hand = hand;
-      after = c.looked.new.self;
-      hands = changed_at player.hands.items c.args.thread c.from.result hand c.looked.new.self c.from.ensures (omega arith) c.index_mut.ensures.value;
-      looks = looks ∙ ap (λ (counts : List ℕ). hand.looks.items ++ record { reader = c.args.reader; counts = counts } ∷ []) exact;
-      passes = ap (λ (h : Hand). h.passes) c.looked.ensures.rest;
-      versions = ap (λ (h : Hand). h.versions) c.looked.ensures.rest;
-      stores = c.level-2.ensures.rest ∙ ap (λ (s : Session). record s { stores = c.level-2.new.self.stores }) c.level.ensures.rest;
-      stands = λ p steps stands. c.level-2.ensures.stands p steps (c.level.ensures.stands p steps stands);
-      rest = refl;
-    })
-    c.looked.ensures.looks
+    omega (arith, n, lt)
+
+pub index_mut-requires : goal.index_mut-requires
+index_mut-requires g c = let n = c.requires.player.eight in omega (arith, c.requires.may.bound, c.from.ensures, n, c.args.self.now.hands.ok.0)
+
+pub returns : goal.returns
+returns g c =
+    let player = c.args.self.now in
+    let hand = c.index_mut.result.now in
+    let level = c.level.new.self in
+    let new = c.level-2.new.self in
+    let first = c.level.new.looks in
+    let looked = c.look.new.watches in
+    let last = c.level-2.new.looks in
+    let counts = c.in_ok-counts.counts.items in
+    let after = c.looked.new.self in
+    let hands = with_item player.hands c.from.result after in
+    let one = c.level.ensures in
+    let two = c.level-2.ensures in
+    let l : AreLooks c.args.reader c.args.times player level new first looked last counts = record {
+      levels = one.level;
+      kept = one.same;
+      own = c.look.ensures.own;
+      more = c.look.ensures.more;
+      count = c.in_ok-counts.ensures.count;
+      counted = c.in_ok-counts.ensures.counted;
+      levels_again = two.level;
+      changes = one.rest;
+      changes_again = two.rest;
+      stood = one.stands;
+      stood_again = two.stands;
+      session = two.session;
+      targets = two.targets;
+      own_last = two.own;
+    } in
+    record {
+      player = on_ok_weaker c.looked.result (λ looks. player-watched player c.requires.player c.args.thread c.from.result c.args.reader c.args.times c.requires.may hand c.from.ensures
+          c.index_mut.ensures.value level new first looked last counts l after hands refl looks c.looked.ensures.rest) c.looked.ensures.looks;
+      watches = on_ok_weaker c.looked.result (λ looks. player-watches player c.requires.player c.args.thread c.from.result c.args.reader c.args.times c.requires.may hand c.from.ensures
+          c.index_mut.ensures.value level new first looked last counts l after hands refl looks c.looked.ensures.rest) c.looked.ensures.looks;
+    }

@@ -1,0 +1,92 @@
+-- Where a reader's last store comes from.
+use Rattle.std.proofs.Common.{◌≡◌, ◌≢◌, refl, sym, ap, ◌∙◌, subst, ℕ, Bool, true, false, List, [], ◌∷◌, length, map, reverse, slice_get, Option, Some, None, option_map, option_and_then}
+use Rattle.std.proofs.lemmas.Bool.{false≢true}
+use Rattle.std.proofs.lemmas.List.{length-map, length-reverse}
+use Rattle.std.proofs.lemmas.Option.{slice_get-map}
+use Rattle.dataset_meta.specs.DataValues.{DataValue}
+use Rattle.dataset_meta.specs.Metas.{MetaData}
+use Rattle.pubsub_model.specs.Answers.{version_of as version_in}
+use Rattle.ps_config.specs.declared.parts.Config.{Config}
+use Rattle.ps_config.specs.declared.parts.ReadGroupPart.{ReadGroupPart}
+use Rattle.ps_config.specs.declared.parts.ReaderPart.{ReaderPart}
+use Rattle.ps_report.specs.Told.{grouped_readers}
+use Rattle.reader_group.specs.Members.{seat_at}
+use Rattle.reader_group.specs.Settings.{group_at, setting_of}
+use Rattle.row_words.specs.Belonging.{row_in}
+use Rattle.target_cells.specs.declared.origin.Origin.{Origin}
+use Rattle.version_cell.specs.declared.rule.Entry.{Entry}
+use Rattle.version_cell.specs.Known.{Known}
+use Rattle.session_model.specs.Steps.{Plan, Step}
+use Rattle.session_model.specs.Sets.{metas_at}
+use Rattle.session_model.specs.Deeds.{deeds}
+use Rattle.session_model.specs.Closing.{MemberPlace, reader_places}
+use Rattle.session_model.specs.Stores.{Store, stores}
+use Rattle.session_parts.specs.declared.publisher.Publisher.{Publisher}
+use Rattle.session_parts.specs.Standing.{HavePast}
+use Rattle.pubsub_engine.specs.declared.storing.Last.{Last}
+use Rattle.pubsub_engine.specs.Logs.{IsLogRead}
+use Rattle.pubsub_engine.specs.Standing.{IsOriginOf, IsVersionStored, log_named, number_stored}
+use Rattle.pubsub_engine.specs.Storing.{HasStored, IsLast}
+use Rattle.pubsub_engine.proofs.Places.{grouped_at, grouped-places}
+
+none-there : (list : List Store) (meta : MetaData) (last : Last) → last.is_there ≡ false → IsLast list meta last → list ≡ []
+none-there [] meta last off is = refl
+none-there (store ∷ before) meta last off is = absurd (false≢true (sym off ∙ is.0))
+
+-- before the first store
+pub no-origin : (p : Plan) (steps : List Step) (place : MemberPlace) (meta : MetaData) (last : Last) → last.is_there ≡ false
+    → IsLast (stores p.config place.0 place.1 steps) meta last
+    → IsOriginOf p steps place (record { store = 0; number = None; version = Some 0 })
+no-origin p steps place meta last off is = record {
+  store = sym (ap length none);
+  number = sym (ap number_stored none);
+  version = subst (λ (list : List Store). IsVersionStored p steps place list (Some 0)) (sym none) refl;
+}
+  where
+    none : stores p.config place.0 place.1 steps ≡ []
+    none = none-there (stores p.config place.0 place.1 steps) meta last off is
+
+-- as many as the keeper's pass has seen
+count-seen : (list : List Store) (meta : MetaData) (pass : Known) → HasStored list meta pass → length pass.seen ≡ length list
+count-seen list meta pass seen =
+    sym (length-map pass.seen (λ (entry : Entry). row_in meta.fields entry.row)) ∙ ap length seen
+    ∙ length-map (reverse list) (λ (store : Store). store.row) ∙ length-reverse list
+
+number-is : (list : List Store) (meta : MetaData) (last : Last) → last.is_there ≡ true → IsLast list meta last → last.number ≡ number_stored list
+number-is [] meta last on is = absurd (false≢true (sym is ∙ on))
+number-is (store ∷ before) meta last on is = is.1
+
+no-version : (number : Option ℕ) → option_and_then (version_in []) number ≡ None
+no-version None = refl
+no-version (Some n) = refl
+
+version-is : (p : Plan) (steps : List Step) (place : MemberPlace) (list : List Store) (meta : MetaData) (last : Last) (version : Option ℕ) → last.is_there ≡ true → IsLast list meta last
+    → ((group_at p.config place.0).publisher ≡ p.config.publisher.id
+      → version ≡ option_and_then (version_in (log_named p steps (seat_at (setting_of p.config place.0).seats place.1).part.writer)) last.number)
+    → ((group_at p.config place.0).publisher ≢ p.config.publisher.id → version ≡ None)
+    → IsVersionStored p steps place list version
+version-is p steps place [] meta last version on is own other = absurd (false≢true (sym is ∙ on))
+version-is p steps place (store ∷ before) meta last version on is own other =
+    (λ same. own same ∙ ap (option_and_then (version_in (log_named p steps (seat_at (setting_of p.config place.0).seats place.1).part.writer))) is.1, other)
+
+-- of the last store
+pub is-origin : (p : Plan) (steps : List Step) (place : MemberPlace) (meta : MetaData) (last : Last) (pass : Known) (publisher : Publisher) (log : List (ℕ × ℕ)) (origin : Origin) (k : ℕ)
+    → last.is_there ≡ true
+    → IsLast (stores p.config place.0 place.1 steps) meta last → HasStored (stores p.config place.0 place.1 steps) meta pass
+    → slice_get (reader_places p.config) k ≡ Some place
+    → HavePast p.config (metas_at p.config steps) (deeds p steps) publisher.groups.items
+    → ((at : ReadGroupPart × ReaderPart) → slice_get (grouped_readers p.config.readgroup) k ≡ Some at → IsLogRead p.config publisher at log)
+    → origin.store ≡ length pass.seen → origin.number ≡ last.number → origin.version ≡ option_and_then (version_in log) last.number
+    → IsOriginOf p steps place origin
+is-origin p steps place meta last pass publisher log origin k on is seen at past read is_store is_number is_version = record {
+  store = is_store ∙ count-seen (stores p.config place.0 place.1 steps) meta pass seen;
+  number = is_number ∙ number-is (stores p.config place.0 place.1 steps) meta last on is;
+  version = version-is p steps place (stores p.config place.0 place.1 steps) meta last origin.version on is
+      (λ same. is_version ∙ ap (λ (l : List (ℕ × ℕ)). option_and_then (version_in l) last.number) (named.own same (metas_at p.config steps) (deeds p steps) past))
+      (λ apart. is_version ∙ ap (λ (l : List (ℕ × ℕ)). option_and_then (version_in l) last.number) (named.other apart) ∙ no-version last.number);
+}
+  where
+    named : IsLogRead p.config publisher (grouped_at p.config place) log
+    named = read (grouped_at p.config place)
+        (ap (λ (l : List (ReadGroupPart × ReaderPart)). slice_get l k) (sym (grouped-places p.config))
+        ∙ slice_get-map (grouped_at p.config) (reader_places p.config) k ∙ ap (option_map (grouped_at p.config)) at)

@@ -1,0 +1,297 @@
+-- Switches: where they leave the session.
+use Rattle.std.proofs.Common.{◌≡◌, refl, sym, ap, ◌∙◌, subst, arith, ℕ, Bool, true, false, List, [], ◌∷◌, Some, get_or}
+use Rattle.std.specs.Prelude.{fold, slice_get, unwrap_or, vec_len, ◌==◌, if◌then◌else◌}
+use Rattle.std.proofs.lemmas.Option.{slice_get-get_or}
+use Rattle.dataset_meta.specs.Rows.{cons_if}
+use Rattle.ps_config.specs.declared.parts.Config.{Config}
+use Rattle.pubsub_model.specs.declared.reading.Why.TheVariants.{Restarted}
+use Rattle.pubsub_states.specs.declared.component.Component.{Component}
+use Rattle.pubsub_states.specs.declared.component.Component.TheVariants.{Root, Connection, Group, Writer, ReadGroup, Reader}
+use Rattle.pubsub_states.specs.declared.flags.Flags.{Flags}
+use Rattle.pubsub_states.specs.declared.tree.Switched.TheVariants.{Done, InvalidState}
+use Rattle.pubsub_states.specs.Components.{Counts, IsAmong, IsId, components, counts_of, id_of, is_at_or_above}
+use Rattle.pubsub_states.specs.Changes as changes
+use Rattle.pubsub_states.specs.Changes.{TreeValue, Changes, flags_in, is_enabled}
+use Rattle.pubsub_states.proofs.Places.{placed}
+use Rattle.reader_group.specs.Plain.{Event, Setting, Stopped}
+use Rattle.reader_group.specs.Settings.{setting_of}
+use Rattle.writer_group.specs.Standing.{IsReserved}
+use Rattle.session_model.specs.Steps.{Plan, Step, Enable, Disable, is_on, switches_in}
+use Rattle.session_model.specs.Sets.{metas_at}
+use Rattle.session_model.specs.Deeds.{RefreshedBelow, component_at, deeds}
+use Rattle.session_model.specs.Events.{events, reader_indexes, stopped_below}
+use Rattle.session_model.specs.States.{flags_at, has_fault, is_ready}
+use Rattle.session_model.specs.Sends.{journal}
+use Rattle.session_model.specs.Stores.{stores}
+use Rattle.session_model.specs.Answers.{answers}
+use Rattle.session_parts.specs.declared.publisher.Publisher.{Publisher}
+use Rattle.session_parts.specs.declared.subscriber.Subscriber.{Subscriber}
+use Rattle.session_parts.specs.declared.tally.Tally.{Tally}
+use Rattle.session_parts.specs.Standing.{AreReceivesIn, AreSendsIn, HasFlags, HaveOutcomes, HavePast, HaveRead, HaveReadAll, HaveSent, HaveTallied, HaveTalliedAll, IsTallyOf}
+use Rattle.session_parts.specs.Holding.{AreGroups, AreSenders}
+use Rattle.session_parts.specs.Refreshed.{AllGoOn, HaveDone}
+use Rattle.session_parts.specs.Befalling.{HaveStoppedBelow}
+use Rattle.session_parts.specs.Pumping.{TellsReaders, late_at, ready_at}
+use Rattle.pubsub_engine.specs.declared.session.Session.{Session}
+use Rattle.pubsub_engine.specs.Holding.{IsRunning, IsSession, plan_of}
+use Rattle.pubsub_engine.specs.Standing.{Stands}
+use Rattle.pubsub_engine.specs.Storing.{HaveStored}
+
+-- ---- the component with an id
+
+component-found : (config : Config) (id : ℕ) → IsId (counts_of config) id → slice_get (components (counts_of config)) id ≡ Some (component_at config id)
+component-found config id there =
+    let found = slice_get-get_or (components (counts_of config)) id Root there in
+    found ∙ ap Some (sym (ap (λ o. unwrap_or o Root) found))
+
+-- the component that is found is the one with the id
+pub component-is : (config : Config) (counts : Counts) (id : ℕ) (component : Component) → counts ≡ counts_of config → slice_get (components counts) id ≡ Some component
+    → component_at config id ≡ component
+component-is config counts id component same is =
+    ap (λ o. unwrap_or o Root) (subst (λ (c : Counts). slice_get (components c) id ≡ Some component) same is)
+
+-- the tree has a component as enabled where switches left it on
+is-on : (p : Plan) (before : List Step) (id : ℕ) (tree : TreeValue) → tree.counts ≡ counts_of p.config → IsId (counts_of p.config) id → HasFlags (flags_at p before) tree
+    → (changes.flags_at tree id).enabled ≡ is_on p.config before (component_at p.config id)
+is-on p before id tree counts there flags =
+    let found = placed (counts_of p.config) id (component_at p.config id) (component-found p.config id there) in
+    ap (λ (n : ℕ). (changes.flags_at tree n).enabled) (sym (ap (λ (c : Counts). id_of c (component_at p.config id)) counts ∙ found.1))
+    ∙ ap (λ (f : Flags). f.enabled) (flags (component_at p.config id) (subst (λ (c : Counts). IsAmong c (component_at p.config id)) (sym counts) found.0))
+
+pub was-on : (old : Session) (id : ℕ) → IsSession old → IsId (counts_of old.config.now) id → (p : Plan) (before : List Step) → Stands p before old
+    → (changes.flags_at old.tree id).enabled ≡ is_on p.config before (component_at p.config id)
+was-on old id session there p before stands =
+    subst (λ (q : Plan). Stands q before old → (changes.flags_at old.tree id).enabled ≡ is_on q.config before (component_at q.config id)) stands.plan
+    (λ at. is-on (plan_of old) before id old.tree session.tree there at.flags) stands
+
+-- ---- answers
+
+-- a switch on is done where the component was off
+pub off-where-done : (on : Bool) → Done ≡ (if on then InvalidState else Done) → on ≡ false
+off-where-done true is = cc
+off-where-done false is = refl
+
+pub on-where-done : (on : Bool) → Done ≡ (if on then Done else InvalidState) → on ≡ true
+on-where-done true is = refl
+on-where-done false is = cc
+
+-- ---- flags
+
+on-if : (b : Bool) (f : Flags) → (if b then record f { enabled = true } else f) ≡ record { enabled = if b then true else f.enabled; fault = f.fault; ready = f.ready }
+on-if true f = refl
+on-if false f = refl
+
+off-if : (b : Bool) (f : Flags) → (if b then record f { enabled = false } else f) ≡ record { enabled = if b then false else f.enabled; fault = f.fault; ready = f.ready }
+off-if true f = refl
+off-if false f = refl
+
+-- the flags of a component after a switch on, from those before it
+flags-enabled : (p : Plan) (before : List Step) (id : ℕ) (old new : TreeValue) → old.counts ≡ counts_of p.config → Changes (changes.Enable id) old new
+    → HasFlags (flags_at p before) old → HasFlags (flags_at p (Enable id ∷ before)) new
+flags-enabled p before id old new counts switched flags component among =
+    ap (λ (n : Counts). changes.flags_at new (id_of n component)) switched.counts
+    ∙ switched.flags (id_of old.counts component)
+    ∙ on-if (id == id_of old.counts component) (flags_in old component)
+    ∙ ap (λ (f : Flags). record { enabled = if id == id_of old.counts component then true else f.enabled; fault = f.fault; ready = f.ready }) (flags component there)
+    ∙ ap (λ (n : Counts). record { enabled = if id == id_of n component then true else is_enabled (switches_in before) (id_of (counts_of p.config) component); fault = has_fault p before component; ready = is_ready p before component }) counts
+    ∙ same component
+  where
+    there : IsAmong old.counts component
+    there = subst (λ (c : Counts). IsAmong c component) switched.counts among
+
+    flags_of : Component → Flags
+    flags_of c = record { enabled = if id == id_of (counts_of p.config) c then true else is_enabled (switches_in before) (id_of (counts_of p.config) c); fault = has_fault p before c; ready = is_ready p before c }
+
+    same : (c : Component) → flags_of c ≡ flags_at p (Enable id ∷ before) c
+    same Root = refl
+    same Connection = refl
+    same (Group g) = refl
+    same (Writer g w) = refl
+    same (ReadGroup r) = refl
+    same (Reader r i) = refl
+
+-- those after a switch off
+flags-off : (p : Plan) (before : List Step) (id : ℕ) (old new : TreeValue) → old.counts ≡ counts_of p.config → Changes (changes.Disable id) old new
+    → HasFlags (flags_at p before) old → (component : Component) → IsAmong old.counts component
+    → flags_in new component ≡ record { enabled = is_on p.config (Disable id ∷ before) component; fault = has_fault p before component; ready = is_ready p before component }
+flags-off p before id old new counts switched flags component there =
+    ap (λ (n : Counts). changes.flags_at new (id_of n component)) switched.counts
+    ∙ switched.flags (id_of old.counts component)
+    ∙ off-if (id == id_of old.counts component) (flags_in old component)
+    ∙ ap (λ (f : Flags). record { enabled = if id == id_of old.counts component then false else f.enabled; fault = f.fault; ready = f.ready }) (flags component there)
+    ∙ ap (λ (n : Counts). record { enabled = if id == id_of n component then false else is_enabled (switches_in before) (id_of (counts_of p.config) component); fault = has_fault p before component; ready = is_ready p before component }) counts
+
+flags-disabled : (p : Plan) (before : List Step) (id : ℕ) (subscriber : Subscriber) (old mid new : TreeValue) → old.counts ≡ counts_of p.config → Changes (changes.Disable id) old mid
+    → new.counts ≡ mid.counts → HaveRead p.config (Disable id ∷ before) subscriber.groups.items → TellsReaders p.config subscriber mid new
+    → HasFlags (flags_at p before) old → HasFlags (flags_at p (Disable id ∷ before)) new
+flags-disabled p before id subscriber old mid new counts switched kept read told flags component among = on component (subst (λ (c : Counts). IsAmong c component) kept among)
+  where
+    off : (c : Component) → IsAmong mid.counts c → flags_in mid c ≡ record { enabled = is_on p.config (Disable id ∷ before) c; fault = has_fault p before c; ready = is_ready p before c }
+    off c there = flags-off p before id old mid counts switched flags c (subst (λ (n : Counts). IsAmong n c) switched.counts there)
+
+    on : (c : Component) → IsAmong mid.counts c → flags_in new c ≡ flags_at p (Disable id ∷ before) c
+    on Root there = told.others Root there refl ∙ off Root there
+    on Connection there = told.others Connection there refl ∙ off Connection there
+    on (Group g) there = told.others (Group g) there refl ∙ off (Group g) there
+    on (Writer g w) there = told.others (Writer g w) there refl ∙ off (Writer g w) there
+    on (ReadGroup r) there = told.others (ReadGroup r) there refl ∙ off (ReadGroup r) there
+    on (Reader r i) there =
+        told.readers (λ q. events p.config q (Disable id ∷ before)) r i read there
+        ∙ ap (λ (e : Bool). record {
+          enabled = e;
+          fault = late_at p.config (λ q. events p.config q (Disable id ∷ before)) r i;
+          ready = ready_at p.config (λ q. events p.config q (Disable id ∷ before)) r i;
+        }) (ap (λ f. f.enabled) (off (Reader r i) there))
+
+-- ---- enable
+
+pub record DoesEnable (id : ℕ) (component : Component) (old new : Session) : Type 0 where
+  pub changed : new ≡ record old { tree = new.tree; publisher = new.publisher }
+  pub parts : new.publisher ≡ record old.publisher { groups = new.publisher.groups }
+  pub there : IsId (counts_of old.config.now) id
+  pub running : IsRunning old
+  pub is_component : component_at old.config.now id ≡ component
+  pub counts : old.tree.counts ≡ counts_of old.config.now
+  pub was : (changes.flags_at old.tree id).enabled ≡ false
+  pub switched : Changes (changes.Enable id) old.tree new.tree
+  pub past : HaveDone old.config.now (RefreshedBelow component) old.publisher.groups.items new.publisher.groups.items
+
+pub enabled-session : (old : Session) (tree : TreeValue) (publisher : Publisher) → IsSession old → tree.counts ≡ old.tree.counts
+    → publisher ≡ record old.publisher { groups = publisher.groups } → AreGroups old.config.now publisher.groups.items
+    → AllGoOn old.config.now old.publisher.groups.items publisher.groups.items → IsSession (record old { tree = tree; publisher = publisher })
+enabled-session old tree publisher session kept parts groups goes_on = record {
+  good = session.good;
+  sets = session.sets;
+  samples = session.samples;
+  publisher = record {
+    groups = groups;
+    senders = subst (λ (q : Publisher). AreSenders old.config.now q.senders.items) (sym parts) session.publisher.senders;
+    reserved = subst (λ (q : Publisher). IsReserved q.out) (sym parts) session.publisher.reserved;
+    sends = ap (λ (q : Publisher). vec_len q.sends) parts ∙ session.publisher.sends;
+  };
+  goes_on = goes_on old.sets.metas.items old.left.ticks session.goes_on;
+  subscriber = session.subscriber;
+  tree = kept ∙ session.tree;
+  buffers = session.buffers;
+  stores = session.stores;
+  time = session.time;
+  calls = session.calls;
+}
+
+enabled-of : (before : List Step) (id : ℕ) (component : Component) (old new : Session) → DoesEnable id component old new → Stands (plan_of old) before old
+    → Stands (plan_of old) (Enable id ∷ before) new
+enabled-of before id component old new does stands = record {
+  plan = ap plan_of does.changed;
+  run = stands.run;
+  steps_are = (
+    record {
+      there = does.there;
+      was = sym (is-on p before id old.tree does.counts does.there stands.flags) ∙ does.was;
+      running = sym stands.closed ∙ does.running;
+    },
+    stands.steps_are,
+  );
+  turns = stands.turns;
+  moment = ap (λ (s : Session). s.moment) does.changed ∙ stands.moment;
+  closed = ap (λ (s : Session). s.left.is_closed) does.changed ∙ stands.closed;
+  ticks = omega (arith, ap (λ (s : Session). s.left.ticks) does.changed, stands.ticks);
+  pumps = omega (arith, ap (λ (s : Session). s.left.pumps) does.changed, stands.pumps);
+  metas = ap (λ (s : Session). s.sets.metas.items) does.changed ∙ stands.metas;
+  groups = subst (λ (c : Component). HavePast p.config (metas_at p.config before) (RefreshedBelow c ∷ deeds p before) new.publisher.groups.items) (sym does.is_component)
+      (does.past (metas_at p.config before) (deeds p before) stands.groups);
+  senders = subst (λ (q : Publisher). HaveSent p.config (deeds p before) q.senders.items) (sym does.parts) stands.senders;
+  outcomes = subst (λ (q : Publisher). HaveOutcomes p before q.sends.items) (sym does.parts) stands.outcomes;
+  sends = subst (λ (q : Publisher). AreSendsIn (journal p before) q.link) (sym does.parts) stands.sends;
+  readings = subst (λ (s : Session). HaveReadAll p.config (λ r. events p.config r before) s.subscriber.groups.items) (sym does.changed) stands.readings;
+  tallies = subst (λ (s : Session). HaveTallied p.config before s.subscriber.tallies.items) (sym does.changed) stands.tallies;
+  receives =
+      let same : AreReceivesIn (journal p before) before new.receiving = subst (λ (s : Session). AreReceivesIn (journal p before) before s.receiving) (sym does.changed) stands.receives in
+      record { received = same.received; broken = same.broken; long = same.long; limit = same.limit };
+  stores_are = subst (λ (s : Session). HaveStored p.config (λ place. stores p.config place.0 place.1 before) s.stores) (sym does.changed) stands.stores_are;
+  flags = flags-enabled p before id old.tree new.tree does.counts does.switched stands.flags;
+}
+  where
+    p : Plan
+    p = plan_of old
+
+pub enabled-stands : (p : Plan) (before : List Step) (id : ℕ) (component : Component) (old new : Session) → DoesEnable id component old new → Stands p before old
+    → Stands p (Enable id ∷ before) new
+enabled-stands p before id component old new does stands =
+    subst (λ (q : Plan). Stands q before old → Stands q (Enable id ∷ before) new) stands.plan (enabled-of before id component old new does) stands
+
+-- ---- disable
+
+-- a cut is no answer
+answers-cut : (setting : Setting) (is_cut : Bool) (reader : ℕ) (befell : List Event) → answers setting (cons_if is_cut (Stopped reader Restarted) befell) ≡ answers setting befell
+answers-cut setting true reader befell = refl
+answers-cut setting false reader befell = refl
+
+answers-stopped : (setting : Setting) (r : ℕ) (component : Component) (readers : List ℕ) (befell : List Event)
+    → answers setting (fold (λ so_far i. cons_if (is_at_or_above component (Reader r i)) (Stopped i Restarted) so_far) befell readers) ≡ answers setting befell
+answers-stopped setting r component [] befell = refl
+answers-stopped setting r component (i ∷ readers) befell =
+    answers-stopped setting r component readers (cons_if (is_at_or_above component (Reader r i)) (Stopped i Restarted) befell)
+    ∙ answers-cut setting (is_at_or_above component (Reader r i)) i befell
+
+tallies-stopped : (config : Config) (component : Component) (befell : ℕ → List Event) (tallies : List Tally) → HaveTalliedAll config befell tallies
+    → HaveTalliedAll config (λ r. stopped_below config r component (befell r)) tallies
+tallies-stopped config component befell tallies are r low d =
+    subst (λ l. IsTallyOf l (get_or tallies r d)) (sym (answers-stopped (setting_of config r) r component (reader_indexes config r) (befell r))) (are r low d)
+
+pub record DoesDisable (id : ℕ) (component : Component) (old new : Session) (tree : TreeValue) : Type 0 where
+  pub changed : new ≡ record old { tree = new.tree; subscriber = new.subscriber }
+  pub parts : new.subscriber ≡ record old.subscriber { groups = new.subscriber.groups }
+  pub there : IsId (counts_of old.config.now) id
+  pub running : IsRunning old
+  pub is_component : component_at old.config.now id ≡ component
+  pub counts : old.tree.counts ≡ counts_of old.config.now
+  pub was : (changes.flags_at old.tree id).enabled ≡ true
+  pub switched : Changes (changes.Disable id) old.tree tree
+  pub kept : new.tree.counts ≡ tree.counts
+  pub stopped : HaveStoppedBelow old.config.now component old.subscriber new.subscriber
+  pub told : TellsReaders old.config.now new.subscriber tree new.tree
+
+disabled-of : (before : List Step) (id : ℕ) (component : Component) (old new : Session) (tree : TreeValue) → DoesDisable id component old new tree → Stands (plan_of old) before old
+    → Stands (plan_of old) (Disable id ∷ before) new
+disabled-of before id component old new tree does stands = record {
+  plan = ap plan_of does.changed;
+  run = stands.run;
+  steps_are = (
+    record {
+      there = does.there;
+      was = sym (is-on p before id old.tree does.counts does.there stands.flags) ∙ does.was;
+      running = sym stands.closed ∙ does.running;
+    },
+    stands.steps_are,
+  );
+  turns = stands.turns;
+  moment = ap (λ (s : Session). s.moment) does.changed ∙ stands.moment;
+  closed = ap (λ (s : Session). s.left.is_closed) does.changed ∙ stands.closed;
+  ticks = omega (arith, ap (λ (s : Session). s.left.ticks) does.changed, stands.ticks);
+  pumps = omega (arith, ap (λ (s : Session). s.left.pumps) does.changed, stands.pumps);
+  metas = ap (λ (s : Session). s.sets.metas.items) does.changed ∙ stands.metas;
+  groups = subst (λ (s : Session). HavePast p.config (metas_at p.config before) (deeds p before) s.publisher.groups.items) (sym does.changed) stands.groups;
+  senders = subst (λ (s : Session). HaveSent p.config (deeds p before) s.publisher.senders.items) (sym does.changed) stands.senders;
+  outcomes = subst (λ (s : Session). HaveOutcomes p before s.publisher.sends.items) (sym does.changed) stands.outcomes;
+  sends = subst (λ (s : Session). AreSendsIn (journal p before) s.publisher.link) (sym does.changed) stands.sends;
+  readings = read;
+  tallies = subst (λ (s : Subscriber). HaveTallied p.config (Disable id ∷ before) s.tallies.items) (sym does.parts)
+      (tallies-stopped p.config (component_at p.config id) (λ r. events p.config r before) old.subscriber.tallies.items stands.tallies);
+  receives =
+      let same : AreReceivesIn (journal p before) before new.receiving = subst (λ (s : Session). AreReceivesIn (journal p before) before s.receiving) (sym does.changed) stands.receives in
+      record { received = same.received; broken = same.broken; long = same.long; limit = same.limit };
+  stores_are = subst (λ (s : Session). HaveStored p.config (λ place. stores p.config place.0 place.1 before) s.stores) (sym does.changed) stands.stores_are;
+  flags = flags-disabled p before id new.subscriber old.tree tree new.tree does.counts does.switched does.kept read does.told stands.flags;
+}
+  where
+    p : Plan
+    p = plan_of old
+
+    read : HaveRead old.config.now (Disable id ∷ before) new.subscriber.groups.items
+    read = subst (λ (c : Component). HaveReadAll old.config.now (λ r. stopped_below old.config.now r c (events old.config.now r before)) new.subscriber.groups.items) (sym does.is_component)
+        (does.stopped (λ r. events old.config.now r before) stands.readings)
+
+pub disabled-stands : (p : Plan) (before : List Step) (id : ℕ) (component : Component) (old new : Session) (tree : TreeValue) → DoesDisable id component old new tree → Stands p before old
+    → Stands p (Disable id ∷ before) new
+disabled-stands p before id component old new tree does stands =
+    subst (λ (q : Plan). Stands q before old → Stands q (Disable id ∷ before) new) stands.plan (disabled-of before id component old new tree does) stands

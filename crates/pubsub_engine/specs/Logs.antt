@@ -1,0 +1,64 @@
+-- The logs of this program's writers, and which of them a reader names.
+use Rattle.std.specs.Prelude.{◌≡◌, ◌≢◌, ℕ, ◌==◌, Bool, false, bytes_eq, List, [], map, zip, find, Option, option_map}
+use Rattle.std.specs.Option.{option_map_or}
+use Rattle.dataset_meta.specs.Metas.{MetaData}
+use Rattle.pubsub_model.specs.Cadence.{log_of}
+use Rattle.dataset_writer.specs.Turns.{model_settings}
+use Rattle.config_tables.specs.declared.publisher.Publisher.{Publisher as PublisherId}
+use Rattle.config_tables.specs.declared.publisher.Publisher.TheVariants as ids
+use Rattle.ps_config.specs.declared.parts.Config.{Config}
+use Rattle.ps_config.specs.declared.parts.GroupPart.{GroupPart}
+use Rattle.ps_config.specs.declared.parts.WriterPart.{WriterPart}
+use Rattle.ps_config.specs.declared.parts.ReadGroupPart.{ReadGroupPart}
+use Rattle.ps_config.specs.declared.parts.ReaderPart.{ReaderPart}
+use Rattle.ps_report.specs.Conditions.{writers_of}
+use Rattle.writer_group.specs.Parts.{group_at}
+use Rattle.writer_group.specs.Payloads.{writer_at}
+use Rattle.writer_group.specs.Turns.{settings_of, writer_past}
+use Rattle.session_model.specs.Deeds.{Deed, group_past, writer_indexes}
+use Rattle.session_model.specs.Closing.{MemberPlace, writer_places}
+use Rattle.session_parts.specs.Standing.{HavePast}
+use Rattle.session_parts.specs.declared.publisher.Publisher.{Publisher}
+
+-- the log that these deeds leave the writer with index w of group g
+abbrev pub log_after : Config → List Deed → ℕ → ℕ → List (ℕ × ℕ)
+log_after config deeds g w = log_of (model_settings (settings_of (writer_at (group_at config g) w))) (writer_past w (group_past config g deeds))
+
+-- where each writer of each group has this log, that of the writer with an id, empty where there is no such writer
+abbrev pub log_by : (ℕ → ℕ → List (ℕ × ℕ)) → Config → ℕ → List (ℕ × ℕ)
+log_by logs config id =
+    option_map_or (λ at. logs at.1.0 at.1.1) (find (λ at. at.0.id == id) (zip (writers_of config.group) (writer_places config))) []
+
+-- whichever deeds left the publisher's groups as they are, this is the log of the writer with an id
+abbrev pub IsLogNamed : Config → Publisher → ℕ → List (ℕ × ℕ) → Type 0
+IsLogNamed config publisher id log =
+    (metas : List MetaData) (deeds : List Deed) → HavePast config metas deeds publisher.groups.items
+    → log ≡ log_by (log_after config deeds) config id
+
+-- both are one publisher
+abbrev pub is_same_publisher : PublisherId → PublisherId → Bool
+is_same_publisher (ids.U8 id) (ids.U8 other) = id == other
+is_same_publisher (ids.U16 id) (ids.U16 other) = id == other
+is_same_publisher (ids.U32 id) (ids.U32 other) = id == other
+is_same_publisher (ids.U64 id) (ids.U64 other) = id == other
+is_same_publisher (ids.Text text) (ids.Text other) = bytes_eq text other
+is_same_publisher one other = false
+
+-- the log that a reader, behind its read group, names: where the read group's publisher is this program that of the writer with the id, else none
+pub record IsLogRead (config : Config) (publisher : Publisher) (at : ReadGroupPart × ReaderPart) (log : List (ℕ × ℕ)) : Type 0 where
+  pub own : at.0.publisher ≡ config.publisher.id → IsLogNamed config publisher at.1.writer log
+  pub other : at.0.publisher ≢ config.publisher.id → log ≡ []
+
+-- ---- where a writer with an id stands
+
+-- the place of the first of these writers with the id
+abbrev pub place_in : List WriterPart → List MemberPlace → ℕ → Option MemberPlace
+place_in parts places id = option_map (λ at. at.1) (find (λ at. at.0.id == id) (zip parts places))
+
+-- of the writers of the group with this index
+abbrev pub place_within : GroupPart → ℕ → ℕ → Option MemberPlace
+place_within group g id = place_in group.writer (map (λ w. (g, w)) (writer_indexes group)) id
+
+-- of all writers
+abbrev pub place_named : Config → ℕ → Option MemberPlace
+place_named config id = place_in (writers_of config.group) (writer_places config) id

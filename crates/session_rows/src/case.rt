@@ -1,0 +1,82 @@
+//! A case as its lines give it.
+use crate::playing::report_of;
+use case_lines::{Answer, Line, LineFault, number};
+use mem_edge::MemoryLink;
+use std::alloc::Global;
+use std::mem;
+use std::sync::Wait;
+
+/// What is played.
+#[derive(Drop)]
+pub(crate) struct Case {
+    /// The configuration's text, if it isn't the built-in one.
+    pub(crate) config: Option<Vec<u8>>,
+    pub(crate) script: Vec<u8>,
+    sends: Vec<u64>,
+    receives: Vec<u64>,
+    injected: Vec<(u64, Vec<u8>)>,
+}
+
+impl Case {
+    /// The built-in configuration, an empty script, and a link that doesn't fail.
+    pub(crate) fn new(alloc: Global) -> Case {
+        Case {
+            config: None,
+            script: Vec::new(alloc),
+            sends: Vec::new(alloc),
+            receives: Vec::new(alloc),
+            injected: Vec::new(alloc),
+        }
+    }
+
+    /// What a line answers; only `play` answers anything.
+    pub(crate) fn answer<R: Wait>(&mut self, rt: &R, alloc: Global, line: &mut Line) -> Answer {
+        match line.word()? {
+            "config" => self.config = Some(line.text(alloc)?),
+            "script" => self.script = line.text(alloc)?,
+            "sends" => self.sends = numbers_of(alloc, line)?,
+            "receives" => self.receives = numbers_of(alloc, line)?,
+            "inject" => self.inject(alloc, 1, line)?,
+            "flood" => self.flood(alloc, line)?,
+            "play" => return self.play(rt, alloc),
+            _ => return Err(LineFault::Call),
+        }
+        Ok(None)
+    }
+
+    /// A datagram comes so often right after the one with a number was sent.
+    fn inject(&mut self, alloc: Global, times: u32, line: &mut Line) -> Result<(), LineFault> {
+        let after = line.u64()?;
+        let datagram = line.bytes(alloc)?;
+        for _ in 0..times {
+            self.injected.push((after, datagram.to_vec(alloc)?))?;
+        }
+        Ok(())
+    }
+
+    /// So many of a datagram come.
+    fn flood(&mut self, alloc: Global, line: &mut Line) -> Result<(), LineFault> {
+        let times = line.u32()?;
+        self.inject(alloc, times, line)
+    }
+
+    /// Plays the case; the next one begins.
+    fn play<R: Wait>(&mut self, rt: &R, alloc: Global) -> Answer {
+        let case = mem::replace(self, Case::new(alloc));
+        let mut link = MemoryLink::new(alloc, case.injected, case.sends, case.receives, false);
+        let config = match &case.config {
+            Some(text) => Some(text.as_slice()),
+            None => None,
+        };
+        report_of(rt, alloc, config, &case.script, &mut link)
+    }
+}
+
+/// The words that are left, as numbers.
+fn numbers_of(alloc: Global, line: &mut Line) -> Result<Vec<u64>, LineFault> {
+    let mut numbers = Vec::new(alloc);
+    for word in line.words() {
+        numbers.push(number(word)?)?;
+    }
+    Ok(numbers)
+}
