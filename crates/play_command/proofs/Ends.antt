@@ -21,12 +21,12 @@ play_ends status script_name config_name old new before after h link reads write
   config_long = λ name bytes. config_long status script_name config_name old new after name bytes h;
   script_long = λ config bytes. script_long status script_name config_name old new after config bytes h;
   complete = λ told folder_quiet out_quiet link_quiet.
-    elim (completes {X = ⊥} status script_name config_name old new after h told (λ is. folder_quiet (reads.rose is)) (λ is. out_quiet (writes.rose is)) (λ is. link_quiet (link.cause.rose is))) [
-      | inl e ↦ inl e
-      | inr rest ↦ elim rest [ inl e ↦ inr e | inr e ↦ absurd e ]
-    ];
+      elim (completes {X = ⊥} status script_name config_name old new after h told (λ is. folder_quiet (reads.rose is)) (λ is. out_quiet (writes.rose is)) (λ is. link_quiet (link.cause.rose is))) [
+        | inl e ↦ inl e
+        | inr rest ↦ elim rest [ inl e ↦ inr e | inr e ↦ absurd e ]
+      ];
   complete_but_for_opening = λ told folder_quiet out_quiet.
-    completes {X = IsUnopened status} status script_name config_name old new after h told (λ is. folder_quiet (reads.rose is)) (λ is. out_quiet (writes.rose is)) (λ is. is);
+      completes {X = IsUnopened status} status script_name config_name old new after h told (λ is. folder_quiet (reads.rose is)) (λ is. out_quiet (writes.rose is)) (λ is. is);
   reads = reads;
   writes = writes;
   files = files;

@@ -83,12 +83,13 @@ config_long (ScriptRefused line fault) script_name config_name old new after nam
 config_long (ConfigRefused code path) script_name config_name old new after name bytes h is told a b =
     let judged = subst (λ (l : List ℕ). IsJudged (old.file l) (Err (code, path))) (same_name config_name name h.0 is h.1) h.2 in
     ((λ no. absurd no), (λ long. long_judged (old.file name) bytes (Err (code, path)) told judged long))
-config_long (Long file) script_name config_name old new after name bytes h is told a b =
-    ((λ same. long_is (old.file name) bytes told (subst (λ (l : List ℕ). TellsFile (old.file l) IsLong) same h.1)),
-    (λ long. elim h.0 [
-      | inl named ↦ same_name config_name name file.now is named
-      | inr of_script ↦ absurd (taken_not_long old.file config_name name bytes of_script.1 is told of_script.2 long)
-    ]))
+config_long (Long file) script_name config_name old new after name bytes h is told a b = (
+  (λ same. long_is (old.file name) bytes told (subst (λ (l : List ℕ). TellsFile (old.file l) IsLong) same h.1)),
+  (λ long. elim h.0 [
+    | inl named ↦ same_name config_name name file.now is named
+    | inr of_script ↦ absurd (taken_not_long old.file config_name name bytes of_script.1 is told of_script.2 long)
+  ]),
+)
 config_long (Unread file) script_name config_name old new after name bytes h is told a b = absurd (a refl)
 config_long OutOfMemory script_name config_name old new after name bytes h is told a b = absurd (b refl)
 config_long BadWords script_name config_name old new after name bytes h is told a b = absurd h
@@ -112,9 +113,10 @@ not_long tells script_name config_name config bytes name known told (inr of_scri
 accepted : (reader : ValueReader) (tells : List ℕ → ToldFile) (script_name : List ℕ) (config_name : Option (List ℕ)) (config taken : Config) (script : Script) (bytes : List ℕ) (n : ℕ)
     → IsToldConfig tells config_name config → IsTold (tells script_name) bytes → Accepts tells script_name config_name taken script → (n ≡ 4 → ⊥)
     → (n ≡ 4) ↔ IsErr (script_in reader config bytes true)
-accepted reader tells script_name config_name config taken script bytes n known told accepts differs =
-    ((λ four. absurd (differs four)),
-    (λ err. absurd (ok_not_err (script_in reader config bytes true) script (script_is reader tells script_name config_name config taken bytes (Ok script) known accepts.configured told.told accepts.scripted) err)))
+accepted reader tells script_name config_name config taken script bytes n known told accepts differs = (
+  (λ four. absurd (differs four)),
+  (λ err. absurd (ok_not_err (script_in reader config bytes true) script (script_is reader tells script_name config_name config taken bytes (Ok script) known accepts.configured told.told accepts.scripted) err)),
+)
 
 pub script_refused : (status : Status) (script_name : List ℕ) (config_name : Option (List ℕ)) (old new : Outside) (after : Wire) (reader : ValueReader) (config : Config) (bytes : List ℕ)
     → Plays status script_name config_name old new after → IsToldConfig old.file config_name config → IsTold (old.file script_name) bytes → (IsUnread status → ⊥) → (IsOutOfMemory status → ⊥)
@@ -151,11 +153,13 @@ script_long (ScriptRefused line fault) script_name config_name old new after con
     short (old.file script_name) h.0 bytes (Err (line, fault)) 4 told h.2 (λ e. omega arith)
 script_long (ConfigRefused code path) script_name config_name old new after config bytes h known told a b =
     absurd (config_not_refused old.file config_name config h.0 (code, path) known h.1 h.2)
-script_long (Long file) script_name config_name old new after config bytes h known told a b =
-    ((λ nine. elim h.0 [
-      | inl named ↦ absurd (config_not_long old.file config_name config file.now known named h.1)
-      | inr of_script ↦ long_is (old.file script_name) bytes told (subst (λ (l : List ℕ). TellsFile (old.file l) IsLong) of_script.0 h.1)
-    ]), (λ long. refl))
+script_long (Long file) script_name config_name old new after config bytes h known told a b = (
+  (λ nine. elim h.0 [
+    | inl named ↦ absurd (config_not_long old.file config_name config file.now known named h.1)
+    | inr of_script ↦ long_is (old.file script_name) bytes told (subst (λ (l : List ℕ). TellsFile (old.file l) IsLong) of_script.0 h.1)
+  ]),
+  (λ long. refl),
+)
 script_long (Unread file) script_name config_name old new after config bytes h known told a b = absurd (a refl)
 script_long OutOfMemory script_name config_name old new after config bytes h known told a b = absurd (b refl)
 script_long BadWords script_name config_name old new after config bytes h known told a b = absurd h

@@ -34,7 +34,7 @@ pub fn play<'w, R: Wait, F: Folder, A: Link, K: Sink>(
         (outside_of F.tells F.faults K.written K.faults folder.new out.new)
         (wire_of A.told A.faults A.opened_with lab.old)
         (wire_of A.told A.faults A.opened_with lab.new) }
-    ensures before_link { IsBeforeLink result → lab.new ≡ lab.old }
+    ensures unlinked { IsBeforeLink result → lab.new ≡ lab.old }
     ensures silent { ¬ IsDone result → ¬ IsUnwritten result → out.new ≡ out.old }
 {
     let text = match report_of(rt, alloc, script, config, folder, lab) {
@@ -63,7 +63,7 @@ fn report_of<'w, R: Wait, F: Folder, A: Link>(
         (result ≡ Err Status.Unopened)
         (wire_of A.told A.faults A.opened_with lab.old)
         (wire_of A.told A.faults A.opened_with lab.new) }
-    ensures before_link { IfErr result (λ status. IsBeforeLink status → lab.new ≡ lab.old) }
+    ensures unlinked { IfErr result (λ status. IsBeforeLink status → lab.new ≡ lab.old) }
     ensures unread { IfErr result (λ status. IsUnread status
         → Rose (F.faults folder.old) (F.faults folder.new)) }
     ensures folder { KeepsFolder F.tells F.faults folder.old folder.new }

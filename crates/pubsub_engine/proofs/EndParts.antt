@@ -1,8 +1,7 @@
 -- What the parts of a session tell when it is closed.
-use Rattle.std.proofs.Common.{◌≡◌, ◌≢◌, refl, sym, ap, ◌∙◌, subst, arith, ℕ, zero, suc, ◌+◌, ◌<◌, List, [], ◌∷◌, ◌++◌, length, get_or, Option, Some, None}
-use Rattle.std.specs.Prelude.{map, IfSome, IsSomeAnd, option_map, option_and_then, slice_index}
-use Rattle.std.specs.List.{range_with_len}
-use Rattle.std.proofs.lemmas.List.{length-map, get_or-map}
+use Rattle.std.proofs.Common.{◌≡◌, refl, sym, ap, ◌∙◌, subst, arith, ℕ, zero, suc, ◌<◌, List, [], ◌∷◌, length, get_or, Option, Some, None}
+use Rattle.std.specs.Prelude.{IfSome, IsSomeAnd, option_map, option_and_then, slice_index}
+use Rattle.std.proofs.lemmas.List.{length-map}
 use Rattle.dataset_meta.specs.DataValues.{DataValue}
 use Rattle.row_words.specs.Belonging.{row_in}
 use Rattle.pubsub_model.specs.Answers.{version_of}
@@ -36,9 +35,9 @@ use Rattle.pubsub_states.specs.Components.{Counts, IsAmong, counts_of}
 use Rattle.pubsub_states.specs.States.{state_of, state_under}
 use Rattle.reader_group.specs.declared.group.ReaderGroup.{ReaderGroup}
 use Rattle.reader_group.specs.Groups.{IsKeptAt, IsMadeAt, Stands as ReadingStands}
-use Rattle.reader_group.specs.Members.{MemberValue, Seat, no_seat, seat_at}
+use Rattle.reader_group.specs.Members.{MemberValue, seat_at}
 use Rattle.reader_group.specs.Numbered.{HasItsNumber, HaveTheirNumbers}
-use Rattle.reader_group.specs.Plain.{Event, Setting, member_at, plain}
+use Rattle.reader_group.specs.Plain.{Event, Setting, plain}
 use Rattle.reader_group.specs.Settings.{group_at as read_group_at, seat_in, setting_of}
 use Rattle.writer_group.specs.declared.group.Group.{Group as WriterGroup}
 use Rattle.writer_group.specs.Parts.{group_at}
@@ -48,7 +47,7 @@ use Rattle.session_model.specs.Sets.{metas_at}
 use Rattle.session_model.specs.Deeds.{deeds, group_past}
 use Rattle.session_model.specs.Events.{events, reader_at}
 use Rattle.session_model.specs.States.{flags_at}
-use Rattle.session_model.specs.Closing.{IsReaderEnd, IsWriterEnd, Shows, group_end, read_group_end}
+use Rattle.session_model.specs.Closing.{IsWriterEnd, Shows, group_end, read_group_end}
 use Rattle.session_parts.specs.declared.publisher.Publisher.{Publisher}
 use Rattle.session_parts.specs.declared.sends.GroupSends.{GroupSends}
 use Rattle.session_parts.specs.declared.subscriber.Subscriber.{Subscriber}

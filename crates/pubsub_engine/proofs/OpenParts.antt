@@ -1,6 +1,6 @@
 -- A new session: what its parts are when they are made, and that it may be called and stands where no step was.
 use Rattle.std.proofs.Common.{◌≡◌, refl, sym, ap, ◌∙◌, subst, arith, ℕ, zero, suc, ◌+◌, ◌<◌, ◌≤◌, Bool, true, false, List, [], ◌∷◌, length, get_or, map, All}
-use Rattle.std.specs.Prelude.{◌||◌, Option, vec_len}
+use Rattle.std.specs.Prelude.{◌||◌, Option, replicate, vec_len}
 use Rattle.std.specs.List.{HoldsAt}
 use Rattle.std.proofs.lemmas.List.{get_or-map, length-map}
 use Rattle.std.proofs.lemmas.List.Elements.{length_all_zip}
@@ -22,6 +22,7 @@ use Rattle.version_cell.specs.Passes.{new_pass}
 use Rattle.version_cell.specs.Sets.{new_passes, no_cell, pass_at}
 use Rattle.writer_group.specs.Parts.{group_at}
 use Rattle.writer_group.specs.Standing.{IsGood}
+use Rattle.writer_group.specs.declared.sampled.Sampled.{Sampled}
 use Rattle.session_model.specs.Counts.{most_ticks}
 use Rattle.session_model.specs.Sets.{AreRowsOf}
 use Rattle.session_model.specs.States.{flags_at}
@@ -43,7 +44,7 @@ use Rattle.pubsub_engine.specs.declared.storing.Stores.{Stores}
 use Rattle.pubsub_engine.specs.declared.session.Left.{Left}
 use Rattle.pubsub_engine.specs.declared.session.Session.{Session}
 use Rattle.pubsub_engine.specs.Holding.{AreAppends, HoldSets, IsSession, full_of, plan_of}
-use Rattle.pubsub_engine.specs.Standing.{Stands}
+use Rattle.pubsub_engine.specs.Standing.{Stands, opening_sample, samples_of}
 use Rattle.pubsub_engine.specs.Storing.{meta_at_place}
 use Rattle.pubsub_engine.proofs.OpenSets.{full-metas, grow-full}
 use Rattle.pubsub_engine.proofs.Places.{within-all}
@@ -110,6 +111,14 @@ unseen-new cells author passes are k low =
     let count : length passes ≡ length cells = ap (λ (l : List Known). length l) are ∙ length-map cells (λ (cell : CellData). new_pass cell author) in
     ap (λ (l : List Known). (pass_at l k).seen) are
     ∙ ap (λ (p : Known). p.seen) (get_or-map (λ (cell : CellData). new_pass cell author) cells k no_cell nothing (omega (arith, low, count)))
+
+-- so their samples are the opening ones
+pub samples-new : (cells : List CellData) (author : Option ℕ) (n : ℕ) → length (new_passes cells author) ≡ n
+    → replicate n opening_sample ≡ samples_of (new_passes cells author)
+samples-new [] author zero count = refl
+samples-new [] author (suc n) count = absurd (omega (arith, count))
+samples-new (cell ∷ cells) author zero count = absurd (omega (arith, count))
+samples-new (cell ∷ cells) author (suc n) count = ap (λ (l : List Sampled). opening_sample ∷ l) (samples-new cells author n (omega (arith, count)))
 
 -- passes of cells of these metas
 pub count-passes : (cells : List CellData) (author : Option ℕ) (metas : List MetaData) → map (λ cell. cell.meta) cells ≡ metas → length (new_passes cells author) ≡ length metas

@@ -1,12 +1,10 @@
 -- Where a reader's last store comes from.
-use Rattle.std.proofs.Common.{◌≡◌, ◌≢◌, refl, sym, ap, ◌∙◌, subst, ℕ, Bool, true, false, List, [], ◌∷◌, length, map, reverse, slice_get, Option, Some, None, option_map, option_and_then}
+use Rattle.std.proofs.Common.{◌≡◌, ◌≢◌, refl, sym, ap, ◌∙◌, subst, ℕ, true, false, List, [], ◌∷◌, length, reverse, slice_get, Option, Some, None, option_map, option_and_then}
 use Rattle.std.proofs.lemmas.Bool.{false≢true}
 use Rattle.std.proofs.lemmas.List.{length-map, length-reverse}
 use Rattle.std.proofs.lemmas.Option.{slice_get-map}
-use Rattle.dataset_meta.specs.DataValues.{DataValue}
 use Rattle.dataset_meta.specs.Metas.{MetaData}
 use Rattle.pubsub_model.specs.Answers.{version_of as version_in}
-use Rattle.ps_config.specs.declared.parts.Config.{Config}
 use Rattle.ps_config.specs.declared.parts.ReadGroupPart.{ReadGroupPart}
 use Rattle.ps_config.specs.declared.parts.ReaderPart.{ReaderPart}
 use Rattle.ps_report.specs.Told.{grouped_readers}
@@ -62,7 +60,7 @@ no-version (Some n) = refl
 
 version-is : (p : Plan) (steps : List Step) (place : MemberPlace) (list : List Store) (meta : MetaData) (last : Last) (version : Option ℕ) → last.is_there ≡ true → IsLast list meta last
     → ((group_at p.config place.0).publisher ≡ p.config.publisher.id
-      → version ≡ option_and_then (version_in (log_named p steps (seat_at (setting_of p.config place.0).seats place.1).part.writer)) last.number)
+    → version ≡ option_and_then (version_in (log_named p steps (seat_at (setting_of p.config place.0).seats place.1).part.writer)) last.number)
     → ((group_at p.config place.0).publisher ≢ p.config.publisher.id → version ≡ None)
     → IsVersionStored p steps place list version
 version-is p steps place [] meta last version on is own other = absurd (false≢true (sym is ∙ on))

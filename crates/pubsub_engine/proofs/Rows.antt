@@ -1,9 +1,9 @@
 -- Equal words are no differences.
-use Rattle.std.proofs.Common.{◌≡◌, refl, sym, ap, ◌∙◌, subst, ℕ, ◌+◌, Bool, true, false, not, List, [], ◌∷◌, Decides}
+use Rattle.std.proofs.Common.{◌≡◌, refl, sym, ap, ◌∙◌, subst, ℕ, ◌+◌, Bool, true, not, List, [], ◌∷◌, Decides}
 use Rattle.std.proofs.lemmas.Bool.Decides.{same_from_decides}
 use Rattle.dataset_meta.specs.DataValues.{DataValue}
 use Rattle.dataset_meta.specs.Metas.{MetaData}
-use Rattle.dataset_meta.specs.Rows.{IsRow, cons_if, differs, differs_from, patched}
+use Rattle.dataset_meta.specs.Rows.{cons_if, differs, differs_from, patched}
 use Rattle.dataset_meta.proofs.RowLaws.{patched-differs}
 use Rattle.dataset_meta.proofs.SameLaws.{same_data_value-refl}
 use Rattle.row_words.specs.Belonging.{Belongs, row_in, spelled_row}

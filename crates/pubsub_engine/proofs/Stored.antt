@@ -20,8 +20,7 @@ use Rattle.reader_group.specs.Members.{Seat, no_seat, seat_at}
 use Rattle.reader_group.specs.Groups.{IsKeptAt, IsMadeAt, Stands as ReadingStands}
 use Rattle.reader_group.specs.Plain.{Event, plain}
 use Rattle.reader_group.specs.Settings.{group_at, seat_in, setting_of}
-use Rattle.row_words.specs.declared.row.Row.{Row}
-use Rattle.row_words.specs.Belonging.{Belongs, row_in}
+use Rattle.row_words.specs.Belonging.{row_in}
 use Rattle.target_cells.specs.Keeping.{TargetsData, metas_of}
 use Rattle.version_cell.specs.declared.rule.Entry.{Entry}
 use Rattle.version_cell.specs.Histories.{entry}
@@ -221,8 +220,8 @@ pub placed-on : (config : Config) (cells : List CellData) (groups : List ReaderG
     → r < length config.readgroup → i < length (group_at config r).reader
     → group ≡ get_or groups r group → part ≡ get_or (group_at config r).reader i part → IsKeptAt group i reader
     → ((list : List Store) → IsStoredAs (cell_at cells (first + i)).meta list old (first + i)
-      → IsStoredAs (cell_at cells (first + i)).meta
-        (stored_on part.numbering list (held_in (kept_by (cell_at cells (first + i)).meta.fields reader))) new (first + i))
+    → IsStoredAs (cell_at cells (first + i)).meta
+    (stored_on part.numbering list (held_in (kept_by (cell_at cells (first + i)).meta.fields reader))) new (first + i))
     → IsStoredOn config groups (r, i) old new (first + i)
 placed-on config cells groups group reader part first r i old new is_first metas there within at_r at_i kept stores befell list read is =
     subst (λ (after : List Store). IsStoredAs meta after new k) now

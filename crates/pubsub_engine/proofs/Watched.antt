@@ -1,8 +1,8 @@
 -- The looks of all threads, in order.
 use Rattle.std.proofs.Common.{◌≡◌, refl, sym, ap, ◌∙◌, subst, arith, ℕ, zero, suc, ◌+◌, ◌<◌, ◌≤◌, List, [], ◌∷◌, ◌++◌, length, get_or, map, take}
-use Rattle.std.specs.Prelude.{flat_map, All}
+use Rattle.std.specs.Prelude.{All}
 use Rattle.std.specs.List.Sorted.{IsNonDecreasing}
-use Rattle.std.proofs.lemmas.List.{map-append, take_more, append-nil}
+use Rattle.std.proofs.lemmas.List.{take_more, append-nil}
 use Rattle.std.proofs.lemmas.List.Concat.{flat_map-append}
 use Rattle.std.proofs.lemmas.List.Elements.{All-nil, All-cons, All-head, All-tail, All-append, All-map, All-weaker}
 use Rattle.ps_report.specs.declared.closed.WatchEnd.{WatchEnd}
@@ -57,9 +57,10 @@ rising-block : (thread : ℕ) (looks : List Looked) (rest : List WatchEnd) → A
     → All (λ y. thread ≤ y) (threads_in (map (watch_of thread) looks ++ rest)) × IsNonDecreasing (threads_in (map (watch_of thread) looks ++ rest))
 rising-block thread [] rest least rising = (least, rising)
 rising-block thread (look ∷ looks) rest least rising =
-    let more = rising-block thread looks rest least rising in
-    (All-cons (λ y. thread ≤ y) thread (threads_in (map (watch_of thread) looks ++ rest)) (omega arith) more.0,
-    rising-cons thread (threads_in (map (watch_of thread) looks ++ rest)) more.0 more.1)
+    let more = rising-block thread looks rest least rising in (
+      All-cons (λ y. thread ≤ y) thread (threads_in (map (watch_of thread) looks ++ rest)) (omega arith) more.0,
+      rising-cons thread (threads_in (map (watch_of thread) looks ++ rest)) more.0 more.1,
+    )
 
 rising-from : (a : ℕ) (dones : List Done) → AreFrom a dones → All (λ y. a ≤ y) (threads_in (watches_of dones)) × IsNonDecreasing (threads_in (watches_of dones))
 rising-from a [] from = (All-nil (λ y. a ≤ y), λ i j d le low. absurd (omega (arith, low)))

@@ -1,18 +1,17 @@
 -- A closed session as a whole, out of what its parts tell.
-use Rattle.std.proofs.Common.{◌≡◌, ◌≢◌, refl, sym, ap, ◌∙◌, subst, arith, ℕ, ◌<◌, ◌≤◌, Bool, true, false, cond, List, [], ◌∷◌, length, get_or, Option, Some, None}
-use Rattle.std.specs.Prelude.{◌==◌, map, flat_map, find, zip, All, IfSome, slice_get, option_and_then}
+use Rattle.std.proofs.Common.{◌≡◌, refl, sym, ap, ◌∙◌, subst, arith, ℕ, ◌<◌, ◌≤◌, Bool, true, false, cond, List, [], ◌∷◌, length, get_or, Option, Some, None}
+use Rattle.std.specs.Prelude.{◌==◌, map, find, zip, All, IfSome, slice_get, option_and_then}
 use Rattle.std.specs.List.{AllZip}
 use Rattle.std.specs.List.Sorted.{IsNonDecreasing}
 use Rattle.std.specs.Option.{option_map_or}
-use Rattle.std.proofs.lemmas.List.{get_or-map, length-map, map-id}
+use Rattle.std.proofs.lemmas.List.{get_or-map}
 use Rattle.std.proofs.lemmas.List.Elements.{All-get_or, length_all_zip}
 use Rattle.std.proofs.lemmas.List.FromFn.{length-map-range_with_len}
-use Rattle.std.proofs.lemmas.Option.{slice_get-get_or, slice_get-map}
+use Rattle.std.proofs.lemmas.Option.{slice_get-get_or}
 use Rattle.pubsub_model.specs.Answers.{version_of}
 use Rattle.dataset_meta.specs.Metas.{HasGrown, MetaData, no_meta}
 use Rattle.row_words.specs.Belonging.{Belongs}
 use Rattle.ps_config.specs.declared.parts.Config.{Config}
-use Rattle.ps_config.specs.declared.parts.GroupPart.{GroupPart}
 use Rattle.ps_config.specs.declared.parts.ReadGroupPart.{ReadGroupPart}
 use Rattle.ps_config.specs.declared.parts.ReaderPart.{ReaderPart}
 use Rattle.ps_config.specs.declared.parts.WriterPart.{WriterPart}
@@ -27,8 +26,6 @@ use Rattle.ps_report.specs.Conditions.{BelongsTo, HoldRows, IsClosedOf, HoldsRow
 use Rattle.ps_report.specs.Told.{TellsHeld, TellsReader, grouped_readers, log_of}
 use Rattle.reader_group.specs.Members.{Seat, no_seat, seat_at}
 use Rattle.reader_group.specs.Settings.{group_at as read_group_at, no_group as no_read_group, seat_in, setting_of}
-use Rattle.writer_group.specs.Parts.{no_group}
-use Rattle.writer_group.specs.Payloads.{no_writer}
 use Rattle.session_model.specs.Steps.{Plan, Step}
 use Rattle.session_model.specs.Deeds.{group_indexes, log_at}
 use Rattle.session_model.specs.Events.{read_group_indexes}

@@ -1,13 +1,10 @@
 -- What holds of a session between its calls, whatever it lived through: the conditions of the calls below.
 use Rattle.std.specs.Prelude.{◌≡◌, ◌⊎◌, ⊤, ℕ, ◌+◌, ◌*◌, ◌^◌, ◌<◌, ◌≤◌, Bool, true, false, List, [], ◌∷◌, length, map, drop, slice_set, vec_len, All}
-use Rattle.std.specs.List.{AllZip}
 use Rattle.dataset_meta.specs.declared.field.Field.{Field}
 use Rattle.dataset_meta.specs.Metas.{MetaData, grown}
-use Rattle.row_words.specs.Belonging.{Belongs}
 use Rattle.ps_config.specs.declared.parts.Config.{Config}
 use Rattle.ps_config.specs.Rooms.{is_fixed}
 use Rattle.ps_config.specs.Sound.{readers}
-use Rattle.ps_config.specs.Types.{HasTypes}
 use Rattle.pubsub_states.specs.Components.{counts_of}
 use Rattle.target_cells.specs.Keeping.{TargetsData, metas_of}
 use Rattle.version_cell.specs.Known.{Known}

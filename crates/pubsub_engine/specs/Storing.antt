@@ -1,5 +1,5 @@
 -- Stores of what readers hold, whatever befell their read groups.
-use Rattle.std.specs.Prelude.{◌≡◌, ◌⊎◌, ℕ, ◌+◌, ◌<◌, ◌≤◌, true, false, List, [], ◌∷◌, length, map, flat_map, take, reverse, slice_get, slice_index_or, Some, Option, option_map}
+use Rattle.std.specs.Prelude.{◌≡◌, ◌⊎◌, ℕ, ◌<◌, ◌≤◌, true, false, List, [], ◌∷◌, length, map, flat_map, take, reverse, slice_get, slice_index_or, Some, Option, option_map}
 use Rattle.std.specs.List.{HoldsAt}
 use Rattle.dataset_meta.specs.Metas.{MetaData}
 use Rattle.dataset_reader.specs.Kept.{Kept}

@@ -91,7 +91,12 @@ fn push_writer_ends(
         → AllZip (IsWriterEnd p steps) places ends.old.items
         → AllZip (IsWriterEnd p steps) (places ++ places_of_group p.config group) ends.new.items) }
 {
-    for w in 0..group_part(config, usize::from(group)).writer.as_slice().len() {
+    for w in 0
+        ..group_part(config, usize::from(group))
+            .writer
+            .as_slice()
+            .len()
+    {
         ends.push(writer_end(alloc, config, tree, publisher, group, w as u8)?)?;
     }
     Ok(())

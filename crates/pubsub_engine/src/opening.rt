@@ -11,7 +11,7 @@ ghost use Rattle.writer_group.specs.Standing.{IsGood};
 ghost use Rattle.session_model.specs.Counts.{most_ticks};
 ghost use Rattle.session_model.specs.Keeping.{IsPlan};
 ghost use Rattle.pubsub_engine.specs.Holding.{AreAppends, AreTargetsOf, IsBankOf, IsSession, appends_left, full_of, keeper_of, left_of, opening_left, passes_of, plan_of};
-ghost use Rattle.pubsub_engine.specs.Standing.{Stands};
+ghost use Rattle.pubsub_engine.specs.Standing.{Stands, sampled_by, samples_of};
 
 use crate::sampling::Samples;
 use crate::session::{Left, Session};
@@ -67,6 +67,8 @@ impl<'c> Session<'c> {
         ensures quotas { IfOk result
             (λ o. map (λ cell. cell.quotas) o.bank ≡ size.now.writes.items) }
         ensures passes { IfOk result (λ o. passes_of o.session ≡ new_passes o.bank None) }
+        ensures sampled { IfOk result
+            (λ o. sampled_by o.session ≡ samples_of (passes_of o.session)) }
         ensures hands { IfOk result (λ o. AreHands o.bank o.hands.items) }
         ensures targets { IfOk result (λ o. AreTargetsOf o.session o.targets) }
         ensures kept { IfOk result (λ o. AreKept o.targets) }

@@ -1,7 +1,7 @@
 -- A played script behind its closing tick, when its session is closed.
-use Rattle.std.proofs.Common.{◌≡◌, ℕ, zero, suc, ◌+◌, ◌<◌, ◌≤◌, ◌==◌, Bool, true, false, ◌&&◌, cond, List, [], ◌∷◌, ◌++◌, length, map, reverse, get_or, refl, sym, ap, ◌∙◌, subst, arith, Option, Some, None}
-use Rattle.std.specs.Prelude.{All, count_by, slice_get, sum, sum_by, option_map}
-use Rattle.std.specs.List.{HoldsAt, filter, flat_map, range_with_len}
+use Rattle.std.proofs.Common.{◌≡◌, ℕ, zero, suc, ◌+◌, ◌<◌, ◌≤◌, ◌==◌, Bool, true, false, ◌&&◌, cond, List, [], ◌∷◌, ◌++◌, length, map, reverse, get_or, refl, sym, ap, ◌∙◌, subst, arith, Option, Some}
+use Rattle.std.specs.Prelude.{All, slice_get, sum, sum_by, option_map}
+use Rattle.std.specs.List.{filter, flat_map, range_with_len}
 use Rattle.std.proofs.lemmas.List.{length-map, length_push}
 use Rattle.std.proofs.lemmas.List.Elements.{All-filter, All-map}
 use Rattle.std.proofs.lemmas.List.FromFn.{fill_by_all, get_or-map-range_with_len, get_or-range_with_len, length-range_with_len}
@@ -12,11 +12,9 @@ use Rattle.dataset_meta.specs.Metas.{MetaData}
 use Rattle.dataset_meta.specs.DataValues.{DataValue}
 use Rattle.row_words.specs.Patches.{patched_words}
 use Rattle.ua_base.specs.Journal.{Entry as LinkEntry, LinkState}
-use Rattle.pubsub_model.specs.History.{places}
 use Rattle.version_cell.specs.declared.rule.Entry.{Entry}
 use Rattle.version_cell.specs.Cells.{CellData}
 use Rattle.version_cell.specs.Histories.{StartsWith, entry, row_after}
-use Rattle.version_cell.specs.Known.{Known}
 use Rattle.version_cell.proofs.Models.{version_bound}
 use Rattle.version_cell.specs.Sets.{cell_at, no_cell, pass_at}
 use Rattle.ps_config.specs.declared.parts.Config.{Config}
@@ -41,16 +39,14 @@ use Rattle.session_laws.specs.Telling.{HasRun, TellsHeadline}
 use Rattle.app_threads.specs.declared.done.Done.{Done}
 use Rattle.app_threads.specs.declared.done.Looked.{Looked}
 use Rattle.app_threads.specs.Items.{versions_in}
-use Rattle.app_threads.specs.Marks.{authors}
 use Rattle.pubsub_engine.specs.Authored.{AreInOrder, AreLooksAt, IsAuthored, watch_of, watches_of}
-use Rattle.pubsub_engine.specs.Holding.{passes_of, plan_of}
+use Rattle.pubsub_engine.specs.Holding.{passes_of}
 use Rattle.pubsub_engine.specs.Standing.{Stands, samples_of}
 use Rattle.script_player.specs.declared.hand.Hand.{Hand}
 use Rattle.script_player.specs.declared.player.Player.{Player}
-use Rattle.script_player.specs.Playing.{IsTickedBy, log_after, samples_after, with_write}
+use Rattle.script_player.specs.Playing.{IsTickedBy, log_after, with_write}
 use Rattle.script_player.specs.Plays.{IsPlayOf, by_threads, plan_by, row_written, writers_in}
-use Rattle.script_player.specs.Player.{AreDonesOf, Closes, HasPlayed, IsExact, IsFlush, IsPlayer, config_of, looks_at, versions_at}
-use Rattle.script_player.specs.Sizes.{quotas_by}
+use Rattle.script_player.specs.Player.{AreDonesOf, Closes, HasPlayed, IsExact, IsPlayer, config_of, looks_at, versions_at}
 use Rattle.script_player.proofs.Exact.{samples_exact, shorter, whole}
 use Rattle.script_player.proofs.Hands.{config_is, count_cells}
 use Rattle.script_player.proofs.Headline.{HistoriesHaveRows, headline}

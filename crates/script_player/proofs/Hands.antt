@@ -1,5 +1,5 @@
 -- A player's hands and cells by their indexes.
-use Rattle.std.proofs.Common.{◌≡◌, ◌≢◌, ℕ, ◌<◌, List, length, map, get_or, set, refl, sym, ap, ◌∙◌, subst, arith, get_or-set_same, get_or-set_other, length-set}
+use Rattle.std.proofs.Common.{◌≡◌, ◌≢◌, ℕ, ◌<◌, List, length, map, get_or, set, sym, ap, ◌∙◌, arith, get_or-set_same, get_or-set_other, length-set}
 use Rattle.std.proofs.lemmas.List.{length-map, get_or-map, map-set}
 use lib.ListN.{get_or-map as get_or-mapped}
 use Rattle.dataset_meta.specs.Metas.{MetaData}
@@ -9,7 +9,6 @@ use Rattle.ps_config.specs.declared.parts.Config.{Config}
 use Rattle.ps_script.specs.declared.script.Script.{Script}
 use Rattle.session_model.specs.Steps.{Plan, Step}
 use Rattle.session_model.specs.Sets.{meta_in}
-use Rattle.pubsub_engine.specs.Holding.{plan_of}
 use Rattle.pubsub_engine.specs.Standing.{Stands}
 use Rattle.script_player.specs.declared.hand.Hand.{Hand}
 use Rattle.script_player.specs.declared.player.Player.{Player}

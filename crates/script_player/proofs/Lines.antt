@@ -1,22 +1,20 @@
 -- What one more line, or one more entry, adds to what is made of lists of them.
-use Rattle.std.proofs.Common.{◌≡◌, ◌≢◌, ◌⊎◌, ℕ, zero, suc, ◌+◌, ◌<◌, ◌≤◌, Bool, true, false, eqb, cond, not, ◌&&◌, ◌||◌, List, [], ◌∷◌, ◌++◌, length, map, reverse, take, get_or, refl, sym, ap, ◌∙◌, subst, arith, length-append, append_assoc, eq-eqb, ne_eqb, Option, Some, None}
-use Rattle.std.specs.Prelude.{count_by, slice_get}
-use Rattle.std.specs.List.{flat_map, filter, fold}
-use Rattle.std.proofs.lemmas.List.{append-nil, map-append, reverse-append, reverse-reverse, length-map, nil_from_length}
+use Rattle.std.proofs.Common.{◌≡◌, ◌≢◌, ℕ, ◌+◌, Bool, true, false, eqb, cond, not, ◌&&◌, ◌||◌, List, [], ◌∷◌, ◌++◌, length, reverse, refl, sym, ap, ◌∙◌, arith, eq-eqb, ne_eqb}
+use Rattle.std.specs.Prelude.{count_by}
+use Rattle.std.proofs.lemmas.List.{append-nil, map-append, reverse-append, length-map}
 use Rattle.std.proofs.lemmas.List.Concat.{flat_map-append}
 use Rattle.std.proofs.lemmas.List.Sums.{sum_by-cons, sum_by-append, fold_push}
-use native.Mathlib.Decide.{ℕ_discrete}
 use Rattle.dataset_meta.specs.Metas.{MetaData}
 use Rattle.row_words.specs.declared.patch.Patch.{Patch}
 use Rattle.row_words.specs.Patches.{patched_words}
 use Rattle.pubsub_model.specs.History.{places}
 use Rattle.version_cell.specs.declared.rule.Entry.{Entry}
-use Rattle.version_cell.specs.Histories.{StartsWith, entry, row_after}
+use Rattle.version_cell.specs.Histories.{entry, row_after}
 use Rattle.ps_script.specs.declared.script.Act.{Act}
 use Rattle.ps_script.specs.declared.script.Act.TheVariants as act
 use Rattle.ps_script.specs.declared.script.Line.{Line}
 use Rattle.ps_script.specs.Sessions.{enabled_by, is_enabled}
-use Rattle.pubsub_states.specs.Changes.{Change, Enable as SwitchedOn, Disable as SwitchedOff, is_enabled as is_enabled_after}
+use Rattle.pubsub_states.specs.Changes.{Change, is_enabled as is_enabled_after}
 use Rattle.app_threads.specs.Items.{versions_in}
 use Rattle.app_threads.specs.Marks.{authors}
 use Rattle.script_player.specs.Playing.{log_after}

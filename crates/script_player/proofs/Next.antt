@@ -1,22 +1,20 @@
 -- The next line of a script: it may be played, and then it has been.
-use Rattle.std.proofs.Common.{◌≡◌, ◌≢◌, ℕ, zero, suc, ◌+◌, ◌<◌, ◌≤◌, Bool, true, false, eqb, cond, ◌&&◌, List, [], ◌∷◌, ◌++◌, length, map, reverse, take, drop, get_or, refl, sym, ap, ◌∙◌, subst, arith, length-append, append_assoc, take-append-drop, eq-eqb, Option, Some, None}
-use Rattle.std.specs.Prelude.{slice_get, slice_index, unwrap_or}
+use Rattle.std.proofs.Common.{◌≡◌, ℕ, ◌+◌, ◌<◌, ◌≤◌, Bool, true, false, eqb, cond, ◌&&◌, List, [], ◌∷◌, ◌++◌, length, map, reverse, take, drop, get_or, refl, sym, ap, ◌∙◌, subst, arith, append_assoc, take-append-drop, eq-eqb, Option, Some}
+use Rattle.std.specs.Prelude.{slice_index}
 use Rattle.std.specs.List.{range_with_len}
 use Rattle.std.proofs.lemmas.Bool.{false≢true}
 use Rattle.std.proofs.lemmas.List.{append-nil, append_cancel_left, drop_more, get_or-map, get_or_append_left, length-map, reverse-append, reverse-reverse, take_all, take_more}
 use Rattle.std.proofs.lemmas.List.FromFn.{get_or-map-range_with_len}
 use Rattle.std.proofs.lemmas.Option.{same_Some, slice_get-get_or, unwrap_or-slice_get}
 use lib.ListN.{get_or-map as get_or-mapped}
-use Rattle.dataset_meta.specs.declared.field.Field.{Field}
 use Rattle.dataset_meta.specs.Metas.{MetaData, no_meta}
-use Rattle.row_words.specs.declared.patch.Patch.{Patch}
 use Rattle.row_words.specs.Patches.{IsPatchOf}
 use Rattle.row_words.specs.Shapes.{shape_of}
 use Rattle.ua_base.specs.Journal.{LinkState}
 use Rattle.version_cell.specs.Histories.{own}
 use Rattle.version_cell.specs.Known.{Known}
-use Rattle.version_cell.specs.Cells.{CellData, IsCell, terms_of}
-use Rattle.version_cell.specs.Passes.{HasLeft, IsPassOf}
+use Rattle.version_cell.specs.Cells.{CellData, IsCell}
+use Rattle.version_cell.specs.Passes.{IsPassOf}
 use Rattle.version_cell.specs.Sets.{cell_at, no_cell, pass_at}
 use Rattle.version_cell.specs.Terms.{quota}
 use Rattle.ps_config.specs.declared.parts.Config.{Config}
@@ -30,23 +28,21 @@ use Rattle.ps_script.specs.Sound.{IsAct, IsScript}
 use Rattle.pubsub_states.specs.declared.component.Component.{Component}
 use Rattle.pubsub_states.specs.declared.component.Component.TheVariants.{Root}
 use Rattle.pubsub_states.specs.Changes.{Change, is_enabled as is_enabled_after}
-use Rattle.pubsub_states.specs.Components.{Counts, IsId, components, counts_of, id_of}
+use Rattle.pubsub_states.specs.Components.{IsId, components, counts_of, id_of}
 use Rattle.pubsub_states.specs.Names.{name_of}
 use Rattle.pubsub_states.proofs.NamesInOrder.{names_in_order}
 use Rattle.pubsub_states.proofs.Places.{placed}
-use Rattle.session_model.specs.Steps.{Plan, Step, Enable, Disable, Append, is_on, switches_in}
+use Rattle.session_model.specs.Steps.{Step, Enable, Disable, Append, is_on, switches_in}
 use Rattle.session_model.specs.Deeds.{component_at}
 use Rattle.session_model.specs.Sends.{TellsRun}
-use Rattle.session_model.specs.Sets.{meta_in}
-use Rattle.pubsub_engine.specs.declared.session.Session.{Session}
 use Rattle.pubsub_engine.specs.Holding.{appends_left}
 use Rattle.pubsub_engine.specs.Standing.{Stands}
 use Rattle.script_player.specs.declared.hand.Hand.{Hand}
 use Rattle.script_player.specs.declared.player.Player.{Player}
 use Rattle.script_player.specs.Plays.{plan_by}
 use Rattle.script_player.specs.Playing.{IsLineBy, log_after, with_write}
-use Rattle.script_player.specs.Player.{Appends, Does, HasPlayed, IsPlayer, MayDo, Switches, config_of, made_at, switches_by, with_switch}
-use Rattle.script_player.specs.Sizes.{appended_by, appended_sets, quotas_by}
+use Rattle.script_player.specs.Player.{Does, HasPlayed, IsPlayer, MayDo, Switches, with_switch}
+use Rattle.script_player.specs.Sizes.{appended_by, appended_sets}
 use Rattle.script_player.proofs.Lines.{appended-append, count_by-append, count_by-cons, count_by-reverse, enabled_behind}
 use Rattle.script_player.proofs.Hands.{cell_meta, config_is, count_cells}
 use Rattle.script_player.proofs.Stored.{stored_is}
@@ -122,21 +118,21 @@ module _ (config : Config) (script : Script) (lines : List Line) (told : Option 
           there = here;
           of = subst (λ (meta : MetaData). IsPatchOf meta patch) (sym (cell_meta config script h.steps player is h.stands set)) (w.of no_meta);
           left = λ d t author.
-          (let hand = is.hands thread w.bound d in
-          let same : t ≡ thread = same_Some t thread (sym author ∙ hand.author set here) in
-          let e = count_cells config script h.steps player is h.stands in
-          let s = scripts.sets in
-          let q = quota_is thread set (pass_at (get_or player.hands.items thread d).passes set) w.bound here (hand.own.each set here) (is.cells set no_cell here) (omega arith) in
-          let made : length (own thread (pass_at (get_or player.hands.items thread d).passes set).seen) ≡ writes_in thread set lines =
-          ap (λ (l : List Known). length (own thread (pass_at l set).seen)) (sym (get_or-map (λ (x : Hand). x.passes) player.hands.items thread d [] (let n = is.eight in let b = w.bound in omega arith))) ∙ h.made thread set w.bound here in
-          let test : Line → Bool = λ l. is_write thread set l.act in
-          let line : Line = record { at = at; act = act.Write thread set patch } in
-          let all : writes_in thread set script.lines ≡ writes_in thread set (reverse lines ++ line ∷ next.rest) = ap (writes_in thread set) next.split in
-          let hit : test line ≡ true = ap (λ (b : Bool). b && eqb set set) (eq-eqb thread thread refl) ∙ eq-eqb set set refl in
-          let one : cond (test line) 1 0 ≡ 1 = ap {B = ℕ} (λ (b : Bool). cond b 1 0) hit in
-          let less : length (own thread (pass_at (get_or player.hands.items thread d).passes set).seen) < quota thread (pass_at (get_or player.hands.items thread d).passes set).terms =
-          omega (arith, made, q, all, one, count_by-append test (reverse lines) (line ∷ next.rest), count_by-reverse test lines, count_by-cons test line next.rest) in
-          subst (λ (u : ℕ). length (own u (pass_at (get_or player.hands.items thread d).passes set).seen) < quota u (pass_at (get_or player.hands.items thread d).passes set).terms) (sym same) less);
+              (let hand = is.hands thread w.bound d in
+              let same : t ≡ thread = same_Some t thread (sym author ∙ hand.author set here) in
+              let e = count_cells config script h.steps player is h.stands in
+              let s = scripts.sets in
+              let q = quota_is thread set (pass_at (get_or player.hands.items thread d).passes set) w.bound here (hand.own.each set here) (is.cells set no_cell here) (omega arith) in
+              let made : length (own thread (pass_at (get_or player.hands.items thread d).passes set).seen) ≡ writes_in thread set lines =
+              ap (λ (l : List Known). length (own thread (pass_at l set).seen)) (sym (get_or-map (λ (x : Hand). x.passes) player.hands.items thread d [] (let n = is.eight in let b = w.bound in omega arith))) ∙ h.made thread set w.bound here in
+              let test : Line → Bool = λ l. is_write thread set l.act in
+              let line : Line = record { at = at; act = act.Write thread set patch } in
+              let all : writes_in thread set script.lines ≡ writes_in thread set (reverse lines ++ line ∷ next.rest) = ap (writes_in thread set) next.split in
+              let hit : test line ≡ true = ap (λ (b : Bool). b && eqb set set) (eq-eqb thread thread refl) ∙ eq-eqb set set refl in
+              let one : cond (test line) 1 0 ≡ 1 = ap {B = ℕ} (λ (b : Bool). cond b 1 0) hit in
+              let less : length (own thread (pass_at (get_or player.hands.items thread d).passes set).seen) < quota thread (pass_at (get_or player.hands.items thread d).passes set).terms =
+              omega (arith, made, q, all, one, count_by-append test (reverse lines) (line ∷ next.rest), count_by-reverse test lines, count_by-cons test line next.rest) in
+              subst (λ (u : ℕ). length (own u (pass_at (get_or player.hands.items thread d).passes set).seen) < quota u (pass_at (get_or player.hands.items thread d).passes set).terms) (sym same) less);
         }
     may_do (act.Tick ms) next =
         let test : Line → Bool = λ l. is_tick l.act in

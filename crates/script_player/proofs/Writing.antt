@@ -1,57 +1,37 @@
 -- A line that writes.
-use Rattle.std.proofs.Common.{◌≡◌, ◌≢◌, ℕ, zero, suc, ◌+◌, ◌<◌, ◌≤◌, Bool, true, false, eqb, cond, ◌&&◌, List, [], ◌∷◌, ◌++◌, length, map, replicate, reverse, get_or, set, refl, sym, ap, ◌∙◌, subst, arith, length-append, append_assoc, eq-eqb, ne_eqb, Option, Some, None}
-use Rattle.std.specs.Prelude.{All, count_by, slice_get}
-use Rattle.std.specs.List.{HoldsAt, filter, flat_map, range_with_len}
-use Rattle.std.specs.Option.{option_map_or}
-use Rattle.std.proofs.lemmas.List.{append-nil, length-map, map-append, nil_from_length, length_push}
-use Rattle.std.proofs.lemmas.List.Elements.{All-push, filter-append}
-use Rattle.std.proofs.lemmas.List.FromFn.{fill_by_all, length-range_with_len}
-use Rattle.std.proofs.lemmas.Option.{same_Some, slice_get-get_or}
+use Rattle.std.proofs.Common.{◌≡◌, ◌≢◌, ℕ, ◌+◌, ◌<◌, ◌≤◌, Bool, true, false, eqb, ◌&&◌, List, [], ◌∷◌, ◌++◌, length, map, reverse, refl, sym, ap, ◌∙◌, subst, arith, eq-eqb, ne_eqb, Option, Some}
+use Rattle.std.proofs.lemmas.List.{append-nil, length_push}
+use Rattle.std.proofs.lemmas.Option.{same_Some}
 use native.Mathlib.Decide.{ℕ_discrete}
-use lib.ListN.{get_or-map as get_or-mapped}
-use Rattle.dataset_meta.specs.declared.field.Field.{Field}
 use Rattle.dataset_meta.specs.Metas.{MetaData}
 use Rattle.row_words.specs.declared.patch.Patch.{Patch}
-use Rattle.row_words.specs.Belonging.{row_in}
 use Rattle.row_words.specs.Patches.{patched_words}
-use Rattle.ua_base.specs.Journal.{Entry as LinkEntry, LinkState}
+use Rattle.ua_base.specs.Journal.{LinkState}
 use Rattle.pubsub_model.specs.History.{places}
 use Rattle.version_cell.specs.declared.rule.Entry.{Entry}
-use Rattle.version_cell.specs.Histories.{StartsWith, entry, own, row_after}
-use Rattle.version_cell.specs.Known.{Known, nothing}
+use Rattle.version_cell.specs.Histories.{entry, own, row_after}
+use Rattle.version_cell.specs.Known.{Known}
 use Rattle.version_cell.specs.Sets.{cell_at, pass_at}
 use Rattle.ps_config.specs.declared.parts.Config.{Config}
-use Rattle.ps_config.specs.declared.parts.ReadGroupPart.{ReadGroupPart}
-use Rattle.ps_config.specs.Sound.{readers}
-use Rattle.ps_report.specs.declared.closed.WatchEnd.{WatchEnd}
-use Rattle.ps_script.specs.declared.script.Act.{Act}
 use Rattle.ps_script.specs.declared.script.Act.TheVariants as act
 use Rattle.ps_script.specs.declared.script.Line.{Line}
 use Rattle.ps_script.specs.declared.script.Script.{Script}
-use Rattle.ps_script.specs.Sessions.{is_tick, is_write, ticks_in, writes_in}
-use Rattle.pubsub_states.specs.Changes.{Change}
-use Rattle.writer_group.specs.declared.sampled.Sampled.{Sampled}
-use Rattle.session_model.specs.Steps.{Plan, Step, Enable, Disable, Append, Tick, Pump, switches_in}
-use Rattle.session_model.specs.Sends.{TellsRun}
+use Rattle.ps_script.specs.Sessions.{is_tick, is_write, writes_in}
 use Rattle.session_model.specs.Sets.{meta_in}
-use Rattle.session_model.specs.Closing.{MemberPlace, reader_places}
-use Rattle.session_model.specs.Stores.{Store, stores}
 use Rattle.app_threads.specs.declared.done.Looked.{Looked}
 use Rattle.app_threads.specs.Items.{versions_in}
 use Rattle.app_threads.specs.Marks.{authors}
-use Rattle.pubsub_engine.specs.declared.session.Left.{Left}
 use Rattle.pubsub_engine.specs.declared.session.Session.{Session}
 use Rattle.pubsub_engine.specs.Holding.{appends_left, left_of, passes_of}
-use Rattle.pubsub_engine.specs.Standing.{Stands, sample_of, samples_of}
 use Rattle.pubsub_engine.specs.Authored.{watch_of}
 use Rattle.script_player.specs.declared.hand.Hand.{Hand}
 use Rattle.script_player.specs.declared.player.Player.{Player}
-use Rattle.script_player.specs.Playing.{IsLineBy, IsPlayed, log_after, look_at, sample_after, samples_after, stores_at, with_write}
+use Rattle.script_player.specs.Playing.{log_after}
 use Rattle.script_player.specs.Plays.{plan_by}
-use Rattle.script_player.specs.Player.{HasPlayed, HasWritten, IsExact, IsFlush, IsPlayer, Passes, Watches, Writes, looks_at, made_at, stored, versions_at, with_switch}
-use Rattle.script_player.specs.Sizes.{appended_by, appended_sets}
-use Rattle.script_player.proofs.Lines.{appended-cons, authors-push, count_by-cons, length-authors, log_after-write, log_after-write_other, places_push, places_push_other, versions_in-push, versions_in-push_other, write_line}
-use Rattle.script_player.proofs.Hands.{at_new, at_old, at_other, cell_meta, count_cells, count_same}
+use Rattle.script_player.specs.Player.{HasPlayed, IsExact, IsFlush, IsPlayer, Writes, looks_at, made_at, versions_at}
+use Rattle.script_player.specs.Sizes.{appended_sets}
+use Rattle.script_player.proofs.Lines.{appended-cons, authors-push, length-authors, log_after-write, log_after-write_other, places_push, places_push_other, versions_in-push, versions_in-push_other, write_line}
+use Rattle.script_player.proofs.Hands.{at_new, at_old, at_other, cell_meta, count_cells}
 use Rattle.script_player.proofs.Exact.{hits, shorter, skips, whole}
 
 module _ (config : Config) (script : Script) (lines : List Line) (told : Option LinkState) (old : Player) (was : IsPlayer old) (h : HasPlayed config script lines told old) where

@@ -1,5 +1,5 @@
 -- What a session lives through while the lines of a script are played. Lists of lines and of steps have the latest first.
-use Rattle.std.specs.Prelude.{◌≡◌, ℕ, ◌==◌, List, [], ◌∷◌, ◌++◌, length, map, replicate, Bool, true, false, slice_get, if◌then◌else◌}
+use Rattle.std.specs.Prelude.{◌≡◌, ℕ, ◌==◌, List, [], ◌∷◌, ◌++◌, length, map, replicate, Bool, false, slice_get, if◌then◌else◌}
 use Rattle.std.specs.List.{range_with_len}
 use Rattle.std.specs.Option.{option_map_or}
 use Rattle.dataset_meta.specs.declared.field.Field.{Field}
@@ -8,7 +8,6 @@ use Rattle.row_words.specs.Patches.{patched_words}
 use Rattle.ua_base.specs.Journal.{Entry}
 use Rattle.version_cell.specs.declared.rule.Entry.{Entry as Written}
 use Rattle.version_cell.specs.Histories.{entry, row_after}
-use Rattle.ps_config.specs.declared.parts.Config.{Config}
 use Rattle.ps_report.specs.declared.closed.WatchEnd.{WatchEnd}
 use Rattle.ps_script.specs.declared.script.Act.{Act}
 use Rattle.ps_script.specs.declared.script.Act.TheVariants as act
@@ -16,7 +15,7 @@ use Rattle.ps_script.specs.declared.script.Line.{Line}
 use Rattle.writer_group.specs.declared.sampled.Sampled.{Sampled}
 use Rattle.session_model.specs.Steps.{Plan, Step, Enable, Disable, Append, Tick, Pump}
 use Rattle.session_model.specs.Sets.{meta_in}
-use Rattle.session_model.specs.Stores.{Store, stores}
+use Rattle.session_model.specs.Stores.{stores}
 use Rattle.session_model.specs.Closing.{reader_places}
 
 -- ---- the histories of the data sets

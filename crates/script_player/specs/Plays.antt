@@ -1,8 +1,7 @@
 -- What a played script makes: its session, and what this is when it is closed.
-use Rattle.std.specs.Prelude.{◌≡◌, ℕ, ◌==◌, List, [], ◌∷◌, map, length, reverse, true, Option}
+use Rattle.std.specs.Prelude.{◌≡◌, ℕ, ◌==◌, List, map, length, reverse, true, Option}
 use Rattle.std.specs.List.{filter, flat_map, range_with_len}
 use Rattle.dataset_meta.specs.DataValues.{DataValue}
-use Rattle.row_words.specs.Belonging.{row_in}
 use Rattle.ua_base.specs.Journal.{LinkState}
 use Rattle.ua_base.specs.Links.{Opening}
 use Rattle.pubsub_model.specs.History.{row_of}
@@ -10,7 +9,6 @@ use Rattle.version_cell.specs.Histories.{history_of}
 use Rattle.ps_config.specs.declared.parts.Config.{Config}
 use Rattle.ps_report.specs.declared.closed.Closed.{Closed}
 use Rattle.ps_report.specs.declared.closed.WatchEnd.{WatchEnd}
-use Rattle.ps_script.specs.declared.script.Line.{Line}
 use Rattle.ps_script.specs.declared.script.Script.{Script}
 use Rattle.ps_script.specs.Sessions.{fates_of}
 use Rattle.session_model.specs.Steps.{Plan, Step}

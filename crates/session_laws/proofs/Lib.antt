@@ -23,3 +23,5 @@ pub mod Counts
 pub mod Ticks
 mod Refusing
 mod Dividing
+mod Newest
+mod Reaching

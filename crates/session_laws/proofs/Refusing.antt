@@ -1,6 +1,6 @@
 -- Datagrams that read groups refuse leave what they took, and the states.
 use Rattle.std.proofs.Common.{◌≡◌, refl, sym, ap, ◌∙◌, arith, ℕ, ◌+◌, Bool, true, false, List, [], ◌∷◌, Result, Ok, Err}
-use Rattle.std.specs.Prelude.{cond, count_by, filter, fold, is_ok, zip, ◌||◌}
+use Rattle.std.specs.Prelude.{cond, filter, fold, is_ok, zip, ◌||◌}
 use Rattle.dataset_meta.specs.Rows.{cons_if}
 use Rattle.pubsub_model.specs.declared.reading.Why.TheVariants.{Restarted}
 use Rattle.pubsub_states.specs.declared.component.Component.{Component}
@@ -10,7 +10,7 @@ use Rattle.pubsub_states.specs.declared.state.State.{State}
 use Rattle.pubsub_states.specs.declared.state.State.TheVariants.{Operational}
 use Rattle.pubsub_states.specs.Changes.{Change, is_enabled}
 use Rattle.pubsub_states.specs.Components.{counts_of, id_of, is_at_or_above, line}
-use Rattle.pubsub_states.specs.States.{state_of, state_under}
+use Rattle.pubsub_states.specs.States.{state_under}
 use Rattle.reader_group.specs.declared.refusal.Refusal.{Refusal}
 use Rattle.reader_group.specs.declared.refusal.Taken.{Taken}
 use Rattle.reader_group.specs.Members.{MemberValue}

@@ -9,3 +9,4 @@ pub mod Telling
 pub mod Fresh
 pub mod Twins
 pub mod Courses
+pub mod Newest

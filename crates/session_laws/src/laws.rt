@@ -2,6 +2,7 @@
 ghost use Rattle.std.specs.Prelude.{◌≡◌, ◌<◌, ◌≤◌, ◌+◌, ℕ, Bool, true, List, ◌∷◌, ◌++◌, length, Some, AllPairs, filter, is_ok};
 ghost use Rattle.std.specs.List.Sorted.{IsNonDecreasingBy};
 ghost use Rattle.dataset_meta.specs.DataValues.{DataValue};
+ghost use Rattle.ua_base.specs.Journal.{Entry};
 ghost use Rattle.message_guard.specs.Senders.{HaveOtherNumbers};
 ghost use Rattle.pubsub_model.specs.Cadence.{WriterDeed, WriterTurn, HadTurn, cadence, is_data, next_place};
 ghost use Rattle.pubsub_model.specs.Frames.{Whole};
@@ -10,7 +11,7 @@ ghost use Rattle.writer_group.specs.Turns.{answer_of, writer_past};
 ghost use Rattle.writer_group.specs.Payloads.{writer_at};
 ghost use Rattle.pubsub_states.specs.declared.component.Component.{Component};
 ghost use Rattle.reader_group.specs.Agreeing.{MemberIs};
-ghost use Rattle.session_model.specs.Steps.{Plan, Step};
+ghost use Rattle.session_model.specs.Steps.{Plan, Step, Pump};
 ghost use Rattle.session_model.specs.Deeds.{deeds, group_past, is_rekeyed, log_at, writer_deeds};
 ghost use Rattle.writer_group.specs.Parts.{group_at};
 ghost use Rattle.session_model.specs.Answers.{answers_at, taken_by};
@@ -25,6 +26,7 @@ ghost use Rattle.session_model.specs.Turns.{deeds_before};
 ghost use Rattle.session_laws.specs.Courses.{HaveOneCourse};
 ghost use Rattle.session_laws.specs.Fresh.{protected_by};
 ghost use Rattle.session_laws.specs.Headline.{InSession, ComesFrom, IsPublished, PublishesVersion, answered_turn};
+ghost use Rattle.session_laws.specs.Newest.{BringsLast, HoldsRowOf, IsLastLogged, IsNewest};
 ghost use Rattle.session_laws.specs.Pasts.{settings_at};
 ghost use Rattle.session_laws.specs.Plays.{Play, IsPlay, ComesFromWriter, HoldsVersion, its_marks, its_member, its_way};
 ghost use Rattle.session_laws.specs.Sessions.{AreVersions, SamplesRise};
@@ -37,7 +39,7 @@ use group_laws::{
     each_part_is_of_what_was_answered,
 };
 use reader_group::{
-    near_readers_have_their_records, refused_datagrams_leave_no_trace,
+    a_lone_key_frame_is_held, near_readers_have_their_records, refused_datagrams_leave_no_trace,
     what_a_secured_group_takes_is_signed,
 };
 use row_words::cut_rows_have_words;
@@ -102,6 +104,28 @@ pub fn data_messages_stand_for_versions()
     cut_rows_have_words();
     a_ring_makes_senders_of_its_key_group();
     each_turn_of_a_session_holds();
+}
+
+/// A reader to which the last datagram of a pump brings a key frame, alone and taken, holds its row; where it is matched to a
+/// writer, and the frame has the number of the last place in the writer's log, this is the row of that newest version, cut to the
+/// reader's fields. A closing turn is answered by a key frame, whose place and version are the last in the writer's log.
+pub fn a_key_frame_that_comes_last_is_held()
+    ensures held { (p : Plan) (r i : ℕ) (before : List Step) (entries : List Entry) (row : List DataValue)
+        → BringsLast p r i before entries row
+        → (reader_at p.config r i (Pump entries ∷ before)).kept.row ≡ Some row }
+    ensures newest { (p : Plan) (r i g w : ℕ) (before : List Step) (entries : List Entry)
+        (rows : ℕ → ℕ → List DataValue) (row : List DataValue) (version : ℕ)
+        → InSession p r i g w (Pump entries ∷ before) → AreVersions p (Pump entries ∷ before) rows
+        → (last : BringsLast p r i before entries row)
+        → IsNewest p r i g w before entries last.brings.frame.number version
+        → HoldsRowOf p r i g w (Pump entries ∷ before) rows version }
+    ensures closing { (p : Plan) (g w : ℕ) (steps : List Step) (before : List WriterDeed) (turn : WriterTurn)
+        → writer_deeds p g w steps ≡ HadTurn turn ∷ before → turn.closing ≡ true
+        → let s = settings_at (group_at p.config g) w in
+        IsLastLogged p g w steps (next_place s (cadence s before)) turn.version }
+{
+    a_lone_key_frame_is_held();
+    matched_readers_hold_published_versions();
 }
 
 /// A session has 4,097 ticks at most: 4,096, and the closing one.

@@ -7,10 +7,11 @@ mod turning;
 mod witness;
 
 pub use laws::{
-    a_journal_has_one_run, a_matched_reader_holds_what_was_sent,
-    a_new_token_begins_with_key_frames, a_session_has_at_most_4097_ticks,
-    data_messages_stand_for_versions, matched_readers_hold_published_versions,
-    no_token_and_number_come_twice_in_a_session, refused_datagrams_leave_no_trace_in_a_session,
+    a_journal_has_one_run, a_key_frame_that_comes_last_is_held,
+    a_matched_reader_holds_what_was_sent, a_new_token_begins_with_key_frames,
+    a_session_has_at_most_4097_ticks, data_messages_stand_for_versions,
+    matched_readers_hold_published_versions, no_token_and_number_come_twice_in_a_session,
+    refused_datagrams_leave_no_trace_in_a_session,
 };
 pub use printed::{a_closed_session_tells_the_headline, closed_sessions_tell_published_versions};
 pub use turning::each_turn_of_a_session_holds;

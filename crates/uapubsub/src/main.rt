@@ -1,6 +1,12 @@
 //! The program `uapubsub`.
 #![tactic(auto)]
 
+ghost use Rattle.std.specs.Prelude.{◌≡◌, ◌≢◌};
+ghost use Rattle.std.specs.Process.{exit_status};
+ghost use Rattle.std.specs.declared.io.ErrorKind.TheVariants.{OutOfMemory};
+ghost use Rattle.command_parts.specs.Statuses.{number_of, text_of};
+ghost use Rattle.command_parts.specs.Telling.{WritesText};
+
 #[cfg(test)]
 mod tests;
 mod top;
@@ -27,7 +33,10 @@ fn words_of(rt: &(impl Env + AllocGlobal), alloc: Global) -> io::Result<Vec<Word
 }
 
 /// Why the words can't be read: memory ran out, or one of them isn't UTF-8.
-fn refusal(kind: ErrorKind) -> Status<'static> {
+fn refusal(kind: ErrorKind) -> Status<'static>
+    ensures memory { kind ≡ OutOfMemory → result ≡ Status.OutOfMemory }
+    ensures words { kind ≢ OutOfMemory → result ≡ Status.BadWords }
+{
     match kind {
         ErrorKind::OutOfMemory => Status::OutOfMemory,
         _ => Status::BadWords,
@@ -35,7 +44,11 @@ fn refusal(kind: ErrorKind) -> Status<'static> {
 }
 
 /// Tells the status, and ends with it.
-fn refuse<E: Sink>(status: &Status<'_>, err: &mut E) -> ExitCode {
+fn refuse<E: Sink>(status: &Status<'_>, err: &mut E) -> ExitCode
+    ensures told { WritesText (E.written err.old) (E.written err.new)
+        (E.faults err.old) (E.faults err.new) (text_of status.now) }
+    ensures status { exit_status result ≡ number_of status.now }
+{
     tell(err, status);
     ExitCode::from(status.number())
 }

@@ -1,4 +1,14 @@
 //! The whole program over an outside that is handed in.
+ghost use Rattle.std.specs.Prelude.{◌≡◌, ◌≢◌, ◌↔◌, ◌≤◌, ℕ, List, Option, Some};
+ghost use Rattle.command_parts.specs.Outside.{outside_of, wire_of};
+ghost use Rattle.command_parts.specs.Statuses.{number_of, text_of};
+ghost use Rattle.command_parts.specs.Telling.{WritesText};
+ghost use Rattle.check_command.specs.Checks.{CheckEnds};
+ghost use Rattle.play_command.specs.Plays.{PlayEnds};
+ghost use Rattle.uapubsub.specs.Words.{checked_of, played_of, HaveNoShape};
+ghost use Rattle.uapubsub.specs.Ends.{EndsAs, IsBeforeLink};
+ghost use Rattle.uapubsub.specs.Headline.{WritesHeadline};
+
 use crate::words::{Command, command_in};
 use check_command::check;
 use command_parts::{Status, Word, tell};
@@ -24,7 +34,52 @@ pub fn top<R: Threads + Wait + Sync, F: Folder, A: Link, B: Link, G: Gate, K: Si
     gate: &G,
     out: &mut K,
     err: &mut E,
-) -> u8 {
+) -> u8
+    ensures words { (result ≡ 2) ↔ HaveNoShape words.now }
+
+    // The command `check`.
+    ensures checks { (file : List ℕ) → checked_of words.now ≡ Some file
+        → EndsAs (λ status. CheckEnds status file
+        (outside_of F.tells F.faults K.written K.faults folder.old out.old)
+        (outside_of F.tells F.faults K.written K.faults folder.new out.new))
+        result (E.written err.old) (E.written err.new) (E.faults err.old) (E.faults err.new) }
+    ensures no_link { (file : List ℕ) → checked_of words.now ≡ Some file → lab.new ≡ lab.old }
+
+    // The command `play`.
+    ensures plays { (script : List ℕ) (config : Option (List ℕ))
+        → played_of words.now ≡ Some (script, config)
+        → EndsAs (λ status. PlayEnds status script config
+        (outside_of F.tells F.faults K.written K.faults folder.old out.old)
+        (outside_of F.tells F.faults K.written K.faults folder.new out.new)
+        (wire_of A.told A.faults A.opened_with lab.old)
+        (wire_of A.told A.faults A.opened_with lab.new))
+        result (E.written err.old) (E.written err.new) (E.faults err.old) (E.faults err.new) }
+    // Each data message stands for one whole version, and each reader holds the one that its messages name.
+    ensures headline { (script : List ℕ) (config : Option (List ℕ))
+        → played_of words.now ≡ Some (script, config) → result ≡ 0
+        → WritesHeadline script config
+        (outside_of F.tells F.faults K.written K.faults folder.old out.old)
+        (outside_of F.tells F.faults K.written K.faults folder.new out.new)
+        (wire_of A.told A.faults A.opened_with lab.new) }
+
+    // Other words.
+    ensures usage { HaveNoShape words.now
+        → WritesText (E.written err.old) (E.written err.new)
+        (E.faults err.old) (E.faults err.new) (text_of Status.BadWords) }
+    ensures untouched { result ≡ 2 → folder.new ≡ folder.old }
+
+    // What an answer other than 0 leaves, and what any does.
+    ensures unlinked { IsBeforeLink result → lab.new ≡ lab.old }
+    ensures silent { result ≢ 0 → result ≢ 6 → out.new ≡ out.old }
+    ensures files { (name : List ℕ) → F.tells folder.new name ≡ F.tells folder.old name }
+    ensures wire { wire.new ≡ wire.old }
+
+    // No count of faults falls.
+    ensures folder_faults { F.faults folder.old ≤ F.faults folder.new }
+    ensures link_faults { A.faults lab.old ≤ A.faults lab.new }
+    ensures out_faults { K.faults out.old ≤ K.faults out.new }
+    ensures err_faults { E.faults err.old ≤ E.faults err.new }
+{
     // No command uses the other link or the gate.
     let _ = wire;
     let _ = gate;
@@ -42,7 +97,12 @@ pub fn top<R: Threads + Wait + Sync, F: Folder, A: Link, B: Link, G: Gate, K: Si
 }
 
 /// Writes the text of the status, and answers its number.
-fn told<E: Sink>(err: &mut E, status: &Status<'_>) -> u8 {
+fn told<E: Sink>(err: &mut E, status: &Status<'_>) -> u8
+    ensures number { result ≡ number_of status.now }
+    ensures told { WritesText (E.written err.old) (E.written err.new)
+        (E.faults err.old) (E.faults err.new) (text_of status.now) }
+    ensures faults { E.faults err.old ≤ E.faults err.new }
+{
     tell(err, status);
     status.number()
 }

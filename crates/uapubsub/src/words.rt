@@ -1,4 +1,7 @@
 //! The words of the command line.
+ghost use Rattle.std.specs.Prelude.{◌≡◌, ◌∷◌, []};
+ghost use Rattle.uapubsub.specs.Words.{Asks};
+
 use command_parts::{Word, names_file};
 
 /// What the words ask for.
@@ -16,7 +19,9 @@ pub enum Command<'w> {
 }
 
 /// What the words ask for: `check --config FILE`, `play SCRIPT` or `play SCRIPT --config FILE`. No other words ask for anything.
-pub fn command_in(words: &[Word]) -> Option<Command<'_>> {
+pub fn command_in(words: &[Word]) -> Option<Command<'_>>
+    ensures { Asks words.now result }
+{
     match words {
         [command, script] => play_of(command.as_str(), script.as_str()),
         [command, option, config] => check_of(command.as_str(), option.as_str(), config.as_str()),
@@ -30,7 +35,9 @@ pub fn command_in(words: &[Word]) -> Option<Command<'_>> {
     }
 }
 
-fn check_of<'w>(command: &str, option: &str, config: &'w str) -> Option<Command<'w>> {
+fn check_of<'w>(command: &str, option: &str, config: &'w str) -> Option<Command<'w>>
+    ensures { Asks (command.now ∷ option.now ∷ config.now ∷ []) result }
+{
     if command == "check" && option == "--config" && names_file(config.as_bytes()) {
         Some(Command::Check { config })
     } else {
@@ -38,7 +45,9 @@ fn check_of<'w>(command: &str, option: &str, config: &'w str) -> Option<Command<
     }
 }
 
-fn play_of<'w>(command: &str, script: &'w str) -> Option<Command<'w>> {
+fn play_of<'w>(command: &str, script: &'w str) -> Option<Command<'w>>
+    ensures { Asks (command.now ∷ script.now ∷ []) result }
+{
     if command == "play" && names_file(script.as_bytes()) {
         Some(Command::Play {
             script,
@@ -54,7 +63,9 @@ fn play_with<'w>(
     script: &'w str,
     option: &str,
     config: &'w str,
-) -> Option<Command<'w>> {
+) -> Option<Command<'w>>
+    ensures { Asks (command.now ∷ script.now ∷ option.now ∷ config.now ∷ []) result }
+{
     let named = names_file(script.as_bytes()) && names_file(config.as_bytes());
     if command == "play" && option == "--config" && named {
         Some(Command::Play {

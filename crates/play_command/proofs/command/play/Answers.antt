@@ -9,8 +9,8 @@ returns-clause-ends g c =
     let written = subst (λ (text : List ℕ). EndsWriting (g.K.Sink.written c.args.out.now) (g.K.Sink.written c.write_text.new.out) text c.write_text.result) c.deref.ensures.value c.write_text.ensures.written in
     ends_written _ _ _ _ _ _ _ c.in-Ok.text.items c.in-Ok.ensures.report written c.in-Ok.ensures.link c.in-Ok.ensures.folder.counted c.write_text.ensures.cause c.in-Ok.ensures.folder.files
 
-pub returns-clause-before_link : goal.returns-clause-before_link
-returns-clause-before_link g c = λ is. absurd ((written_late _ _ _ _ c.write_text.ensures.written).behind_link is)
+pub returns-clause-unlinked : goal.returns-clause-unlinked
+returns-clause-unlinked g c = λ is. absurd ((written_late _ _ _ _ c.write_text.ensures.written).behind_link is)
 
 pub returns-clause-silent : goal.returns-clause-silent
 returns-clause-silent g c = λ done unwritten. absurd ((written_late _ _ _ _ c.write_text.ensures.written).written done unwritten)

@@ -12,16 +12,17 @@ loop-written-preserved c =
     let k : ℕ = c.loop-written.written-index in
     let none : ℕ × ℕ = (0, 0) in
     let next = ap (λ (vs : List (ℕ × ℕ)). filled c.args.thread (versions_in c.args.set vs) c.args.threads.now.items)
-        (sym (take_more versions k none c.loop-written-test.true)) in
+    (sym (take_more versions k none c.loop-written-test.true)) in
     elim c.if-written-set.branch [
-        then-written-set w ↦
-            ap (λ v. v.items) w.threads-is
-            ∙ w.put.ensures
-            ∙ ap (λ (l : List ℕ). set l ((get_or versions k none).1 - 1) c.args.thread) c.loop-written.invariant
-            ∙ sym (filled-more c.args.thread c.args.set (take k versions) (get_or versions k none) c.args.threads.now.items w.if-written-set.true)
-            ∙ next
+      | then-written-set w ↦
+          ap (λ v. v.items) w.threads-is
+          ∙ w.put.ensures
+          ∙ ap (λ (l : List ℕ). set l ((get_or versions k none).1 - 1) c.args.thread) c.loop-written.invariant
+          ∙ sym (filled-more c.args.thread c.args.set (take k versions) (get_or versions k none) c.args.threads.now.items w.if-written-set.true)
+          ∙ next
       | else-written-set w ↦
-            ap (λ v. v.items) w.threads-is
-            ∙ c.loop-written.invariant
-            ∙ sym (filled-same c.args.thread c.args.set (take k versions) (get_or versions k none) c.args.threads.now.items w.if-written-set.false)
-            ∙ next ]
+          ap (λ v. v.items) w.threads-is
+          ∙ c.loop-written.invariant
+          ∙ sym (filled-same c.args.thread c.args.set (take k versions) (get_or versions k none) c.args.threads.now.items w.if-written-set.false)
+          ∙ next
+    ]

@@ -1,4 +1,4 @@
-use Rattle.std.proofs.Common.{ap, arith, length, ℕ, ◌<◌}
+use Rattle.std.proofs.Common.{ap, arith, length, ℕ}
 use Rattle.session_model.specs.Closing.{IsWriterEnd, MemberPlace}
 use Rattle.session_parts.proofs.Few.{few-writers}
 use Rattle.writer_group.specs.Parts.{group_at}

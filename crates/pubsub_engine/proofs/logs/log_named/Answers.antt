@@ -13,24 +13,24 @@ use Rattle.pubsub_engine.proofs.logs.log_named.Goals as goal
 pub overflow_cast-w : goal.overflow_cast-w
 overflow_cast-w c =
     let there : c.in-Some.g < length c.args.config.now.group =
-        subst (λ (o : Option (ℕ × ℕ)). IfSome o (λ at. at.0 < length c.args.config.now.group)) c.in-Some.is c.writer_named.ensures.there in
+    subst (λ (o : Option (ℕ × ℕ)). IfSome o (λ at. at.0 < length c.args.config.now.group)) c.in-Some.is c.writer_named.ensures.there in
     let within : c.in-Some.w < length (group_at c.args.config.now c.in-Some.g).writer =
-        subst (λ (o : Option (ℕ × ℕ)). IfSome o (λ at. at.1 < length (group_at c.args.config.now at.0).writer)) c.in-Some.is c.writer_named.ensures.within in
+    subst (λ (o : Option (ℕ × ℕ)). IfSome o (λ at. at.1 < length (group_at c.args.config.now at.0).writer)) c.in-Some.is c.writer_named.ensures.within in
     omega (arith, within, few-writers c.args.config.now c.in-Some.g c.requires.good there)
 
 pub returns-in-Some : goal.returns-in-Some
 returns-in-Some c =
     let config = c.args.config.now in
     let there : c.in-Some.g < length config.group =
-        subst (λ (o : Option (ℕ × ℕ)). IfSome o (λ at. at.0 < length config.group)) c.in-Some.is c.writer_named.ensures.there in
+    subst (λ (o : Option (ℕ × ℕ)). IfSome o (λ at. at.0 < length config.group)) c.in-Some.is c.writer_named.ensures.there in
     let within : c.in-Some.w < length (group_at config c.in-Some.g).writer =
-        subst (λ (o : Option (ℕ × ℕ)). IfSome o (λ at. at.1 < length (group_at config at.0).writer)) c.in-Some.is c.writer_named.ensures.within in
+    subst (λ (o : Option (ℕ × ℕ)). IfSome o (λ at. at.1 < length (group_at config at.0).writer)) c.in-Some.is c.writer_named.ensures.within in
     record {
       log = λ metas deeds past.
           let part = group_at config c.in-Some.g in
           let lived = group_past config c.in-Some.g deeds in
           let stands : IsGroup (metas_for part metas) part lived c.index.result.now =
-              subst (λ (group : Group). IsGroup (metas_for part metas) part lived group) (sym c.index.ensures) (past c.in-Some.g there c.index.result.now) in
+          subst (λ (group : Group). IsGroup (metas_for part metas) part lived group) (sym c.index.ensures) (past c.in-Some.g there c.index.result.now) in
           c.log.ensures (metas_for part metas c.in-Some.w) (settings_of (writer_at part c.in-Some.w)) (writer_past c.in-Some.w lived)
           (c.writer.ensures (metas_for part metas) part lived within stands)
           ∙ log-at (log_after config deeds) config c.args.id (Some (c.in-Some.g, c.in-Some.w)) (sym c.in-Some.is ∙ c.writer_named.ensures.place);

@@ -12,8 +12,8 @@ returns-in-Some c =
     record {
       log = λ at found.
           let same : ◌≡◌ {A = ReadGroupPart × ReaderPart} (c.in-Some.group.now, c.in-Some.part.now) at =
-              same_Some (c.in-Some.group.now, c.in-Some.part.now) at
-              (sym (ap (λ o. option_map {U = ReadGroupPart × ReaderPart} (λ at. (at.0.now, at.1.now)) o) c.in-Some.is) ∙ c.reader_part.ensures ∙ found) in
+          same_Some (c.in-Some.group.now, c.in-Some.part.now) at
+          (sym (ap (λ o. option_map {U = ReadGroupPart × ReaderPart} (λ at. (at.0.now, at.1.now)) o) c.in-Some.is) ∙ c.reader_part.ensures ∙ found) in
           subst (λ (it : ReadGroupPart × ReaderPart). IsLogRead c.args.config.now c.args.publisher.now it c.log_named.result.now) same
           (record { own = λ is. c.log_named.ensures.log; other = λ apart. absurd (apart own) });
     }

@@ -1,9 +1,8 @@
-use Rattle.std.proofs.Common.{◌≡◌, ℕ, List, [], Some, Option, refl, length, map, reverse, sym, ap, ◌∙◌, subst}
+use Rattle.std.proofs.Common.{◌≡◌, ℕ, List, [], Some, refl, length, map, reverse, sym, ap, ◌∙◌, subst}
 use Rattle.std.specs.List.{range_with_len}
 use Rattle.std.proofs.lemmas.List.{length-map}
 use Rattle.std.proofs.lemmas.List.FromFn.{length-range_with_len}
 use Rattle.dataset_meta.specs.Metas.{MetaData}
-use Rattle.ua_base.specs.Journal.{LinkState}
 use Rattle.ua_base.specs.declared.link.Fate.{Fate}
 use Rattle.ps_config.specs.declared.parts.Config.{Config}
 use Rattle.ps_script.specs.declared.script.Script.{Script}
@@ -73,5 +72,5 @@ returns-clause-opened g c =
 pub returns-clause-opens : goal.returns-clause-opens
 returns-clause-opens g c =
     λ other.
-        c.close.ensures.link.opening ∙ c.play.ensures.link.opening ∙ c.in-Done.ensures.opening refl
-        ∙ ap (λ (fates : List (ℕ × Fate)). Some (record { port = c.args.config.now.publisher.port; fates = fates })) (c.deref.ensures.value ∙ c.in_ok-fates.ensures)
+    c.close.ensures.link.opening ∙ c.play.ensures.link.opening ∙ c.in-Done.ensures.opening refl
+    ∙ ap (λ (fates : List (ℕ × Fate)). Some (record { port = c.args.config.now.publisher.port; fates = fates })) (c.deref.ensures.value ∙ c.in_ok-fates.ensures)

@@ -1,4 +1,4 @@
-use Rattle.std.proofs.Common.{◌≡◌, List, ℕ, arith, length, sym, subst, ◌∙◌}
+use Rattle.std.proofs.Common.{List, ℕ, arith, sym, subst, ◌∙◌}
 use Rattle.std.specs.List.{AllZip}
 use Rattle.ps_report.specs.declared.closed.Closed.{Closed}
 use Rattle.ps_report.specs.declared.closed.History.{History}

@@ -5,12 +5,14 @@ use Rattle.dataset_meta.specs.Metas.{MetaData, IsMeta, no_meta}
 use Rattle.ps_config.specs.declared.parts.ReaderPart.{ReaderPart}
 use Rattle.ps_config.specs.Sound.{readers}
 use Rattle.target_cells.specs.Keeping.{metas_of}
-use Rattle.version_cell.specs.Sets.{pass_at}
+use Rattle.version_cell.specs.Sets.{new_passes, pass_at}
 use Rattle.pubsub_engine.specs.declared.storing.Last.{Last}
-use Rattle.pubsub_engine.specs.Holding.{AreAppends, full_of, plan_of}
+use Rattle.pubsub_engine.specs.declared.session.Session.{Session}
+use Rattle.pubsub_engine.specs.Holding.{AreAppends, full_of, passes_of, plan_of}
+use Rattle.pubsub_engine.specs.Standing.{sampled_by, samples_of}
 use Rattle.session_model.specs.Keeping.{IsPlan}
 use Rattle.session_model.specs.Sets.{AreRowsOf}
-use Rattle.pubsub_engine.proofs.OpenParts.{IsFresh, count-passes, fresh-session, fresh-stands, full-count, unseen-new}
+use Rattle.pubsub_engine.proofs.OpenParts.{IsFresh, count-passes, fresh-session, fresh-stands, full-count, samples-new, unseen-new}
 use Rattle.pubsub_engine.proofs.OpenSets.{is-plan}
 use Rattle.pubsub_engine.proofs.ReadSets.{sets-there}
 use Rattle.pubsub_engine.proofs.session.Session.open.Given.{Over}
@@ -98,3 +100,14 @@ returns-clause-session g c = fresh-session c.as_slice.result.now (c.args.size.no
 
 pub returns-clause-stands : goal.returns-clause-stands
 returns-clause-stands g c = fresh-stands c.as_slice.result.now (c.args.size.now.ticks + 1) c.tell_groups.new.self (fresh g c)
+
+pub returns-clause-sampled : goal.returns-clause-sampled
+returns-clause-sampled g c =
+    let cells = c.in_ok-bank.bank in
+    let passes = c.in_ok-samples.ensures.passes ∙ c.in_ok-bank.ensures.first in
+    let metas : length c.in_ok-sets.sets.metas.items ≡ length c.args.config.now.dataset = ap length c.in_ok-sets.ensures.first in
+    let full = ap length (c.deref.ensures.value ∙ c.in_ok-sets.ensures.full) ∙ full-count c.args.config.now.dataset c.as_slice.result.now in
+    let count : length (new_passes cells None) ≡ c.len.result =
+    count-passes cells None c.deref.result.now c.in_ok-bank.ensures.metas ∙ full ∙ omega (arith, c.len.ensures, c.in_ok-sets.sets.metas.ok.0, metas) in
+    subst (λ (s : Session). sampled_by s ≡ samples_of (passes_of s)) (sym c.tell_groups.ensures.rest)
+    (c.in_ok-samples.ensures.taken ∙ samples-new cells None c.len.result count ∙ ap samples_of (sym passes))

@@ -18,11 +18,11 @@ returns-then-is_same-clause-stored g c = λ stores before.
     let belongs : Belongs meta c.in-Some.row.now.words = c.in-Some.ensures.belongs meta c.requires.reader in
     let now : Store = record { number = c.number-number.result; row = row_in meta.fields c.in-Some.row.now.words } in
     let held : held_in (kept_by meta.fields c.args.reader.now) ≡ Some now =
-        held-is (kept_by meta.fields c.args.reader.now) c.number-number.result (row_in meta.fields c.in-Some.row.now.words) (c.in-Some.ensures.row meta.fields) (c.number-number.ensures meta.fields) in
+    held-is (kept_by meta.fields c.args.reader.now) c.number-number.result (row_in meta.fields c.in-Some.row.now.words) (c.in-Some.ensures.row meta.fields) (c.number-number.ensures meta.fields) in
     let is : IsLast stores meta c.index.result.now = subst (λ (last : Last). IsLast stores meta last) (sym c.index.ensures) (before.last c.index.result.now) in
     let stays : stored_on numbering stores (Some now) ≡ stores =
-        same-stays numbering stores now meta c.index.result.now c.is_same.result c.if-is_same.true (c.is_same.ensures.none meta)
-        (λ store earlier last. c.is_same.ensures.some meta store earlier last belongs) is in
+    same-stays numbering stores now meta c.index.result.now c.is_same.result c.if-is_same.true (c.is_same.ensures.none meta)
+    (λ store earlier last. c.is_same.ensures.some meta store earlier last belongs) is in
     subst (λ (o : Option Store). IsStoredAs meta (stored_on numbering stores o) c.args.self.now c.args.k) (sym held)
     (subst (λ (list : List Store). IsStoredAs meta list c.args.self.now c.args.k) (sym stays) before)
 
@@ -33,11 +33,11 @@ returns-clause-stored g c = λ stores before.
     let belongs : Belongs meta c.in-Some.row.now.words = c.in-Some.ensures.belongs meta c.requires.reader in
     let now : Store = record { number = c.number-number.result; row = row_in meta.fields c.in-Some.row.now.words } in
     let held : held_in (kept_by meta.fields c.args.reader.now) ≡ Some now =
-        held-is (kept_by meta.fields c.args.reader.now) c.number-number.result (row_in meta.fields c.in-Some.row.now.words) (c.in-Some.ensures.row meta.fields) (c.number-number.ensures meta.fields) in
+    held-is (kept_by meta.fields c.args.reader.now) c.number-number.result (row_in meta.fields c.in-Some.row.now.words) (c.in-Some.ensures.row meta.fields) (c.number-number.ensures meta.fields) in
     let is : IsLast stores meta c.index.result.now = subst (λ (last : Last). IsLast stores meta last) (sym c.index.ensures) (before.last c.index.result.now) in
     let more : stored_on numbering stores (Some now) ≡ now ∷ stores =
-        other-stored numbering stores now meta c.index.result.now c.is_same.result c.if-is_same.false (c.is_same.ensures.none meta)
-        (λ store earlier last. c.is_same.ensures.some meta store earlier last belongs) is in
+    other-stored numbering stores now meta c.index.result.now c.is_same.result c.if-is_same.false (c.is_same.ensures.none meta)
+    (λ store earlier last. c.is_same.ensures.some meta store earlier last belongs) is in
     let low : c.args.k < length c.args.self.now.last.items = omega (arith, c.requires.count, c.requires.there) in
     let stored : Last = record { is_there = true; number = c.number-number.result; row = c.in-Some.row.now } in
     let after : Stores = record { keeper = c.store.new.keeper; last = with_item c.args.self.now.last c.args.k stored } in

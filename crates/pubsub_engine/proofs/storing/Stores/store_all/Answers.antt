@@ -12,7 +12,7 @@ overflow_add-first g c =
     let config = c.args.config.now in
     let there : c.loop-r.r < length config.readgroup = omega (arith, c.loop-r-test.true, c.len-r-end.ensures, c.requires.holds.groups.count) in
     let parts : c.as_slice.result.now ≡ (group_at config c.loop-r.r).reader =
-        c.as_slice.ensures ∙ ap (λ (group : ReadGroupPart). group.reader) c.read_group_part.ensures in
+    c.as_slice.ensures ∙ ap (λ (group : ReadGroupPart). group.reader) c.read_group_part.ensures in
     let count : length c.as_slice.result.now ≡ length (group_at config c.loop-r.r).reader = ap length parts in
     omega (arith, count, c.loop-r.invariant.first, first-most config c.loop-r.r there, few-readers config c.requires.good)
 
@@ -22,7 +22,7 @@ loop-r-preserved g c =
     let groups = c.args.subscriber.now.groups.items in
     let there : c.loop-r.r < length config.readgroup = omega (arith, c.loop-r-test.true, c.len-r-end.ensures, c.requires.holds.groups.count) in
     let parts : c.as_slice.result.now ≡ (group_at config c.loop-r.r).reader =
-        c.as_slice.ensures ∙ ap (λ (group : ReadGroupPart). group.reader) c.read_group_part.ensures in
+    c.as_slice.ensures ∙ ap (λ (group : ReadGroupPart). group.reader) c.read_group_part.ensures in
     let count : length c.as_slice.result.now ≡ length (group_at config c.loop-r.r).reader = ap length parts in
     let more = first-more config c.loop-r.r there in
     let next : c.loop-r.first + length c.as_slice.result.now ≡ first_reader config (c.loop-r.r + 1) = omega (arith, count, c.loop-r.invariant.first, more) in
@@ -41,9 +41,9 @@ returns g c =
     let last : c.loop-r.r ≡ length config.readgroup = omega (arith, c.loop-r-test.false, c.loop-r.auto.r-end, c.len-r-end.ensures, c.requires.holds.groups.count) in
     let all : c.loop-r.first ≡ length (readers config) = c.loop-r.invariant.first ∙ ap (first_reader config) last ∙ first-all config in
     let done : MayStoreFrom config c.args.targets.now (length (readers config)) c.loop-r.self =
-        subst (λ (n : ℕ). MayStoreFrom config c.args.targets.now n c.loop-r.self) all c.loop-r.invariant.may in
+    subst (λ (n : ℕ). MayStoreFrom config c.args.targets.now n c.loop-r.self) all c.loop-r.invariant.may in
     let on : HaveStoredOn config groups 0 (length (readers config)) c.args.self.now c.loop-r.self =
-        subst (λ (n : ℕ). HaveStoredOn config groups 0 n c.args.self.now c.loop-r.self) all c.loop-r.invariant.on in
+    subst (λ (n : ℕ). HaveStoredOn config groups 0 n c.args.self.now c.loop-r.self) all c.loop-r.invariant.on in
     record {
       own = done.own;
       left = λ limit left holds. holds-left config c.args.targets.now groups limit left c.args.self.now c.loop-r.self c.requires.may done on holds;

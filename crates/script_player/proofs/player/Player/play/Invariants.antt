@@ -1,4 +1,4 @@
-use Rattle.std.proofs.Common.{List, reverse, take}
+use Rattle.std.proofs.Common.{reverse, take}
 use Rattle.ua_base.specs.Links.{KeepsLink}
 use Rattle.script_player.specs.Player.{HasPlayed, IsPlayer, config_of}
 use Rattle.script_player.proofs.player.Player.play.Given as goal
