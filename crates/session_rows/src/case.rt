@@ -1,10 +1,15 @@
 //! A case as its lines give it.
+ghost use Rattle.std.specs.Prelude.{All, ◌<◌, ◌^◌, vec_len};
+
 use crate::playing::report_of;
 use case_lines::{Answer, Line, LineFault, number};
 use mem_edge::MemoryLink;
 use std::alloc::Global;
 use std::mem;
 use std::sync::Wait;
+
+/// Bytes of the longest datagram that is injected: none of UDP over IPv4 is longer.
+const LONGEST_DATAGRAM: usize = 65_507;
 
 /// What is played.
 #[derive(Drop)]
@@ -15,6 +20,7 @@ pub(crate) struct Case {
     sends: Vec<u64>,
     receives: Vec<u64>,
     injected: Vec<(u64, Vec<u8>)>,
+    ghost short: { All (λ p. vec_len p.1 < 2 ^ 32) injected.items },
 }
 
 impl Case {
@@ -49,8 +55,17 @@ impl Case {
         let after = line.u64()?;
         let datagram = line.bytes(alloc)?;
         for _ in 0..times {
-            self.injected.push((after, datagram.to_vec(alloc)?))?;
+            self.inject_one(alloc, after, &datagram)?;
         }
+        Ok(())
+    }
+
+    fn inject_one(&mut self, alloc: Global, after: u64, datagram: &[u8]) -> Result<(), LineFault> {
+        let datagram = datagram.to_vec(alloc)?;
+        if datagram.len() > LONGEST_DATAGRAM {
+            return Err(LineFault::Condition);
+        }
+        self.injected.push((after, datagram))?;
         Ok(())
     }
 
@@ -62,13 +77,15 @@ impl Case {
 
     /// Plays the case; the next one begins.
     fn play<R: Wait>(&mut self, rt: &R, alloc: Global) -> Answer {
-        let case = mem::replace(self, Case::new(alloc));
-        let mut link = MemoryLink::new(alloc, case.injected, case.sends, case.receives, false);
-        let config = match &case.config {
-            Some(text) => Some(text.as_slice()),
-            None => None,
-        };
-        report_of(rt, alloc, config, &case.script, &mut link)
+        let Case {
+            config,
+            script,
+            sends,
+            receives,
+            injected,
+        } = mem::replace(self, Case::new(alloc));
+        let mut link = MemoryLink::new(alloc, injected, sends, receives, false);
+        report_of(rt, alloc, &config, &script, &mut link)
     }
 }
 

@@ -18,7 +18,7 @@ use ua_base::Link;
 pub(crate) fn report_of<R: Wait, L: Link>(
     rt: &R,
     alloc: Global,
-    config: Option<&[u8]>,
+    config: &Option<Vec<u8>>,
     script: &[u8],
     link: &mut L,
 ) -> Answer {
