@@ -8,8 +8,8 @@ use std::alloc::Global;
 use std::mem;
 use std::sync::Wait;
 
-/// Bytes of the longest datagram that is injected: none of UDP over IPv4 is longer.
-const LONGEST_DATAGRAM: usize = 65_507;
+/// Bytes of the longest datagram that a case may inject, far beyond what a link takes.
+const LONGEST_INJECTED: usize = 1_048_576;
 
 /// What is played.
 #[derive(Drop)]
@@ -62,7 +62,7 @@ impl Case {
 
     fn inject_one(&mut self, alloc: Global, after: u64, datagram: &[u8]) -> Result<(), LineFault> {
         let datagram = datagram.to_vec(alloc)?;
-        if datagram.len() > LONGEST_DATAGRAM {
+        if datagram.len() > LONGEST_INJECTED {
             return Err(LineFault::Condition);
         }
         self.injected.push((after, datagram))?;
