@@ -62,6 +62,19 @@ reply_short keys is =
     let count_long : length count ≡ 4 = refl in
     let next_long : length next ≡ 8 = refl in
     let lifetime_long : length lifetime ≡ 8 = refl in
-    omega (arith, length-append (policy ++ first ++ count ++ sets ++ next) lifetime, length-append (policy ++ first ++ count ++ sets) next, length-append (policy ++ first ++ count) sets,
-      length-append (policy ++ first) count, length-append policy first, length-block (policy_of keys.long), policy_length keys.long, sets_short keys.long keys.first keys.keys.items is.sets, is.few,
-      first_long, count_long, next_long, lifetime_long)
+    omega (
+      arith,
+      length-append (policy ++ first ++ count ++ sets ++ next) lifetime,
+      length-append (policy ++ first ++ count ++ sets) next,
+      length-append (policy ++ first ++ count) sets,
+      length-append (policy ++ first) count,
+      length-append policy first,
+      length-block (policy_of keys.long),
+      policy_length keys.long,
+      sets_short keys.long keys.first keys.keys.items is.sets,
+      is.few,
+      first_long,
+      count_long,
+      next_long,
+      lifetime_long,
+    )

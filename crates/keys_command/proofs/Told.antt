@@ -1,8 +1,8 @@
 -- What a status of `keys` says, where the folder tells the file.
-use Rattle.std.proofs.Common.{◌≡◌, ◌↔◌, ◌⊎◌, inl, inr, ℕ, List, Option, Some, Ok, Err, refl, sym, ap, ◌∙◌, subst, arith}
+use Rattle.std.proofs.Common.{◌≡◌, ◌↔◌, ◌⊎◌, inl, inr, ℕ, ◌≤◌, List, Option, Some, Ok, Err, refl, sym, ap, ◌∙◌, subst, arith}
 use Rattle.std.specs.Prelude.{IsErr, is_err}
 use Rattle.std.proofs.lemmas.Bool.{false≢true}
-use Rattle.ua_base.specs.Cause.{HasCause}
+use Rattle.ua_base.specs.Cause.{HasCause, Rose}
 use Rattle.ua_base.specs.Files.{ToldFile}
 use Rattle.ps_config.specs.declared.parts.Config.{Config}
 use Rattle.ps_config.specs.Reading.{Judgement, configuration}
@@ -15,7 +15,7 @@ use Rattle.command_parts.specs.Files.{IsLong, IsTold}
 use Rattle.command_parts.specs.Configurations.{EndsConfigFile, IsJudged}
 use Rattle.command_parts.proofs.Told.{judged_told, long_judged, long_is, long_short}
 use Rattle.keys_command.specs.declared.words.Asked.{Asked}
-use Rattle.keys_command.specs.Ends.{KeysEnds, Says, TellsKeys}
+use Rattle.keys_command.specs.Ends.{KeysEnds, Says, TellsAnswer, TellsKeys}
 
 -- the last write ends the command
 pub says_written : (status : Status) (name : List ℕ) (asked : Asked) (file : ToldFile) (old new : Option (List ℕ)) (text : List ℕ) → TellsKeys file asked text → EndsWriting old new text status
@@ -127,3 +127,29 @@ keys_end status name asked old new h reads writes files = record {
   writes = writes;
   files = files;
 }
+
+-- what is answered of a configuration that was accepted is told
+pub tells_keys : (file : ToldFile) (asked : Asked) (config : Config) (text : List ℕ) → IsJudged file (Ok config) → TellsAnswer config asked text → TellsKeys file asked text
+tells_keys file asked config text judged tells = (config, judged, tells)
+
+-- a text was to be written
+pub ends_written : (status : Status) (name : List ℕ) (asked : Asked) (old new : Outside) (text : List ℕ) → TellsKeys (old.file name) asked text → EndsWriting old.written new.written text status
+    → old.read_faults ≤ new.read_faults → HasCause old.write_faults new.write_faults (IsUnwritten status) → ((other : List ℕ) → new.file other ≡ old.file other) → KeysEnds status name asked old new
+ends_written status name asked old new text tells written counted writes files =
+    keys_end status name asked old new (says_written status name asked (old.file name) old.written new.written text tells written)
+    (record { later = counted; rose = λ is. absurd (not_unread status (ends_writing status old.written new.written text written) is) }) writes files
+
+-- there was nothing to write
+pub ends_without : (status : Status) (name : List ℕ) (asked : Asked) (old new : Outside) → EndsConfigFile (old.file name) name status → old.read_faults ≤ new.read_faults
+    → (IsUnread status → Rose old.read_faults new.read_faults) → new.written ≡ old.written → old.write_faults ≤ new.write_faults → ((other : List ℕ) → new.file other ≡ old.file other)
+    → KeysEnds status name asked old new
+ends_without status name asked old new ends counted unread silent kept files =
+    keys_end status name asked old new
+    (subst (λ (out : Option (List ℕ)). Says status name asked (old.file name) old.written out) (sym silent) (says_ended status name asked (old.file name) old.written ends))
+    (record { later = counted; rose = unread }) (record { later = kept; rose = λ is. absurd (not_written status name (old.file name) ends is) }) files
+
+pub said_late : (status : Status) (old new : Option (List ℕ)) (text : List ℕ) → EndsWriting old new text status → (IsDone status → ⊥) → (IsUnwritten status → ⊥) → ⊥
+said_late status old new text written done unwritten = elim (ends_writing status old new text written) [
+  | inl is ↦ done is
+  | inr is ↦ unwritten is
+]

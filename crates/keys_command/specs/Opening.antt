@@ -1,5 +1,5 @@
 -- A datagram of four zero bytes that is protected under a key, and what a guard finds in it.
-use Rattle.std.specs.Prelude.{◌≡◌, ℕ, List, [], ◌∷◌, ◌++◌, length, Bool, false, bytes_eq, map, All, Option, Some, None, Result, Ok, Err, slice_range}
+use Rattle.std.specs.Prelude.{◌≡◌, ℕ, List, [], ◌∷◌, ◌++◌, length, Bool, false, bytes_eq, Option, Some, None, Result, Ok, Err, slice_range}
 use Rattle.group_keys.specs.declared.key_set.KeySet.{KeySet}
 use Rattle.group_keys.specs.KeySets.{encrypting_length}
 use Rattle.uadp_header.specs.Headers.{SecurityValue, HeaderValue, NoIds, U8}
@@ -82,11 +82,9 @@ FindsZeros setup datagram answer = (security : SecurityValue) (payload : ℕ) �
 abbrev pub Opens : Setup → KeySet → Bool → Type 0
 Opens setup set answer = (datagram : List ℕ) × IsProtected set datagram × FindsZeros setup datagram answer
 
--- ---- guards of pulled rings
-
--- a guard that accepted nothing before, decrypts, and has each of the sets' keys under its token
-pub record IsGuardFor (sets : List KeySet) (guard : Guard) : Type 0 where
+-- a guard that accepted nothing before, decrypts, and has the keys of the set under its token
+pub record CanOpen (guard : Guard) (set : KeySet) : Type 0 where
   pub fresh : IsGuardOf [] guard
   pub mode : (setup_of guard).mode ≡ Encrypt
   pub first_block : (setup_of guard).first_block ≡ 1
-  pub known : All (λ set. keys_with (setup_of guard).keys set.token ≡ Some (keys_in set)) sets
+  pub known : keys_with (setup_of guard).keys set.token ≡ Some (keys_in set)

@@ -34,7 +34,11 @@ key_lines opens sets = flat_map (λ set. key_line opens set.token) sets
 abbrev pub end_line : List ℕ
 end_line = codes "end" ++ line_feed
 
+-- `refused NAME`
+abbrev pub refused_text : Refusal → List ℕ
+refused_text refusal = codes "refused " ++ refusal_name refusal ++ line_feed ++ end_line
+
 -- what is written of an answer to this START: of keys the policy and each key, which opens where START is 0; else the refusal
 abbrev pub keys_text : ℕ → Result Keys Refusal → List ℕ
 keys_text start (Ok keys) = policy_line keys ++ key_lines (start == 0) keys.keys.items ++ end_line
-keys_text start (Err refusal) = codes "refused " ++ refusal_name refusal ++ line_feed ++ end_line
+keys_text start (Err refusal) = refused_text refusal

@@ -29,7 +29,6 @@ pub(crate) fn answer_of(config: &Config, asked: &Asked) -> Result<Keys, Refusal>
 fn group_named<'a>(groups: &'a [KeyGroupPart], name: &Name32) -> Option<&'a KeyGroupPart>
     requires { All IsKeyGroup groups.now }
     ensures found { option_copied result ≡ group_named groups.now name.now }
-    ensures named { IfSome result (λ group. group.now.name ≡ name.now) }
     ensures sound { IfSome result (λ group. IsKeyGroup group.now) }
 {
     groups.iter().find(|group| group.name == *name)

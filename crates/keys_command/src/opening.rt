@@ -1,9 +1,9 @@
 //! A guard over a pulled ring, and what it opens.
-ghost use Rattle.std.specs.Prelude.{◌≡◌, [], length};
+ghost use Rattle.std.specs.Prelude.{◌≡◌, [], All};
 ghost use Rattle.key_service.specs.Laws.{IsReply};
 ghost use Rattle.key_service.specs.Pulled.{as_read, IsPullable};
 ghost use Rattle.message_guard.specs.Guards.{IsGuardOf, setup_of};
-ghost use Rattle.keys_command.specs.Opening.{FindsZeros, HasLength, IsGuardFor, Opens};
+ghost use Rattle.keys_command.specs.Opening.{CanOpen, FindsZeros, HasLength, Opens};
 
 use crate::protecting::{FIRST_BLOCK, ZEROS, protect_zeros};
 use group_keys::KeySet;
@@ -16,7 +16,7 @@ pub(crate) fn guard_of(keys: &Keys, back: &Keys) -> Guard
     requires reply { IsReply keys.now }
     requires pullable { IsPullable keys.now }
     requires back { back.now ≡ as_read keys.now }
-    ensures { IsGuardFor keys.now.keys.items result }
+    ensures { All (CanOpen result) keys.now.keys.items }
 {
     a_read_answer_is_pulled_as_the_answer();
     Guard::new(pulled(back), Mode::Encrypt, FIRST_BLOCK)

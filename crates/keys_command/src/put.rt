@@ -39,7 +39,11 @@ pub fn put_policy(out: &mut Vec<u8>, keys: &Keys) -> Result<(), NoMemory>
 fn policy_of(long: bool) -> &'static str
     ensures { result.now ≡ policy_of long }
 {
-    if long { "PubSub-Aes256-CTR" } else { "PubSub-Aes128-CTR" }
+    if long {
+        "PubSub-Aes256-CTR"
+    } else {
+        "PubSub-Aes128-CTR"
+    }
 }
 
 #[tactic(auto, unfolding(crate::specs::Texts::key_line))]

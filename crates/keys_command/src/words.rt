@@ -38,7 +38,12 @@ pub fn keys_in(words: &[Word]) -> Option<(&str, Asked)>
     if command.as_str() != "keys" || !names_file(file.as_bytes()) {
         return None;
     }
-    match asked_in(group.as_str(), start.as_str(), count.as_str(), moment.as_str()) {
+    match asked_in(
+        group.as_str(),
+        start.as_str(),
+        count.as_str(),
+        moment.as_str(),
+    ) {
         Some(asked) => Some((file, asked)),
         None => None,
     }
