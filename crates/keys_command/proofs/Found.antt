@@ -1,5 +1,5 @@
 -- A guard that has the key finds the four zero bytes that were protected under it.
-use Rattle.std.proofs.Common.{◌≡◌, ℕ, ◌+◌, ◌-◌, ◌<◌, ◌≤◌, ◌^◌, Bool, true, false, not, ◌&&◌, nat_lt, List, [], ◌++◌, length, take, drop, Option, Some, None, Ok, Err, refl, sym, ap, subst, ◌∙◌, append_assoc, arith}
+use Rattle.std.proofs.Common.{◌≡◌, ℕ, ◌+◌, ◌-◌, ◌<◌, ◌^◌, Bool, true, false, not, ◌&&◌, nat_lt, List, [], ◌++◌, length, take, drop, Option, Some, None, Ok, Err, refl, sym, ap, subst, ◌∙◌, append_assoc, arith}
 use Rattle.std.specs.Prelude.{is_some, bytes_eq, slice_range, nat_le}
 use Rattle.std.specs.Borrow.{Bor}
 use Rattle.std.specs.Option.{option_copied, option_map}
@@ -20,7 +20,7 @@ use Rattle.message_guard.specs.declared.pass.Pass1.{Pass1}
 use Rattle.message_guard.specs.Acceptance.{is_acceptable}
 use Rattle.message_guard.specs.Guards.{Setup, opened_by, security_told}
 use Rattle.message_guard.specs.Opened.{MayOpen, sent_pass}
-use Rattle.message_guard.specs.Opening.{verdict, opened}
+use Rattle.message_guard.specs.Opening.{verdict}
 use Rattle.message_guard.specs.Protection.{keys_in, keys_with, payload_in, signature_of}
 use Rattle.message_guard.specs.Senders.{IsSender, MayProtect, SenderState, advanced, front_value, made_of, sent}
 use Rattle.message_guard.proofs.Carrying.{front_is_senders, one_place, one_security, written_carries}

@@ -1,5 +1,5 @@
 -- The key group of a name.
-use Rattle.std.proofs.Common.{◌≡◌, List, ℕ, Option, Some, None, sym, ap, subst, ◌∙◌, Bor, IfSome, All}
+use Rattle.std.proofs.Common.{◌≡◌, List, ℕ, Option, Some, None, sym, subst, Bor, IfSome, All}
 use Rattle.std.specs.Option.{option_copied}
 use Rattle.std.specs.Str.{bytes_eq}
 use Rattle.std.proofs.lemmas.Slice.Eq.{bytes_eq-Decides}

@@ -4,3 +4,4 @@ pub mod Sizes
 pub mod Back
 pub mod Groups
 pub mod Told
+pub mod Once

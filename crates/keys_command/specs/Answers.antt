@@ -1,5 +1,5 @@
 -- What a key service answers that serves a key group of a configuration.
-use Rattle.std.specs.Prelude.{◌≡◌, ⊤, List, ℕ, map, find, Option, Some, None, Result, Ok, Err}
+use Rattle.std.specs.Prelude.{◌≡◌, List, ℕ, map, find, Option, Some, None, Result, Ok, Err}
 use Rattle.std.specs.Str.{bytes_eq}
 use Rattle.group_keys.specs.declared.ring.Ring.{Ring}
 use Rattle.group_keys.specs.Ring.{is_long as is_long_ring, key_sets}

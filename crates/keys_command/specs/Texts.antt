@@ -1,9 +1,8 @@
 -- The lines of the command.
-use Rattle.std.specs.Prelude.{ℕ, ◌==◌, Bool, List, [], ◌∷◌, ◌++◌, codes, flat_map, if◌then◌else◌, Result, Ok, Err}
+use Rattle.std.specs.Prelude.{ℕ, ◌==◌, Bool, List, [], ◌++◌, codes, flat_map, if◌then◌else◌, Result, Ok, Err}
 use Rattle.std.specs.Fmt.{decimal}
 use Rattle.group_keys.specs.declared.key_set.KeySet.{KeySet}
 use Rattle.key_service.specs.declared.service.Keys.{Keys}
-use Rattle.key_service.specs.declared.service_fault.ServiceFault.{ServiceFault}
 use Rattle.key_service.specs.declared.service_fault.ServiceFault.TheVariants.{TooFew, NotConsecutive, Uneven}
 use Rattle.key_service.specs.Spelling.{policy_of}
 use Rattle.command_parts.specs.Statuses.{line_feed}

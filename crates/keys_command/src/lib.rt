@@ -5,6 +5,7 @@
 mod answering;
 mod command;
 mod exchange;
+mod laws;
 mod opening;
 mod protecting;
 mod put;
@@ -13,4 +14,5 @@ mod text;
 mod words;
 
 pub use command::keys;
+pub use laws::a_configuration_has_one_text;
 pub use words::{Asked, keys_in};

@@ -1,4 +1,3 @@
-use Rattle.std.proofs.Common.{◌≡◌}
 use Rattle.message_guard.specs.Guards.{security_told, setup_of}
 use Rattle.keys_command.proofs.Found.{finds_passed, finds_refused, read_secured}
 use Rattle.keys_command.proofs.opening.finds_zeros.Goals as goal

@@ -1,6 +1,5 @@
-use Rattle.std.proofs.Common.{◌≡◌}
 use Rattle.group_keys.specs.Ring.{key_sets}
-use Rattle.keys_command.proofs.Found.{first_front, keys_of_alone, may_protect, protected_is}
+use Rattle.keys_command.proofs.Found.{first_front, keys_of_alone, may_protect}
 use Rattle.keys_command.proofs.protecting.protect_zeros.Goals as goal
 
 pub protect-requires-clause-front : goal.protect-requires-clause-front

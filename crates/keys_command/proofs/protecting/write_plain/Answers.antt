@@ -1,4 +1,4 @@
-use Rattle.std.proofs.Common.{◌≡◌, ◌+◌, ◌≤◌, length, arith, ◌∙◌}
+use Rattle.std.proofs.Common.{arith, ◌∙◌}
 use Rattle.uadp_header.specs.Headers.{security_in}
 use Rattle.keys_command.proofs.Found.{header_len_is}
 use Rattle.keys_command.proofs.protecting.write_plain.Goals as goal
