@@ -1,0 +1,4 @@
+pub mod Legal
+pub mod Running
+pub mod Looks
+pub mod Runs
