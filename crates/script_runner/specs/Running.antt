@@ -1,5 +1,5 @@
 -- What a session lives through while threads write and the other lines of a script are run beside them. Lists of lines and of steps have the latest first.
-use Rattle.std.specs.Prelude.{◌≡◌, ℕ, ◌≤◌, List, [], ◌∷◌, length, map, take, Bool, false}
+use Rattle.std.specs.Prelude.{◌≡◌, ℕ, ◌<◌, ◌≤◌, List, [], ◌∷◌, length, map, take, Bool, false}
 use Rattle.std.specs.List.{range_with_len}
 use Rattle.dataset_meta.specs.declared.field.Field.{Field}
 use Rattle.ua_base.specs.Journal.{Entry}
@@ -21,9 +21,9 @@ Logs = ℕ → List Written
 abbrev pub Versions : Type 0
 Versions = ℕ → ℕ
 
--- each version is one of its history
-abbrev pub AreWithin : Logs → Versions → Type 0
-AreWithin logs versions = (set : ℕ) → versions set ≤ length (logs set)
+-- each of so many data sets has a version of its history
+abbrev pub AreWithin : ℕ → Logs → Versions → Type 0
+AreWithin sets logs versions = (set : ℕ) → set < sets → versions set ≤ length (logs set)
 
 -- a version with its row: that of so many entries
 abbrev pub sample_at : List Written → ℕ → Sampled
@@ -44,7 +44,8 @@ IsTickedAt p logs versions ms closing earlier steps =
 -- what a line makes of the steps before it: a tick samples some version of each data set; writes and watches are the threads'
 abbrev pub IsLineRun : Plan → Logs → Act → List Step → List Step → Type 0
 IsLineRun p logs (act.Write thread set patch) earlier steps = steps ≡ earlier
-IsLineRun p logs (act.Tick ms) earlier steps = (versions : Versions) × AreWithin logs versions × IsTickedAt p logs versions ms false earlier steps
+IsLineRun p logs (act.Tick ms) earlier steps =
+    (versions : Versions) × AreWithin (length p.full) logs versions × IsTickedAt p logs versions ms false earlier steps
 IsLineRun p logs (act.Enable id) earlier steps = steps ≡ Enable id ∷ earlier
 IsLineRun p logs (act.Disable id) earlier steps = steps ≡ Disable id ∷ earlier
 IsLineRun p logs (act.Fated k fate) earlier steps = steps ≡ earlier

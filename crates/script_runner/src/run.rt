@@ -78,11 +78,14 @@ fn run_beside<'c, R: Threads + Wait + Sync, L: Link, G: Gate>(
     script: &Script,
     link: &mut L,
     gate: &G,
-) -> Result<(Session<'c>, Vec<Done>), NoMemory>
-{
-    let (dones, conducted) = crew.run(rt, bank, targets, gate, &mut || {
-        conduct(rt, &mut session, bank, targets, script, link, gate)
-    });
+) -> Result<(Session<'c>, Vec<Done>), NoMemory> {
+    let (dones, conducted) = crew.run(
+        rt,
+        bank,
+        targets,
+        gate,
+        &mut || { conduct(rt, &mut session, bank, targets, script, link, gate) },
+    );
     conducted?;
     Ok((session, dones))
 }
