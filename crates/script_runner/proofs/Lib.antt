@@ -1,2 +1,9 @@
+pub mod Growing
+pub mod Sampling
+pub mod Conducted
+pub mod Turned
+pub mod Versions
+pub mod Beginning
+pub mod Whole
 pub mod Items
-pub mod Lists
+pub mod Handing

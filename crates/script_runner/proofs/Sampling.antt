@@ -10,7 +10,6 @@ use Rattle.version_cell.proofs.Logs.{starts_length}
 use Rattle.version_cell.specs.declared.rule.Entry.{Entry}
 use Rattle.version_cell.specs.Histories.{row_after}
 use Rattle.version_cell.specs.Known.{Known, nothing}
-use Rattle.version_cell.specs.Passes.{SeesMore}
 use Rattle.version_cell.specs.Sets.{pass_at}
 use Rattle.writer_group.specs.declared.sampled.Sampled.{Sampled}
 use Rattle.writer_group.specs.Turns.{no_sample}
@@ -19,6 +18,7 @@ use Rattle.session_model.specs.Sets.{meta_in, metas_at}
 use Rattle.session_laws.specs.Sessions.{HasSample, SamplesRise}
 use Rattle.pubsub_engine.specs.Standing.{sample_of, samples_of}
 use Rattle.script_runner.specs.Conducting.{AreEarlier}
+use Rattle.script_runner.specs.Finishing.{SeeMore}
 use Rattle.script_runner.specs.Running.{AreWithin, IsTickedAt, Logs, sample_at, samples_at}
 use Rattle.script_runner.proofs.Growing.{Grow}
 
@@ -48,10 +48,6 @@ pub within-whole : (p : Plan) (passes : List Known) → AreWithin (length p.full
 within-whole p passes set lt = omega arith
 
 -- ---- later passes
-
--- each has seen as much or more
-abbrev pub SeeMore : List Known → List Known → Type 0
-SeeMore old new = (set : ℕ) → set < length old → SeesMore (pass_at old set) (pass_at new set)
 
 pub grown : (sets : ℕ) (old new : List Known) → length old ≡ sets → SeeMore old new → Grow sets (seen_in old) (seen_in new)
 grown sets old new count more set lt = (more set (omega (arith, count, lt))).seen
