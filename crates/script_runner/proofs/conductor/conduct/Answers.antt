@@ -1,7 +1,5 @@
-use Rattle.std.proofs.Common.{◌≤◌, ℕ, List, length, cond, take, ap, arith}
-use Rattle.std.proofs.lemmas.List.Sums.{sum_by-take-le}
+use Rattle.std.proofs.Common.{◌≤◌, ◌+◌, ℕ, List, length, refl, ap, ◌∙◌, arith}
 use Rattle.ps_script.specs.declared.script.Line.{Line}
-use Rattle.ps_script.specs.Sessions.{is_tick}
 use Rattle.ua_base.proofs.Links.{KeepsLink-refl, KeepsLink-then, stays_open}
 use Rattle.pubsub_engine.specs.Holding.{plan_of}
 use Rattle.script_runner.proofs.Conducted.{all-run, next-may, next-run, ticks-few, ticks-more}
@@ -12,6 +10,7 @@ loop-line-init g c = record {
   session = c.requires.session;
   bank = c.requires.bank;
   targets = c.requires.targets;
+  ticks = refl;
   conducted = c.requires.begun;
   link = KeepsLink-refl g.L.Link.opened_with g.L.Link.faults c.args.link.now;
 }
@@ -37,6 +36,8 @@ loop-line-preserved g c =
       session = e.session;
       bank = e.bank;
       targets = e.targets;
+      ticks = ap (λ (n : ℕ). c.loop-line.ticks + n) c.ticks_by.ensures
+          ∙ ticks-more c.args.script.now.lines c.as_slice-line-items.result.now c.loop-line.line-index c.loop-line.ticks c.as_slice-line-items.ensures c.loop-line-test.true inv.ticks;
       conducted = next-run (plan_of c.args.session.now).config c.args.script.now c.as_slice-line-items.result.now c.loop-line.line-index (g.L.Link.told c.loop-line.link)
           c.loop-line.session c.requires.script c.as_slice-line-items.ensures inv.conducted c.loop-line-test.true (g.L.Link.told c.conduct_line.new.link)
           c.conduct_line.new.session inv.session e.session e.runs;
