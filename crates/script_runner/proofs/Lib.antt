@@ -7,3 +7,6 @@ pub mod Beginning
 pub mod Whole
 pub mod Items
 pub mod Handing
+pub mod Legal
+pub mod Looks
+pub mod Ended
