@@ -10,3 +10,4 @@ pub mod Handing
 pub mod Legal
 pub mod Looks
 pub mod Ended
+pub mod Opened
