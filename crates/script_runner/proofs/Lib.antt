@@ -2,4 +2,6 @@ pub mod Items
 pub mod Lists
 pub mod Legal
 pub mod Looks
+pub mod Meeting
+pub mod Finishing
 pub mod Ended
