@@ -67,31 +67,22 @@ module _ (dones left : List Done) (same : map unwatched left ≡ map unwatched d
 
 -- ---- the session between the calls
 
-module _ (old met level : Session) (samples : ChangesSamples old met) (stores : ChangesStores met level) where
-  pub plan-same : plan_of level ≡ plan_of old
-  plan-same = ap plan_of stores ∙ ap plan_of samples
+pub targets-met : (old met : Session) → ChangesSamples old met → (targets : TargetsData) → AreTargetsOf old targets → AreTargetsOf met targets
+targets-met old met samples targets are =
+    targets-stay old met targets (ap plan_of samples) (ap keeper_of samples) (ap (λ (s : Session). s.left.stores) samples) are
 
-  pub passes-same : passes_of level ≡ passes_of met
-  passes-same = ap passes_of stores
+pub bank-level : (met level : Session) → ChangesStores met level → (bank : List CellData) → IsBankOf met bank → IsBankOf level bank
+bank-level met level stores bank is = bank-stays met level bank (ap plan_of stores) (ap passes_of stores) is
 
-  pub keeper-same : keeper_of met ≡ keeper_of old
-  keeper-same = ap keeper_of samples
-
-  pub targets-met : (targets : TargetsData) → AreTargetsOf old targets → AreTargetsOf met targets
-  targets-met targets are = targets-stay old met targets (ap plan_of samples) keeper-same (ap (λ (s : Session). s.left.stores) samples) are
-
-  pub bank-level : (bank : List CellData) → IsBankOf met bank → IsBankOf level bank
-  bank-level bank is = bank-stays met level bank (ap plan_of stores) passes-same is
-
-  pub may-level : MayPass 0 true old → MayPass 0 true level
-  may-level may =
-      let left : left_of level ≡ left_of old = ap left_of stores ∙ ap left_of samples in
-      record {
-        running = ap (λ (l : Left). l.is_closed) left ∙ may.running;
-        left = (let n = may.left in let e = ap (λ (l : Left). l.ticks) left in omega (arith, n, e));
-        short = may.short;
-        still = may.still;
-      }
+pub may-level : (old met level : Session) → ChangesSamples old met → ChangesStores met level → MayPass 0 true old → MayPass 0 true level
+may-level old met level samples stores may =
+    let left : left_of level ≡ left_of old = ap left_of stores ∙ ap left_of samples in
+    record {
+      running = ap (λ (l : Left). l.is_closed) left ∙ may.running;
+      left = (let n = may.left in let e = ap (λ (l : Left). l.ticks) left in omega (arith, n, e));
+      short = may.short;
+      still = may.still;
+    }
 
 -- what the calls of the end say, by the session before, when it has met all, when the watches are level, and then; and by what the threads left, before and then
 pub record AreEnds (bank targets : List CellData) (old met level new : Session) (dones left : List Done) (told after : Option LinkState) : Type 0 where
@@ -119,18 +110,18 @@ pub finishes : {E : Type 0} (bank targets : List CellData) (old met level new : 
     → IfOk r (Finishes bank targets old dones told after)
 finishes bank targets old met level new dones left told after (Err e) are closed_after histories watches of = tt
 finishes bank targets old met level new dones left told after (Ok closed) are closed_after histories watches of =
-    let passes : passes_of level ≡ passes_of met = passes-same old met level are.samples are.stores in
+    let passes : passes_of level ≡ passes_of met = ap passes_of are.stores in
     let later : SeeMore (passes_of met) (passes_of new) = subst (λ (l : List Known). SeeMore l (passes_of new)) passes are.passed.more in
     let count-met : length (passes_of met) ≡ length bank = are.bank_met.passes.count in
     let count-old : length (passes_of old) ≡ length bank = are.bank_old.passes.count in
     record {
       new = new;
       bank_is = are.bank_new;
-      plan = are.passed.plan ∙ plan-same old met level are.samples are.stores;
+      plan = are.passed.plan ∙ ap plan_of are.stores ∙ ap plan_of are.samples;
       more = see-on (passes_of old) (passes_of met) (passes_of new) (count-met ∙ sym count-old) are.more later;
       met = λ t set lt low d. met-on met new set (get_or dones t d) later (omega (arith, low, count-met)) (are.met_all t set lt low d);
       stored = λ t reader lt low d.
-          subst (λ (keeper : List Known). StartsWith (pass_at keeper reader).seen (pass_at (get_or dones t d).watches reader).seen) (keeper-same old met level are.samples are.stores)
+          subst (λ (keeper : List Known). StartsWith (pass_at keeper reader).seen (pass_at (get_or dones t d).watches reader).seen) (ap keeper_of are.samples)
           (are.stored t reader lt low d);
       lawful = are.passed.lawful;
       leads = λ p steps stands. are.passed.leads p steps (are.stood_level p steps (are.stood p steps stands));

@@ -1,5 +1,5 @@
 pub mod Items
-pub mod Lists
+pub mod Duties
 pub mod Legal
 pub mod Looks
 pub mod Meeting
