@@ -50,7 +50,7 @@ use Rattle.script_runner.specs.Lists.{items_by, watches_by}
 use Rattle.script_runner.specs.Looks.{AreLooks, AreLooksBy}
 use Rattle.script_runner.proofs.Items.{watches-are}
 use Rattle.script_runner.proofs.Legal.{ClosedHistoriesAreLegal, legal-log}
-use Rattle.script_runner.proofs.Duties.{AreCellsOf, quota-at, sets-count, spent}
+use Rattle.script_runner.proofs.Handing.{AreCellsOf, quota-at, sets-count, spent}
 use Rattle.script_runner.proofs.Looks.{each-reader, looks-there, none-falls}
 
 -- what a run's end makes of what the session `new` has seen, and of what is closed
