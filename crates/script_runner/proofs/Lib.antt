@@ -9,5 +9,7 @@ pub mod Items
 pub mod Handing
 pub mod Legal
 pub mod Looks
+pub mod Meeting
+pub mod Finishing
 pub mod Ended
 pub mod Opened
