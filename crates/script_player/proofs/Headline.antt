@@ -40,7 +40,7 @@ starts-if : (b : Bool) (log : List Entry) (e : Entry) → StartsWith (if b then 
 starts-if true log e = (e ∷ [], refl)
 starts-if false log e = starts_itself log
 
-starts-with-write : (meta : MetaData) (set : ℕ) (log : List Entry) (a : Act) → StartsWith (with_write meta set log a) log
+pub starts-with-write : (meta : MetaData) (set : ℕ) (log : List Entry) (a : Act) → StartsWith (with_write meta set log a) log
 starts-with-write meta set log (act.Write thread other patch) = starts-if (other == set) log (entry thread (patched_words meta.fields patch (row_after log)))
 starts-with-write meta set log (act.Tick ms) = starts_itself log
 starts-with-write meta set log (act.Enable id) = starts_itself log
