@@ -1,16 +1,15 @@
 -- A run that is closed: its histories are legal and told, and the looks of its watches are told.
-use Rattle.std.proofs.Common.{◌≡◌, ℕ, zero, suc, ◌+◌, ◌<◌, ◌≤◌, List, [], ◌∷◌, length, map, get_or, refl, sym, ap, ◌∙◌, subst, arith, Option}
+use Rattle.std.proofs.Common.{◌≡◌, ℕ, zero, suc, ◌+◌, ◌<◌, ◌≤◌, List, [], ◌∷◌, length, map, get_or, sym, ap, ◌∙◌, subst, arith, Option}
 use Rattle.std.specs.Prelude.{All}
 use Rattle.std.specs.List.{AllZip, flat_map, range_with_len}
 use Rattle.std.proofs.lemmas.List.{get_or-map, length-map, map-id}
 use Rattle.std.proofs.lemmas.List.Elements.{All-map, All-nil, All-weaker}
-use Rattle.std.proofs.lemmas.List.FromFn.{fill_by_all, get_or-range_with_len, length-range_with_len}
+use Rattle.std.proofs.lemmas.List.FromFn.{fill_by_all}
 use lib.ListN.{get_or-map as get_or-mapped}
 use Rattle.dataset_meta.specs.Metas.{MetaData, no_meta}
 use Rattle.ua_base.specs.Journal.{LinkState}
 use Rattle.version_cell.specs.declared.rule.Entry.{Entry}
 use Rattle.version_cell.specs.Cells.{CellData}
-use Rattle.version_cell.specs.Known.{Known}
 use Rattle.version_cell.specs.Sets.{cell_at, no_cell, pass_at}
 use Rattle.target_cells.specs.Keeping.{TargetsData}
 use Rattle.ps_config.specs.declared.parts.Config.{Config}
@@ -29,29 +28,34 @@ use Rattle.app_threads.specs.declared.done.Looked.{Looked}
 use Rattle.app_threads.specs.declared.item.Item.{Item}
 use Rattle.app_threads.specs.Closing.{IsJoined}
 use Rattle.app_threads.specs.Duties.{Duty, Watched, duty_at}
-use Rattle.app_threads.specs.Items.{patches_in, versions_in, watches_in}
+use Rattle.app_threads.specs.Items.{patches_in, watches_in}
 use Rattle.app_threads.specs.Looks.{IsLooked, NeverFalls, counts_in}
 use Rattle.app_threads.specs.Marks.{authors}
 use Rattle.app_threads.proofs.Joining.{versions_are}
 use Rattle.app_threads.proofs.Looking.{watched_never_falls, watched_within}
 use Rattle.pubsub_engine.specs.declared.session.Session.{Session}
-use Rattle.pubsub_engine.specs.Authored.{AreInOrder, AreLooksAt, IsAuthored, watch_of, watches_of}
+use Rattle.pubsub_engine.specs.Authored.{AreInOrder, AreLooksAt, IsAuthored, watch_of}
 use Rattle.pubsub_engine.specs.Holding.{keeper_of, passes_of, plan_of}
 use Rattle.pubsub_engine.specs.Standing.{Stands}
 use Rattle.script_player.specs.Player.{stored}
 use Rattle.script_player.specs.Playing.{stores_at}
 use Rattle.script_player.specs.Plays.{plan_by}
-use Rattle.script_player.proofs.Finished.{any_default, by-numbers, named-at}
+use Rattle.script_player.proofs.Finished.{by-numbers, named-at}
 use Rattle.script_player.proofs.Stored.{stored_is}
 use Rattle.script_runner.specs.Conducting.{seen_by}
 use Rattle.script_runner.specs.Ended.{HasEnded}
 use Rattle.script_runner.specs.Legal.{IsLegalLog}
-use Rattle.script_runner.specs.Lists.{items_by, watches_by}
 use Rattle.script_runner.specs.Looks.{AreLooks, AreLooksBy}
 use Rattle.script_runner.proofs.Items.{watches-are}
 use Rattle.script_runner.proofs.Legal.{ClosedHistoriesAreLegal, legal-log}
-use Rattle.script_runner.proofs.Handing.{AreCellsOf, quota-at, sets-count, spent}
+use Rattle.script_runner.proofs.Handing.{AreCellsOf, sets-count, spent}
 use Rattle.script_runner.proofs.Looks.{each-reader, looks-there, none-falls}
+
+-- what holds of what each thread gives, whatever stands where there is no thread
+in-map : {B : Type 0} (f : Done → B) (P : B → Type 0) (none : B) (dones : List Done) (t : ℕ) → t < length dones → ((d : Done) → P (f (get_or dones t d))) → P (get_or (map f dones) t none)
+in-map f P none [] t lt each = absurd (omega (arith, lt))
+in-map f P none (done ∷ dones) zero lt each = each done
+in-map f P none (done ∷ dones) (suc t) lt each = in-map f P none dones t (omega (arith, lt)) each
 
 -- what a run's end makes of what the session `new` has seen, and of what is closed
 pub record Ends (config : Config) (script : Script) (steps : List Step) (new : Session) (dones : List Done) (closed : Closed) : Type 0 where
@@ -195,15 +199,6 @@ module _ (config : Config) (script : Script) (bank : List CellData) (targets : T
           (watched_within (pass_at (duty_at duties t).watches reader) (pass_at (get_or dones t d).watches reader) kept (counts_in reader (get_or dones t d).looks) (watched t reader d lt low)
           (h.finishes.stored t reader lt low d))
 
-  -- what holds of the looks of each thread
-  by-thread : (P : List Looked → Type 0) (t : ℕ) → t < length dones → ((d : Done) → P (get_or dones t d).looks) → P (looks-of t)
-  by-thread P t lt each = in-map dones t lt each
-    where
-      in-map : (ds : List Done) (k : ℕ) → k < length ds → ((d : Done) → P (get_or ds k d).looks) → P (get_or (map (λ (done : Done). done.looks) ds) k [])
-      in-map [] k low all = absurd (omega (arith, low))
-      in-map (done ∷ ds) zero low all = all done
-      in-map (done ∷ ds) (suc k) low all = in-map ds k (omega (arith, low)) all
-
   watches-told : closed.watches ≡ flat_map (λ (thread : ℕ). map (watch_of thread) (looks-of thread)) (range_with_len 0 8)
   watches-told =
       h.finishes.watches in-order
@@ -215,24 +210,19 @@ module _ (config : Config) (script : Script) (bank : List CellData) (targets : T
       g : ℕ → List WatchEnd
       g thread = map (watch_of thread) (looks-of thread)
 
+      numbers : (k : ℕ) → k < length dones → get_or (map (λ (done : Done). done.list) dones) k 0 ≡ k
+      numbers k lt = in-map (λ (done : Done). done.list) (λ (list : ℕ). list ≡ k) 0 dones k lt (in-order.numbers k lt)
+
       lists : map (λ (done : Done). done.list) dones ≡ range_with_len 0 (length dones)
       lists =
           fill_by_all (λ (n : ℕ). n) (map (λ (done : Done). done.list) dones) (length dones) 0 (length-map dones (λ (done : Done). done.list)) numbers
           ∙ map-id (range_with_len 0 (length dones))
 
-      numbers : (k : ℕ) → k < length dones → get_or (map (λ (done : Done). done.list) dones) k 0 ≡ k
-      numbers k lt = in-map dones k lt (λ d. in-order.numbers k lt d)
-        where
-          in-map : (ds : List Done) (j : ℕ) → j < length ds → ((d : Done) → (get_or ds j d).list ≡ k) → get_or (map (λ (done : Done). done.list) ds) j 0 ≡ k
-          in-map [] j low all = absurd (omega (arith, low))
-          in-map (done ∷ ds) zero low all = all done
-          in-map (done ∷ ds) (suc j) low all = in-map ds j (omega (arith, low)) all
-
   pub watches : AreLooks p steps script.lines closed.watches
   watches = record {
     looks = looks-of;
     of_threads = λ t lt. let here : t < length dones = (let e = done-count in omega (arith, e, lt)) in
-        by-thread (AreLooksBy p steps script.lines t) t here (λ d. looks-by t d here);
+        in-map (λ (done : Done). done.looks) (AreLooksBy p steps script.lines t) [] dones t here (λ d. looks-by t d here);
     told = watches-told;
   }
 

@@ -1,7 +1,7 @@
 -- What the threads of a script ask for is there, and a new crew with their lists may run.
-use Rattle.std.proofs.Common.{◌≡◌, ℕ, zero, suc, ◌<◌, ◌≤◌, ◌^◌, ◌==◌, Bool, true, false, cond, List, [], ◌∷◌, length, map, get_or, refl, sym, ap, ◌∙◌, subst, arith, Some, Vec, vec_len}
-use Rattle.std.specs.Prelude.{All, slice_get, slice_index, take}
-use Rattle.std.specs.List.{HoldsAt, range_with_len}
+use Rattle.std.proofs.Common.{◌≡◌, ℕ, zero, suc, ◌<◌, ◌^◌, ◌==◌, Bool, true, false, cond, List, [], ◌∷◌, length, map, get_or, refl, sym, ap, ◌∙◌, subst, arith, Vec, vec_len}
+use Rattle.std.specs.Prelude.{All, slice_index, take}
+use Rattle.std.specs.List.{range_with_len}
 use Rattle.std.specs.declared.alloc.Global.{Global}
 use Rattle.std.proofs.lemmas.List.{get_or-map, length-map}
 use Rattle.std.proofs.lemmas.List.Elements.{All-cons, All-nil}
@@ -15,7 +15,7 @@ use Rattle.version_cell.specs.Sets.{ArePassesOf, cell_at, no_cell}
 use Rattle.cell_bank.specs.Hands.{AreHands}
 use Rattle.app_threads.specs.declared.item.Item.{Item}
 use Rattle.app_threads.specs.declared.item.Item.TheVariants as items
-use Rattle.app_threads.specs.Duties.{Duty, duty_at}
+use Rattle.app_threads.specs.Duties.{duty_at}
 use Rattle.app_threads.specs.Items.{FitsItem, patches_in}
 use Rattle.app_threads.specs.Crews.{AreWithin, given_to, list_of}
 use Rattle.app_threads.proofs.Starting.{ready, unseen}

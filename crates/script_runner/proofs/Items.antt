@@ -1,12 +1,10 @@
 -- A thread's items are the writes and watches that the lines of a script have for it.
-use Rattle.std.proofs.Common.{◌≡◌, ℕ, zero, suc, ◌+◌, ◌<◌, ◌≤◌, ◌==◌, Bool, true, false, ◌&&◌, cond, List, [], ◌∷◌, ◌++◌, length, refl, ap, ◌∙◌, arith, Some}
+use Rattle.std.proofs.Common.{◌≡◌, ℕ, suc, ◌+◌, ◌≤◌, ◌==◌, Bool, true, false, ◌&&◌, cond, List, [], ◌∷◌, ◌++◌, length, refl, ◌∙◌, arith, Some}
 use Rattle.std.specs.Prelude.{All, count_by, slice_get}
-use Rattle.std.specs.List.{flat_map}
 use Rattle.std.proofs.lemmas.List.{append-nil, length-append}
 use Rattle.std.proofs.lemmas.List.Concat.{flat_map-append}
 use Rattle.std.proofs.lemmas.List.Elements.{All-append, All-nil}
 use Rattle.std.proofs.lemmas.List.Sums.{sum_by-cons}
-use Rattle.row_words.specs.declared.patch.Patch.{Patch}
 use Rattle.app_threads.specs.declared.item.Item.{Item}
 use Rattle.app_threads.specs.declared.item.Item.TheVariants as items
 use Rattle.app_threads.specs.Items.{patch_of, patches_in, watch_of, watches_in}

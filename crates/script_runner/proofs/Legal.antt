@@ -1,5 +1,5 @@
 -- What a session has seen that met what each thread left is a legal history of the script.
-use Rattle.std.proofs.Common.{◌≡◌, ℕ, ◌<◌, List, [], length, map, get_or, refl, sym, ap, ◌∙◌, subst, arith}
+use Rattle.std.proofs.Common.{◌≡◌, ℕ, List, [], map, ap, ◌∙◌, subst, arith}
 use Rattle.std.specs.List.{range_with_len}
 use Rattle.std.proofs.lemmas.List.{get_or-map, length-map}
 use Rattle.std.proofs.lemmas.List.FromFn.{fill_by_all}
@@ -21,7 +21,7 @@ use Rattle.ps_script.specs.declared.script.Script.{Script}
 use Rattle.ps_script.specs.Sessions.{patches_of}
 use Rattle.session_model.specs.Sets.{meta_in}
 use Rattle.script_runner.specs.Ended.{AreDutiesOf}
-use Rattle.script_runner.specs.Legal.{IsLegalLog, fields_in, writes_to}
+use Rattle.script_runner.specs.Legal.{IsLegalLog}
 use Rattle.script_runner.proofs.Items.{patches-are}
 
 -- what the law of closed histories says

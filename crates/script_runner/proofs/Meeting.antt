@@ -1,23 +1,21 @@
 -- A session that meets what threads left, one after another, and levels their watches.
-use Rattle.std.proofs.Common.{◌≡◌, ℕ, suc, ◌+◌, ◌<◌, ◌≤◌, ◌≢◌, List, [], length, map, get_or, set, refl, sym, ap, ◌∙◌, subst, arith}
-use Rattle.std.specs.Prelude.{All}
+use Rattle.std.proofs.Common.{◌≡◌, ℕ, ◌+◌, ◌<◌, ◌≤◌, ◌≢◌, List, length, map, get_or, set, sym, ap, ◌∙◌, subst, arith}
 use Rattle.std.specs.List.{HoldsAt}
-use Rattle.std.proofs.lemmas.List.{get_or-map, get_or-set_other, get_or_default, length-map, length-set, map-set, set-get_or}
+use Rattle.std.proofs.lemmas.List.{get_or-map, get_or-set_other, get_or_default, map-set, set-get_or}
 use lib.ListN.{get_or-map as get_or-mapped}
 use borrow.Author.Count.{below_more}
 use Rattle.version_cell.specs.declared.rule.Entry.{Entry}
-use Rattle.version_cell.specs.Cells.{CellData}
 use Rattle.version_cell.specs.Histories.{StartsWith}
 use Rattle.version_cell.specs.Known.{Known, nothing}
-use Rattle.version_cell.specs.Passes.{SeesMore, shared_by}
-use Rattle.version_cell.specs.Sets.{ArePassesOf, JoinEach, pass_at}
+use Rattle.version_cell.specs.Passes.{shared_by}
+use Rattle.version_cell.specs.Sets.{JoinEach, pass_at}
 use Rattle.version_cell.proofs.Logs.{starts_trans}
 use Rattle.version_cell.proofs.Retries.{sees_itself, sees_on}
 use Rattle.target_cells.specs.Keeping.{AreLevel}
 use Rattle.app_threads.specs.declared.done.Done.{Done}
 use Rattle.pubsub_engine.specs.declared.session.Session.{Session}
 use Rattle.pubsub_engine.specs.Holding.{keeper_of, passes_of}
-use Rattle.script_runner.specs.Finishing.{HasMet, HasMetAll, HasStored, HasStoredAll, SeeMore, unwatched}
+use Rattle.script_runner.specs.Finishing.{HasMet, HasStored, SeeMore, unwatched}
 
 -- ---- passes that see more
 

@@ -1,5 +1,5 @@
 -- The end of a run: what the session has seen when it has met what the threads left, and what it is closed as. Lists of steps have the latest first.
-use Rattle.std.specs.Prelude.{◌≡◌, ℕ, ◌<◌, List, [], length, map, true, Option}
+use Rattle.std.specs.Prelude.{◌≡◌, ℕ, ◌<◌, List, [], length, true, Option}
 use Rattle.std.specs.List.{All, HoldsAt}
 use Rattle.ua_base.specs.Journal.{LinkState}
 use Rattle.version_cell.specs.Histories.{StartsWith}
