@@ -38,7 +38,7 @@ module _ (config : Config) (script : Script) (is : IsScript config script) (plan
   abbrev duties : List Duty
   duties = given_to lists hands (map shared_by watches)
 
-  ended : HasEnded config script bank targets duties dones session h.steps told after closed
+  abbrev ended : HasEnded config script bank targets duties dones session h.steps told after closed
   ended = record {
     script_is = is;
     duties_are = are-duties config script is opened bank targets hands watches lists o;

@@ -51,7 +51,7 @@ new-requires-clause-short g c =
     all.eight all.lists
 
 pub run_beside-requires-clause-begun : goal.run_beside-requires-clause-begun
-run_beside-requires-clause-begun g c =
+run_beside-requires-clause-begun g c κs within =
     let config : Config = c.args.config.now in
     let script : Script = c.args.script.now in
     let size = c.size_of-size.ensures in
@@ -64,7 +64,7 @@ run_beside-requires-clause-begun g c =
     (opened-empty (g.L.Link.told c.args.link.now) told c.in-Done.ensures.empty))
 
 pub run_beside-requires-clause-ready : goal.run_beside-requires-clause-ready
-run_beside-requires-clause-ready g c =
+run_beside-requires-clause-ready g c κs within =
     let config : Config = c.args.config.now in
     let script : Script = c.args.script.now in
     let size = c.size_of-size.ensures in
