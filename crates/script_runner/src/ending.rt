@@ -1,5 +1,5 @@
 //! The end of a run: the session takes in what the threads have seen, and is closed.
-ghost use Rattle.std.specs.Prelude.{◌≡◌, ◌<◌, ℕ, All, IsSome, IfOk, OnOk, length, map};
+ghost use Rattle.std.specs.Prelude.{◌≡◌, ◌<◌, ℕ, true, All, IsSome, IfOk, OnOk, length, map};
 ghost use Rattle.ua_base.specs.Links.{KeepsLink};
 ghost use Rattle.version_cell.specs.Sets.{ArePassesOf};
 ghost use Rattle.pubsub_engine.specs.Holding.{AreTargetsOf, ChangesSamples, ChangesStores, IsBankOf, IsSession, keeper_of, passes_of};
@@ -34,7 +34,7 @@ pub(crate) fn finish<R: Wait, L: Link>(
     requires targets { AreTargetsOf session targets.now }
     requires own { AreOwn bank.now targets.now.cells dones.items }
     requires may { MayPass 0 true session }
-    ensures finishes { IfOk result (Finishes bank.now targets.now.cells session.entry dones.entry.items
+    ensures finishes { IfOk result (Finishes bank.now targets.now.cells session.entry dones.items
         (L.told link.old) (L.told link.new)) }
     ensures link { KeepsLink L.opened_with L.faults link.old link.new }
 {
