@@ -135,9 +135,7 @@ module _ (config : Config) (script : Script) (lines : List Line) (told : Option 
       h.steps,
       run-more p (seen_in (passes_of session)) (seen_in (passes_of new)) lines h.steps
           (grown (length p.full) (passes_of session) (passes_of new) (count-passes p h.steps session is h.stands) t.more) h.ran,
-      counts_in (passes_of new),
-      within-whole p (passes_of new),
-      ticked-whole p (passes_of new) ms false led.0 led.1 h.steps (count-passes p steps_after new then led.2),
+      (counts_in (passes_of new), within-whole p (passes_of new), ticked-whole p (passes_of new) ms false led.0 led.1 h.steps (count-passes p steps_after new then led.2)),
     )
 
     ticked : HasConducted config script (tick ∷ lines) after new

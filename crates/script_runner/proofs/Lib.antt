@@ -13,3 +13,4 @@ pub mod Meeting
 pub mod Finishing
 pub mod Ended
 pub mod Opened
+pub mod Completed

@@ -32,13 +32,13 @@ pub turned-targets : (a : Act) (old new : Session) (targets : TargetsData) → T
 turned-targets a old new targets turns are = let keeps = turned-keeps a old new turns in targets-stay old new targets keeps.plan keeps.keeper keeps.stores are
 
 pub turned-runs : (a : Act) (old new : Session) (told : Option LinkState) → ((ms : ℕ) → a ≡ act.Tick ms → ⊥) → TurnsTo a old new → RunsTo a old new told told
-turned-runs (act.Write thread set patch) old new told no turns = (turns, refl)
-turned-runs (act.Tick ms) old new told no turns = absurd (no ms refl)
-turned-runs (act.Enable id) old new told no turns = (turns, refl)
-turned-runs (act.Disable id) old new told no turns = (turns, refl)
-turned-runs (act.Fated k fate) old new told no turns = (turns, refl)
-turned-runs (act.Watch thread reader times) old new told no turns = (turns, refl)
-turned-runs (act.Append set) old new told no turns = (turns, refl)
+turned-runs (act.Write thread set patch) old new told none turns = (turns, refl)
+turned-runs (act.Tick ms) old new told none turns = absurd (none ms refl)
+turned-runs (act.Enable id) old new told none turns = (turns, refl)
+turned-runs (act.Disable id) old new told none turns = (turns, refl)
+turned-runs (act.Fated k fate) old new told none turns = (turns, refl)
+turned-runs (act.Watch thread reader times) old new told none turns = (turns, refl)
+turned-runs (act.Append set) old new told none turns = (turns, refl)
 
 -- the next append may come
 pub append-next : (session : Session) → IsSession session → MayAppend session → MayAppendNext session

@@ -15,7 +15,7 @@ ghost use Rattle.script_runner.specs.Runs.{IsRunOf};
 use crate::conductor::conduct;
 use crate::ending::finish;
 use crate::lists::lists_of;
-use app_threads::{Crew, Done};
+use app_threads::{Crew, Done, closed_histories_are_legal};
 use cell_bank::Bank;
 use ps_config::Config;
 use ps_report::Closed;
@@ -56,6 +56,7 @@ pub fn run_script<R: Threads + Wait + Sync, L: Link, G: Gate>(
     ensures faults { L.faults link.old ≤ L.faults link.new }
 {
     histories_are_the_models();
+    closed_histories_are_legal();
     a_closed_session_tells_the_headline();
     let size = size_of(config, script);
     let Opening {

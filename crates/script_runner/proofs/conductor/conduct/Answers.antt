@@ -16,11 +16,11 @@ loop-line-init g c = record {
 }
 
 pub conduct_line-requires-clause-open : goal.conduct_line-requires-clause-open
-conduct_line-requires-clause-open g c =
+conduct_line-requires-clause-open g c κs within =
     stays_open g.L.Link.opened_with g.L.Link.faults c.args.link.now c.loop-line.link c.loop-line.invariant.link c.requires.open
 
 pub conduct_line-requires-clause-may : goal.conduct_line-requires-clause-may
-conduct_line-requires-clause-may g c =
+conduct_line-requires-clause-may g c κs within =
     next-may (plan_of c.args.session.now).config c.args.script.now c.as_slice-line-items.result.now c.loop-line.line-index (g.L.Link.told c.loop-line.link) c.loop-line.session
     c.requires.script c.as_slice-line-items.ensures c.loop-line.invariant.conducted c.loop-line-test.true
 
@@ -36,7 +36,7 @@ loop-line-preserved g c =
       session = e.session;
       bank = e.bank;
       targets = e.targets;
-      ticks = ap (λ (n : ℕ). c.loop-line.ticks + n) c.ticks_by.ensures
+      ticks = ap (λ (n : ℕ). c.loop-line.ticks + n) c.ticks_by-ticks.ensures
           ∙ ticks-more c.args.script.now.lines c.as_slice-line-items.result.now c.loop-line.line-index c.loop-line.ticks c.as_slice-line-items.ensures c.loop-line-test.true inv.ticks;
       conducted = next-run (plan_of c.args.session.now).config c.args.script.now c.as_slice-line-items.result.now c.loop-line.line-index (g.L.Link.told c.loop-line.link)
           c.loop-line.session c.requires.script c.as_slice-line-items.ensures inv.conducted c.loop-line-test.true (g.L.Link.told c.conduct_line.new.link)
