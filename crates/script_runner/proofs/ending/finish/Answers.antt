@@ -15,7 +15,7 @@ level_all-requires-clause-targets g c = targets-met c.args.session c.meet_all.ne
 pub level_all-requires-clause-own : goal.level_all-requires-clause-own
 level_all-requires-clause-own g c =
     let targets = c.args.targets.now.cells in
-    subst (λ (l : List Done). All (λ (done : Done). ArePassesOf targets done.watches) l) (sym c.in_ok-meet_all.ensures.same) (λ k d lt. (c.requires.own k d lt).1)
+    subst (λ (l : List Done). All (λ (done : Done). ArePassesOf targets done.watches) l) (sym {A = List Done} c.in_ok-meet_all.ensures.same) (λ k d lt. (c.requires.own k d lt).1)
 
 pub pass-requires-clause-bank : goal.pass-requires-clause-bank
 pass-requires-clause-bank g c =
