@@ -1,5 +1,5 @@
 -- A session before the first line of its script, and before its closing tick.
-use Rattle.std.proofs.Common.{◌≡◌, true, List, [], length, reverse, refl, ap, subst, arith, Option, Some}
+use Rattle.std.proofs.Common.{◌≡◌, true, [], reverse, refl, ap, subst, arith, Option, Some}
 use Rattle.ua_base.specs.Journal.{LinkState}
 use Rattle.ps_config.specs.declared.parts.Config.{Config}
 use Rattle.ps_script.specs.declared.script.Line.{Line}

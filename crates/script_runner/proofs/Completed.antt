@@ -1,5 +1,5 @@
 -- A script that was run with threads, from its opening to its close.
-use Rattle.std.proofs.Common.{◌≡◌, List, map, reverse, Option, Vec}
+use Rattle.std.proofs.Common.{List, map, reverse, Option, Vec}
 use Rattle.std.specs.declared.alloc.Global.{Global}
 use Rattle.ua_base.specs.Journal.{LinkState}
 use Rattle.version_cell.specs.Cells.{CellData}

@@ -5,7 +5,6 @@ use Rattle.std.proofs.lemmas.List.{append-nil, take_all}
 use Rattle.std.proofs.lemmas.List.Sums.{sum_by-take-le, sum_by_more}
 use Rattle.ua_base.specs.Journal.{Entry as LinkEntry, LinkState}
 use Rattle.version_cell.specs.Known.{Known}
-use Rattle.version_cell.specs.Sets.{pass_at}
 use Rattle.ps_config.specs.declared.parts.Config.{Config}
 use Rattle.ps_script.specs.declared.script.Act.{Act}
 use Rattle.ps_script.specs.declared.script.Act.TheVariants as act
@@ -22,7 +21,7 @@ use Rattle.pubsub_engine.specs.declared.session.Left.{Left}
 use Rattle.pubsub_engine.specs.declared.session.Session.{Session}
 use Rattle.pubsub_engine.specs.Holding.{IsSession, appends_left, left_of, passes_of, plan_of}
 use Rattle.pubsub_engine.specs.Standing.{Stands, samples_of}
-use Rattle.script_player.specs.Passing.{MayPass, PassesOn}
+use Rattle.script_player.specs.Passing.{PassesOn}
 use Rattle.script_player.specs.Plays.{plan_by}
 use Rattle.script_player.specs.Player.{with_switch}
 use Rattle.script_player.specs.Sizes.{appended_by, appended_sets}

@@ -1,10 +1,9 @@
 -- What a new session and its crew begin with, and what the crew leaves for its end.
-use Rattle.std.proofs.Common.{◌≡◌, ℕ, ◌<◌, List, length, map, get_or, reverse, sym, ap, ◌∙◌, arith, Option, Vec}
+use Rattle.std.proofs.Common.{◌≡◌, ℕ, ◌<◌, List, length, map, get_or, sym, ap, ◌∙◌, arith, Vec}
 use Rattle.std.specs.Prelude.{All}
 use Rattle.std.specs.declared.alloc.Global.{Global}
 use Rattle.std.proofs.lemmas.List.{length-map}
 use Rattle.dataset_meta.specs.Metas.{no_meta}
-use Rattle.ua_base.specs.Journal.{LinkState}
 use Rattle.version_cell.proofs.Each.{shared_own}
 use Rattle.version_cell.specs.Cells.{CellData, IsCell}
 use Rattle.version_cell.specs.Known.{Known}

@@ -1,10 +1,9 @@
 -- What a session's passes have seen, sampled: whole histories, no older than what was sampled before.
-use Rattle.std.proofs.Common.{◌≡◌, ℕ, ◌<◌, ◌≤◌, ◌⊎◌, inl, inr, Bool, List, [], ◌∷◌, length, map, get_or, sym, ap, ◌∙◌, arith}
+use Rattle.std.proofs.Common.{◌≡◌, ℕ, ◌<◌, ◌≤◌, ◌⊎◌, inl, inr, Bool, List, ◌∷◌, length, get_or, sym, ap, ◌∙◌, arith}
 use Rattle.std.proofs.lemmas.Bool.{cases_lt}
 use Rattle.std.proofs.lemmas.List.{get_or-map, get_or_past, length-map, take_all}
 use Rattle.std.proofs.lemmas.List.FromFn.{fill_by_all}
 use lib.ListN.{get_or-map as get_or-mapped}
-use Rattle.dataset_meta.specs.Metas.{MetaData}
 use Rattle.ua_base.specs.Journal.{Entry as LinkEntry}
 use Rattle.version_cell.proofs.Logs.{starts_length}
 use Rattle.version_cell.specs.declared.rule.Entry.{Entry}

@@ -1,5 +1,5 @@
 -- What a line that is no tick makes of a session, whatever line it is.
-use Rattle.std.proofs.Common.{◌≡◌, ℕ, List, length, map, drop, refl, sym, ap, ◌∙◌, subst, arith, Option}
+use Rattle.std.proofs.Common.{◌≡◌, ℕ, List, drop, refl, sym, subst, arith, Option}
 use Rattle.std.proofs.lemmas.List.{length-drop, length-map}
 use Rattle.ua_base.specs.Journal.{LinkState}
 use Rattle.version_cell.specs.Cells.{CellData}

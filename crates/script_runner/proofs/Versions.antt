@@ -1,6 +1,5 @@
 -- The samples of a run: each is that of a version of its data set's history, and so has this version's row.
-use Rattle.std.proofs.Common.{◌≡◌, ℕ, ◌<◌, ◌≤◌, ◌⊎◌, inl, inr, Bool, true, false, List, [], ◌∷◌, length, map, reverse, take, get_or, refl, sym, ap, ◌∙◌, subst, arith}
-use Rattle.std.specs.List.{range_with_len}
+use Rattle.std.proofs.Common.{◌≡◌, ℕ, ◌<◌, ◌≤◌, ◌⊎◌, inl, inr, Bool, true, false, List, [], ◌∷◌, length, reverse, get_or, sym, ap, ◌∙◌, subst, arith}
 use Rattle.std.proofs.lemmas.Bool.{cases_lt}
 use Rattle.std.proofs.lemmas.List.{get_or_past}
 use Rattle.std.proofs.lemmas.List.FromFn.{get_or-map-range_with_len, length-map-range_with_len}
@@ -10,7 +9,6 @@ use Rattle.row_words.specs.Belonging.{row_in}
 use Rattle.pubsub_model.specs.History.{Written as WrittenRow, row_of}
 use Rattle.ua_base.specs.Journal.{Entry as LinkEntry}
 use Rattle.version_cell.specs.declared.rule.Entry.{Entry}
-use Rattle.version_cell.specs.Histories.{row_after}
 use Rattle.app_threads.specs.Closing.{threads_of}
 use Rattle.ps_config.specs.declared.parts.Config.{Config}
 use Rattle.ps_script.specs.declared.script.Act.{Act}
@@ -25,7 +23,7 @@ use Rattle.session_model.specs.Sets.{meta_in, metas_at}
 use Rattle.session_laws.specs.Sessions.{AreVersions, HasSample}
 use Rattle.script_player.specs.Plays.{plan_by}
 use Rattle.script_player.proofs.Headline.{HistoriesHaveRows, no-row, script-meta}
-use Rattle.script_runner.specs.Legal.{IsLegalLog, fields_in, history_by, row_made}
+use Rattle.script_runner.specs.Legal.{IsLegalLog, history_by, row_made}
 use Rattle.script_runner.specs.Running.{AreWithin, IsLineRun, IsRunBy, IsTickedAt, Logs, Versions, sample_at, samples_at}
 
 -- the sample of a version of the data set, or none where there is no such data set

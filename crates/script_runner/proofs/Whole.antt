@@ -1,5 +1,5 @@
 -- A whole run: its lines, the closing tick behind them, and what its session is closed as.
-use Rattle.std.proofs.Common.{◌≡◌, ℕ, Bool, true, List, ◌∷◌, length, map, reverse, sym, ap, ◌∙◌, Option}
+use Rattle.std.proofs.Common.{◌≡◌, Bool, true, List, ◌∷◌, length, reverse, sym, ap, ◌∙◌, Option}
 use Rattle.std.proofs.lemmas.List.{length-map}
 use Rattle.ua_base.specs.Journal.{Entry as LinkEntry, LinkState}
 use Rattle.version_cell.specs.Cells.{CellData}

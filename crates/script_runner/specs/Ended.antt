@@ -1,5 +1,5 @@
 -- A script's crew that has run, and the session beside it that is then finished: all that is known when it is closed. Lists of steps have the latest first.
-use Rattle.std.specs.Prelude.{◌≡◌, ℕ, ◌<◌, List, [], length, map, All, Option}
+use Rattle.std.specs.Prelude.{◌≡◌, ℕ, ◌<◌, List, length, map, All, Option}
 use Rattle.ua_base.specs.Journal.{LinkState}
 use Rattle.version_cell.specs.Cells.{CellData, IsCell}
 use Rattle.target_cells.specs.Keeping.{TargetsData}

@@ -95,12 +95,7 @@ fn meet<R: Wait>(
 }
 
 /// The watches of each thread see exactly the stores that there are.
-fn level_all<R: Wait>(
-    rt: &R,
-    session: &mut Session<'_>,
-    targets: &Targets,
-    dones: &mut Vec<Done>,
-)
+fn level_all<R: Wait>(rt: &R, session: &mut Session<'_>, targets: &Targets, dones: &mut Vec<Done>)
     requires session { IsSession session.old }
     requires targets { AreTargetsOf session.old targets.now }
     requires own { All (λ done. ArePassesOf targets.now.cells done.watches) dones.old.items }

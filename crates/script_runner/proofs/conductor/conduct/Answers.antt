@@ -2,7 +2,7 @@ use Rattle.std.proofs.Common.{◌≤◌, ◌+◌, ℕ, List, length, refl, ap, �
 use Rattle.ps_script.specs.declared.script.Line.{Line}
 use Rattle.ua_base.proofs.Links.{KeepsLink-refl, KeepsLink-then, stays_open}
 use Rattle.pubsub_engine.specs.Holding.{plan_of}
-use Rattle.script_runner.proofs.Conducted.{all-run, next-may, next-run, ticks-few, ticks-more}
+use Rattle.script_runner.proofs.Conducted.{all-run, next-may, next-run, ticks-more}
 use Rattle.script_runner.proofs.conductor.conduct.Goals as goal
 
 pub loop-line-init : goal.loop-line-init

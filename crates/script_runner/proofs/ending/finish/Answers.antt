@@ -1,4 +1,4 @@
-use Rattle.std.proofs.Common.{◌≡◌, List, length, map, sym, ap, ◌∙◌, subst}
+use Rattle.std.proofs.Common.{List, length, map, sym, ap, ◌∙◌, subst}
 use Rattle.std.specs.Prelude.{All}
 use Rattle.version_cell.specs.Sets.{ArePassesOf}
 use Rattle.app_threads.specs.declared.done.Done.{Done}

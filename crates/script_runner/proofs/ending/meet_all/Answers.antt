@@ -1,4 +1,4 @@
-use Rattle.std.proofs.Common.{◌≡◌, ◌<◌, List, length, get_or, sym, ap, ◌∙◌, arith}
+use Rattle.std.proofs.Common.{◌<◌, List, length, get_or, sym, ap, ◌∙◌, arith}
 use Rattle.app_threads.specs.declared.done.Done.{Done}
 use Rattle.pubsub_engine.specs.Holding.{passes_of}
 use Rattle.script_player.proofs.Staying.{samples-change}
