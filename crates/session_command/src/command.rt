@@ -7,8 +7,8 @@ ghost use Rattle.writer_group.specs.Standing.{IsGood};
 ghost use Rattle.script_player.specs.Plays.{opening_of};
 ghost use Rattle.command_parts.specs.Outside.{KeepsFolder, outside_of, wire_of};
 ghost use Rattle.command_parts.specs.Statuses.{IsDone, IsUnread, IsUnwritten};
-ghost use Rattle.session_command.specs.Links.{IsBeforeLink, UsesLink};
-ghost use Rattle.session_command.specs.Sessions.{EndsBefore, EndsSession, IsReportOf, OpensFor, Reports, SessionEnds};
+ghost use Rattle.session_command.specs.Links.{EndsSession, IsBeforeLink, UsesLink};
+ghost use Rattle.session_command.specs.Sessions.{EndsBefore, IsReportOf, OpensFor, Reports, SessionEnds};
 
 use crate::performer::Performer;
 use command_parts::{Status, configuration_of, script_in, write_text};
