@@ -1,18 +1,13 @@
 -- How the parts of the command end it.
-use Rattle.std.proofs.Common.{◌≡◌, ◌⊎◌, inl, inr, ℕ, Bool, List, Option, Some, None, refl, sym, ap, subst, arith}
-use Rattle.ua_base.specs.Files.{ToldFile, TellsFile}
-use Rattle.ps_config.specs.declared.parts.Config.{Config}
-use Rattle.ps_script.specs.declared.script.Script.{Script}
+use Rattle.std.proofs.Common.{◌≡◌, ◌⊎◌, inl, inr, ℕ, Bool, List, Option, refl, arith}
+use Rattle.ua_base.specs.Files.{ToldFile}
 use Rattle.command_parts.specs.declared.status.Status.{Status}
 use Rattle.command_parts.specs.declared.status.Status.TheVariants.{Done, BadWords, ConfigRefused, ScriptRefused, Unread, Unwritten, OutOfMemory, Unopened, Long}
-use Rattle.command_parts.specs.Configurations.{IsConfigured, EndsConfig}
-use Rattle.command_parts.specs.Files.{IsLong}
 use Rattle.command_parts.specs.Outputs.{EndsWriting}
 use Rattle.command_parts.specs.Outside.{Outside, Wire}
-use Rattle.command_parts.specs.Scripts.{EndsScript}
 use Rattle.command_parts.specs.Statuses.{IsDone, IsUnread, IsUnwritten, IsUnopened}
-use Rattle.session_command.specs.Links.{EndsSession, IsBeforeLink}
-use Rattle.session_command.specs.Sessions.{Performance, Accepts, EndsBefore, Reports, Says}
+use Rattle.session_command.specs.Links.{IsBeforeLink}
+use Rattle.session_command.specs.Sessions.{Performance, EndsBefore, Reports, Says}
 
 -- ---- statuses by their numbers
 
@@ -52,52 +47,6 @@ written_late Unopened old new text written = absurd written
 written_late (Long file) old new text written = absurd written
 
 module _ (fates : Bool) where
-  pub config_ended : (status : Status) (tells : List ℕ → ToldFile) (script_name : List ℕ) (config_name : Option (List ℕ)) → EndsConfig tells config_name status
-      → EndsBefore fates tells script_name config_name status
-  config_ended (ConfigRefused code path) tells script_name (Some name) ends = (name, refl, ends)
-  config_ended (Unread file) tells script_name (Some name) ends = inl (ap (λ (l : List ℕ). Some l) (sym ends))
-  config_ended (Long file) tells script_name (Some name) ends = (inl (ap (λ (l : List ℕ). Some l) (sym ends.0)), subst (λ (l : List ℕ). TellsFile (tells l) IsLong) (sym ends.0) ends.1)
-  config_ended OutOfMemory tells script_name (Some name) ends = tt
-  config_ended Done tells script_name (Some name) ends = absurd ends
-  config_ended BadWords tells script_name (Some name) ends = absurd ends
-  config_ended (ScriptRefused line fault) tells script_name (Some name) ends = absurd ends
-  config_ended Unwritten tells script_name (Some name) ends = absurd ends
-  config_ended Unopened tells script_name (Some name) ends = absurd ends
-  config_ended OutOfMemory tells script_name None ends = tt
-  config_ended (ConfigRefused code path) tells script_name None ends = absurd ends
-  config_ended (Unread file) tells script_name None ends = absurd ends
-  config_ended (Long file) tells script_name None ends = absurd ends
-  config_ended Done tells script_name None ends = absurd ends
-  config_ended BadWords tells script_name None ends = absurd ends
-  config_ended (ScriptRefused line fault) tells script_name None ends = absurd ends
-  config_ended Unwritten tells script_name None ends = absurd ends
-  config_ended Unopened tells script_name None ends = absurd ends
-
-  pub script_ended : (status : Status) (tells : List ℕ → ToldFile) (script_name : List ℕ) (config_name : Option (List ℕ)) (config : Config) → IsConfigured tells config_name config
-      → EndsScript (tells script_name) config script_name fates status → EndsBefore fates tells script_name config_name status
-  script_ended (ScriptRefused line fault) tells script_name config_name config configured ends = (config, configured, ends)
-  script_ended (Unread file) tells script_name config_name config configured ends = inr (ends, config, configured)
-  script_ended (Long file) tells script_name config_name config configured ends =
-      (inr (ends.0, config, configured), subst (λ (l : List ℕ). TellsFile (tells l) IsLong) (sym ends.0) ends.1)
-  script_ended OutOfMemory tells script_name config_name config configured ends = tt
-  script_ended Done tells script_name config_name config configured ends = absurd ends
-  script_ended BadWords tells script_name config_name config configured ends = absurd ends
-  script_ended (ConfigRefused code path) tells script_name config_name config configured ends = absurd ends
-  script_ended Unwritten tells script_name config_name config configured ends = absurd ends
-  script_ended Unopened tells script_name config_name config configured ends = absurd ends
-
-  pub session_ended : (status : Status) (tells : List ℕ → ToldFile) (script_name : List ℕ) (config_name : Option (List ℕ)) (config : Config) (script : Script)
-      → Accepts fates tells script_name config_name config script → EndsSession status → EndsBefore fates tells script_name config_name status
-  session_ended Unopened tells script_name config_name config script accepts ends = (config, script, accepts)
-  session_ended OutOfMemory tells script_name config_name config script accepts ends = tt
-  session_ended Done tells script_name config_name config script accepts ends = absurd ends
-  session_ended BadWords tells script_name config_name config script accepts ends = absurd ends
-  session_ended (ConfigRefused code path) tells script_name config_name config script accepts ends = absurd ends
-  session_ended (ScriptRefused line fault) tells script_name config_name config script accepts ends = absurd ends
-  session_ended (Unread file) tells script_name config_name config script accepts ends = absurd ends
-  session_ended Unwritten tells script_name config_name config script accepts ends = absurd ends
-  session_ended (Long file) tells script_name config_name config script accepts ends = absurd ends
-
   pub ended_not_written : (status : Status) (tells : List ℕ → ToldFile) (script_name : List ℕ) (config_name : Option (List ℕ)) → EndsBefore fates tells script_name config_name status
       → IsUnwritten status → ⊥
   ended_not_written Unwritten tells script_name config_name ends is = ends
