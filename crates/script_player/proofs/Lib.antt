@@ -9,7 +9,7 @@ pub mod Watching
 pub mod Staying
 pub mod Leaving
 pub mod Beginning
-pub mod Passing
+pub mod Turning
 pub mod Looking
 pub mod HandWrites
 pub mod Written

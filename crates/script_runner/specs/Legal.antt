@@ -1,5 +1,5 @@
 -- Legal histories of a script: what its threads make of its data sets, in whatever order their writes come.
-use Rattle.std.specs.Prelude.{◌≡◌, ℕ, List, map, reverse}
+use Rattle.std.specs.Prelude.{◌≡◌, ℕ, List, map}
 use Rattle.std.specs.List.{range_with_len}
 use Rattle.dataset_meta.specs.declared.field.Field.{Field}
 use Rattle.dataset_meta.specs.DataValues.{DataValue}

@@ -5,3 +5,4 @@ pub mod Runs
 pub mod Lists
 pub mod Conducting
 pub mod Finishing
+pub mod Ended

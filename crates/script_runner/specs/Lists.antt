@@ -16,3 +16,11 @@ item_by thread _ = []
 -- a thread's writes and watches, in the order of the lines
 abbrev pub items_by : ℕ → List Line → List Item
 items_by thread lines = flat_map (λ line. item_by thread line.act) lines
+
+abbrev pub watch_by : ℕ → Act → List (ℕ × ℕ)
+watch_by thread (act.Watch watcher reader times) = if watcher == thread then (reader, times) ∷ [] else []
+watch_by thread _ = []
+
+-- the reader and the times of each of a thread's watches, in the order of the lines
+abbrev pub watches_by : ℕ → List Line → List (ℕ × ℕ)
+watches_by thread lines = flat_map (λ line. watch_by thread line.act) lines

@@ -1,5 +1,5 @@
 //! What each thread of a script has to do.
-ghost use Rattle.std.specs.Prelude.{◌≡◌, ◌<◌, ℕ, IfOk, length};
+ghost use Rattle.std.specs.Prelude.{◌≡◌, ◌<◌, ◌∷◌, [], ℕ, IfOk, MatchOption, length};
 ghost use Rattle.app_threads.specs.Crews.{list_of};
 ghost use Rattle.script_runner.specs.Lists.{item_by, items_by};
 
@@ -35,7 +35,10 @@ fn list_of(alloc: Global, script: &Script, thread: u8) -> Result<Vec<Item>, NoMe
 }
 
 /// What a line has for a thread.
-fn item_of(act: &Act, thread: u8) -> Option<Item> {
+fn item_of(act: &Act, thread: u8) -> Option<Item>
+    ensures { MatchOption result (item_by thread act.now ≡ [])
+        (λ item. item_by thread act.now ≡ item ∷ []) }
+{
     match act {
         Act::Write {
             thread: writer,

@@ -1,5 +1,5 @@
 use Rattle.std.proofs.Common.{refl, ◌∙◌, arith}
-use Rattle.script_player.proofs.Passing.{AreTurns, bank-passes, passes-on, pump-may, targets-ticked, tick-may}
+use Rattle.script_player.proofs.Turning.{AreTurns, bank-passes, passes-on, pump-may, targets-ticked, tick-may}
 use Rattle.script_player.proofs.passing.pass.Goals as goal
 
 pub tick-requires-clause-may : goal.tick-requires-clause-may

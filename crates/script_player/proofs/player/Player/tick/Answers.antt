@@ -1,7 +1,7 @@
 use Rattle.std.proofs.Common.{refl}
 use Rattle.std.proofs.lemmas.Result.{on_ok_weaker}
 use Rattle.script_player.proofs.Outcomes.{both-ok}
-use Rattle.script_player.proofs.Passing.{player-passed}
+use Rattle.script_player.proofs.Turning.{player-passed}
 use Rattle.script_player.proofs.player.Player.tick.Goals as goal
 
 pub returns : goal.returns
