@@ -1,9 +1,9 @@
 -- What the summary of generated work tells.
-use Rattle.std.proofs.Common.{◌≡◌, inl, ℕ, zero, suc, ◌+◌, ◌*◌, ◌≤◌, List, [], ◌∷◌, ◌++◌, map, length, reverse, Option, Some, None, refl, sym, ap, ◌∙◌, subst, arith, lit<}
+use Rattle.std.proofs.Common.{◌≡◌, inl, ℕ, zero, suc, ◌+◌, ◌*◌, ◌≤◌, List, [], ◌∷◌, ◌++◌, map, length, reverse, Option, Some, None, refl, sym, ap, ◌∙◌, subst, append_assoc, arith, lit<}
 use Rattle.std.specs.Prelude.{slice_get, codes}
 use Rattle.std.specs.List.{range_with_len}
 use Rattle.std.specs.Fmt.{decimal}
-use Rattle.std.proofs.lemmas.List.{length-reverse, append_assoc}
+use Rattle.std.proofs.lemmas.List.{append-nil, length-reverse}
 use Rattle.std.proofs.lemmas.Option.{same_Some, none-some}
 use Rattle.ua_base.specs.Journal.{LinkState, Entry, Got}
 use Rattle.ua_values.specs.declared.value.Value.TheVariants.{UInt32}
@@ -109,7 +109,7 @@ reader_text n end held is row =
 spelled : (n : ℕ) → codes "load " ++ decimal n ++ codes " history " ++ decimal (32 * n) ++ codes " ticks " ++ decimal (4 * n) ++ codes "\n"
     ++ (codes "reader r1" ++ fields_text demo.fields (newest_row n) ++ codes "\n") ++ end_line ≡ newest_text n
 unfolding demo newest_row newest_text field_text status_mark value_text_of end_line
-spelled n = ?
+spelled n = simp (append_assoc, append-nil) refl
 
 text_is : (n : ℕ) (closed : Closed) (end : ReaderEnd) (held : HeldEnd) → load_versions closed.histories ≡ 32 * n → closed.readers ≡ end ∷ [] → end.held ≡ Some held
     → row_in demo.fields held.row.words ≡ newest_row n → load_text built_in_config closed n (4 * n) ≡ newest_text n
