@@ -1,18 +1,22 @@
 //! The whole program over an outside that is handed in.
-ghost use Rattle.std.specs.Prelude.{◌≡◌, ◌≢◌, ◌↔◌, ◌≤◌, ℕ, List, Option, Some};
+ghost use Rattle.std.specs.Prelude.{◌≡◌, ◌≢◌, ◌↔◌, ◌≤◌, ℕ, List, Option, None, Some};
 ghost use Rattle.command_parts.specs.Outside.{outside_of, wire_of};
 ghost use Rattle.command_parts.specs.Statuses.{number_of, text_of};
 ghost use Rattle.command_parts.specs.Telling.{WritesText};
 ghost use Rattle.check_command.specs.Checks.{CheckEnds};
 ghost use Rattle.play_command.specs.Plays.{PlayEnds};
-ghost use Rattle.uapubsub.specs.Words.{checked_of, played_of, HaveNoShape};
+ghost use Rattle.run_command.specs.Runs.{RunEnds};
+ghost use Rattle.load_command.specs.Loads.{LoadEnds, output_of};
+ghost use Rattle.uapubsub.specs.Words.{checked_of, played_of, run_of, loaded_of, HaveNoShape};
 ghost use Rattle.uapubsub.specs.Ends.{EndsAs, IsBeforeLink};
-ghost use Rattle.uapubsub.specs.Headline.{WritesHeadline};
+ghost use Rattle.uapubsub.specs.Headline.{WritesPlay, WritesRun};
 
 use crate::words::{Command, command_in};
 use check_command::check;
 use command_parts::{Status, Word, tell};
+use load_command::load;
 use play_command::play;
+use run_command::run;
 use std::alloc::Global;
 use std::sync::Wait;
 use std::thread::Threads;
@@ -23,7 +27,8 @@ use ua_base::{Folder, Gate, Link, Sink};
 /// refused, 5 a file could not be read, 6 the report or the answer could not be written, 7 memory ran out, 8 the link could
 /// not be opened, 9 a file is too long.
 ///
-/// Memory may run out at any time, and no clause says when. A write to `err` that fails changes no status.
+/// `play` and `load` use the link `lab`, `run` the link `wire`. Memory may run out at any time, and no clause says when. A write to
+/// `err` that fails changes no status.
 pub fn top<R: Threads + Wait + Sync, F: Folder, A: Link, B: Link, G: Gate, K: Sink, E: Sink>(
     rt: &R,
     alloc: Global,
@@ -57,10 +62,36 @@ pub fn top<R: Threads + Wait + Sync, F: Folder, A: Link, B: Link, G: Gate, K: Si
     // Each data message stands for one whole version, and each reader holds the one that its messages name.
     ensures headline { (script : List ℕ) (config : Option (List ℕ))
         → played_of words.now ≡ Some (script, config) → result ≡ 0
-        → WritesHeadline script config
+        → WritesPlay script config
         (outside_of F.tells F.faults K.written K.faults folder.old out.old)
         (outside_of F.tells F.faults K.written K.faults folder.new out.new)
         (wire_of A.told A.faults A.opened_with lab.new) }
+
+    // The command `run`.
+    ensures runs { (script : List ℕ) (config : Option (List ℕ))
+        → run_of words.now ≡ Some (script, config)
+        → EndsAs (λ status. RunEnds status script config
+        (outside_of F.tells F.faults K.written K.faults folder.old out.old)
+        (outside_of F.tells F.faults K.written K.faults folder.new out.new)
+        (wire_of B.told B.faults B.opened_with wire.old)
+        (wire_of B.told B.faults B.opened_with wire.new))
+        result (E.written err.old) (E.written err.new) (E.faults err.old) (E.faults err.new) }
+    // The same in whatever order threads write and whenever the publisher ticks.
+    ensures run_headline { (script : List ℕ) (config : Option (List ℕ))
+        → run_of words.now ≡ Some (script, config) → result ≡ 0
+        → WritesRun script config
+        (outside_of F.tells F.faults K.written K.faults folder.old out.old)
+        (outside_of F.tells F.faults K.written K.faults folder.new out.new)
+        (wire_of B.told B.faults B.opened_with wire.new) }
+
+    // The command `load`.
+    ensures loads { (n : ℕ) → loaded_of words.now ≡ Some n
+        → EndsAs (λ status. LoadEnds status n
+        (output_of K.written K.faults out.old) (output_of K.written K.faults out.new)
+        (wire_of A.told A.faults A.opened_with lab.old)
+        (wire_of A.told A.faults A.opened_with lab.new))
+        result (E.written err.old) (E.written err.new) (E.faults err.old) (E.faults err.new) }
+    ensures unread { (n : ℕ) → loaded_of words.now ≡ Some n → folder.new ≡ folder.old }
 
     // Other words.
     ensures usage { HaveNoShape words.now
@@ -69,20 +100,19 @@ pub fn top<R: Threads + Wait + Sync, F: Folder, A: Link, B: Link, G: Gate, K: Si
     ensures untouched { result ≡ 2 → folder.new ≡ folder.old }
 
     // What an answer other than 0 leaves, and what any does.
-    ensures unlinked { IsBeforeLink result → lab.new ≡ lab.old }
+    ensures unlinked { IsBeforeLink result → (lab.new ≡ lab.old) × (wire.new ≡ wire.old) }
     ensures silent { result ≢ 0 → result ≢ 6 → out.new ≡ out.old }
     ensures files { (name : List ℕ) → F.tells folder.new name ≡ F.tells folder.old name }
-    ensures wire { wire.new ≡ wire.old }
+    ensures lab { (asked : List ℕ × Option (List ℕ)) → run_of words.now ≡ Some asked → lab.new ≡ lab.old }
+    ensures wire { run_of words.now ≡ None → wire.new ≡ wire.old }
 
     // No count of faults falls.
     ensures folder_faults { F.faults folder.old ≤ F.faults folder.new }
-    ensures link_faults { A.faults lab.old ≤ A.faults lab.new }
+    ensures lab_faults { A.faults lab.old ≤ A.faults lab.new }
+    ensures wire_faults { B.faults wire.old ≤ B.faults wire.new }
     ensures out_faults { K.faults out.old ≤ K.faults out.new }
     ensures err_faults { E.faults err.old ≤ E.faults err.new }
 {
-    // No command uses the other link or the gate.
-    let _ = wire;
-    let _ = gate;
     match command_in(words) {
         None => told(err, &Status::BadWords),
         Some(Command::Check { config }) => {
@@ -91,6 +121,14 @@ pub fn top<R: Threads + Wait + Sync, F: Folder, A: Link, B: Link, G: Gate, K: Si
         }
         Some(Command::Play { script, config }) => {
             let status = play(rt, alloc, script, config, folder, lab, out);
+            told(err, &status)
+        }
+        Some(Command::Run { script, config }) => {
+            let status = run(rt, alloc, script, config, folder, wire, gate, out);
+            told(err, &status)
+        }
+        Some(Command::Load { n }) => {
+            let status = load(rt, alloc, n, lab, gate, out);
             told(err, &status)
         }
     }
