@@ -1,42 +1,80 @@
 //! The words of the command line.
-ghost use Rattle.std.specs.Prelude.{◌≡◌, ◌∷◌, []};
-ghost use Rattle.uapubsub.specs.Words.{Asks};
+ghost use Rattle.std.specs.Prelude.{◌≡◌, option_copied, option_map};
+ghost use Rattle.keys_command.specs.Words.{asked_in};
+ghost use Rattle.uapubsub.specs.Words.{check_shape, keys_shape, named_shape, script_shape, shape_by, shape_of, short_shape};
 
 use command_parts::{Word, names_file};
+use keys_command::{Asked, asked_in};
+use load_command::load_count;
 
 /// What the words ask for.
 #[derive(Clone, Copy)]
 pub enum Command<'w> {
     /// To judge the configuration in this file.
-    Check {
-        config: &'w str,
-    },
+    Check { config: &'w str },
     /// To play the script in this file over a link in memory, with the configuration in that file or the built-in one.
     Play {
         script: &'w str,
         config: Option<&'w str>,
     },
+    /// To run it with threads, over the network.
+    Run {
+        script: &'w str,
+        config: Option<&'w str>,
+    },
+    /// To run generated work of this size.
+    Load { count: u32 },
+    /// To play it, and tell what is published in JSON.
+    Json {
+        script: &'w str,
+        config: Option<&'w str>,
+    },
+    /// To ask a key group of the configuration in this file for keys.
+    Keys { config: &'w str, asked: Asked },
 }
 
-/// What the words ask for: `check --config FILE`, `play SCRIPT` or `play SCRIPT --config FILE`. No other words ask for anything.
+/// What the words ask for: `check --config FILE`; `play`, `run` or `json` with `SCRIPT` or `SCRIPT --config FILE`; `load N`;
+/// `keys FILE GROUP START COUNT MS`. No other words ask for anything.
 pub fn command_in(words: &[Word]) -> Option<Command<'_>>
-    ensures { Asks words.now result }
+    ensures { shape_of words.now ≡ option_map shape_by result }
 {
     match words {
-        [command, script] => play_of(command.as_str(), script.as_str()),
+        [command, word] => short(command.as_str(), word.as_str()),
         [command, option, config] => check_of(command.as_str(), option.as_str(), config.as_str()),
-        [command, script, option, config] => play_with(
+        [command, script, option, config] => named(
             command.as_str(),
             script.as_str(),
             option.as_str(),
             config.as_str(),
         ),
+        [command, config, group, start, count, moment] => keys_of(
+            command.as_str(),
+            config.as_str(),
+            asked_in(
+                group.as_str(),
+                start.as_str(),
+                count.as_str(),
+                moment.as_str(),
+            ),
+        ),
         _ => None,
     }
 }
 
+fn short<'w>(command: &str, word: &'w str) -> Option<Command<'w>>
+    ensures { short_shape command.now word.now ≡ option_map shape_by result }
+{
+    if command == "load" {
+        load_count(word).map(|count| Command::Load { count })
+    } else if names_file(word.as_bytes()) {
+        scripted(command, word, None)
+    } else {
+        None
+    }
+}
+
 fn check_of<'w>(command: &str, option: &str, config: &'w str) -> Option<Command<'w>>
-    ensures { Asks (command.now ∷ option.now ∷ config.now ∷ []) result }
+    ensures { check_shape command.now option.now config.now ≡ option_map shape_by result }
 {
     if command == "check" && option == "--config" && names_file(config.as_bytes()) {
         Some(Command::Check { config })
@@ -45,33 +83,44 @@ fn check_of<'w>(command: &str, option: &str, config: &'w str) -> Option<Command<
     }
 }
 
-fn play_of<'w>(command: &str, script: &'w str) -> Option<Command<'w>>
-    ensures { Asks (command.now ∷ script.now ∷ []) result }
-{
-    if command == "play" && names_file(script.as_bytes()) {
-        Some(Command::Play {
-            script,
-            config: None,
-        })
-    } else {
-        None
-    }
-}
-
-fn play_with<'w>(
+fn named<'w>(
     command: &str,
     script: &'w str,
     option: &str,
     config: &'w str,
 ) -> Option<Command<'w>>
-    ensures { Asks (command.now ∷ script.now ∷ option.now ∷ config.now ∷ []) result }
+    ensures { named_shape command.now script.now option.now config.now ≡ option_map shape_by result }
 {
-    let named = names_file(script.as_bytes()) && names_file(config.as_bytes());
-    if command == "play" && option == "--config" && named {
-        Some(Command::Play {
-            script,
-            config: Some(config),
-        })
+    if option == "--config" && names_file(script.as_bytes()) && names_file(config.as_bytes()) {
+        scripted(command, script, Some(config))
+    } else {
+        None
+    }
+}
+
+fn scripted<'w>(
+    command: &str,
+    script: &'w str,
+    config: Option<&'w str>,
+) -> Option<Command<'w>>
+    ensures { script_shape command.now script.now (option_copied config) ≡ option_map shape_by result }
+{
+    if command == "play" {
+        Some(Command::Play { script, config })
+    } else if command == "run" {
+        Some(Command::Run { script, config })
+    } else if command == "json" {
+        Some(Command::Json { script, config })
+    } else {
+        None
+    }
+}
+
+fn keys_of<'w>(command: &str, config: &'w str, asked: Option<Asked>) -> Option<Command<'w>>
+    ensures { keys_shape command.now config.now asked ≡ option_map shape_by result }
+{
+    if command == "keys" && names_file(config.as_bytes()) {
+        asked.map(|asked| Command::Keys { config, asked })
     } else {
         None
     }
