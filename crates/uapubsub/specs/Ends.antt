@@ -18,6 +18,9 @@ pub record World : Type 0 where
   pub lab : Wire
   pub wire : Wire
 
+abbrev pub world_of : Outside → Wire → Wire → World
+world_of outside lab wire = record { outside = outside; lab = lab; wire = wire }
+
 -- a command ends so
 abbrev pub Does : Shape → Status → World → World → Type 0
 Does (Check config) status old new = CheckEnds status config old.outside new.outside
