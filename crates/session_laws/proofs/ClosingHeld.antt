@@ -1,5 +1,5 @@
 -- A closing frame that came is held, and is of the newest version.
-use Rattle.std.proofs.Common.{◌≡◌, refl, sym, ap, ◌∙◌, subst, arith, ℕ, ◌+◌, ◌<◌, ◌⊎◌, inl, inr, true, List, [], ◌∷◌, Option, Some, All}
+use Rattle.std.proofs.Common.{◌≡◌, refl, sym, ap, ◌∙◌, subst, arith, ℕ, ◌<◌, ◌⊎◌, inl, inr, List, ◌∷◌, Option, Some, All}
 use Rattle.std.specs.Prelude.{◌%◌, option_map}
 use Rattle.std.proofs.lemmas.List.Elements.{All-weaker}
 use Rattle.dataset_meta.specs.DataValues.{DataValue}
@@ -9,15 +9,15 @@ use Rattle.seq_number.specs.Numbers.{number_of_place}
 use Rattle.config_tables.specs.declared.words.NumberingWord.{NumberingWord}
 use Rattle.config_tables.specs.declared.words.NumberingWord.TheVariants as words
 use Rattle.pubsub_model.specs.Answers.{AreInSpan, InSpan, IsAnswer, IsAnswerCut}
-use Rattle.pubsub_model.specs.Cadence.{Answered, Settings, WriterDeed, WriterTurn, HadTurn, cadence, is_fresh, next_place}
+use Rattle.pubsub_model.specs.Cadence.{Answered, Settings, WriterDeed, WriterTurn, cadence, is_fresh, next_place}
 use Rattle.pubsub_model.specs.Frames.{PlacedFrame, Whole, Change, Alive, place_of, placed_cut}
-use Rattle.pubsub_model.specs.Records.{Arrival, Held, Item, held, held_in, place_in, records, since_cut}
+use Rattle.pubsub_model.specs.Records.{Arrival, Held, Item, held_in, place_in, records, since_cut}
 use Rattle.dataset_reader.specs.Keeping.{KeepsBy}
 use Rattle.dataset_reader.specs.Kept.{Kept}
-use Rattle.reader_group.specs.Members.{numbering_of, seat_at}
+use Rattle.reader_group.specs.Members.{numbering_of}
 use Rattle.reader_group.specs.Settings.{setting_of}
 use Rattle.writer_group.specs.Parts.{group_at}
-use Rattle.session_model.specs.Deeds.{answered_at, writer_deeds}
+use Rattle.session_model.specs.Deeds.{answered_at}
 use Rattle.session_model.specs.Events.{reader_at}
 use Rattle.session_model.specs.Steps.{Plan, Step}
 use Rattle.session_laws.specs.Headline.{ComesFrom, InSession, meta_of}
@@ -92,7 +92,8 @@ module _ (p : Plan) (r i g w : ℕ) (steps : List Step) (before : List WriterDee
       let by : ItemsAre (IsAnswerBy words.Message (meta_of p r i) (answered_at p g w steps)) list =
       subst (λ (word : NumberingWord). ItemsAre (IsAnswerBy word (meta_of p r i) (answered_at p g w steps)) list) c.numbered (comes p r i g w steps is) in
       let cut : ItemsAre (IsAnswerCut (meta_of p r i) answered) list = subst (λ (a : List Answered). ItemsAre (IsAnswerCut (meta_of p r i) a) list) answered-is by in
-      All-weaker (IsAnswerCut (meta_of p r i) answered) (λ item one. last-or-earlier s (meta_of p r i) turn (cadence s before) item (spans s before) one) (since_cut list)
+      All-weaker (IsAnswerCut (meta_of p r i) answered) (IsLastOrEarlier place (row_cut (meta_of p r i) turn.row))
+      (λ item one. last-or-earlier s (meta_of p r i) turn (cadence s before) item (spans s before) one) (since_cut list)
       (items-since (IsAnswerCut (meta_of p r i) answered) list cut)
 
   pub held-is : held_in (records (since_cut list)) ≡ Some (record { place = place; row = row_cut (meta_of p r i) turn.row })

@@ -1,13 +1,12 @@
 -- What a reader holds, to which a key frame came at a place that no other frame reaches.
-use Rattle.std.proofs.Common.{◌≡◌, refl, sym, ap, ◌∙◌, arith, ℕ, zero, suc, ◌<◌, ◌≤◌, ◌⊎◌, inl, inr, Bool, true, false, List, [], ◌∷◌, length, get_or, Option, Some, All}
+use Rattle.std.proofs.Common.{◌≡◌, refl, ap, ◌∙◌, arith, ℕ, zero, suc, ◌<◌, ◌≤◌, ◌⊎◌, inl, inr, Bool, true, false, List, [], ◌∷◌, length, get_or, Option, Some, All}
 use Rattle.std.specs.Prelude.{Contains, nat_lt, ◌&&◌}
-use Rattle.std.specs.List.{list_all}
 use Rattle.std.proofs.lemmas.Bool.{and_cases, ltb-false, ltb-true}
 use Rattle.std.proofs.lemmas.List.Elements.{All-head, All-tail}
 use Rattle.dataset_meta.specs.DataValues.{DataValue}
 use Rattle.dataset_meta.specs.Rows.{cons_if}
-use Rattle.pubsub_model.specs.Frames.{PlacedFrame, Whole, place_of}
-use Rattle.pubsub_model.specs.Records.{Held, Item, at, held_in, is_record, place_in, records}
+use Rattle.pubsub_model.specs.Frames.{PlacedFrame, Whole}
+use Rattle.pubsub_model.specs.Records.{Item, at, held_in, is_record, place_in, records}
 
 -- a key frame at this place with this row, or a frame at an earlier place
 abbrev pub IsLastOrEarlier : ℕ → List DataValue → Item → Type 0
