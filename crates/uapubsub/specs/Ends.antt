@@ -7,7 +7,7 @@ use Rattle.command_parts.specs.Telling.{WritesText}
 use Rattle.check_command.specs.Checks.{CheckEnds}
 use Rattle.play_command.specs.Plays.{PlayEnds}
 use Rattle.run_command.specs.Runs.{RunEnds}
-use Rattle.load_command.specs.Loads.{LoadEnds}
+use Rattle.load_command.specs.Loads.{LoadEnds, Output}
 use Rattle.json_command.specs.Jsons.{JsonEnds}
 use Rattle.keys_command.specs.Ends.{KeysEnds}
 use Rattle.uapubsub.specs.Words.{Shape, Check, Play, Run, Load, Json, Keys}
@@ -21,12 +21,16 @@ pub record World : Type 0 where
 abbrev pub world_of : Outside → Wire → Wire → World
 world_of outside lab wire = record { outside = outside; lab = lab; wire = wire }
 
+-- what the output tells
+abbrev pub output_in : World → Output
+output_in world = record { written = world.outside.written; faults = world.outside.write_faults }
+
 -- a command ends so
 abbrev pub Does : Shape → Status → World → World → Type 0
 Does (Check config) status old new = CheckEnds status config old.outside new.outside
 Does (Play script config) status old new = PlayEnds status script config old.outside new.outside old.lab new.lab
 Does (Run script config) status old new = RunEnds status script config old.outside new.outside old.wire new.wire
-Does (Load count) status old new = LoadEnds status count old.outside new.outside old.lab new.lab
+Does (Load count) status old new = LoadEnds status count (output_in old) (output_in new) old.lab new.lab
 Does (Json script config) status old new = JsonEnds status script config old.outside new.outside old.lab new.lab
 Does (Keys config asked) status old new = KeysEnds status config asked old.outside new.outside
 

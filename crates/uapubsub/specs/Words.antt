@@ -1,10 +1,10 @@
 -- What the words of the command line ask for.
-use Rattle.std.specs.Prelude.{◌≡◌, ℕ, List, [], ◌∷◌, Option, Some, None, codes, ◌&&◌, if◌then◌else◌, option_copied, option_map}
+use Rattle.std.specs.Prelude.{◌≡◌, ◌≤◌, ⊤, ℕ, List, [], ◌∷◌, Option, Some, None, codes, ◌&&◌, if◌then◌else◌, option_copied, option_map}
 use Rattle.std.specs.Str.{bytes_eq}
 use Rattle.command_parts.specs.Words.{is_file_name}
 use Rattle.keys_command.specs.declared.words.Asked.{Asked}
-use Rattle.keys_command.specs.Words.{asked_in}
-use Rattle.load_command.specs.Words.{load_count}
+use Rattle.keys_command.specs.Words.{keys_of}
+use Rattle.load_command.specs.Numbers.{load_number}
 use Rattle.uapubsub.specs.declared.words.Command.{Command}
 use Rattle.uapubsub.specs.declared.words.Command.TheVariants as commands
 
@@ -28,7 +28,7 @@ script_shape command script config =
 -- `load N`, or a command of a script with the built-in configuration
 abbrev pub short_shape : List ℕ → List ℕ → Option Shape
 short_shape command word =
-    if bytes_eq command (codes "load") then option_map Load (load_count word)
+    if bytes_eq command (codes "load") then option_map Load (load_number word)
     else if is_file_name word then script_shape command word None
     else None
 
@@ -42,18 +42,17 @@ abbrev pub named_shape : List ℕ → List ℕ → List ℕ → List ℕ → Opt
 named_shape command script option config =
     if bytes_eq option (codes "--config") && (is_file_name script && is_file_name config) then script_shape command script (Some config) else None
 
--- `keys FILE GROUP START COUNT MS`
-abbrev pub keys_shape : List ℕ → List ℕ → Option Asked → Option Shape
-keys_shape command config asked =
-    if bytes_eq command (codes "keys") && is_file_name config then option_map (Keys config) asked else None
-
 -- what these words ask for
 abbrev pub shape_of : List (List ℕ) → Option Shape
 shape_of (command ∷ word ∷ []) = short_shape command word
 shape_of (command ∷ option ∷ config ∷ []) = check_shape command option config
 shape_of (command ∷ script ∷ option ∷ config ∷ []) = named_shape command script option config
-shape_of (command ∷ config ∷ group ∷ start ∷ count ∷ moment ∷ []) = keys_shape command config (asked_in group start count moment)
-shape_of _ = None
+shape_of words = option_map (λ found. Keys found.0 found.1) (keys_of words)
+
+-- the size of a load is one that may be asked for
+abbrev pub IsBounded : Command → Type 0
+IsBounded (commands.Load count) = (1 ≤ count) × (count ≤ 1024)
+IsBounded _ = ⊤
 
 -- the shape that a command has
 abbrev pub shape_by : Command → Shape

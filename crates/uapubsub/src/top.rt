@@ -4,7 +4,7 @@ ghost use Rattle.command_parts.specs.Outside.{outside_of, wire_of};
 ghost use Rattle.command_parts.specs.Statuses.{IsDone, IsUnwritten, number_of, text_of};
 ghost use Rattle.command_parts.specs.Telling.{WritesText};
 ghost use Rattle.session_command.specs.Links.{IsBeforeLink as IsStatusBeforeLink};
-ghost use Rattle.uapubsub.specs.Words.{Shape, Play, Run, shape_by, shape_of};
+ghost use Rattle.uapubsub.specs.Words.{IsBounded, Shape, Play, Run, shape_by, shape_of};
 ghost use Rattle.uapubsub.specs.Ends.{Does, EndsAs, IsBeforeLink, uses_lab, uses_wire, world_of};
 ghost use Rattle.uapubsub.specs.Headline.{IsPlayed, IsRun, WritesHeadline};
 
@@ -102,6 +102,7 @@ fn act<'w, R: Threads + Wait + Sync, F: Folder, A: Link, B: Link, G: Gate, K: Si
     gate: &G,
     out: &mut K,
 ) -> Status<'w>
+    requires bounded { IsBounded command }
     ensures does { Does (shape_by command) result
         (world_of (outside_of F.tells F.faults K.written K.faults folder.old out.old)
         (wire_of A.told A.faults A.opened_with lab.old) (wire_of B.told B.faults B.opened_with wire.old))

@@ -1,11 +1,10 @@
 //! The words of the command line.
-ghost use Rattle.std.specs.Prelude.{◌≡◌, option_copied, option_map};
-ghost use Rattle.keys_command.specs.Words.{asked_in};
-ghost use Rattle.uapubsub.specs.Words.{check_shape, keys_shape, named_shape, script_shape, shape_by, shape_of, short_shape};
+ghost use Rattle.std.specs.Prelude.{◌≡◌, IfSome, option_copied, option_map};
+ghost use Rattle.uapubsub.specs.Words.{IsBounded, check_shape, named_shape, script_shape, shape_by, shape_of, short_shape};
 
 use command_parts::{Word, names_file};
-use keys_command::{Asked, asked_in};
-use load_command::load_count;
+use keys_command::{Asked, keys_in};
+use load_command::load_number;
 
 /// What the words ask for.
 #[derive(Clone, Copy)]
@@ -36,7 +35,8 @@ pub enum Command<'w> {
 /// What the words ask for: `check --config FILE`; `play`, `run` or `json` with `SCRIPT` or `SCRIPT --config FILE`; `load N`;
 /// `keys FILE GROUP START COUNT MS`. No other words ask for anything.
 pub fn command_in(words: &[Word]) -> Option<Command<'_>>
-    ensures { shape_of words.now ≡ option_map shape_by result }
+    ensures shape { shape_of words.now ≡ option_map shape_by result }
+    ensures bounded { IfSome result IsBounded }
 {
     match words {
         [command, word] => short(command.as_str(), word.as_str()),
@@ -47,25 +47,16 @@ pub fn command_in(words: &[Word]) -> Option<Command<'_>>
             option.as_str(),
             config.as_str(),
         ),
-        [command, config, group, start, count, moment] => keys_of(
-            command.as_str(),
-            config.as_str(),
-            asked_in(
-                group.as_str(),
-                start.as_str(),
-                count.as_str(),
-                moment.as_str(),
-            ),
-        ),
-        _ => None,
+        words => keys_in(words).map(|(config, asked)| Command::Keys { config, asked }),
     }
 }
 
 fn short<'w>(command: &str, word: &'w str) -> Option<Command<'w>>
-    ensures { short_shape command.now word.now ≡ option_map shape_by result }
+    ensures shape { short_shape command.now word.now ≡ option_map shape_by result }
+    ensures bounded { IfSome result IsBounded }
 {
     if command == "load" {
-        load_count(word).map(|count| Command::Load { count })
+        load_number(word.as_bytes()).map(|count| Command::Load { count })
     } else if names_file(word.as_bytes()) {
         scripted(command, word, None)
     } else {
@@ -74,7 +65,8 @@ fn short<'w>(command: &str, word: &'w str) -> Option<Command<'w>>
 }
 
 fn check_of<'w>(command: &str, option: &str, config: &'w str) -> Option<Command<'w>>
-    ensures { check_shape command.now option.now config.now ≡ option_map shape_by result }
+    ensures shape { check_shape command.now option.now config.now ≡ option_map shape_by result }
+    ensures bounded { IfSome result IsBounded }
 {
     if command == "check" && option == "--config" && names_file(config.as_bytes()) {
         Some(Command::Check { config })
@@ -89,7 +81,8 @@ fn named<'w>(
     option: &str,
     config: &'w str,
 ) -> Option<Command<'w>>
-    ensures { named_shape command.now script.now option.now config.now ≡ option_map shape_by result }
+    ensures shape { named_shape command.now script.now option.now config.now ≡ option_map shape_by result }
+    ensures bounded { IfSome result IsBounded }
 {
     if option == "--config" && names_file(script.as_bytes()) && names_file(config.as_bytes()) {
         scripted(command, script, Some(config))
@@ -103,7 +96,8 @@ fn scripted<'w>(
     script: &'w str,
     config: Option<&'w str>,
 ) -> Option<Command<'w>>
-    ensures { script_shape command.now script.now (option_copied config) ≡ option_map shape_by result }
+    ensures shape { script_shape command.now script.now (option_copied config) ≡ option_map shape_by result }
+    ensures bounded { IfSome result IsBounded }
 {
     if command == "play" {
         Some(Command::Play { script, config })
@@ -111,16 +105,6 @@ fn scripted<'w>(
         Some(Command::Run { script, config })
     } else if command == "json" {
         Some(Command::Json { script, config })
-    } else {
-        None
-    }
-}
-
-fn keys_of<'w>(command: &str, config: &'w str, asked: Option<Asked>) -> Option<Command<'w>>
-    ensures { keys_shape command.now config.now asked ≡ option_map shape_by result }
-{
-    if command == "keys" && names_file(config.as_bytes()) {
-        asked.map(|asked| Command::Keys { config, asked })
     } else {
         None
     }
