@@ -193,7 +193,7 @@ module _ (config : Config) (script : Script) (is : IsScript config script) (plan
 
   abbrev led : (done : List Bool) × (entries : List LinkEntry) × Stands p (Pump entries ∷ Tick 0 true (samples_of (passes_of new.session)) done ∷ h.steps) new.session
       × (TellsRun p h.steps told → TellsRun p (Pump entries ∷ Tick 0 true (samples_of (passes_of new.session)) done ∷ h.steps) after)
-  led = c.ends.leads p h.steps h.stands
+  led = c.ends.by.leads p h.steps h.stands
 
   abbrev steps : List Step
   steps = Pump led.1 ∷ Tick 0 true (samples_of (passes_of new.session)) led.0 ∷ h.steps
@@ -222,13 +222,13 @@ module _ (config : Config) (script : Script) (is : IsScript config script) (plan
   flush-new set lt =
       let here : set < length new.bank = (let e = cells in omega (arith, e, lt)) in
       let seen_here : set < length (passes_of new.session) = (let e = count in omega (arith, e, lt)) in
-      let most = version_bound (cell_at new.bank set) (pass_at (passes_of new.session) set) (c.player.cells set no_cell here) (c.player.bank.passes.each set here) (c.ends.lawful set seen_here) in
+      let most = version_bound (cell_at new.bank set) (pass_at (passes_of new.session) set) (c.player.cells set no_cell here) (c.player.bank.passes.each set here) (c.ends.by.lawful set seen_here) in
       let quotas : sum (cell_at new.bank set).quotas ≡ sum (map (λ (thread : ℕ). writes_in thread set script.lines) (range_with_len 0 8)) = ap (λ (l : List ℕ). sum l) (quotas-at set lt) in
       let logged = quotas-logged (meta_in script.metas set) set script.lines in
       omega (arith, most, quotas, logged)
 
   more : (set : ℕ) → set < length script.metas → StartsWith (pass_at (passes_of new.session) set).seen (pass_at (passes_of old.session) set).seen
-  more set lt = (c.ends.more set (let e = old-count in omega (arith, e, lt))).seen
+  more set lt = (c.ends.by.more set (let e = old-count in omega (arith, e, lt))).seen
 
   exact : IsExact p lines h.steps h.looks old
   exact = h.exact (λ set lt. let long = shorter (pass_at (passes_of new.session) set).seen (pass_at (passes_of old.session) set).seen (more set lt) in
@@ -271,7 +271,7 @@ module _ (config : Config) (script : Script) (is : IsScript config script) (plan
   }
     where
       law : All (λ (e : Entry). e.author < 8) (pass_at (passes_of new.session) set).seen
-      law = λ k d lt. ((c.ends.lawful set (let e = count in omega (arith, e, there))).entries k d lt).author
+      law = λ k d lt. ((c.ends.by.lawful set (let e = count in omega (arith, e, there))).entries k d lt).author
 
       known : All (λ (thread : ℕ). thread < length c.dones) (writers_in script set)
       known = All-map (λ (thread : ℕ). thread < length c.dones) (λ (e : Entry). e.author) (log_after (meta_in script.metas set) set lines)

@@ -4,6 +4,7 @@ use Rattle.std.specs.Prelude.{Option}
 use Rattle.ua_base.specs.Journal.{Entry as LinkEntry, LinkState}
 use Rattle.writer_group.specs.declared.sampled.Sampled.{Sampled}
 use Rattle.version_cell.specs.Known.{Known}
+use Rattle.version_cell.specs.Cells.{CellData}
 use Rattle.version_cell.specs.Passes.{SeesMore}
 use Rattle.version_cell.specs.Sets.{EachSeesLawful, pass_at}
 use Rattle.version_cell.proofs.Logs.{starts_length}
@@ -13,8 +14,10 @@ use Rattle.pubsub_engine.specs.declared.session.Left.{Left}
 use Rattle.pubsub_engine.specs.declared.session.Session.{Session}
 use Rattle.pubsub_engine.specs.Holding.{AreTargetsOf, ChangesSamples, CountsPump, CountsTick, IsBankOf, IsSession, KeepsPasses, MayPump, MayTick, appends_left, keeper_of, left_of, passes_of, plan_of}
 use Rattle.pubsub_engine.specs.Standing.{KeepsStands, Leads, Stands, sampled_by, samples_of}
+use Rattle.target_cells.specs.Keeping.{TargetsData}
 use Rattle.script_player.specs.declared.player.Player.{Player}
-use Rattle.script_player.specs.Player.{IsPlayer, LeadsPast, MayPass, Passes}
+use Rattle.script_player.specs.Passing.{LeadsPast, MayPass, PassesOn}
+use Rattle.script_player.specs.Player.{IsPlayer}
 use Rattle.script_player.proofs.Staying.{bank-stays, no-more-later, targets-stay}
 
 -- wherever a session stood, a tick with its sample leads on
@@ -45,9 +48,8 @@ pub record AreTurns (ms : ℕ) (closing : Bool) (old sampled ticked new : Sessio
   pub appends_then : appends_left new ≡ appends_left ticked
 
 -- the tick may come behind the sample
-pub tick-may : (ms : ℕ) (closing : Bool) (player : Player) (sampled : Session) → MayPass ms closing player → IsSession sampled → ChangesSamples player.session sampled
-    → MayTick ms closing sampled
-tick-may ms closing player sampled may holds changes =
+pub tick-may : (ms : ℕ) (closing : Bool) (old sampled : Session) → MayPass ms closing old → IsSession sampled → ChangesSamples old sampled → MayTick ms closing sampled
+tick-may ms closing old sampled may holds changes =
     let left = ap left_of changes in
     let ticks = ap (λ (l : Left). l.ticks) left in
     record {
@@ -62,18 +64,18 @@ tick-may ms closing player sampled may holds changes =
 pub pump-may : (closing : Bool) (sampled ticked : Session) → IsSession ticked → CountsTick closing (left_of sampled) (left_of ticked) → MayPump ticked
 pump-may closing sampled ticked holds counts = record { session = holds; left = (let n = counts.pumps in omega (arith, n)) }
 
-pub targets-ticked : (player : Player) (sampled ticked : Session) → IsPlayer player → ChangesSamples player.session sampled → KeepsPasses sampled ticked
-    → AreTargetsOf ticked player.targets
-targets-ticked player sampled ticked is changes keeps =
-    targets-stay player.session ticked player.targets (keeps.plan ∙ ap plan_of changes) (keeps.keeper ∙ ap keeper_of changes)
-    (keeps.stores ∙ ap (λ (s : Session). s.left.stores) changes) is.targets
+pub targets-ticked : (old sampled ticked : Session) (targets : TargetsData) → AreTargetsOf old targets → ChangesSamples old sampled → KeepsPasses sampled ticked
+    → AreTargetsOf ticked targets
+targets-ticked old sampled ticked targets are changes keeps =
+    targets-stay old ticked targets (keeps.plan ∙ ap plan_of changes) (keeps.keeper ∙ ap keeper_of changes)
+    (keeps.stores ∙ ap (λ (s : Session). s.left.stores) changes) are
 
-module _ (ms : ℕ) (closing : Bool) (player : Player) (is : IsPlayer player) (sampled ticked new : Session) (told between after : Option LinkState)
-    (t : AreTurns ms closing player.session sampled ticked new told between after) where
+module _ (ms : ℕ) (closing : Bool) (old sampled ticked new : Session) (told between after : Option LinkState)
+    (t : AreTurns ms closing old sampled ticked new told between after) where
   passes-are : passes_of new ≡ passes_of sampled
   passes-are = t.passes ∙ t.keeps.passes
 
-  leads-past : LeadsPast ms closing (passes_of new) player.session new told after
+  leads-past : LeadsPast ms closing (passes_of new) old new told after
   leads-past p steps stands =
       let ticks = t.leads p steps (t.stood p steps stands) in
       let done = ticks.0 in
@@ -84,14 +86,14 @@ module _ (ms : ℕ) (closing : Bool) (player : Player) (is : IsPlayer player) (s
       let led = subst AreLed (t.sample_is ∙ ap samples_of (sym passes-are)) (pumps.1.stands, λ tells. pumps.1.tells (ticks.1.tells tells)) in
       (done, entries, led.0, led.1)
 
-  pub player-passes : Passes ms closing player (record player { session = new }) told after
-  player-passes =
+  pub passes-on : PassesOn ms closing old new told after
+  passes-on =
       let left = ap left_of t.changes in
       let pumps = ap (λ (l : Left). l.pumps) left in
       let ticks = ap (λ (l : Left). l.ticks) left in
       let ticked-then = ap (λ (l : Left). l.ticks) t.pumped.rest in
       record {
-        more = λ set lt. subst (λ (l : List Known). SeesMore (pass_at (passes_of player.session) set) (pass_at l set)) (sym passes-are) (t.more set lt);
+        more = λ set lt. subst (λ (l : List Known). SeesMore (pass_at (passes_of old) set) (pass_at l set)) (sym passes-are) (t.more set lt);
         lawful = subst EachSeesLawful (sym passes-are) t.lawful;
         leads = leads-past;
         ticks = (let a = t.counts.ticks in omega (arith, a, ticks, ticked-then));
@@ -99,26 +101,25 @@ module _ (ms : ℕ) (closing : Bool) (player : Player) (is : IsPlayer player) (s
         closed = ap (λ (l : Left). l.is_closed) t.pumped.rest ∙ t.counts.is_closed;
         appends = t.appends_then ∙ t.appends ∙ ap appends_left t.changes;
         plan = t.plan ∙ t.keeps.plan ∙ ap plan_of t.changes;
-        rest = refl;
       }
 
-  pub player-passed : IsSession new → AreTargetsOf new player.targets → IsBankOf sampled player.bank → IsPlayer (record player { session = new })
-  player-passed holds targets bank =
-      let count : length (passes_of new) ≡ length (passes_of player.session)
-      = ap (λ (l : List Known). length l) passes-are ∙ bank.passes.count ∙ sym is.bank.passes.count in
-      record {
-        session = holds;
-        bank = bank-stays sampled new player.bank (t.plan ∙ t.keeps.plan) passes-are bank;
-        cells = is.cells;
-        targets = targets;
-        watches = is.watches;
-        eight = is.eight;
-        hands = is.hands;
-        behind = λ k lt d. no-more-later (get_or player.hands.items k d).passes (passes_of player.session) (passes_of new) count grows (is.behind k lt d);
-      }
-    where
-      grows : (set : ℕ) → set < length (passes_of player.session) → length (pass_at (passes_of player.session) set).seen ≤ length (pass_at (passes_of new) set).seen
-      grows set there =
-          let a = starts_length (pass_at (passes_of sampled) set).seen (pass_at (passes_of player.session) set).seen (t.more set there).seen in
-          let b = ap (λ (l : List Known). length (pass_at l set).seen) passes-are in
-          omega (arith, a, b)
+  pub bank-passes : (bank : List CellData) → IsBankOf sampled bank → IsBankOf new bank
+  bank-passes bank is = bank-stays sampled new bank (t.plan ∙ t.keeps.plan) passes-are is
+
+-- a player whose session went on so
+pub player-passed : (ms : ℕ) (closing : Bool) (player : Player) (new : Session) (told after : Option LinkState) → IsPlayer player
+    → PassesOn ms closing player.session new told after → IsSession new → AreTargetsOf new player.targets → IsBankOf new player.bank
+    → IsPlayer (record player { session = new })
+player-passed ms closing player new told after is on holds targets bank = record {
+  session = holds;
+  bank = bank;
+  cells = is.cells;
+  targets = targets;
+  watches = is.watches;
+  eight = is.eight;
+  hands = is.hands;
+  behind = λ k lt d. no-more-later (get_or player.hands.items k d).passes (passes_of player.session) (passes_of new) (bank.passes.count ∙ sym is.bank.passes.count) grows (is.behind k lt d);
+}
+  where
+    grows : (set : ℕ) → set < length (passes_of player.session) → length (pass_at (passes_of player.session) set).seen ≤ length (pass_at (passes_of new) set).seen
+    grows set there = starts_length (pass_at (passes_of new) set).seen (pass_at (passes_of player.session) set).seen (on.more set there).seen

@@ -8,9 +8,8 @@ use Rattle.check_command.specs.Checks.{CheckEnds}
 use Rattle.play_command.specs.Plays.{PlayEnds}
 use Rattle.run_command.specs.Runs.{RunEnds}
 use Rattle.load_command.specs.Loads.{LoadEnds, Output}
-use Rattle.json_command.specs.Jsons.{JsonEnds}
 use Rattle.keys_command.specs.Ends.{KeysEnds}
-use Rattle.uapubsub.specs.Words.{Shape, Check, Play, Run, Load, Json, Keys}
+use Rattle.uapubsub.specs.Words.{Shape, Check, Play, Run, Load, Keys}
 
 -- folder and output, and the two links
 pub record World : Type 0 where
@@ -30,8 +29,7 @@ abbrev pub Does : Shape → Status → World → World → Type 0
 Does (Check config) status old new = CheckEnds status config old.outside new.outside
 Does (Play script config) status old new = PlayEnds status script config old.outside new.outside old.lab new.lab
 Does (Run script config) status old new = RunEnds status script config old.outside new.outside old.wire new.wire
-Does (Load count) status old new = LoadEnds status count (output_in old) (output_in new) old.lab new.lab
-Does (Json script config) status old new = JsonEnds status script config old.outside new.outside old.lab new.lab
+Does (Load n) status old new = LoadEnds status n (output_in old) (output_in new) old.lab new.lab
 Does (Keys config asked) status old new = KeysEnds status config asked old.outside new.outside
 
 -- the commands that use the link in memory, and the one that uses the network
@@ -39,16 +37,14 @@ abbrev pub uses_lab : Shape → Bool
 uses_lab (Check config) = false
 uses_lab (Play script config) = true
 uses_lab (Run script config) = false
-uses_lab (Load count) = true
-uses_lab (Json script config) = true
+uses_lab (Load n) = true
 uses_lab (Keys config asked) = false
 
 abbrev pub uses_wire : Shape → Bool
 uses_wire (Check config) = false
 uses_wire (Play script config) = false
 uses_wire (Run script config) = true
-uses_wire (Load count) = false
-uses_wire (Json script config) = false
+uses_wire (Load n) = false
 uses_wire (Keys config asked) = false
 
 -- The number is that of a status that says so, and the text of this status stands on the error output. old, new: what this tells before and behind; before,

@@ -13,16 +13,14 @@ pub data Shape : Type 0 where
   Check : (config : List ℕ) → Shape
   Play : (script : List ℕ) (config : Option (List ℕ)) → Shape
   Run : (script : List ℕ) (config : Option (List ℕ)) → Shape
-  Load : (count : ℕ) → Shape
-  Json : (script : List ℕ) (config : Option (List ℕ)) → Shape
+  Load : (n : ℕ) → Shape
   Keys : (config : List ℕ) (asked : Asked) → Shape
 
--- `play`, `run` or `json` of a script, with the configuration that is named
+-- `play` or `run` of a script, with the configuration that is named
 abbrev pub script_shape : List ℕ → List ℕ → Option (List ℕ) → Option Shape
 script_shape command script config =
     if bytes_eq command (codes "play") then Some (Play script config)
     else if bytes_eq command (codes "run") then Some (Run script config)
-    else if bytes_eq command (codes "json") then Some (Json script config)
     else None
 
 -- `load N`, or a command of a script with the built-in configuration
@@ -51,7 +49,7 @@ shape_of words = option_map (λ found. Keys found.0 found.1) (keys_of words)
 
 -- the size of a load is one that may be asked for
 abbrev pub IsBounded : Command → Type 0
-IsBounded (commands.Load count) = (1 ≤ count) × (count ≤ 1024)
+IsBounded (commands.Load n) = (1 ≤ n) × (n ≤ 1024)
 IsBounded _ = ⊤
 
 -- the shape that a command has
@@ -59,6 +57,5 @@ abbrev pub shape_by : Command → Shape
 shape_by (commands.Check config) = Check config.now
 shape_by (commands.Play script config) = Play script.now (option_copied config)
 shape_by (commands.Run script config) = Run script.now (option_copied config)
-shape_by (commands.Load count) = Load count
-shape_by (commands.Json script config) = Json script.now (option_copied config)
+shape_by (commands.Load n) = Load n
 shape_by (commands.Keys config asked) = Keys config.now asked

@@ -6,12 +6,11 @@ ghost use Rattle.command_parts.specs.Telling.{WritesText};
 ghost use Rattle.session_command.specs.Links.{IsBeforeLink as IsStatusBeforeLink};
 ghost use Rattle.uapubsub.specs.Words.{IsBounded, Shape, Play, Run, shape_by, shape_of};
 ghost use Rattle.uapubsub.specs.Ends.{Does, EndsAs, IsBeforeLink, uses_lab, uses_wire, world_of};
-ghost use Rattle.uapubsub.specs.Headline.{IsPlayed, IsRun, WritesHeadline};
+ghost use Rattle.uapubsub.specs.Headline.{WritesPlay, WritesRun};
 
 use crate::words::{Command, command_in};
 use check_command::check;
 use command_parts::{Status, Word, tell};
-use json_command::json;
 use keys_command::keys;
 use load_command::load;
 use play_command::play;
@@ -53,13 +52,13 @@ pub fn top<R: Threads + Wait + Sync, F: Folder, A: Link, B: Link, G: Gate, K: Si
     // the script's writes make in the order of its lines, or, where threads make them, of a legal one.
     ensures played { (script : List ℕ) (config : Option (List ℕ))
         → shape_of words.now ≡ Some (Play script config) → result ≡ 0
-        → WritesHeadline IsPlayed true script config
+        → WritesPlay script config
         (outside_of F.tells F.faults K.written K.faults folder.old out.old)
         (outside_of F.tells F.faults K.written K.faults folder.new out.new)
         (wire_of A.told A.faults A.opened_with lab.new) }
     ensures ran { (script : List ℕ) (config : Option (List ℕ))
         → shape_of words.now ≡ Some (Run script config) → result ≡ 0
-        → WritesHeadline IsRun false script config
+        → WritesRun script config
         (outside_of F.tells F.faults K.written K.faults folder.old out.old)
         (outside_of F.tells F.faults K.written K.faults folder.new out.new)
         (wire_of B.told B.faults B.opened_with wire.new) }
@@ -112,13 +111,17 @@ fn act<'w, R: Threads + Wait + Sync, F: Folder, A: Link, B: Link, G: Gate, K: Si
     ensures wire { uses_wire (shape_by command) ≡ false → wire.new ≡ wire.old }
     ensures unlinked { IsStatusBeforeLink result → (lab.new ≡ lab.old) × (wire.new ≡ wire.old) }
     ensures silent { ¬ IsDone result → ¬ IsUnwritten result → out.new ≡ out.old }
+    ensures files { (name : List ℕ) → F.tells folder.new name ≡ F.tells folder.old name }
+    ensures folder_faults { F.faults folder.old ≤ F.faults folder.new }
+    ensures lab_faults { A.faults lab.old ≤ A.faults lab.new }
+    ensures wire_faults { B.faults wire.old ≤ B.faults wire.new }
+    ensures out_faults { K.faults out.old ≤ K.faults out.new }
 {
     match command {
         Command::Check { config } => check(alloc, config, folder, out),
         Command::Play { script, config } => play(rt, alloc, script, config, folder, lab, out),
         Command::Run { script, config } => run(rt, alloc, script, config, folder, wire, gate, out),
-        Command::Load { count } => load(rt, alloc, count, lab, gate, out),
-        Command::Json { script, config } => json(rt, alloc, script, config, folder, lab, out),
+        Command::Load { n } => load(rt, alloc, n, lab, gate, out),
         Command::Keys { config, asked } => keys(alloc, config, &asked, folder, out),
     }
 }

@@ -16,23 +16,18 @@ pub enum Command<'w> {
         script: &'w str,
         config: Option<&'w str>,
     },
-    /// To run it with threads, over the network.
+    /// To run the script in this file with threads over a network, with the configuration in that file or the built-in one.
     Run {
         script: &'w str,
         config: Option<&'w str>,
     },
-    /// To run generated work of this size.
-    Load { count: u32 },
-    /// To play it, and tell what is published in JSON.
-    Json {
-        script: &'w str,
-        config: Option<&'w str>,
-    },
+    /// To run so much generated work, 1 to 1024, with threads over a link in memory.
+    Load { n: u32 },
     /// To ask a key group of the configuration in this file for keys.
     Keys { config: &'w str, asked: Asked },
 }
 
-/// What the words ask for: `check --config FILE`; `play`, `run` or `json` with `SCRIPT` or `SCRIPT --config FILE`; `load N`;
+/// What the words ask for: `check --config FILE`; `play` or `run` with `SCRIPT` or `SCRIPT --config FILE`; `load N`;
 /// `keys FILE GROUP START COUNT MS`. No other words ask for anything.
 pub fn command_in(words: &[Word]) -> Option<Command<'_>>
     ensures shape { shape_of words.now ≡ option_map shape_by result }
@@ -56,7 +51,7 @@ fn short<'w>(command: &str, word: &'w str) -> Option<Command<'w>>
     ensures bounded { IfSome result IsBounded }
 {
     if command == "load" {
-        load_number(word.as_bytes()).map(|count| Command::Load { count })
+        load_number(word.as_bytes()).map(|n| Command::Load { n })
     } else if names_file(word.as_bytes()) {
         scripted(command, word, None)
     } else {
@@ -103,8 +98,6 @@ fn scripted<'w>(
         Some(Command::Play { script, config })
     } else if command == "run" {
         Some(Command::Run { script, config })
-    } else if command == "json" {
-        Some(Command::Json { script, config })
     } else {
         None
     }

@@ -1,4 +1,4 @@
-use Rattle.play_command.proofs.command.session_report.Goals as goal
+use Rattle.session_command.proofs.command.session_report.Goals as goal
 
 pub returns-in-Ok-report-clause-link : goal.returns-in-Ok-report-clause-link
 returns-in-Ok-report-clause-link g c = record {
