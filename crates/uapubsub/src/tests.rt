@@ -62,7 +62,7 @@ link sent 2 failed 0 received 2 broken 0 long 0 limit 0
 end
 status 0, error output []
 $ play; write 0 demo a=7/tick 100/; none; words without a shape
-status 2, error output [usage: uapubsub check --config FILE | play SCRIPT [--config FILE] | run SCRIPT [--config FILE] | load N
+status 2, error output [usage: uapubsub check --config FILE | play SCRIPT [--config FILE] | run SCRIPT [--config FILE] | load N | keys FILE GROUP START COUNT MS
 ]
 $ play s; no file; none; no file
 status 5, error output [cannot read s
@@ -182,13 +182,13 @@ $ play s --config c; write 0 demo a=7/ | [publisher]/id = \"u8:5\"/; read1; the 
 status 5, error output [cannot read s
 ]
 $ play s --configs c; write 0 demo a=7/; none; another option
-status 2, error output [usage: uapubsub check --config FILE | play SCRIPT [--config FILE] | run SCRIPT [--config FILE] | load N
+status 2, error output [usage: uapubsub check --config FILE | play SCRIPT [--config FILE] | run SCRIPT [--config FILE] | load N | keys FILE GROUP START COUNT MS
 ]
 $ play s --config -c; write 0 demo a=7/; none; a word that names no file
-status 2, error output [usage: uapubsub check --config FILE | play SCRIPT [--config FILE] | run SCRIPT [--config FILE] | load N
+status 2, error output [usage: uapubsub check --config FILE | play SCRIPT [--config FILE] | run SCRIPT [--config FILE] | load N | keys FILE GROUP START COUNT MS
 ]
 $ play s --config; write 0 demo a=7/; none; an option without its word
-status 2, error output [usage: uapubsub check --config FILE | play SCRIPT [--config FILE] | run SCRIPT [--config FILE] | load N
+status 2, error output [usage: uapubsub check --config FILE | play SCRIPT [--config FILE] | run SCRIPT [--config FILE] | load N | keys FILE GROUP START COUNT MS
 ]
 $ check --config s; [publisher]/id = \"u8:5\"/; none; a configuration
 ok
