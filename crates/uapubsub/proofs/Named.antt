@@ -20,7 +20,10 @@ use Rattle.check_command.specs.Checks.{Checks}
 use Rattle.session_command.specs.Links.{IsBeforeLink as IsStatusBeforeLink}
 use Rattle.session_command.specs.Sessions.{Performance, Says}
 use Rattle.load_command.specs.Loads.{Loads, Output}
-use Rattle.uapubsub.specs.Ends.{IsBeforeLink}
+use Rattle.keys_command.specs.declared.words.Asked.{Asked}
+use Rattle.keys_command.specs.Ends.{Says as KeysSays}
+use Rattle.uapubsub.specs.Ends.{Does, IsBeforeLink, World, output_in}
+use Rattle.uapubsub.specs.Words.{Shape, Check, Play, Run, Load, Keys}
 use Rattle.uapubsub.specs.Headline.{AreLegal, AreWritten, Rows, WritesHeadline, WritesPlay, WritesRun}
 
 -- what a performed script has for the headline
@@ -69,6 +72,34 @@ load_numbers (ConfigRefused code path) n old new after h = absurd h
 load_numbers (ScriptRefused line fault) n old new after h = absurd h
 load_numbers (Unread file) n old new after h = absurd h
 load_numbers (Long file) n old new after h = absurd h
+
+-- nor does `keys`
+pub keys_is_no_usage : (status : Status) (name : List ℕ) (asked : Asked) (file : ToldFile) (old new : Option (List ℕ)) → KeysSays status name asked file old new → number_of status ≡ 2 → ⊥
+keys_is_no_usage BadWords name asked file old new h two = h
+keys_is_no_usage Done name asked file old new h two = omega arith
+keys_is_no_usage (ConfigRefused code path) name asked file old new h two = omega arith
+keys_is_no_usage (ScriptRefused line fault) name asked file old new h two = omega arith
+keys_is_no_usage (Unread unread) name asked file old new h two = omega arith
+keys_is_no_usage Unwritten name asked file old new h two = omega arith
+keys_is_no_usage OutOfMemory name asked file old new h two = omega arith
+keys_is_no_usage Unopened name asked file old new h two = omega arith
+keys_is_no_usage (Long which) name asked file old new h two = omega arith
+
+-- no command ends as words without a shape do
+pub does_is_no_usage : (shape : Shape) (status : Status) (old new : World) → Does shape status old new → number_of status ≡ 2 → ⊥
+does_is_no_usage (Check config) status old new h two =
+    check_is_no_usage status config (old.outside.file config) old.outside.written new.outside.written h.checks two
+does_is_no_usage (Play script config) status old new h two = session_is_no_usage IsPlayOf true status script config old.outside new.outside new.lab h.says two
+does_is_no_usage (Run script config) status old new h two = session_is_no_usage IsRunOf false status script config old.outside new.outside new.wire h.says two
+does_is_no_usage (Load n) status old new h two = numbers (load_numbers status n (output_in old) (output_in new) new.lab h.says)
+  where
+    numbers : (number_of status ≡ 0) ⊎ (number_of status ≡ 6) ⊎ (number_of status ≡ 7) ⊎ (number_of status ≡ 8) → ⊥
+    numbers (inl e) = omega arith
+    numbers (inr (inl e)) = omega arith
+    numbers (inr (inr (inl e))) = omega arith
+    numbers (inr (inr (inr e))) = omega arith
+does_is_no_usage (Keys config asked) status old new h two =
+    keys_is_no_usage status config asked (old.outside.file config) old.outside.written new.outside.written h.says two
 
 -- with status 0 the report tells the headline, where what is performed has such rows
 headline_by : (Performs : Performance) (fates : Bool) (AreRows : Config → Script → Rows → Type 0) → ((config : Config) (script : Script) (told : Option LinkState) (closed : Closed)
