@@ -1,0 +1,14 @@
+pub mod TicksLeft
+pub mod Wholes
+pub mod Begin
+pub mod Begun
+pub mod Ending
+pub mod TickEnd
+pub mod HaltedTick
+pub mod Receipts
+pub mod Lives
+pub mod Notes
+pub mod Takes
+pub mod Fresh
+pub mod Places
+pub mod Named
