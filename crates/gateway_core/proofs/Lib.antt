@@ -10,5 +10,9 @@ pub mod Lives
 pub mod Notes
 pub mod Takes
 pub mod Fresh
+pub mod OpenRows
+pub mod Collects
+pub mod Members
 pub mod Places
 pub mod Named
+pub mod ReadNames

@@ -1,11 +1,11 @@
 //! What was collected of the sources' targets.
-ghost use Rattle.std.specs.Prelude.{◌≡◌, ◌<◌, ◌≤◌, ◌+◌, [], ◌∷◌, ℕ, List, All, IfOk, length, map, replicate, vec_len, vec_capacity};
+ghost use Rattle.std.specs.Prelude.{◌≡◌, ◌<◌, ◌≤◌, ◌+◌, ◌++◌, [], ◌∷◌, ℕ, List, All, IfOk, length, map, vec_len, vec_capacity};
 ghost use Rattle.std.specs.List.{HoldsAt};
 ghost use Rattle.dataset_meta.specs.Metas.{IsMeta, MetaData};
 ghost use Rattle.row_words.specs.Belonging.{Belongs};
 ghost use Rattle.version_cell.specs.Sets.{pass_at};
 ghost use Rattle.session_model.specs.Sets.{AreRowsOf};
-ghost use Rattle.gateway_core.specs.Lived.{GatewayStep, Collect, collected, first_version, kept_on, opening_sample, sample_of, version_by, version_in};
+ghost use Rattle.gateway_core.specs.Lived.{GatewayStep, Collect, collected, first_version, kept_on, last_store, opening_sample, sample_of, version_by, version_in};
 ghost use Rattle.gateway_core.specs.Holding.{HasRoom};
 ghost use Rattle.gateway_core.specs.Standing.{HaveKept, versions_in};
 
@@ -122,7 +122,7 @@ fn all_versions(alloc: Global, count: usize, turns: u32) -> Result<Vec<Versions>
     ensures room { IfOk result (λ versions. All (HasRoom turns) versions.items) }
 {
     let mut versions = Vec::new(alloc);
-    for _ in 0..count {
+    for made in 0..count {
         versions.push(Versions::new(alloc, turns)?)?;
     }
     Ok(versions)
