@@ -79,6 +79,19 @@ pub record IsFresh (turns : ℕ) (s : Gateway) : Type 0 where
   pub receiving : IsFreshReceiving s.receiving
   pub tree : IsFreshTree s.config.now s.publisher s.tree
 
+-- where it was made of these sources
+pub fresh-collected : (config : Config) (turns : ℕ) (sources : List ℕ) (c : Collected) → c.sources.items ≡ sources → length sources ≡ length config.dataset
+    → c.samples.items ≡ map (λ source. opening_sample) sources → AreRowsOf config.dataset c.samples.items → length c.versions.items ≡ length sources
+    → HaveKept sources [] c.versions.items → ((set : ℕ) → set < length sources → HoldsAt (HasRoom turns) c.versions.items set) → IsFreshCollected config turns c
+fresh-collected config turns sources c same count samples rows made kept room = record {
+  sources = ap (λ (l : List ℕ). length l) same ∙ count;
+  samples = samples ∙ ap (λ (l : List ℕ). map (λ source. opening_sample) l) (sym same);
+  rows = rows;
+  count = made ∙ ap (λ (l : List ℕ). length l) (sym same);
+  kept = subst (λ (l : List ℕ). HaveKept l [] c.versions.items) (sym same) kept;
+  room = λ set low. room set (subst (λ (l : List ℕ). set < length l) same low);
+}
+
 -- ---- it may be called
 
 pub fresh-gateway : (turns : ℕ) (s : Gateway) → IsFresh turns s → IsGateway s

@@ -16,3 +16,4 @@ pub mod Members
 pub mod Places
 pub mod Named
 pub mod ReadNames
+pub mod FindNames
