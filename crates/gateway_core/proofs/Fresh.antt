@@ -31,7 +31,7 @@ use Rattle.gateway_core.specs.declared.collected.Collected.{Collected}
 use Rattle.gateway_core.specs.declared.gateway.Left.{Left}
 use Rattle.gateway_core.specs.declared.gateway.Gateway.{Gateway}
 use Rattle.gateway_core.specs.Lived.{opening_sample, plan_again}
-use Rattle.gateway_core.specs.Holding.{HasRoom, IsGateway, opening_left, plan_of, sources_of}
+use Rattle.gateway_core.specs.Holding.{HasRoom, IsGateway, opening_left}
 use Rattle.gateway_core.specs.Standing.{HaveKept, Stands}
 
 -- ---- the parts

@@ -1,5 +1,5 @@
 -- Readers by their names, of which none stands twice.
-use Rattle.std.proofs.Common.{◌≡◌, ◌≢◌, refl, sym, ap, ◌∙◌, subst, arith, ℕ, zero, suc, ◌+◌, ◌<◌, List, [], ◌∷◌, ◌++◌, length, map, flat_map, get_or, slice_get, Some}
+use Rattle.std.proofs.Common.{◌≡◌, ◌≢◌, refl, sym, ap, ◌∙◌, subst, arith, ℕ, zero, suc, List, [], ◌∷◌, ◌++◌, map, flat_map, slice_get, Some}
 use Rattle.std.specs.Prelude.{All, ⊤, option_map}
 use Rattle.std.proofs.lemmas.List.{map-append}
 use Rattle.std.proofs.lemmas.List.Elements.{All-cons, All-from_get_or, All-get_or, All-head, All-tail}
@@ -10,7 +10,7 @@ use Rattle.ps_config.specs.declared.parts.ReadGroupPart.{ReadGroupPart}
 use Rattle.ps_config.specs.declared.parts.ReaderPart.{ReaderPart}
 use Rattle.ps_config.specs.Sound.{AreDistinct, component_names, group_names, read_group_names, readers}
 use Rattle.writer_group.specs.Standing.{IsGood}
-use Rattle.gateway_core.specs.Sources.{IsSourceOf, seat_in}
+use Rattle.gateway_core.specs.Sources.{IsSourceOf}
 use Rattle.gateway_core.proofs.Places.{part-there}
 
 -- ---- lists none of whose items stands twice

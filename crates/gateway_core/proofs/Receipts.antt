@@ -1,5 +1,5 @@
 -- A pump: where its receives, and what the tree is told of readers, leave the gateway, as a session.
-use Rattle.std.proofs.Common.{◌≡◌, refl, sym, ap, ◌∙◌, subst, arith, ℕ, ◌+◌, ◌*◌, ◌<◌, Bool, List, ◌∷◌, ◌++◌, length, Option, Some}
+use Rattle.std.proofs.Common.{◌≡◌, refl, sym, ap, ◌∙◌, subst, arith, ℕ, ◌*◌, ◌<◌, Bool, List, ◌∷◌, ◌++◌, length, Option, Some}
 use Rattle.std.specs.Prelude.{count_by}
 use Rattle.std.proofs.lemmas.List.{length-map}
 use Rattle.ua_base.specs.Journal.{LinkState, Entry, Tells}
@@ -7,7 +7,6 @@ use Rattle.pubsub_states.specs.declared.component.Component.{Component}
 use Rattle.pubsub_states.specs.declared.component.Component.TheVariants.{Root, Connection, Group, Writer, ReadGroup, Reader}
 use Rattle.pubsub_states.specs.Components.{Counts, IsAmong, counts_of}
 use Rattle.pubsub_states.specs.Changes.{TreeValue, flags_in}
-use Rattle.reader_group.specs.Plain.{Event}
 use Rattle.session_model.specs.Steps.{Plan, Step, Pump}
 use Rattle.session_model.specs.Counts.{most_ms, most_taken}
 use Rattle.session_model.specs.Sets.{metas_at}

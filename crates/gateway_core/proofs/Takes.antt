@@ -1,6 +1,5 @@
 -- What a collect takes, one data set after another.
-use Rattle.std.proofs.Common.{◌≡◌, refl, sym, ap, ◌∙◌, subst, arith, ℕ, ◌+◌, ◌<◌, ◌≤◌, List, ◌∷◌, length, map, get_or}
-use Rattle.std.specs.Prelude.{slice_set, vec_len, vec_capacity}
+use Rattle.std.proofs.Common.{◌≡◌, sym, ap, ◌∙◌, arith, ℕ, ◌+◌, ◌<◌, List, ◌∷◌, length, get_or}
 use Rattle.std.specs.List.{HoldsAt}
 use Rattle.std.proofs.lemmas.List.{get_or-map, get_or_default, length-map, same_lists}
 use Rattle.target_cells.specs.declared.origin.Origin.{Origin}
@@ -8,9 +7,9 @@ use Rattle.version_cell.specs.Known.{Known}
 use Rattle.version_cell.specs.Sets.{pass_at}
 use Rattle.writer_group.specs.declared.sampled.Sampled.{Sampled}
 use Rattle.writer_group.specs.Turns.{no_sample}
-use Rattle.session_parts.proofs.Each.{EachTo, each-more, each-none}
+use Rattle.session_parts.proofs.Each.{EachTo, each-none}
 use Rattle.gateway_core.specs.declared.collected.Versions.{Versions}
-use Rattle.gateway_core.specs.Lived.{GatewayStep, Collect, collected, kept_on, no_origin, sample_of, version_by, versions_kept}
+use Rattle.gateway_core.specs.Lived.{GatewayStep, Collect, collected, kept_on, no_origin, sample_of, version_by}
 use Rattle.gateway_core.specs.Holding.{HasRoom}
 use Rattle.gateway_core.specs.Standing.{HaveKept, versions_in}
 

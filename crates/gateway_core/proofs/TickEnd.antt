@@ -1,14 +1,12 @@
 -- What a tick leaves of the gateway.
-use Rattle.std.proofs.Common.{◌≡◌, refl, sym, ap, ◌∙◌, subst, arith, ℕ, ◌+◌, ◌<◌, List, length, get_or, Bool, false, Option}
-use Rattle.std.proofs.lemmas.List.Elements.{All-get_or}
+use Rattle.std.proofs.Common.{◌≡◌, refl, sym, ap, ◌∙◌, subst, arith, ℕ, ◌+◌, ◌<◌, List, length, get_or, Bool, Option}
 use Rattle.ua_base.specs.Journal.{LinkState}
 use Rattle.dataset_meta.specs.Metas.{MetaData}
 use Rattle.ps_config.specs.declared.parts.Config.{Config}
-use Rattle.ps_config.specs.Sound.{IsGroup}
 use Rattle.pubsub_states.specs.Components.{counts_of}
 use Rattle.writer_group.specs.declared.group.Group.{Group}
 use Rattle.writer_group.specs.declared.sampled.Sampled.{Sampled}
-use Rattle.writer_group.specs.Parts.{group_at, no_group}
+use Rattle.writer_group.specs.Parts.{group_at}
 use Rattle.writer_group.specs.Standing.{AreMetas, IsGood, metas_for}
 use Rattle.session_model.specs.Steps.{Plan, Step, Tick}
 use Rattle.session_model.specs.Sets.{AreRowsOf, metas_at, rows_cut}
@@ -20,7 +18,7 @@ use Rattle.session_parts.proofs.Few.{sound-group}
 use Rattle.session_parts.proofs.Ticks.{go-one}
 use Rattle.pubsub_states.specs.Changes.{TreeValue}
 use Rattle.gateway_core.specs.declared.gateway.Gateway.{Gateway}
-use Rattle.gateway_core.specs.Holding.{HoldCollected, IsGateway, KeepsCollected, MayTick, plan_of, sampled_by}
+use Rattle.gateway_core.specs.Holding.{HoldCollected, IsGateway, KeepsCollected, MayTick, sampled_by}
 use Rattle.gateway_core.specs.Standing.{StandsAsSession}
 use Rattle.gateway_core.specs.Beginning.{HasBegun, tick_of}
 use Rattle.gateway_core.proofs.Ending.{LeadsAsSession, ends}

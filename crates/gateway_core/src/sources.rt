@@ -11,7 +11,11 @@ use ua_base::NoMemory;
 
 /// For each data set of the second configuration the reader of the first one that has its name, by the index over all read
 /// groups.
-pub(crate) fn sources_in(alloc: Global, first: &Config, second: &Config) -> Result<Vec<u8>, NoMemory>
+pub(crate) fn sources_in(
+    alloc: Global,
+    first: &Config,
+    second: &Config,
+) -> Result<Vec<u8>, NoMemory>
     requires good { IsGood first.now }
     requires sources { (sources : List ℕ) × HaveSources first.now second.now sources }
     ensures sources { IfOk result (λ found. HaveSources first.now second.now found.items) }

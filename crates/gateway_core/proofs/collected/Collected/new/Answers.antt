@@ -1,4 +1,4 @@
-use Rattle.std.proofs.Common.{List, ◌∙◌, sym, ap, subst, arith}
+use Rattle.std.proofs.Common.{List, ◌∙◌, sym, subst, arith}
 use Rattle.writer_group.specs.declared.sampled.Sampled.{Sampled}
 use Rattle.session_model.specs.Sets.{AreRowsOf}
 use Rattle.gateway_core.proofs.OpenRows.{alike, rows-alike}

@@ -1,4 +1,4 @@
-use Rattle.std.proofs.Common.{◌≡◌, ◌-◌, refl, arith, sym, subst, length}
+use Rattle.std.proofs.Common.{◌-◌, refl, arith}
 use Rattle.gateway_core.specs.declared.gateway.Left.{Left}
 use Rattle.gateway_core.specs.Holding.{CountsCollect}
 use Rattle.gateway_core.proofs.Collects.{collected-gateway, count-samples, count-versions, few-sources, room-one}

@@ -1,9 +1,7 @@
-use Rattle.std.proofs.Common.{◌≡◌, ◌+◌, ◌∙◌, refl, sym, ap, subst, arith, ℕ, List, [], length, All}
-use Rattle.dataset_meta.specs.Metas.{MetaData, IsMeta}
+use Rattle.std.proofs.Common.{refl, sym, ap, subst, []}
 use Rattle.ps_config.specs.declared.parts.Config.{Config}
 use Rattle.gateway_core.specs.declared.gateway.Gateway.{Gateway}
-use Rattle.gateway_core.specs.Holding.{IsGateway}
-use Rattle.gateway_core.specs.Standing.{HaveKept, Stands}
+use Rattle.gateway_core.specs.Standing.{Stands}
 use Rattle.gateway_core.proofs.Fresh.{IsFresh, fresh-collected, fresh-gateway, fresh-stands}
 use Rattle.gateway_core.proofs.gateway.Gateway.open.Goals as goal
 
