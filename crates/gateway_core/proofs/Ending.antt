@@ -1,0 +1,128 @@
+-- The end of a tick: where it leaves the gateway, as a session.
+use Rattle.std.proofs.Common.{◌≡◌, refl, sym, ap, ◌∙◌, subst, arith, ℕ, ◌+◌, ◌<◌, ◌≤◌, Bool, true, false, List, [], ◌∷◌, length, map, Option}
+use Rattle.std.specs.Prelude.{◌||◌, zip, count_by, Vec}
+use Rattle.std.specs.declared.alloc.Global.{Global}
+use Rattle.ua_base.specs.Journal.{LinkState, Sent, SendFailed}
+use Rattle.pubsub_states.specs.declared.component.Component.TheVariants.{Root, Connection, Group, Writer, ReadGroup, Reader}
+use Rattle.pubsub_states.specs.Changes.{TreeValue}
+use Rattle.session_model.specs.Steps.{Plan, Step, Tick}
+use Rattle.session_model.specs.Sets.{AreRowsOf}
+use Rattle.session_model.specs.Deeds.{deeds}
+use Rattle.session_model.specs.Counts.{is_closed, most_ticks, ticks_in}
+use Rattle.session_model.specs.Keeping.{MayCome}
+use Rattle.session_model.specs.Sends.{Send, send_entry, sends_of, journal, TellsRun}
+use Rattle.session_model.specs.States.{flags_at}
+use Rattle.writer_group.specs.declared.sampled.Sampled.{Sampled}
+use Rattle.session_model.specs.Answers.{counted}
+use Rattle.session_model.specs.Closing.{is_got, is_broken, is_long}
+use Rattle.session_model.proofs.Sending.{count-append, count-cons}
+use Rattle.session_parts.specs.declared.receiving.Receiving.{Receiving}
+use Rattle.session_parts.specs.declared.tally.Tally.{Tally}
+use Rattle.gateway_core.specs.declared.gateway.Gateway.{Gateway}
+use Rattle.session_parts.specs.declared.publisher.Publisher.{Publisher}
+use Rattle.session_parts.specs.Standing.{HasFlags, HaveTallied, AreReceivesIn}
+use Rattle.gateway_core.specs.Holding.{MayTick, plan_of, sampled_by, ticks_needed}
+use Rattle.gateway_core.specs.Standing.{StandsAsSession}
+use Rattle.session_parts.specs.Ticking.{TickData, Holds, IsAt, TellsSoFar, deeds_to, flags_in_tick}
+use Rattle.gateway_core.specs.Beginning.{HasBegun, tick_of}
+
+-- ---- sends are no receives
+
+no-got : (sends : List (Send × Bool)) → count_by is_got (map send_entry sends) ≡ 0
+no-got [] = refl
+no-got ((send, true) ∷ sends) = omega (arith, count-cons is_got (Sent send.datagram) (map send_entry sends), no-got sends)
+no-got ((send, false) ∷ sends) = omega (arith, count-cons is_got SendFailed (map send_entry sends), no-got sends)
+
+no-broken : (sends : List (Send × Bool)) → count_by is_broken (map send_entry sends) ≡ 0
+no-broken [] = refl
+no-broken ((send, true) ∷ sends) = omega (arith, count-cons is_broken (Sent send.datagram) (map send_entry sends), no-broken sends)
+no-broken ((send, false) ∷ sends) = omega (arith, count-cons is_broken SendFailed (map send_entry sends), no-broken sends)
+
+no-long : (sends : List (Send × Bool)) → count_by is_long (map send_entry sends) ≡ 0
+no-long [] = refl
+no-long ((send, true) ∷ sends) = omega (arith, count-cons is_long (Sent send.datagram) (map send_entry sends), no-long sends)
+no-long ((send, false) ∷ sends) = omega (arith, count-cons is_long SendFailed (map send_entry sends), no-long sends)
+
+receives-stay : (p : Plan) (before : List Step) (ms : ℕ) (closing : Bool) (samples : List Sampled) (done : List Bool) (receiving : Receiving)
+    → AreReceivesIn (journal p before) before receiving → AreReceivesIn (journal p (Tick ms closing samples done ∷ before)) (Tick ms closing samples done ∷ before) receiving
+receives-stay p before ms closing samples done receiving are =
+    let sends = zip (sends_of p (Tick ms closing samples done ∷ before)) done in record {
+      received = are.received ∙ ap counted (omega (arith, count-append is_got (journal p before) (map send_entry sends), no-got sends));
+      broken = are.broken ∙ ap counted (omega (arith, count-append is_broken (journal p before) (map send_entry sends), no-broken sends));
+      long = are.long ∙ ap counted (omega (arith, count-append is_long (journal p before) (map send_entry sends), no-long sends));
+      limit = are.limit;
+    }
+
+-- ---- the flags
+
+flags-end : (t : TickData) (done : List Bool) (tree : TreeValue)
+    → HasFlags (flags_in_tick t (deeds t.plan (Tick t.ms t.closing t.samples done ∷ t.before)) done) tree
+    → HasFlags (flags_at t.plan (Tick t.ms t.closing t.samples done ∷ t.before)) tree
+flags-end t done tree flags Root among = flags Root among
+flags-end t done tree flags Connection among = flags Connection among
+flags-end t done tree flags (Group g) among = flags (Group g) among
+flags-end t done tree flags (Writer g w) among = flags (Writer g w) among
+flags-end t done tree flags (ReadGroup r) among = flags (ReadGroup r) among
+flags-end t done tree flags (Reader r i) among = flags (Reader r i) among
+
+-- ---- the gateway
+
+-- the closing tick didn't come yet
+not-closed : (p : Plan) (before : List Step) (ms : ℕ) (closing : Bool) (old : Gateway) → MayTick ms closing old → StandsAsSession p before old → is_closed before ≡ false
+not-closed p before ms closing old may stands = sym stands.closed ∙ may.running
+
+ticks-left : (closing : Bool) (before most left : ℕ) → before + left ≤ most + 1 → ticks_needed closing ≤ left → closing ≡ false → before < most
+ticks-left true before most left all needed is = absurd (let apart : true ≡ false → ⊥ = λ same. cc in apart is)
+ticks-left false before most left all needed is = omega (arith, all, needed)
+
+may-come : (p : Plan) (before : List Step) (ms : ℕ) (closing : Bool) (old : Gateway) → MayTick ms closing old → StandsAsSession p before old
+    → MayCome p before ms closing (sampled_by old)
+may-come p before ms closing old may stands = record {
+  rows = subst (λ (q : Plan). AreRowsOf q.full (sampled_by old)) stands.plan may.gateway.collected.rows;
+  short = may.short;
+  running = not-closed p before ms closing old may stands;
+  left = ticks-left closing (ticks_in before) most_ticks old.left.ticks stands.ticks may.left;
+  still = may.still;
+}
+
+or-none : (b : Bool) → (b || false) ≡ b
+or-none true = refl
+or-none false = refl
+
+-- where one step more of a session leads, and what the link tells
+pub record LeadsAsSession (p : Plan) (before : List Step) (step : Step) (told after : Option LinkState) (s : Gateway) : Type 0 where
+  pub stands : StandsAsSession p (step ∷ before) s
+  pub tells : TellsRun p before told → TellsRun p (step ∷ before) after
+
+-- after the turns of all groups
+pub ends : (p : Plan) (before : List Step) (ms : ℕ) (closing : Bool) (old mid : Gateway) (publisher : Publisher) (tree : TreeValue) (done : List Bool) (told after : Option LinkState)
+    → MayTick ms closing old → StandsAsSession p before old → HasBegun ms closing old mid
+    → let t = tick_of p before ms closing old in
+    let all = deeds p (Tick ms closing (sampled_by old) done ∷ before) in
+    IsAt t all done publisher tree
+    → ((g : ℕ) → g < length p.config.group → Holds t (deeds_to t g) g)
+    → (TellsRun p before told → TellsSoFar t all done after)
+    → LeadsAsSession p before (Tick ms closing (sampled_by old) done) told after (record mid { publisher = publisher; tree = tree })
+ends p before ms closing old mid publisher tree done told after may stands begun at holds tells = record {
+  stands = record {
+    plan = ap plan_of begun.changed ∙ stands.plan;
+    run = (at.sent, stands.run);
+    steps_are = (may-come p before ms closing old may stands, stands.steps_are);
+    turns = (holds, stands.turns);
+    moment = ap (λ (s : Gateway). s.moment) begun.changed ∙ ap (λ (m : ℕ). m + ms) stands.moment;
+    closed = begun.counts_tick.is_closed ∙ sym (ap (λ (b : Bool). closing || b) (not-closed p before ms closing old may stands) ∙ or-none closing);
+    ticks = omega (arith, stands.ticks, begun.counts_tick.ticks);
+    pumps = omega (arith, stands.pumps, begun.counts_tick.pumps);
+    metas = stands.metas;
+    groups = at.groups;
+    senders = at.senders;
+    outcomes = at.outcomes;
+    sends = at.link;
+    readings = begun.read p before done stands;
+    tallies = subst (λ (l : Vec Tally Global). HaveTallied p.config (Tick ms closing (sampled_by old) done ∷ before) l.items) (sym begun.tallied) stands.tallies;
+    receives = subst (λ (s : Gateway). AreReceivesIn (journal p (Tick ms closing (sampled_by old) done ∷ before)) (Tick ms closing (sampled_by old) done ∷ before) s.receiving)
+        (sym begun.changed) (receives-stay p before ms closing (sampled_by old) done old.receiving stands.receives);
+    flags = flags-end (tick_of p before ms closing old) done tree at.flags;
+  };
+  tells = tells;
+}

@@ -1,0 +1,89 @@
+-- What a gateway shows of its writers, readers and versions.
+use Rattle.std.proofs.Common.{◌≡◌, sym, ap, ◌∙◌, subst, arith, ℕ, ◌<◌, List, length, get_or}
+use Rattle.std.specs.Prelude.{vec_len}
+use Rattle.dataset_meta.specs.Metas.{MetaData}
+use Rattle.dataset_reader.specs.declared.reader.Reader.{Reader}
+use Rattle.dataset_reader.specs.Reader.{IsReaderOf, kept_by}
+use Rattle.dataset_writer.specs.declared.writer.Writer.{Writer}
+use Rattle.dataset_writer.specs.Standing.{IsWriter}
+use Rattle.ps_config.specs.declared.parts.Config.{Config}
+use Rattle.ps_config.specs.declared.parts.GroupPart.{GroupPart}
+use Rattle.reader_group.specs.declared.group.ReaderGroup.{ReaderGroup}
+use Rattle.reader_group.specs.Groups.{IsKeptAt, IsMadeAt, IsMadeOf, Stands as ReadingStands, index_of, reader_count}
+use Rattle.reader_group.specs.Members.{seat_at}
+use Rattle.reader_group.specs.Plain.{plain}
+use Rattle.reader_group.specs.Settings.{setting_of, seat_in, group_at as read_group_at}
+use Rattle.std.proofs.lemmas.List.{length-map}
+use Rattle.writer_group.specs.declared.group.Group.{Group}
+use Rattle.writer_group.specs.Parts.{group_at}
+use Rattle.writer_group.specs.Payloads.{meta_at, writer_at}
+use Rattle.writer_group.specs.Standing.{IsGroup, IsWriterIn, metas_for, writer_count}
+use Rattle.writer_group.specs.Turns.{settings_of}
+use Rattle.session_model.specs.Steps.{Plan, Step}
+use Rattle.session_model.specs.Deeds.{deeds, group_past, writer_deeds}
+use Rattle.session_model.specs.Events.{events, reader_at}
+use Rattle.gateway_core.specs.declared.gateway.Gateway.{Gateway}
+use Rattle.gateway_core.specs.Lived.{GatewayStep, plan_again, session_steps}
+use Rattle.gateway_core.specs.Holding.{IsGateway, sources_of}
+use Rattle.gateway_core.specs.Standing.{Stands}
+
+same-config : (second : Config) (lived : List GatewayStep) (s : Gateway) → Stands second lived s → s.config.now ≡ second
+same-config second lived s stands = ap (λ (p : Plan). p.config) stands.session.plan
+
+-- ---- writers
+
+pub writer-there : (s : Gateway) (g w : ℕ) (group : Group) → IsGateway s → g < length s.config.now.group → w < length (group_at s.config.now g).writer
+    → group ≡ get_or s.publisher.groups.items g group → w < writer_count group
+writer-there s g w group gateway low within is =
+    let made = (gateway.publisher.groups.each g low group).made.writers in
+    let same : vec_len group.writers ≡ vec_len (get_or s.publisher.groups.items g group).writers = ap (λ (x : Group). vec_len x.writers) is in
+    omega (arith, within, made, same)
+
+pub writer-lived : (second : Config) (lived : List GatewayStep) (s : Gateway) (g w : ℕ) (group : Group) (writer : Writer) → Stands second lived s → g < length s.config.now.group
+    → w < length (group_at s.config.now g).writer → group ≡ get_or s.publisher.groups.items g group → IsWriterIn group w writer
+    → IsWriter (meta_at (group_at second g) second.dataset w) (settings_of (writer_at (group_at second g) w)) (writer_deeds (plan_again second) g w (session_steps (sources_of s) lived)) writer
+writer-lived second lived s g w group writer stands low within is there =
+    there (metas_for part second.dataset) part (group_past second g (deeds (plan_again second) steps))
+    (subst (λ (c : Config). w < length (group_at c g).writer) same within)
+    (subst (λ (x : Group). IsGroup (metas_for part second.dataset) part (group_past second g (deeds (plan_again second) steps)) x) (sym is)
+    (subst (λ (m : List MetaData). IsGroup (metas_for part m) part (group_past second g (deeds (plan_again second) steps)) (get_or s.publisher.groups.items g group)) stands.session.metas
+    (stands.session.groups g (subst (λ (c : Config). g < length c.group) same low) group)))
+  where
+    part : GroupPart
+    part = group_at second g
+
+    steps : List Step
+    steps = session_steps (sources_of s) lived
+
+    same : s.config.now ≡ second
+    same = same-config second lived s stands
+
+-- ---- readers
+
+pub reader-there : (s : Gateway) (r i : ℕ) (group : ReaderGroup) → IsGateway s → r < length s.config.now.readgroup → i < length (read_group_at s.config.now r).reader
+    → group ≡ get_or s.subscriber.groups.items r group → i < reader_count group
+reader-there s r i group gateway low within is =
+    let at = gateway.subscriber.groups.each r low group in
+    let same : reader_count group ≡ reader_count (get_or s.subscriber.groups.items r group) = ap (λ (x : ReaderGroup). reader_count x) is in
+    let seats : length (setting_of s.config.now r).seats ≡ length (read_group_at s.config.now r).reader = length-map (read_group_at s.config.now r).reader (seat_in s.config.now) in
+    let index = ap (λ (n : ℕ). length (setting_of s.config.now n).seats) at.index in
+    omega (arith, within, same, seats, index, at.made.readers.count)
+
+pub reader-kept : (second : Config) (lived : List GatewayStep) (s : Gateway) (r i : ℕ) (group : ReaderGroup) (reader : Reader) → Stands second lived s → r < length s.config.now.readgroup
+    → group ≡ get_or s.subscriber.groups.items r group → IsKeptAt group i reader
+    → kept_by (seat_at (setting_of second r).seats i).meta.fields reader ≡ (reader_at second r i (session_steps (sources_of s) lived)).kept
+reader-kept second lived s r i group reader stands low is there =
+    let steps = session_steps (sources_of s) lived in
+    let setting = setting_of second r in
+    there setting (plain setting (events second r steps))
+    (subst (λ (x : ReaderGroup). ReadingStands setting (plain setting (events second r steps)) x) (sym is)
+    (stands.session.readings r (subst (λ (c : Config). r < length c.readgroup) (same-config second lived s stands) low) group))
+
+pub reader-made : (s : Gateway) (r i : ℕ) (group : ReaderGroup) (reader : Reader) → IsGateway s → r < length s.config.now.readgroup
+    → group ≡ get_or s.subscriber.groups.items r group → IsMadeAt group i reader
+    → IsReaderOf (seat_at (setting_of s.config.now r).seats i).meta reader
+reader-made s r i group reader gateway low is there =
+    let at = gateway.subscriber.groups.each r low group in
+    let index = ap (λ (x : ReaderGroup). index_of x) is ∙ at.index in
+    subst (λ (n : ℕ). IsReaderOf (seat_at (setting_of s.config.now n).seats i).meta reader) index
+    (there s.config.now (subst (λ (x : ReaderGroup). IsMadeOf s.config.now x) (sym is) at.made))

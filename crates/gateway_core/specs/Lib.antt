@@ -1,0 +1,5 @@
+pub mod Lived
+pub mod Sources
+pub mod Holding
+pub mod Standing
+pub mod Beginning

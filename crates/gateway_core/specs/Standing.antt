@@ -1,0 +1,74 @@
+-- Where a gateway stands after what it lived through. Lists of steps and of deeds have the latest first.
+use Rattle.std.specs.Prelude.{◌≡◌, ℕ, ◌+◌, ◌<◌, ◌≤◌, List, ◌∷◌, ◌++◌, length, reverse, Bool, Option, Some, slice_index_or}
+use Rattle.std.specs.List.{HoldsAt}
+use Rattle.ua_base.specs.Journal.{LinkState}
+use Rattle.ps_config.specs.declared.parts.Config.{Config}
+use Rattle.session_model.specs.Counts.{most_ticks, ticks_in, pumps_in, is_closed}
+use Rattle.session_model.specs.Steps.{Plan, Step, moment_of}
+use Rattle.session_model.specs.Sets.{metas_at}
+use Rattle.session_model.specs.Deeds.{deeds}
+use Rattle.session_model.specs.Turns.{TurnsHold}
+use Rattle.session_model.specs.Sends.{IsRun, TellsRun, journal, send_entries, sends_of}
+use Rattle.session_model.specs.States.{flags_at}
+use Rattle.session_model.specs.Keeping.{AreSteps}
+use Rattle.session_parts.specs.Standing.{AreReceivesIn, AreSendsIn, HasFlags, HaveOutcomes, HavePast, HaveRead, HaveSent, HaveTallied}
+use Rattle.gateway_core.specs.declared.collected.StoreVersion.{StoreVersion}
+use Rattle.gateway_core.specs.declared.collected.Versions.{Versions}
+use Rattle.gateway_core.specs.declared.gateway.Gateway.{Gateway}
+use Rattle.gateway_core.specs.Lived.{GatewayStep, Tick, plan_again, samples_after, session_steps, versions_kept}
+use Rattle.gateway_core.specs.Holding.{plan_of, sampled_by, sources_of}
+
+-- ---- as a session
+
+-- it stands where these steps leave a session, in which no field was appended
+pub record StandsAsSession (p : Plan) (steps : List Step) (s : Gateway) : Type 0 where
+  pub plan : plan_of s ≡ p
+  pub run : IsRun p steps
+  pub steps_are : AreSteps p steps
+  pub turns : TurnsHold p steps
+  pub moment : s.moment ≡ moment_of steps
+  pub closed : s.left.is_closed ≡ is_closed steps
+  pub ticks : ticks_in steps + s.left.ticks ≤ most_ticks + 1
+  pub pumps : pumps_in steps + s.left.pumps ≡ ticks_in steps
+  pub metas : metas_at p.config steps ≡ p.config.dataset
+  pub groups : HavePast p.config (metas_at p.config steps) (deeds p steps) s.publisher.groups.items
+  pub senders : HaveSent p.config (deeds p steps) s.publisher.senders.items
+  pub outcomes : HaveOutcomes p steps s.publisher.sends.items
+  pub sends : AreSendsIn (journal p steps) s.publisher.link
+  pub readings : HaveRead p.config steps s.subscriber.groups.items
+  pub tallies : HaveTallied p.config steps s.subscriber.tallies.items
+  pub receives : AreReceivesIn (journal p steps) steps s.receiving
+  pub flags : HasFlags (flags_at p steps) s.tree
+
+-- ---- what was collected
+
+-- the versions, the last first
+abbrev pub versions_in : Versions → List StoreVersion
+versions_in versions = reverse versions.kept.items
+
+-- for each data set those of its source
+abbrev pub HaveKept : List ℕ → List GatewayStep → List Versions → Type 0
+HaveKept sources lived versions =
+    (set : ℕ) → set < length sources → HoldsAt (λ kept. versions_in kept ≡ versions_kept (slice_index_or sources set 0) lived) versions set
+
+-- ---- the gateway
+
+-- it stands where this life leaves it: it is the session of its ticks and pumps, with what was collected as samples
+pub record Stands (second : Config) (lived : List GatewayStep) (s : Gateway) : Type 0 where
+  pub session : StandsAsSession (plan_again second) (session_steps (sources_of s) lived) s
+  pub samples : sampled_by s ≡ samples_after (sources_of s) lived
+  pub kept : HaveKept (sources_of s) lived s.collected.versions.items
+
+-- where one step more leads, and what the link tells: it is then the journal, if it was before
+pub record Leads (second : Config) (before : List GatewayStep) (step : GatewayStep) (told after : Option LinkState) (s : Gateway) : Type 0 where
+  pub stands : Stands second (step ∷ before) s
+  pub tells : TellsRun (plan_again second) (session_steps (sources_of s) before) told
+      → TellsRun (plan_again second) (session_steps (sources_of s) (step ∷ before)) after
+
+-- memory ran out at a send of the tick: the first datagrams of the tick were sent, each once, in order, and no further one
+pub record HaltsTick (second : Config) (sources : List ℕ) (before : List GatewayStep) (ms : ℕ) (closing : Bool) (told after : Option LinkState) : Type 0 where
+  pub done : List Bool
+  pub fewer : length done < length (sends_of (plan_again second) (session_steps sources (Tick ms closing done ∷ before)))
+  pub tells : TellsRun (plan_again second) (session_steps sources before) told → (link : LinkState) → after ≡ Some link
+      → link.journal ≡ journal (plan_again second) (session_steps sources before)
+      ++ send_entries (sends_of (plan_again second) (session_steps sources (Tick ms closing done ∷ before))) done

@@ -1,0 +1,209 @@
+//! A gateway over a link: what is collected, ticks and pumps.
+ghost use Rattle.std.specs.Prelude.{◌≡◌, ◌<◌, ◌∷◌, ◌↔◌, [], IsTrue, IsSome, ℕ, List, Bool, count_by, length, slice_index_or};
+ghost use Rattle.ua_base.specs.Journal.{Entry};
+ghost use Rattle.ua_base.specs.Links.{KeepsLink};
+ghost use Rattle.dataset_reader.specs.Reader.{IsReaderOf, kept_by};
+ghost use Rattle.dataset_writer.specs.Standing.{IsWriter};
+ghost use Rattle.ps_config.specs.declared.parts.Config.{Config as ConfigValue};
+ghost use Rattle.reader_group.specs.Members.{seat_at};
+ghost use Rattle.reader_group.specs.Settings.{setting_of, group_at as read_group_at};
+ghost use Rattle.writer_group.specs.Parts.{group_at};
+ghost use Rattle.writer_group.specs.Payloads.{meta_at, writer_at};
+ghost use Rattle.writer_group.specs.Turns.{settings_of};
+ghost use Rattle.session_model.specs.Answers.{counted};
+ghost use Rattle.session_model.specs.Closing.{is_datagram, is_got, is_send_failed, is_sent};
+ghost use Rattle.session_model.specs.Counts.{most_taken};
+ghost use Rattle.session_model.specs.Deeds.{writer_deeds};
+ghost use Rattle.session_model.specs.Events.{reader_at};
+ghost use Rattle.session_model.specs.Sends.{journal};
+ghost use Rattle.gateway_core.specs.Lived.{Collect, GatewayStep, Pump, Tick, plan_again, session_steps, version_in, versions_kept};
+ghost use Rattle.gateway_core.specs.Holding.{CountsCollect, CountsPump, CountsTick, IsGateway, KeepsCollected, MayPump, MayTake, MayTick, left_of, sources_of};
+ghost use Rattle.gateway_core.specs.Standing.{HaltsTick, Leads, Stands};
+ghost use Rattle.gateway_core.specs.Beginning.{HasBegun};
+
+use crate::collected::Collected;
+use dataset_reader::Reader;
+use dataset_writer::Writer;
+use ps_config::Config;
+use pubsub_states::Tree;
+use session_parts::{Publisher, Receiving, Subscriber, Told};
+use target_cells::{Origin, Passes};
+use ua_base::{Link, Pumped, Ticked};
+
+/// What may still come.
+#[derive(Clone, Copy, Debug)]
+pub(crate) struct Left {
+    /// Ticks, the closing one included.
+    pub(crate) ticks: u32,
+    /// What may still be collected.
+    pub(crate) collects: u32,
+    /// Pumps of ticks that came.
+    pub(crate) pumps: u32,
+    /// Whether the closing tick came.
+    pub(crate) is_closed: bool,
+}
+
+/// A gateway of a second configuration. All its memory was taken when it was opened.
+#[derive(Drop)]
+pub struct Gateway<'c> {
+    pub(crate) config: &'c Config,
+    /// Milliseconds since it was opened.
+    pub(crate) moment: u64,
+    pub(crate) left: Left,
+    pub(crate) tree: Tree,
+    pub(crate) collected: Collected,
+    pub(crate) publisher: Publisher,
+    pub(crate) subscriber: Subscriber,
+    pub(crate) receiving: Receiving,
+}
+
+impl<'c> Gateway<'c> {
+    /// The samples of the next tick are what the passes have seen of the sources' targets, each with its count of stores as
+    /// version. The version of each store is kept, as far as its origin tells it.
+    pub fn collect(&mut self, passes: &Passes, origins: &[Origin])
+        requires may { MayTake self.old passes.now origins.now }
+        ensures gateway { IsGateway self.new }
+        ensures left { CountsCollect (left_of self.old) (left_of self.new) }
+        ensures sources { sources_of self.new ≡ sources_of self.old }
+        ensures stands { (second : ConfigValue) (lived : List GatewayStep)
+            → Stands second lived self.old
+            → Stands second (Collect passes.now origins.now ∷ lived) self.new }
+    {
+        self.left.collects -= 1;
+        self.collected.take(passes, origins);
+    }
+
+    /// A tick with what was collected last, as a session's in which all components are enabled: time goes on by so many
+    /// milliseconds, an hour at most; each sender turns to the moment, and a new token refreshes its groups' writers; timers
+    /// expire; and each group that is due (at the closing tick each one) and whose sender isn't spent has its turn, and its
+    /// datagrams are sent once each, in order. Want of memory comes from a send of the link alone; what was done before it
+    /// stands.
+    pub fn tick<L: Link>(&mut self, ms: u64, closing: bool, link: &mut L) -> Ticked
+        requires open { IsSome (L.opened_with link.old) }
+        requires may { MayTick ms closing self.old }
+        ensures gateway { IsGateway self.new }
+        ensures left { CountsTick closing (left_of self.old) (left_of self.new) }
+        ensures leads { result ≡ Ticked.Done → (second : ConfigValue) (lived : List GatewayStep)
+            → Stands second lived self.old
+            → (done : List Bool) × Leads second lived (Tick ms closing done)
+            (L.told link.old) (L.told link.new) self.new }
+        ensures halted { result ≡ Ticked.Memory → (second : ConfigValue) (lived : List GatewayStep)
+            → Stands second lived self.old
+            → HaltsTick second (sources_of self.old) lived ms closing
+            (L.told link.old) (L.told link.new) }
+        ensures collected { KeepsCollected self.old self.new }
+        ensures memory { result ≡ Ticked.Memory → IsTrue L.takes_memory }
+        ensures link { KeepsLink L.opened_with L.faults link.old link.new }
+    {
+        self.begin(ms, closing);
+        let told = Told {
+            config: self.config,
+            metas: self.config.dataset.as_slice(),
+            rows: &self.collected.samples,
+            moment: self.moment,
+            closing,
+        };
+        self.publisher.pass_all(&told, &mut self.tree, link)
+    }
+
+    /// What a tick does before the groups' turns: time goes on, senders turn, timers expire, faults of sends are cleared.
+    fn begin(&mut self, ms: u64, closing: bool)
+        requires may { MayTick ms closing self.old }
+        ensures begun { HasBegun ms closing self.old self.new }
+    {
+        self.left.ticks -= 1;
+        self.left.pumps += 1;
+        self.left.is_closed = closing;
+        self.moment += ms;
+        self.publisher.come_to(self.config, self.moment);
+        self.subscriber.expire(self.moment);
+        self.publisher.clear();
+        self.subscriber.tell(self.config, &mut self.tree);
+        self.publisher.tell(self.config, &mut self.tree);
+    }
+
+    /// Receives what came, until nothing waits, a receive fails or 65,536 datagrams were taken; each goes to each read group
+    /// in order. The answer is how many were taken, and whether the pump ended for that.
+    pub fn pump<L: Link>(&mut self, link: &mut L) -> Pumped
+        requires open { IsSome (L.opened_with link.old) }
+        requires may { MayPump self.old }
+        ensures gateway { IsGateway self.new }
+        ensures left { CountsPump (left_of self.old) (left_of self.new) }
+        ensures leads { (second : ConfigValue) (lived : List GatewayStep)
+            → Stands second lived self.old
+            → (entries : List Entry) × Leads second lived (Pump entries)
+            (L.told link.old) (L.told link.new) self.new
+            × (result.taken ≡ count_by is_datagram entries) }
+        ensures limit { IsTrue result.limit ↔ (result.taken ≡ most_taken) }
+        ensures collected { KeepsCollected self.old self.new }
+        ensures link { KeepsLink L.opened_with L.faults link.old link.new }
+    {
+        self.left.pumps -= 1;
+        let pumped = self.receiving.pump(
+            self.config,
+            &self.tree,
+            self.moment,
+            &mut self.subscriber,
+            link,
+        );
+        self.subscriber.tell(self.config, &mut self.tree);
+        pumped
+    }
+
+    /// A writer, by its group and its index in this.
+    pub fn writer(&self, group: u8, index: u8) -> &Writer
+        requires gateway { IsGateway self.now }
+        requires group { group < length self.now.config.now.group }
+        requires index { index < length (group_at self.now.config.now group).writer }
+        ensures lived { (second : ConfigValue) (lived : List GatewayStep)
+            → Stands second lived self.now
+            → IsWriter (meta_at (group_at second group) second.dataset index)
+            (settings_of (writer_at (group_at second group) index))
+            (writer_deeds (plan_again second) group index (session_steps (sources_of self.now) lived)) result.now }
+    {
+        self.publisher.groups[usize::from(group)].writer(index)
+    }
+
+    /// A reader, by its read group and its index in this.
+    pub fn reader(&self, group: u8, index: u8) -> &Reader
+        requires gateway { IsGateway self.now }
+        requires group { group < length self.now.config.now.readgroup }
+        requires index { index < length (read_group_at self.now.config.now group).reader }
+        ensures kept { (second : ConfigValue) (lived : List GatewayStep)
+            → Stands second lived self.now
+            → kept_by (seat_at (setting_of second group).seats index).meta.fields result.now
+            ≡ (reader_at second group index (session_steps (sources_of self.now) lived)).kept }
+        ensures made { IsReaderOf
+            (seat_at (setting_of self.now.config.now group).seats index).meta result.now }
+    {
+        self.subscriber.groups[usize::from(group)].reader(index)
+    }
+
+    /// How many sends were done, how many failed, and how many datagrams came. A count stops at 2^64 - 1.
+    pub fn counts(&self) -> [u64; 3]
+        ensures counts { (second : ConfigValue) (lived : List GatewayStep)
+            → Stands second lived self.now
+            → let told = journal (plan_again second) (session_steps (sources_of self.now) lived) in
+            result ≡ counted (count_by is_sent told) ∷ counted (count_by is_send_failed told)
+            ∷ counted (count_by is_got told) ∷ [] }
+    {
+        [
+            self.publisher.link.done,
+            self.publisher.link.failed,
+            self.receiving.received,
+        ]
+    }
+
+    /// The version that a store of a data set's source came with, that of store 0 being 0: none exactly where no such store was
+    /// collected, or its version isn't known.
+    pub fn version_of(&self, set: u8, store: u64) -> Option<u64>
+        requires gateway { IsGateway self.now }
+        requires set { set < length self.now.config.now.dataset }
+        ensures version { (second : ConfigValue) (lived : List GatewayStep)
+            → Stands second lived self.now
+            → let source = slice_index_or (sources_of self.now) set 0 in
+            result ≡ version_in (versions_kept source lived) store }
+    {
+        self.collected.versions[usize::from(set)].version_of(store)
+    }
+}
