@@ -35,13 +35,7 @@ impl Case {
     }
 
     fn run(&self, line: &Line) -> Answer {
-        run(
-            self.alloc,
-            &self.config,
-            &self.reads,
-            &self.writes,
-            line,
-        )
+        run(self.alloc, &self.config, &self.reads, &self.writes, line)
     }
 }
 

@@ -10,7 +10,9 @@ use load_command::load_number;
 #[derive(Clone, Copy)]
 pub enum Command<'w> {
     /// To judge the configuration in this file.
-    Check { config: &'w str },
+    Check {
+        config: &'w str,
+    },
     /// To play the script in this file over a link in memory, with the configuration in that file or the built-in one.
     Play {
         script: &'w str,
@@ -22,9 +24,14 @@ pub enum Command<'w> {
         config: Option<&'w str>,
     },
     /// To run so much generated work, 1 to 1024, with threads over a link in memory.
-    Load { n: u32 },
+    Load {
+        n: u32,
+    },
     /// To ask a key group of the configuration in this file for keys.
-    Keys { config: &'w str, asked: Asked },
+    Keys {
+        config: &'w str,
+        asked: Asked,
+    },
 }
 
 /// What the words ask for: `check --config FILE`; `play` or `run` with `SCRIPT` or `SCRIPT --config FILE`; `load N`;
@@ -70,12 +77,7 @@ fn check_of<'w>(command: &str, option: &str, config: &'w str) -> Option<Command<
     }
 }
 
-fn named<'w>(
-    command: &str,
-    script: &'w str,
-    option: &str,
-    config: &'w str,
-) -> Option<Command<'w>>
+fn named<'w>(command: &str, script: &'w str, option: &str, config: &'w str) -> Option<Command<'w>>
     ensures shape { named_shape command.now script.now option.now config.now ≡ option_map shape_by result }
     ensures bounded { IfSome result IsBounded }
 {
@@ -86,11 +88,7 @@ fn named<'w>(
     }
 }
 
-fn scripted<'w>(
-    command: &str,
-    script: &'w str,
-    config: Option<&'w str>,
-) -> Option<Command<'w>>
+fn scripted<'w>(command: &str, script: &'w str, config: Option<&'w str>) -> Option<Command<'w>>
     ensures shape { script_shape command.now script.now (option_copied config) ≡ option_map shape_by result }
     ensures bounded { IfSome result IsBounded }
 {
