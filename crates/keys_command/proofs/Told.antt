@@ -10,7 +10,7 @@ use Rattle.command_parts.specs.declared.status.Status.{Status}
 use Rattle.command_parts.specs.declared.status.Status.TheVariants.{Done, BadWords, ConfigRefused, ScriptRefused, Unread, Unwritten, OutOfMemory, Unopened, Long}
 use Rattle.command_parts.specs.Outside.{Outside}
 use Rattle.command_parts.specs.Outputs.{EndsWriting}
-use Rattle.command_parts.specs.Statuses.{IsDone, IsConfigRefused, IsUnread, IsUnwritten, IsOutOfMemory, IsTooLong}
+use Rattle.command_parts.specs.Statuses.{number_of, IsDone, IsConfigRefused, IsUnread, IsUnwritten, IsOutOfMemory, IsTooLong}
 use Rattle.command_parts.specs.Files.{IsLong, IsTold}
 use Rattle.command_parts.specs.Configurations.{EndsConfigFile, IsJudged}
 use Rattle.command_parts.proofs.Told.{judged_told, long_judged, long_is, long_short}
@@ -52,6 +52,18 @@ not_written (Unread unread) name file ends is = omega arith
 not_written OutOfMemory name file ends is = omega arith
 not_written Unopened name file ends is = omega arith
 not_written (Long which) name file ends is = omega arith
+
+-- the command doesn't end as words without a shape do
+pub no_usage : (status : Status) (name : List ℕ) (asked : Asked) (file : ToldFile) (old new : Option (List ℕ)) → Says status name asked file old new → number_of status ≡ 2 → ⊥
+no_usage BadWords name asked file old new h two = h
+no_usage Done name asked file old new h two = omega arith
+no_usage (ConfigRefused code path) name asked file old new h two = omega arith
+no_usage (ScriptRefused line fault) name asked file old new h two = omega arith
+no_usage (Unread unread) name asked file old new h two = omega arith
+no_usage Unwritten name asked file old new h two = omega arith
+no_usage OutOfMemory name asked file old new h two = omega arith
+no_usage Unopened name asked file old new h two = omega arith
+no_usage (Long which) name asked file old new h two = omega arith
 
 -- a text was written, or a part of it, and nothing else is answered
 pub ends_writing : (status : Status) (old new : Option (List ℕ)) (text : List ℕ) → EndsWriting old new text status → IsDone status ⊎ IsUnwritten status

@@ -15,4 +15,5 @@ mod words;
 
 pub use command::keys;
 pub use laws::a_configuration_has_one_text;
+pub use refusal::Refusal;
 pub use words::{Asked, keys_in};

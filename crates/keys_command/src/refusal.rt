@@ -6,7 +6,7 @@ use key_service::ServiceFault;
 
 /// Why no keys are answered.
 #[derive(Clone, Copy, Debug)]
-pub(crate) enum Refusal {
+pub enum Refusal {
     /// No key group has the name (OPC 10000-14 8.3.2, Bad_NotFound).
     NotFound,
     /// The keys of the key group can't be served.
