@@ -1,5 +1,5 @@
 -- How the command ends, from what its status says and from the counts.
-use Rattle.std.proofs.Common.{◌≡◌, ◌⊎◌, inl, inr, ℕ, List, Option, Err, Result, refl, ap, arith}
+use Rattle.std.proofs.Common.{◌≡◌, ◌⊎◌, inl, inr, ℕ, List, Err, refl, ap, arith}
 use Rattle.ua_base.specs.Cause.{HasCause}
 use Rattle.command_parts.specs.declared.status.Status.{Status}
 use Rattle.command_parts.specs.declared.status.Status.TheVariants.{Done, BadWords, ConfigRefused, ScriptRefused, Unread, Unwritten, OutOfMemory, Unopened, Long}
@@ -8,6 +8,7 @@ use Rattle.command_parts.specs.Outside.{Wire}
 use Rattle.command_parts.specs.Statuses.{IsDone, IsUnwritten, IsOutOfMemory, IsUnopened}
 use Rattle.session_command.specs.Links.{EndsSession, UsesLink}
 use Rattle.session_command.proofs.Ended.{unopened_is, written_late}
+use Rattle.session_command.proofs.Ends.{ended}
 use Rattle.load_command.specs.Loads.{LoadEnds, Loads, OpensForWork, Output, Summarizes}
 
 -- the last write ends the command
@@ -81,8 +82,13 @@ ends_written status n old new before after text summary written link writes =
     (record { opens = link.opens; unused = λ is. absurd (late.opened is); cause = record { later = link.cause.later; rose = λ is. absurd (late.opened is) } }) writes
 
 -- there was no summary
-pub ends_without : (status : Status) (n : ℕ) (old new : Output) (before after : Wire) → EndsSession status → UsesLink (OpensForWork n) (IsUnopened status) before after
+pub ends_without : {T : Type 0} (status : Status) (n : ℕ) (old new : Output) (before after : Wire) → EndsSession status → UsesLink (OpensForWork n) (ended {T = T} status ≡ Err Unopened) before after
     → old.faults ≡ new.faults → LoadEnds status n old new before after
 ends_without status n old new before after ends link same =
-    load_ends status n old new before after (loads_ended status n old new after ends) link
+    load_ends status n old new before after (loads_ended status n old new after ends)
+    (record {
+      opens = link.opens;
+      unused = λ is. link.unused (ap (λ (s : Status). Err s) (unopened_is status is));
+      cause = record { later = link.cause.later; rose = λ is. link.cause.rose (ap (λ (s : Status). Err s) (unopened_is status is)) };
+    })
     (record { later = omega (arith, same); rose = λ is. absurd (not_written status ends is) })

@@ -1,11 +1,12 @@
 -- What the summary of generated work tells.
-use Rattle.std.proofs.Common.{◌≡◌, inl, ℕ, zero, suc, ◌+◌, ◌*◌, ◌≤◌, List, [], ◌∷◌, ◌++◌, map, length, reverse, Option, Some, None, refl, sym, ap, ◌∙◌, subst, append_assoc, arith, lit<}
+use Rattle.std.proofs.Common.{◌≡◌, inl, ℕ, zero, suc, ◌+◌, ◌*◌, ◌<◌, ◌≤◌, List, [], ◌∷◌, ◌++◌, map, length, reverse, Option, Some, None, refl, sym, ap, ◌∙◌, subst, append_assoc, arith, lit<}
 use Rattle.std.specs.Prelude.{slice_get, codes}
 use Rattle.std.specs.List.{range_with_len}
 use Rattle.std.specs.Fmt.{decimal}
 use Rattle.std.proofs.lemmas.List.{append-nil, length-reverse}
 use Rattle.std.proofs.lemmas.Option.{same_Some, none-some}
-use Rattle.ua_base.specs.Journal.{LinkState, Entry, Got}
+use Rattle.ua_base.specs.Journal.{LinkState}
+use Rattle.ua_base.specs.Links.{Opening}
 use Rattle.ua_values.specs.declared.value.Value.TheVariants.{UInt32}
 use Rattle.value_texts.specs.Texts.{value_text_of}
 use Rattle.dataset_meta.specs.DataValues.{DataValue}
@@ -22,7 +23,10 @@ use Rattle.ps_report.specs.declared.closed.ReaderEnd.{ReaderEnd}
 use Rattle.ps_report.specs.Conditions.{readers_of}
 use Rattle.ps_report.specs.Lines.{fields_text, field_text, status_mark}
 use Rattle.ps_report.specs.Reports.{load_text, load_versions, load_reader_line, load_held_as, row_text, end_line}
+use Rattle.ps_config.specs.declared.parts.Config.{Config}
+use Rattle.ps_script.specs.declared.script.Script.{Script}
 use Rattle.ps_script.specs.Generated.{generated}
+use Rattle.ps_script.specs.Sessions.{ticks_in}
 use Rattle.group_laws.specs.Matching.{IsMatchedTo}
 use Rattle.reader_group.specs.Settings.{setting_of}
 use Rattle.session_model.specs.Closing.{reader_places}
@@ -33,11 +37,13 @@ use Rattle.session_laws.specs.Printed.{TellsPublished, TellsVersion}
 use Rattle.session_laws.specs.Reading.{IsMatchedIn}
 use Rattle.session_laws.specs.Sessions.{IsHonestFor}
 use Rattle.session_laws.specs.Telling.{IsReaderTold, TellsHeadline}
-use Rattle.script_player.specs.Plays.{plan_by}
+use Rattle.script_player.specs.Plays.{opening_of, plan_by}
 use Rattle.script_runner.specs.Legal.{fields_in, history_by, row_made, writes_to}
 use Rattle.script_runner.specs.Runs.{IsRunOf}
-use Rattle.load_command.specs.Loads.{HoldsVersion, TellsHonestly}
-use Rattle.load_command.specs.Newest.{newest_row, newest_text, newest_value}
+use Rattle.command_parts.specs.Outside.{Wire}
+use Rattle.load_command.specs.Loads.{HoldsVersion, OpensForWork, Summarizes, TellsHonestly}
+use Rattle.load_command.specs.Newest.{newest_row, newest_text}
+use Rattle.load_command.proofs.Last.{law_newest, law_ticks, law_versions}
 
 abbrev plan_for : ℕ → Plan
 plan_for n = plan_by built_in_config (generated n)
@@ -98,6 +104,32 @@ module _ (n : ℕ) (held : HeldEnd) (rows : ℕ → ℕ → List DataValue) (log
 
 -- ---- the text
 
+abbrev values : ℕ → ℕ → ℕ → ℕ → List DataValue
+values a b c d = record { value = UInt32 a; status = 0 } ∷ record { value = UInt32 b; status = 0 } ∷ record { value = UInt32 c; status = 0 } ∷ record { value = UInt32 d; status = 0 } ∷ []
+
+-- pieces of texts, glued otherwise
+glued : (front a b x c y d z end : List ℕ) → front ++ (a ++ (b ++ x ++ (c ++ y ++ (d ++ z ++ [])))) ++ end ≡ front ++ a ++ b ++ x ++ c ++ y ++ d ++ z ++ end
+glued front a b x c y d z end = simp (append_assoc, append-nil) refl
+
+values_text : (a b c d : ℕ) → codes "reader r1" ++ fields_text demo.fields (values a b c d) ++ codes "\n"
+    ≡ codes "reader r1 a=" ++ (decimal a ++ (codes " b=" ++ decimal b ++ (codes " c=" ++ decimal c ++ (codes " d=" ++ decimal d ++ [])))) ++ codes "\n"
+unfolding demo field_text status_mark value_text_of
+values_text a b c d = refl
+
+-- the reader's line
+values_line : (a b c d : ℕ) → codes "reader r1" ++ fields_text demo.fields (values a b c d) ++ codes "\n"
+    ≡ codes "reader r1 a=" ++ decimal a ++ codes " b=" ++ decimal b ++ codes " c=" ++ decimal c ++ codes " d=" ++ decimal d ++ codes "\n"
+values_line a b c d =
+    values_text a b c d ∙ glued (codes "reader r1 a=") (decimal a) (codes " b=") (decimal b) (codes " c=") (decimal c) (codes " d=") (decimal d) (codes "\n")
+
+newest_line : (n : ℕ) → codes "reader r1" ++ fields_text demo.fields (newest_row n) ++ codes "\n"
+    ≡ codes "reader r1 a=" ++ decimal (8 * n) ++ codes " b=" ++ decimal (100000 + 8 * n) ++ codes " c=" ++ decimal (200000 + 8 * n) ++ codes " d=" ++ decimal (300000 + 8 * n) ++ codes "\n"
+unfolding newest_row
+newest_line n =
+    let none : 100000 * 0 + 8 * n ≡ 8 * n = omega arith in
+    ap (λ (a : ℕ). codes "reader r1" ++ fields_text demo.fields (values a (100000 + 8 * n) (200000 + 8 * n) (300000 + 8 * n)) ++ codes "\n") none
+    ∙ values_line (8 * n) (100000 + 8 * n) (200000 + 8 * n) (300000 + 8 * n)
+
 reader_text : (n : ℕ) (end : ReaderEnd) (held : HeldEnd) → end.held ≡ Some held → row_in demo.fields held.row.words ≡ newest_row n
     → load_reader_line built_in_config.dataset (readers_of built_in_config.readgroup) (end ∷ [])
     ≡ codes "reader r1" ++ fields_text demo.fields (newest_row n) ++ codes "\n"
@@ -106,20 +138,14 @@ reader_text n end held is row =
     ap (λ (h : Option HeldEnd). codes "reader r1" ++ load_held_as built_in_config.dataset built_in_reader end.why h ++ codes "\n") is
     ∙ ap (λ (values : List DataValue). codes "reader r1" ++ fields_text demo.fields values ++ codes "\n") row
 
-spelled : (n : ℕ) → codes "load " ++ decimal n ++ codes " history " ++ decimal (32 * n) ++ codes " ticks " ++ decimal (4 * n) ++ codes "\n"
-    ++ (codes "reader r1" ++ fields_text demo.fields (newest_row n) ++ codes "\n") ++ end_line ≡ newest_text n
-unfolding demo newest_row newest_text field_text status_mark value_text_of end_line
-spelled n = simp (append_assoc, append-nil) refl
-
 text_is : (n : ℕ) (closed : Closed) (end : ReaderEnd) (held : HeldEnd) → load_versions closed.histories ≡ 32 * n → closed.readers ≡ end ∷ [] → end.held ≡ Some held
     → row_in demo.fields held.row.words ≡ newest_row n → load_text built_in_config closed n (4 * n) ≡ newest_text n
-unfolding load_text
+unfolding load_text newest_text end_line
 text_is n closed end held versions readers is row =
     ap (λ (k : ℕ). codes "load " ++ decimal n ++ codes " history " ++ decimal k ++ codes " ticks " ++ decimal (4 * n) ++ codes "\n"
-    ++ load_reader_line built_in_config.dataset (readers_of built_in_config.readgroup) closed.readers ++ end_line) versions
-    ∙ ap (λ (text : List ℕ). codes "load " ++ decimal n ++ codes " history " ++ decimal (32 * n) ++ codes " ticks " ++ decimal (4 * n) ++ codes "\n" ++ text ++ end_line)
-    (ap (λ (l : List ReaderEnd). load_reader_line built_in_config.dataset (readers_of built_in_config.readgroup) l) readers ∙ reader_text n end held is row)
-    ∙ spelled n
+    ++ load_reader_line built_in_config.dataset (readers_of built_in_config.readgroup) closed.readers ++ codes "end\n") versions
+    ∙ ap (λ (line : List ℕ). codes "load " ++ decimal n ++ codes " history " ++ decimal (32 * n) ++ codes " ticks " ++ decimal (4 * n) ++ codes "\n" ++ line ++ codes "end\n")
+    (ap (λ (l : List ReaderEnd). load_reader_line built_in_config.dataset (readers_of built_in_config.readgroup) l) readers ∙ reader_text n end held is row ∙ newest_line n)
 
 -- ---- the summary
 
@@ -135,3 +161,26 @@ newest_told n told closed count newest run honest holds =
     let published = there.tells.holds holds.held (ap (λ (end : ReaderEnd). end.held) same ∙ holds.held_is) in
     let row = row_is n holds.held (row_made (generated n) run.logs) there.writer.log published holds.version_is (newest (threads_of (run.logs 0)) (run.legal 0 first).legal) in
     text_is n closed holds.end holds.held (versions_told n told closed count run) holds.reader holds.held_is row
+
+-- the link is opened for the work
+pub opens_for : (n : ℕ) (config : Config) (script : Script) (opened : Option Opening) → config ≡ built_in_config → script ≡ generated n → opened ≡ Some (opening_of config script) → OpensForWork n opened
+opens_for n config script opened config_is script_is is =
+    is ∙ ap (λ (c : Config). Some (opening_of c script)) config_is ∙ ap (λ (s : Script). Some (opening_of built_in_config s)) script_is
+
+-- what is made of the work's run
+pub summarized : (n : ℕ) (config : Config) (script : Script) (closed : Closed) (after : Wire) (text : List ℕ) (ticks : ℕ) → config ≡ built_in_config → script ≡ generated n → 1 ≤ n → n ≤ 1024
+    → IsRunOf config script after.told closed → after.opened_with ≡ Some (opening_of config script) → ticks ≡ ticks_in script.lines → text ≡ load_text config closed n ticks → Summarizes n after text
+summarized n config script closed after text ticks config_is script_is least most ran opened ticks_are told =
+    let run : IsRunOf built_in_config (generated n) after.told closed =
+    subst (λ (s : Script). IsRunOf built_in_config s after.told closed) script_is (subst (λ (c : Config). IsRunOf c script after.told closed) config_is ran) in
+    let count : (threads : List ℕ) → IsLegal threads (writes_to (generated n) 0) → length threads ≡ 32 * n = λ threads. law_versions n threads most in
+    let four : ticks ≡ 4 * n = ticks_are ∙ ap (λ (s : Script). ticks_in s.lines) script_is ∙ law_ticks n in
+    let text_told : text ≡ load_text built_in_config closed n (4 * n) = told ∙ ap (λ (c : Config). load_text c closed n ticks) config_is ∙ ap (load_text built_in_config closed n) four in
+    record {
+      closed = closed;
+      opened = opens_for n config script after.opened_with config_is script_is opened;
+      run = run;
+      text_is = text_told;
+      versions = versions_told n after.told closed count run;
+      newest = λ honest holds. text_told ∙ newest_told n after.told closed count (λ threads. law_newest n threads least most) run honest holds;
+    }

@@ -16,5 +16,6 @@ newest_row n = newest_value n 0 ∷ newest_value n 1 ∷ newest_value n 2 ∷ ne
 unfoldable pub newest_text : ℕ → List ℕ
 newest_text n =
     codes "load " ++ decimal n ++ codes " history " ++ decimal (32 * n) ++ codes " ticks " ++ decimal (4 * n) ++ codes "\n"
-    ++ codes "reader r1 a=" ++ decimal (8 * n) ++ codes " b=" ++ decimal (100000 + 8 * n) ++ codes " c=" ++ decimal (200000 + 8 * n)
-    ++ codes " d=" ++ decimal (300000 + 8 * n) ++ codes "\nend\n"
+    ++ (codes "reader r1 a=" ++ decimal (8 * n) ++ codes " b=" ++ decimal (100000 + 8 * n) ++ codes " c=" ++ decimal (200000 + 8 * n)
+    ++ codes " d=" ++ decimal (300000 + 8 * n) ++ codes "\n")
+    ++ codes "end\n"

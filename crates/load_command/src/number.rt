@@ -1,19 +1,32 @@
 //! The number of a load.
 ghost use Rattle.std.specs.Prelude.{◌≡◌, ◌≤◌, IfSome};
+ghost use Rattle.config_tables.specs.Texts.{number_spelled};
 ghost use Rattle.load_command.specs.Numbers.{load_number};
 
 use value_texts::decimal_number;
 
-/// The most that may be loaded: 32,768 writes and 4,096 ticks.
+/// The least that may be loaded, and the most: 32,768 writes and 4,096 ticks.
+const LEAST: u64 = 1;
 const MOST: u64 = 1024;
 
 /// The number that the word spells: 1 to 1024, in decimal digits without a leading zero. No other word spells one.
+#[tactic(auto, unfolding(ps_script::specs::Numbers::number_within))]
 pub fn load_number(word: &[u8]) -> Option<u32>
     ensures number { result ≡ load_number word.now }
     ensures bounds { IfSome result (λ n. (1 ≤ n) × (n ≤ 1024)) }
 {
+    match number_spelled(word) {
+        Some(n) => if LEAST <= n { Some(n as u32) } else { None },
+        None => None,
+    }
+}
+
+fn number_spelled(word: &[u8]) -> Option<u64>
+    ensures number { result ≡ number_spelled MOST word.now }
+    ensures bound { IfSome result (λ n. n ≤ MOST) }
+{
     match decimal_number(word) {
-        Some(n) if n >= 1 && n <= MOST => Some(n as u32),
-        _ => None,
+        Some(n) => if n <= MOST { Some(n) } else { None },
+        None => None,
     }
 }
