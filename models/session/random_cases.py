@@ -1,11 +1,11 @@
 #!/usr/bin/env python3
 """Prints cases of whole sessions by chance, for crates/session_rows and models/session/model.py: a configuration, a script, failing sends
-and receives.
+and receives, and datagrams that come besides: copies of what was sent before, whole, cut, lengthened or with a bit altered, and bytes by chance.
 
 usage: random_cases.py FIRST COUNT     (the seeds FIRST to FIRST + COUNT - 1)"""
 import os, random, sys
 sys.path.insert(0, os.path.dirname(os.path.abspath(__file__)))
-from model import value_text
+from model import Link, Session, value_text
 
 SIZES = dict(Boolean=1, SByte=1, Byte=1, Int16=2, UInt16=2, Int32=4, UInt32=4, Int64=8, UInt64=8, Float=4, Double=8, DateTime=8, Guid=16, StatusCode=4)
 RANGES = dict(SByte=(-2**7, 2**7 - 1), Byte=(0, 2**8 - 1), Int16=(-2**15, 2**15 - 1), UInt16=(0, 2**16 - 1), Int32=(-2**31, 2**31 - 1),
@@ -175,16 +175,44 @@ class Case:
         s["fields"].append(f)
         return f"append {s['name']} {f['name']} {f['kind']}" + (f" {f['cap']}" if f["cap"] else "")
 
+def sent_by(config, script):
+    """what the session sends, in order"""
+    session = Session(config, Link({}))
+    for line in script.split("\n"):
+        if line: session.line(line.split())
+    session.tick(0, True)
+    return [session.link.sent[k] for k in sorted(session.link.sent)]
+
+def altered(r, datagram):
+    """as it was, a bit altered, cut, lengthened, or other bytes"""
+    bytes_ = bytearray(datagram)
+    what = r.choice(["whole", "bit", "bit", "bits", "cut", "longer", "other"])
+    for _ in range(dict(bit=1, bits=3).get(what, 0)): bytes_[r.randrange(len(bytes_))] ^= 1 << r.randrange(8)
+    if what == "cut": return bytes(bytes_[:r.randrange(len(bytes_))])
+    if what == "longer": return bytes(bytes_) + r.randbytes(r.randrange(1, 9))
+    return r.randbytes(r.randrange(40)) if what == "other" else bytes(bytes_)
+
+def injected(r, config, script):
+    """lines of datagrams that come besides, each behind one that was sent before or just then"""
+    if r.random() < 0.5: return
+    sent = sent_by(config, script)
+    for _ in range(r.choice([1, 2, 5])):
+        if not sent: return
+        after = r.randrange(len(sent))
+        yield f"inject {after} {altered(r, sent[r.randrange(after + 1)]).hex() or '-'}"
+
 def main():
     first, count = int(sys.argv[1]), int(sys.argv[2])
     for seed in range(first, first + count):
         case = Case(seed)
         print(f"# seed {seed}")
-        print("config " + case.config().replace("\n", "\\n"))
-        print("script " + case.script().replace("\n", "\\n"))
+        config, script = case.config(), case.script()
+        print("config " + config.replace("\n", "\\n"))
+        print("script " + script.replace("\n", "\\n"))
         for word in ("sends", "receives"):
             fails = sorted(case.r.sample(range(12), case.r.choice([0, 0, 0, 1, 3])))
             if fails: print(word + "".join(f" {k}" for k in fails))
+        for line in injected(case.r, config, script): print(line)
         print("play")
 
 if __name__ == "__main__": main()
