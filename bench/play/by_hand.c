@@ -1,6 +1,7 @@
 // A session as one writes it by hand, over the groups of bench/groups: at each turn rows change, each group makes its datagrams, each
 // goes over a link in memory, which keeps what was sent, and each read group is given each datagram that comes, a copy but for the
-// last one; a reader's row is stored where its number is another one. usage: by_hand built-in|device TURNS
+// last one; a reader's row is stored where its number is another one. At the end it prints what each writer sent, as a report does.
+// usage: by_hand built-in|device TURNS
 #include "../groups/plain.h"
 #include <stdio.h>
 #include <stdlib.h>
@@ -130,6 +131,30 @@ static void open_device(size_t turns) {
     add_reader(quick, 1, 5, 2);
 }
 
+// ---- the end
+
+static char *put_decimal(char *at, uint64_t number) {
+    char digits[20];
+    size_t count = 0;
+    do digits[count++] = (char)('0' + number % 10);
+    while (number /= 10);
+    while (count) *at++ = digits[--count];
+    return at;
+}
+
+static void print_log(const struct writer *writer) {
+    char *text = malloc(44 * writer->logged + 1), *at = text;
+    for (size_t i = 0; i < writer->logged; i++) {
+        *at++ = ' ';
+        at = put_decimal(at, writer->log[i].place);
+        *at++ = '=';
+        at = put_decimal(at, writer->log[i].version);
+    }
+    fwrite(text, 1, (size_t)(at - text), stdout);
+    putchar('\n');
+    free(text);
+}
+
 int main(int argc, char **argv) {
     size_t turns = argc == 3 ? strtoul(argv[2], 0, 10) : 0;
     uint64_t taken = 0;
@@ -145,6 +170,7 @@ int main(int argc, char **argv) {
         publish(1000 * (turn + 1), changes * (turn + 1), false);
         taken += pump(1000 * (turn + 1));
     }
+    for (size_t g = 0; g < group_count; g++) print_log(&groups[g].writers[0]);
     printf("%zu datagrams sent, %llu taken, %zu bytes\n", sent_count, (unsigned long long)taken, sent_bytes);
     return 0;
 }
