@@ -120,13 +120,13 @@ module _ (config : Config) (script : Script) (lines : List Line) (told : Option 
         × Stands (plan_by config script) (Pump entries ∷ Tick ms false (samples_of (passes_of new.session)) done ∷ h.steps) new.session
         × (TellsRun (plan_by config script) h.steps told
         → TellsRun (plan_by config script) (Pump entries ∷ Tick ms false (samples_of (passes_of new.session)) done ∷ h.steps) after)
-    led = t.leads (plan_by config script) h.steps h.stands
+    led = t.by.leads (plan_by config script) h.steps h.stands
 
     abbrev steps_after : List Step
     steps_after = Pump led.1 ∷ Tick ms false (samples_of (passes_of new.session)) led.0 ∷ h.steps
 
     more : (set : ℕ) → set < length script.metas → StartsWith (pass_at (passes_of new.session) set).seen (pass_at (passes_of old.session) set).seen
-    more set lt = (t.more set (let e = count in omega arith)).seen
+    more set lt = (t.by.more set (let e = count in omega arith)).seen
 
     exact_after : IsFlush script.metas lines (passes_of new.session) → IsExact (plan_by config script) (tick ∷ lines) steps_after h.looks (record old { session = new.session })
     exact_after flush =
@@ -148,10 +148,10 @@ module _ (config : Config) (script : Script) (lines : List Line) (told : Option 
       stands = led.2;
       tells = led.3 h.tells;
       switches = h.switches;
-      ticks = (let a = h.ticks in let b = t.ticks in omega (arith, a, b, hits (λ (l : Line). is_tick l.act) tick lines refl));
-      pumps = t.pumps ∙ h.pumps;
-      running = t.closed;
-      appends = ap (λ (l : List ℕ). l ++ appends_left new.session) (appended-cons tick lines ∙ append-nil (appended_sets (reverse lines))) ∙ ap (λ (l : List ℕ). appended_sets (reverse lines) ++ l) t.appends ∙ h.appends;
+      ticks = (let a = h.ticks in let b = t.by.ticks in omega (arith, a, b, hits (λ (l : Line). is_tick l.act) tick lines refl));
+      pumps = t.by.pumps ∙ h.pumps;
+      running = t.by.closed;
+      appends = ap (λ (l : List ℕ). l ++ appends_left new.session) (appended-cons tick lines ∙ append-nil (appended_sets (reverse lines))) ∙ ap (λ (l : List ℕ). appended_sets (reverse lines) ++ l) t.by.appends ∙ h.appends;
       quotas = h.quotas;
       made = λ u set lt there. h.made u set lt there ∙ sym (skips (λ (l : Line). is_write u set l.act) tick lines refl);
       looked = h.looked;

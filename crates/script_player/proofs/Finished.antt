@@ -61,7 +61,7 @@ RunsTellTheHeadline =
 
 -- ---- lists
 
-any_default : {A : Type 0} (xs : List A) (i : ℕ) (d e : A) → i < length xs → get_or xs i d ≡ get_or xs i e
+pub any_default : {A : Type 0} (xs : List A) (i : ℕ) (d e : A) → i < length xs → get_or xs i d ≡ get_or xs i e
 any_default [] i d e lt = let no : ⊥ = omega (arith, lt) in absurd no
 any_default (x ∷ xs) zero d e lt = refl
 any_default (x ∷ xs) (suc i) d e lt = any_default xs i d e (omega (arith, lt))
@@ -107,7 +107,7 @@ all-logged meta set (line ∷ lines) =
     omega arith
 
 -- the quotas of a data set add up to what the script's lines write
-quotas-logged : (meta : MetaData) (set : ℕ) (lines : List Line)
+pub quotas-logged : (meta : MetaData) (set : ℕ) (lines : List Line)
     → sum (map (λ (thread : ℕ). writes_in thread set lines) (range_with_len 0 8)) ≤ length (log_after meta set (reverse lines))
 quotas-logged meta set lines =
     let same = sum-map (λ (thread : ℕ). writes_in thread set lines) (range_with_len 0 8) in
@@ -140,7 +140,7 @@ module _ (hands : List Hand) (dones : List Done) (are : AreDonesOf hands dones) 
       ∙ any_default (map (λ (hand : Hand). hand.looks.items) hands) t d.looks [] (let e = length-map hands (λ (hand : Hand). hand.looks.items) in omega (arith, e, lt))
 
 -- the looks of threads that are numbered from here on
-by-numbers : (dones : List Done) (from : ℕ) (g : ℕ → List WatchEnd) → map (λ (done : Done). done.list) dones ≡ range_with_len from (length dones)
+pub by-numbers : (dones : List Done) (from : ℕ) (g : ℕ → List WatchEnd) → map (λ (done : Done). done.list) dones ≡ range_with_len from (length dones)
     → ((k : ℕ) → k < length dones → (d : Done) → map (watch_of (from + k)) (get_or dones k d).looks ≡ g (from + k))
     → watches_of dones ≡ flat_map g (range_with_len from (length dones))
 by-numbers [] from g lists each = refl
@@ -165,14 +165,14 @@ by-numbers (done ∷ dones) from g lists each =
         subst (λ (t : ℕ). map (watch_of t) (get_or dones k d).looks ≡ g t) same e
 
 -- looks of one thread are at readers that are there, where the watches are
-looks-within : (t n : ℕ) (looks : List Looked) → All (λ (end : WatchEnd). end.reader < n) (map (watch_of t) looks) → All (λ (looked : Looked). looked.reader < n) looks
+pub looks-within : (t n : ℕ) (looks : List Looked) → All (λ (end : WatchEnd). end.reader < n) (map (watch_of t) looks) → All (λ (looked : Looked). looked.reader < n) looks
 looks-within t n looks all =
     λ k d lt. subst (λ (end : WatchEnd). end.reader < n) (get_or-mapped (watch_of t) looks k d)
     (all k (watch_of t d) (let e = length-map looks (watch_of t) in omega (arith, e, lt)))
 
 -- ---- histories
 
-named-at : (histories : List History) (k : ℕ) (threads : List ℕ) → option_map (λ (history : History). history.threads) (slice_get histories k) ≡ Some threads
+pub named-at : (histories : List History) (k : ℕ) (threads : List ℕ) → option_map (λ (history : History). history.threads) (slice_get histories k) ≡ Some threads
     → get_or (map (λ (history : History). history.threads) histories) k [] ≡ threads
 named-at [] k threads e = absurd (none-some threads e)
 named-at (history ∷ histories) zero threads e = same_Some history.threads threads e
@@ -193,7 +193,7 @@ module _ (config : Config) (script : Script) (is : IsScript config script) (plan
 
   abbrev led : (done : List Bool) × (entries : List LinkEntry) × Stands p (Pump entries ∷ Tick 0 true (samples_of (passes_of new.session)) done ∷ h.steps) new.session
       × (TellsRun p h.steps told → TellsRun p (Pump entries ∷ Tick 0 true (samples_of (passes_of new.session)) done ∷ h.steps) after)
-  led = c.ends.leads p h.steps h.stands
+  led = c.ends.by.leads p h.steps h.stands
 
   abbrev steps : List Step
   steps = Pump led.1 ∷ Tick 0 true (samples_of (passes_of new.session)) led.0 ∷ h.steps
@@ -222,13 +222,13 @@ module _ (config : Config) (script : Script) (is : IsScript config script) (plan
   flush-new set lt =
       let here : set < length new.bank = (let e = cells in omega (arith, e, lt)) in
       let seen_here : set < length (passes_of new.session) = (let e = count in omega (arith, e, lt)) in
-      let most = version_bound (cell_at new.bank set) (pass_at (passes_of new.session) set) (c.player.cells set no_cell here) (c.player.bank.passes.each set here) (c.ends.lawful set seen_here) in
+      let most = version_bound (cell_at new.bank set) (pass_at (passes_of new.session) set) (c.player.cells set no_cell here) (c.player.bank.passes.each set here) (c.ends.by.lawful set seen_here) in
       let quotas : sum (cell_at new.bank set).quotas ≡ sum (map (λ (thread : ℕ). writes_in thread set script.lines) (range_with_len 0 8)) = ap (λ (l : List ℕ). sum l) (quotas-at set lt) in
       let logged = quotas-logged (meta_in script.metas set) set script.lines in
       omega (arith, most, quotas, logged)
 
   more : (set : ℕ) → set < length script.metas → StartsWith (pass_at (passes_of new.session) set).seen (pass_at (passes_of old.session) set).seen
-  more set lt = (c.ends.more set (let e = old-count in omega (arith, e, lt))).seen
+  more set lt = (c.ends.by.more set (let e = old-count in omega (arith, e, lt))).seen
 
   exact : IsExact p lines h.steps h.looks old
   exact = h.exact (λ set lt. let long = shorter (pass_at (passes_of new.session) set).seen (pass_at (passes_of old.session) set).seen (more set lt) in
@@ -271,7 +271,7 @@ module _ (config : Config) (script : Script) (is : IsScript config script) (plan
   }
     where
       law : All (λ (e : Entry). e.author < 8) (pass_at (passes_of new.session) set).seen
-      law = λ k d lt. ((c.ends.lawful set (let e = count in omega (arith, e, there))).entries k d lt).author
+      law = λ k d lt. ((c.ends.by.lawful set (let e = count in omega (arith, e, there))).entries k d lt).author
 
       known : All (λ (thread : ℕ). thread < length c.dones) (writers_in script set)
       known = All-map (λ (thread : ℕ). thread < length c.dones) (λ (e : Entry). e.author) (log_after (meta_in script.metas set) set lines)

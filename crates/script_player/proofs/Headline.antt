@@ -40,7 +40,7 @@ starts-if : (b : Bool) (log : List Entry) (e : Entry) → StartsWith (if b then 
 starts-if true log e = (e ∷ [], refl)
 starts-if false log e = starts_itself log
 
-starts-with-write : (meta : MetaData) (set : ℕ) (log : List Entry) (a : Act) → StartsWith (with_write meta set log a) log
+pub starts-with-write : (meta : MetaData) (set : ℕ) (log : List Entry) (a : Act) → StartsWith (with_write meta set log a) log
 starts-with-write meta set log (act.Write thread other patch) = starts-if (other == set) log (entry thread (patched_words meta.fields patch (row_after log)))
 starts-with-write meta set log (act.Tick ms) = starts_itself log
 starts-with-write meta set log (act.Enable id) = starts_itself log
@@ -49,7 +49,7 @@ starts-with-write meta set log (act.Fated k fate) = starts_itself log
 starts-with-write meta set log (act.Watch thread reader times) = starts_itself log
 starts-with-write meta set log (act.Append other) = starts_itself log
 
-starts-taken : (log seen : List Entry) → StartsWith log seen → take (length seen) log ≡ seen
+pub starts-taken : (log seen : List Entry) → StartsWith log seen → take (length seen) log ≡ seen
 starts-taken log seen (rest, whole) = ap (take (length seen)) whole ∙ take_at seen rest (length seen) refl
 
 -- ---- what a sample is
@@ -190,7 +190,7 @@ have-played p (line ∷ before) steps looks (earlier, looked, played, by) =
 -- ---- rows
 
 -- the fields of a script's data sets make metas
-script-meta : (config : Config) (script : Script) (index : ℕ) → IsScript config script → index < length script.metas → IsMeta (meta_in script.metas index).fields
+pub script-meta : (config : Config) (script : Script) (index : ℕ) → IsScript config script → index < length script.metas → IsMeta (meta_in script.metas index).fields
 script-meta config script index is there =
     let few : index < length config.dataset = omega (arith, is.sets) in
     let grown : IsGrown index script.lines (meta_in config.dataset index) (meta_in script.metas index) =
@@ -199,7 +199,7 @@ script-meta config script index is there =
     grown.is_meta
 
 -- no data set has a row
-no-row : (words : List ℕ) → row_in no_meta.fields words ≡ []
+pub no-row : (words : List ℕ) → row_in no_meta.fields words ≡ []
 unfolding row_in
 no-row words = refl
 

@@ -1,21 +1,21 @@
-mod Headline
-mod Quotas
-mod Appended
-mod Lines
-mod Hands
-mod Exact
-mod Writing
-mod Watching
+pub mod Headline
+pub mod Quotas
+pub mod Appended
+pub mod Lines
+pub mod Hands
+pub mod Exact
+pub mod Writing
+pub mod Watching
 pub mod Staying
 pub mod Leaving
 pub mod Beginning
-pub mod Passing
+pub mod Turning
 pub mod Looking
 pub mod HandWrites
 pub mod Written
 pub mod Outcomes
-mod Finished
-mod Closing
-mod Newly
-mod Stored
-mod Next
+pub mod Finished
+pub mod Closing
+pub mod Newly
+pub mod Stored
+pub mod Next

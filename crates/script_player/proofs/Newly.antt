@@ -22,7 +22,8 @@ use Rattle.pubsub_engine.specs.Standing.{Stands}
 use Rattle.script_player.specs.declared.hand.Hand.{Hand}
 use Rattle.script_player.specs.declared.player.Player.{Player}
 use Rattle.script_player.specs.Plays.{plan_by}
-use Rattle.script_player.specs.Player.{HasPlayed, IsNew, IsPlayer, MayPass}
+use Rattle.script_player.specs.Passing.{MayPass}
+use Rattle.script_player.specs.Player.{HasPlayed, IsNew, IsPlayer}
 use Rattle.script_player.specs.Sizes.{appended_sets, quotas_by}
 use Rattle.script_player.proofs.Hands.{count_cells}
 use Rattle.script_player.proofs.Lines.{count_by-reverse}
@@ -79,7 +80,7 @@ module _ (config : Config) (script : Script) (told : Option LinkState) (player :
   }
 
 -- once all lines were played the closing tick is left
-pub may-close : (config : Config) (script : Script) (told : Option LinkState) (player : Player) → HasPlayed config script (reverse script.lines) told player → MayPass 0 true player
+pub may-close : (config : Config) (script : Script) (told : Option LinkState) (player : Player) → HasPlayed config script (reverse script.lines) told player → MayPass 0 true player.session
 may-close config script told player h = record {
   running = h.running;
   left = (let turned = count_by-reverse (λ (line : Line). is_tick line.act) script.lines in let ticks = h.ticks in omega (arith, turned, ticks));

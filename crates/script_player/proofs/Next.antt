@@ -41,7 +41,7 @@ use Rattle.script_player.specs.declared.hand.Hand.{Hand}
 use Rattle.script_player.specs.declared.player.Player.{Player}
 use Rattle.script_player.specs.Plays.{plan_by}
 use Rattle.script_player.specs.Playing.{IsLineBy, log_after, with_write}
-use Rattle.script_player.specs.Player.{Does, HasPlayed, IsPlayer, MayDo, Switches, with_switch}
+use Rattle.script_player.specs.Player.{Does, HasPlayed, IsPlayer, MayDo, Switches, switches_by, with_switch}
 use Rattle.script_player.specs.Sizes.{appended_by, appended_sets}
 use Rattle.script_player.proofs.Lines.{appended-append, count_by-append, count_by-cons, count_by-reverse, enabled_behind}
 use Rattle.script_player.proofs.Hands.{cell_meta, config_is, count_cells}
@@ -69,24 +69,35 @@ next_line config script k d is lt =
     }
 
 -- one line more, turned round
-turned_more : (lines : List Line) (k : ℕ) (d : Line) → k < length lines → reverse (take (k + 1) lines) ≡ get_or lines k d ∷ reverse (take k lines)
+pub turned_more : (lines : List Line) (k : ℕ) (d : Line) → k < length lines → reverse (take (k + 1) lines) ≡ get_or lines k d ∷ reverse (take k lines)
 turned_more lines k d lt = ap reverse (take_more lines k d lt) ∙ reverse-append (take k lines) (get_or lines k d ∷ [])
 
+-- ---- the components
+
+pub there_is : (config : Config) (id : ℕ) → id < length (component_names config) → IsId (counts_of config) id
+there_is config id lt = let e = ap length (names_in_order config) in let m = length-map (components (counts_of config)) (name_of config) in omega arith
+
+id_at : (config : Config) (id : ℕ) → id < length (component_names config) → id_of (counts_of config) (component_at config id) ≡ id
+id_at config id lt =
+    (placed (counts_of config) id (component_at config id)
+    (slice_get-get_or (components (counts_of config)) id Root (there_is config id lt)
+    ∙ ap (λ (c : Component). Some c) (sym (unwrap_or-slice_get (components (counts_of config)) id Root)))).1
+
+-- whether a component is on behind steps that have the switches of these lines
+pub was_on : (config : Config) (lines : List Line) (steps : List Step) → switches_in steps ≡ switches_by lines → (id : ℕ) (on : Bool)
+    → id < length (component_names config) → is_enabled id (reverse lines) ≡ on → is_on config steps (component_at config id) ≡ on
+was_on config lines steps switches id on lt was =
+    ap (is_enabled_after (switches_in steps)) (id_at config id lt) ∙ ap (λ (changes : List Change). is_enabled_after changes id) switches ∙ enabled_behind id lines ∙ was
+
+-- ---- the appends that are to come begin with the next line's
+
+pub left_next : (config : Config) (script : Script) (lines : List Line) (left : List ℕ) → appended_sets (reverse lines) ++ left ≡ appended_sets script.lines
+    → (at set : ℕ) (next : IsNextLine config script lines (record { at = at; act = act.Append set })) → left ≡ set ∷ appended_sets next.rest
+left_next config script lines left appends at set next =
+    append_cancel_left (appended_sets (reverse lines)) left (set ∷ appended_sets next.rest)
+    (appends ∙ ap appended_sets next.split ∙ appended-append (reverse lines) (record { at = at; act = act.Append set } ∷ next.rest))
+
 module _ (config : Config) (script : Script) (lines : List Line) (told : Option LinkState) (player : Player) (is : IsPlayer player) (h : HasPlayed config script lines told player) where
-  there_is : (id : ℕ) → id < length (component_names config) → IsId (counts_of config) id
-  there_is id lt = let e = ap length (names_in_order config) in let m = length-map (components (counts_of config)) (name_of config) in omega arith
-
-  id_at : (id : ℕ) → id < length (component_names config) → id_of (counts_of config) (component_at config id) ≡ id
-  id_at id lt =
-      (placed (counts_of config) id (component_at config id)
-      (slice_get-get_or (components (counts_of config)) id Root (there_is id lt)
-      ∙ ap (λ (c : Component). Some c) (sym (unwrap_or-slice_get (components (counts_of config)) id Root)))).1
-
-  -- whether a component is on
-  was_on : (id : ℕ) (on : Bool) → id < length (component_names config) → is_enabled id (reverse lines) ≡ on → is_on config h.steps (component_at config id) ≡ on
-  was_on id on lt was =
-      ap (is_enabled_after (switches_in h.steps)) (id_at id lt) ∙ ap (λ (changes : List Change). is_enabled_after changes id) h.switches ∙ enabled_behind id lines ∙ was
-
   -- ---- the quota of a thread is the number of its writes
 
   quota_is : (t set : ℕ) (p : Known) → t < 8 → set < length player.bank → IsPassOf (cell_at player.bank set) p → IsCell (cell_at player.bank set) → length player.bank ≡ length config.dataset
@@ -98,13 +109,6 @@ module _ (config : Config) (script : Script) (lines : List Line) (told : Option 
       (sym (get_or-mapped (λ (c : CellData). c.quotas) cells set no_cell) ∙ ap (λ (l : List (List ℕ)). get_or l set []) h.quotas
       ∙ get_or-map-range_with_len (λ (s : ℕ). map (λ (thread : ℕ). writes_in thread s script.lines) (range_with_len 0 8)) 0 (length config.dataset) set set [] (omega arith) (omega arith))
       ∙ get_or-map-range_with_len (λ (thread : ℕ). writes_in thread set script.lines) 0 8 t t 0 lt (omega arith)
-
-  -- ---- the appends that are to come begin with the next line's
-
-  left_next : (at set : ℕ) (next : IsNextLine config script lines (record { at = at; act = act.Append set })) → appends_left player.session ≡ set ∷ appended_sets next.rest
-  left_next at set next =
-      append_cancel_left (appended_sets (reverse lines)) (appends_left player.session) (set ∷ appended_sets next.rest)
-      (h.appends ∙ ap appended_sets next.split ∙ appended-append (reverse lines) (record { at = at; act = act.Append set } ∷ next.rest))
 
   -- ---- the next line may be played
 
@@ -146,11 +150,11 @@ module _ (config : Config) (script : Script) (lines : List Line) (told : Option 
         }
     may_do (act.Enable id) next = record {
       running = h.running;
-      there = subst (λ (c : Config). IsId (counts_of c) id) (sym (config_is config script h.steps player is h.stands)) (there_is id next.acts.there);
+      there = subst (λ (c : Config). IsId (counts_of c) id) (sym (config_is config script h.steps player is h.stands)) (there_is config id next.acts.there);
     }
     may_do (act.Disable id) next = record {
       running = h.running;
-      there = subst (λ (c : Config). IsId (counts_of c) id) (sym (config_is config script h.steps player is h.stands)) (there_is id next.acts.there);
+      there = subst (λ (c : Config). IsId (counts_of c) id) (sym (config_is config script h.steps player is h.stands)) (there_is config id next.acts.there);
     }
     may_do (act.Fated k fate) next = tt
     may_do (act.Watch thread reader times) next = record {
@@ -159,7 +163,7 @@ module _ (config : Config) (script : Script) (lines : List Line) (told : Option 
     }
     may_do (act.Append set) next = record {
       running = h.running;
-      left = (let e = ap length (left_next at set next) in omega arith);
+      left = (let e = ap length (left_next config script lines (appends_left player.session) h.appends at set next) in omega arith);
     }
 
   -- ---- and then it was played
@@ -188,11 +192,11 @@ module _ (config : Config) (script : Script) (lines : List Line) (told : Option 
   played_next at (act.Tick ms) after new now next w = ticked config script lines told player is h at ms after new now w
   played_next at (act.Enable id) after new now next (w, same) =
       subst (λ (t : Option LinkState). HasPlayed config script (record { at = at; act = act.Enable id } ∷ lines) t new) (sym same)
-      (switched at id false (act.Enable id) (Enable id) new w (w.stands (plan_by config script) h.steps h.stands (was_on id false next.acts.there next.acts.was)) h.tells refl refl (λ t set. refl) refl
+      (switched at id false (act.Enable id) (Enable id) new w (w.stands (plan_by config script) h.steps h.stands (was_on config lines h.steps h.switches id false next.acts.there next.acts.was)) h.tells refl refl (λ t set. refl) refl
       (λ meta set. refl) (refl, refl))
   played_next at (act.Disable id) after new now next (w, same) =
       subst (λ (t : Option LinkState). HasPlayed config script (record { at = at; act = act.Disable id } ∷ lines) t new) (sym same)
-      (switched at id true (act.Disable id) (Disable id) new w (w.stands (plan_by config script) h.steps h.stands (was_on id true next.acts.there next.acts.was)) h.tells refl refl (λ t set. refl) refl
+      (switched at id true (act.Disable id) (Disable id) new w (w.stands (plan_by config script) h.steps h.stands (was_on config lines h.steps h.switches id true next.acts.there next.acts.was)) h.tells refl refl (λ t set. refl) refl
       (λ meta set. refl) (refl, refl))
   played_next at (act.Fated k fate) after new now next (unchanged, same) =
       subst (λ (t : Option LinkState). HasPlayed config script (record { at = at; act = act.Fated k fate } ∷ lines) t new) (sym same)
@@ -204,7 +208,7 @@ module _ (config : Config) (script : Script) (lines : List Line) (told : Option 
       (looked_at config script lines told player is h at thread reader times new w next.acts.bound next.acts.there
       (stored_is (plan_by config script) h.steps player.session reader h.stands next.acts.there))
   played_next at (act.Append set) after new now next (w, same) =
-      let left = left_next at set next in
+      let left = left_next config script lines (appends_left player.session) h.appends at set next in
       let set_is : w.set ≡ set = (let e = w.next in cc) in
       let rest_is : appends_left new.session ≡ appended_sets next.rest = (let e = w.next in cc) in
       let stands = w.stands (plan_by config script) h.steps h.stands in

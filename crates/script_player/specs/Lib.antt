@@ -1,4 +1,5 @@
 pub mod Sizes
 pub mod Playing
 pub mod Plays
+pub mod Passing
 pub mod Player

@@ -43,6 +43,7 @@ use Rattle.script_player.specs.declared.hand.Hand.{Hand}
 use Rattle.script_player.specs.declared.player.Player.{Player}
 use Rattle.script_player.specs.Playing.{IsPlayed, log_after}
 use Rattle.script_player.specs.Plays.{plan_by}
+use Rattle.script_player.specs.Passing.{MayPass, PassesOn}
 use Rattle.script_player.specs.Sizes.{appended_sets, quotas_by}
 
 -- ---- what holds of a player
@@ -83,13 +84,6 @@ pub record MayWrite (thread set : ℕ) (patch : Patch) (player : Player) : Type 
   pub of : IsPatchOf (cell_at player.bank set).meta patch
   pub left : HoldsAt (λ hand. HasLeft (pass_at hand.passes set)) player.hands.items thread
 
--- a tick may come, the closing one or another
-pub record MayPass (ms : ℕ) (closing : Bool) (player : Player) : Type 0 where
-  pub running : IsRunning player.session
-  pub left : ticks_needed closing ≤ (left_of player.session).ticks
-  pub short : ms ≤ most_ms
-  pub still : closing ≡ true → ms ≡ 0
-
 pub record MaySwitch (id : ℕ) (player : Player) : Type 0 where
   pub running : IsRunning player.session
   pub there : IsId (counts_of (config_of player)) id
@@ -104,7 +98,7 @@ pub record MayAppend (player : Player) : Type 0 where
 
 abbrev pub MayDo : Act → Player → Type 0
 MayDo (act.Write thread set patch) player = MayWrite thread set patch player
-MayDo (act.Tick ms) player = MayPass ms false player
+MayDo (act.Tick ms) player = MayPass ms false player.session
 MayDo (act.Enable id) player = MaySwitch id player
 MayDo (act.Disable id) player = MaySwitch id player
 MayDo (act.Fated k fate) player = ⊤
@@ -143,24 +137,9 @@ pub record Writes (thread set : ℕ) (patch : Patch) (old new : Player) : Type 0
   pub stands : KeepsStands old.session new.session
   pub rest : new ≡ record old { session = new.session; hands = new.hands }
 
--- wherever the session stood, it stands a tick with these samples and a pump later, and what the link tells is then the journal, if it was before
-abbrev pub LeadsPast : ℕ → Bool → List Known → Session → Session → Option LinkState → Option LinkState → Type 0
-LeadsPast ms closing passes old new told after =
-    (p : Plan) (steps : List Step) → Stands p steps old → (done : List Bool) × (entries : List LinkEntry)
-    × Stands p (Pump entries ∷ Tick ms closing (samples_of passes) done ∷ steps) new
-    × (TellsRun p steps told → TellsRun p (Pump entries ∷ Tick ms closing (samples_of passes) done ∷ steps) after)
-
 -- a sample, a tick with it, and a pump
 pub record Passes (ms : ℕ) (closing : Bool) (old new : Player) (told after : Option LinkState) : Type 0 where
-  pub more : (set : ℕ) → set < length (passes_of old.session)
-      → SeesMore (pass_at (passes_of old.session) set) (pass_at (passes_of new.session) set)
-  pub lawful : EachSeesLawful (passes_of new.session)
-  pub leads : LeadsPast ms closing (passes_of new.session) old.session new.session told after
-  pub ticks : (left_of new.session).ticks + 1 ≡ (left_of old.session).ticks
-  pub pumps : (left_of new.session).pumps ≡ (left_of old.session).pumps
-  pub closed : (left_of new.session).is_closed ≡ closing
-  pub appends : appends_left new.session ≡ appends_left old.session
-  pub plan : plan_of new.session ≡ plan_of old.session
+  pub by : PassesOn ms closing old.session new.session told after
   pub rest : new ≡ record old { session = new.session }
 
 -- a component was switched by this step, if it was on or off as the step asks

@@ -2,9 +2,11 @@
 #![tactic(auto)]
 
 mod hand;
+mod passing;
 mod play;
 mod player;
 mod sizes;
 
+pub use passing::pass;
 pub use play::{PlayEnd, play_script};
 pub use sizes::size_of;

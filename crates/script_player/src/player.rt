@@ -11,15 +11,17 @@ ghost use Rattle.session_model.specs.Counts.{most_ticks};
 ghost use Rattle.session_model.specs.Keeping.{IsPlan};
 ghost use Rattle.session_model.specs.Steps.{Enable as EnableStep, Disable as DisableStep};
 ghost use Rattle.pubsub_engine.specs.Holding.{AreAppends, appends_left, full_of, left_of, opening_left, plan_of};
-ghost use Rattle.script_player.specs.Player.{Appends, AreDonesOf, Closes, Does, HasPlayed, IsNew, IsPlayer, MayAppend, MayDo, MayPass, MaySwitch, MayWatch, MayWrite, Passes as PassesTick, Switches, Watches as WatchesReader, Writes, config_of};
+ghost use Rattle.script_player.specs.Passing.{MayPass};
+ghost use Rattle.script_player.specs.Player.{Appends, AreDonesOf, Closes, Does, HasPlayed, IsNew, IsPlayer, MayAppend, MayDo, MaySwitch, MayWatch, MayWrite, Passes as PassesTick, Switches, Watches as WatchesReader, Writes, config_of};
 
 use crate::hand::Hand;
+use crate::passing::pass;
 use app_threads::Done;
 use cell_bank::{Bank, Passes};
 use ps_config::Config;
 use ps_report::Closed;
 use ps_script::{Act, Line, Script};
-use pubsub_engine::{Opening, Session, Size, Ticked};
+use pubsub_engine::{Opening, Session, Size};
 use row_words::Patch;
 use std::alloc::Global;
 use std::sync::Wait;
@@ -159,19 +161,19 @@ impl<'c> Player<'c> {
     ) -> Result<(), NoMemory>
         requires open { IsSome (L.opened_with link.old) }
         requires player { IsPlayer self.old }
-        requires may { MayPass ms closing self.old }
+        requires may { MayPass ms closing self.old.session }
         ensures player { OnOk result (IsPlayer self.new) }
         ensures passes { OnOk result
             (PassesTick ms closing self.old self.new (L.told link.old) (L.told link.new)) }
         ensures link { KeepsLink L.opened_with L.faults link.old link.new }
     {
-        self.session.sample(rt, &self.bank);
-        match self.session.tick(ms, closing, link) {
-            Ticked::Done => {}
-            Ticked::Memory => return Err(NoMemory),
-        }
-        self.session.pump(rt, link, &self.targets);
-        Ok(())
+        let Player {
+            session,
+            bank,
+            targets,
+            ..
+        } = self;
+        pass(rt, session, bank, targets, ms, closing, link)
     }
 
     /// Enables a component.
@@ -236,7 +238,7 @@ impl<'c> Player<'c> {
     ) -> Result<Closed, NoMemory>
         requires open { IsSome (L.opened_with link.old) }
         requires player { IsPlayer self }
-        requires may { MayPass 0 true self }
+        requires may { MayPass 0 true self.session }
         ensures closes { IfOk result (Closes self.entry (L.told link.old) (L.told link.new)) }
         ensures link { KeepsLink L.opened_with L.faults link.old link.new }
     {

@@ -25,3 +25,5 @@ mod Refusing
 mod Dividing
 mod Newest
 mod Reaching
+mod LastItems
+mod ClosingHeld

@@ -84,6 +84,18 @@ HoldsLaw =
     → InSession p r i g w steps → AreVersions p steps rows → (reader_at p.config r i steps).kept.row ≡ Some row
     → IsPublished p r i g w steps rows (reader_at p.config r i steps).kept.number row
 
+-- a row that is held at the number of the last place in the writer's log is that of the version there
+pub holds-logged : HoldsLaw → (p : Plan) (r i g w : ℕ) (steps : List Step) (rows : ℕ → ℕ → List DataValue) (row : List DataValue) (place version : ℕ)
+    → InSession p r i g w steps → AreVersions p steps rows → (reader_at p.config r i steps).kept.row ≡ Some row → (reader_at p.config r i steps).kept.number ≡ Some (place % 65536)
+    → IsLastLogged p g w steps place version → HoldsRowOf p r i g w steps rows version
+holds-logged holds p r i g w steps rows row place version is versions kept told logged =
+    let index = (writer_at (group_at p.config g) w).dataset in
+    let published = holds p r i g w steps rows row is versions kept in
+    let number : place % 65536 ≡ published.place % 65536 = published.number_is (place % 65536) told in
+    let same : published.version ≡ version =
+    some-same published.version version (sym published.named ∙ ap (version_of (log_at p g w steps)) (sym number) ∙ version-last (log_at p g w steps) logged.0 place version logged.1) in
+    kept ∙ ap (λ (l : List DataValue). Some l) (published.row_is ∙ ap (λ (v : ℕ). row_cut (meta_of p r i) (rows index v)) same)
+
 pub holds-newest : WholesAreHeld → HoldsLaw → (p : Plan) (r i g w : ℕ) (before : List Step) (entries : List Entry) (rows : ℕ → ℕ → List DataValue) (row : List DataValue) (version : ℕ)
     → InSession p r i g w (Pump entries ∷ before) → AreVersions p (Pump entries ∷ before) rows → (b : BringsLast p r i before entries row) → IsNewest p r i g w before entries b.brings.frame.number version
     → HoldsRowOf p r i g w (Pump entries ∷ before) rows version
@@ -91,13 +103,8 @@ holds-newest law holds p r i g w before entries rows row version is versions b n
     let steps = Pump entries ∷ before in
     let kept = (reader_at p.config r i steps).kept in
     let h = holds-frame law p r i before entries row b in
-    let index = (writer_at (group_at p.config g) w).dataset in
-    let published = holds p r i g w steps rows row is versions h.row_is in
     let told : kept.number ≡ Some (newest.place % 65536) = subst (λ (word : NumberingWord). HasNumber word kept.number b.brings.frame) newest.numbered h.number_is ∙ newest.number_is in
-    let number : newest.place % 65536 ≡ published.place % 65536 = published.number_is (newest.place % 65536) told in
-    let same : published.version ≡ version =
-    some-same published.version version (sym published.named ∙ ap (version_of (log_at p g w steps)) (sym number) ∙ version-last (log_at p g w steps) newest.logged.0 newest.place version newest.logged.1) in
-    h.row_is ∙ ap (λ (l : List DataValue). Some l) (published.row_is ∙ ap (λ (v : ℕ). row_cut (meta_of p r i) (rows index v)) same)
+    holds-logged holds p r i g w steps rows row newest.place version is versions h.row_is told newest.logged
 
 -- ---- a closing turn
 
@@ -105,7 +112,7 @@ or-true : (fresh late : Bool) → (fresh || true || late) ≡ true
 or-true true late = refl
 or-true false late = refl
 
-closing-answer : (s : Settings) (fresh : Bool) (before : List Answered) (turn : WriterTurn) → turn.closing ≡ true → answer s fresh before turn ≡ Some (Whole (next_place s before) turn.row)
+pub closing-answer : (s : Settings) (fresh : Bool) (before : List Answered) (turn : WriterTurn) → turn.closing ≡ true → answer s fresh before turn ≡ Some (Whole (next_place s before) turn.row)
 closing-answer s fresh before turn e =
     let late = nat_le s.key_frame_count (turns_since is_key before) in
     let due : is_key_due s fresh before turn ≡ true = ap (λ (b : Bool). fresh || b || late) e ∙ or-true fresh late in

@@ -1,5 +1,5 @@
 -- A reader that holds the newest version: the last datagram that comes brings it the key frame of the last place in its writer's log.
-use Rattle.std.specs.Prelude.{◌≡◌, ℕ, List, [], ◌∷◌, ◌++◌, true, Option, Some, option_map}
+use Rattle.std.specs.Prelude.{◌≡◌, ℕ, List, [], ◌∷◌, ◌++◌, Contains, true, Option, Some, option_map}
 use Rattle.seq_number.specs.Numbers.{number_of_place}
 use Rattle.dataset_meta.specs.DataValues.{DataValue}
 use Rattle.dataset_meta.specs.Rows.{row_cut}
@@ -10,10 +10,14 @@ use Rattle.reader_group.specs.Members.{seat_at}
 use Rattle.reader_group.specs.Settings.{setting_of}
 use Rattle.writer_group.specs.Parts.{group_at}
 use Rattle.writer_group.specs.Payloads.{writer_at}
-use Rattle.session_model.specs.Deeds.{log_at}
+use Rattle.pubsub_model.specs.Cadence.{HadTurn, WriterDeed, WriterTurn, cadence, next_place}
+use Rattle.pubsub_model.specs.Records.{Item, place_in, since_cut}
+use Rattle.session_model.specs.Deeds.{log_at, writer_deeds}
 use Rattle.session_model.specs.Events.{plain_at, reader_at, readers_on, receives}
 use Rattle.session_model.specs.Steps.{Plan, Step, Pump}
 use Rattle.session_laws.specs.Headline.{meta_of}
+use Rattle.session_laws.specs.Pasts.{settings_at}
+use Rattle.session_laws.specs.Reading.{arrivals_at, first_number_of}
 
 -- The last datagram of a pump comes to a read group that is Operational, which takes it, and has one part for the reader, which is enabled: a key frame with this
 -- row, that may follow what came before.
@@ -37,6 +41,20 @@ pub record IsNewest (p : Plan) (r i g w : ℕ) (before : List Step) (entries : L
   pub place : ℕ
   pub number_is : option_map number_of_place number ≡ Some (number_of_place place)
   pub logged : IsLastLogged p g w (Pump entries ∷ before) place version
+
+-- a frame at this place of the writer came to the reader since its last cut
+pub record HasCome (p : Plan) (r i g w : ℕ) (steps : List Step) (place : ℕ) : Type 0 where
+  pub item : Item
+  pub came : Contains (since_cut (arrivals_at p.config r i (first_number_of p.config g w) steps)) item
+  pub stands : place_in item ≡ place
+
+-- The last turn of the writer was a closing one, and its frame came to the reader, which goes by numbers, since its last cut: at whatever place in a pump, however
+-- often, and whatever came before or behind it.
+pub record ClosingCame (p : Plan) (r i g w : ℕ) (steps : List Step) (before : List WriterDeed) (turn : WriterTurn) : Type 0 where
+  pub numbered : (seat_at (setting_of p.config r).seats i).part.numbering ≡ words.Message
+  pub last : writer_deeds p g w steps ≡ HadTurn turn ∷ before
+  pub closing : turn.closing ≡ true
+  pub came : let s = settings_at (group_at p.config g) w in HasCome p r i g w steps (next_place s (cadence s before))
 
 -- the reader holds the row of the version, cut to its fields
 abbrev pub HoldsRowOf : Plan → ℕ → ℕ → ℕ → ℕ → List Step → (ℕ → ℕ → List DataValue) → ℕ → Type 0

@@ -26,7 +26,7 @@ ghost use Rattle.session_model.specs.Turns.{deeds_before};
 ghost use Rattle.session_laws.specs.Courses.{HaveOneCourse};
 ghost use Rattle.session_laws.specs.Fresh.{protected_by};
 ghost use Rattle.session_laws.specs.Headline.{InSession, ComesFrom, IsPublished, PublishesVersion, answered_turn};
-ghost use Rattle.session_laws.specs.Newest.{BringsLast, HoldsRowOf, IsLastLogged, IsNewest};
+ghost use Rattle.session_laws.specs.Newest.{BringsLast, ClosingCame, HoldsRowOf, IsLastLogged, IsNewest};
 ghost use Rattle.session_laws.specs.Pasts.{settings_at};
 ghost use Rattle.session_laws.specs.Plays.{Play, IsPlay, ComesFromWriter, HoldsVersion, its_marks, its_member, its_way};
 ghost use Rattle.session_laws.specs.Sessions.{AreVersions, SamplesRise};
@@ -38,6 +38,7 @@ use group_laws::{
     a_ring_makes_senders_of_its_key_group, each_datagram_is_taken_as_it_was_sent,
     each_part_is_of_what_was_answered,
 };
+use pubsub_model::answers_have_places_of_their_span;
 use reader_group::{
     a_lone_key_frame_is_held, near_readers_have_their_records, refused_datagrams_leave_no_trace,
     what_a_secured_group_takes_is_signed,
@@ -125,6 +126,18 @@ pub fn a_key_frame_that_comes_last_is_held()
         IsLastLogged p g w steps (next_place s (cadence s before)) turn.version }
 {
     a_lone_key_frame_is_held();
+    matched_readers_hold_published_versions();
+}
+
+/// Where the last turn of a writer was a closing one, and its frame came to a matched reader that goes by numbers, since its last
+/// cut, the reader holds the row of the turn's version, cut to its fields: at whatever place of a pump the frame came, however
+/// often, and whatever came before or behind it.
+pub fn a_closing_frame_that_came_is_held()
+    ensures { (p : Plan) (r i g w : ℕ) (steps : List Step) (rows : ℕ → ℕ → List DataValue)
+        (before : List WriterDeed) (turn : WriterTurn) → InSession p r i g w steps → AreVersions p steps rows
+        → ClosingCame p r i g w steps before turn → HoldsRowOf p r i g w steps rows turn.version }
+{
+    answers_have_places_of_their_span();
     matched_readers_hold_published_versions();
 }
 

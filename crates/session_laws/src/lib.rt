@@ -7,7 +7,7 @@ mod turning;
 mod witness;
 
 pub use laws::{
-    a_journal_has_one_run, a_key_frame_that_comes_last_is_held,
+    a_closing_frame_that_came_is_held, a_journal_has_one_run, a_key_frame_that_comes_last_is_held,
     a_matched_reader_holds_what_was_sent, a_new_token_begins_with_key_frames,
     a_session_has_at_most_4097_ticks, data_messages_stand_for_versions,
     matched_readers_hold_published_versions, no_token_and_number_come_twice_in_a_session,

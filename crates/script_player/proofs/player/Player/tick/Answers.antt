@@ -1,51 +1,19 @@
-use Rattle.std.proofs.Common.{refl, ◌∙◌, arith}
-use Rattle.script_player.proofs.Passing.{AreTurns, player-passed, player-passes, pump-may, targets-ticked, tick-may}
+use Rattle.std.proofs.Common.{refl}
+use Rattle.std.proofs.lemmas.Result.{on_ok_weaker}
+use Rattle.script_player.proofs.Outcomes.{both-ok}
+use Rattle.script_player.proofs.Turning.{player-passed}
 use Rattle.script_player.proofs.player.Player.tick.Goals as goal
-
-pub tick-requires-clause-may : goal.tick-requires-clause-may
-tick-requires-clause-may g c =
-    tick-may c.args.ms c.args.closing c.args.self.now c.sample.new.self c.requires.may c.sample.ensures.session c.sample.ensures.rest
-
-pub pump-requires-clause-may : goal.pump-requires-clause-may
-pump-requires-clause-may g c = pump-may c.args.closing c.sample.new.self c.tick.new.self c.tick.ensures.session c.tick.ensures.left
-
-pub pump-requires-clause-targets : goal.pump-requires-clause-targets
-pump-requires-clause-targets g c =
-    targets-ticked c.args.self.now c.sample.new.self c.tick.new.self c.requires.player c.sample.ensures.rest c.tick.ensures.passes
 
 pub returns : goal.returns
 returns g c =
     let player = c.args.self.now in
     let told = g.L.Link.told c.args.link.now in
-    let between = g.L.Link.told c.tick.new.link in
-    let after = g.L.Link.told c.pump.new.link in
-    let sampled = c.sample.new.self in
-    let ticked = c.tick.new.self in
-    let new = c.pump.new.self in
-    let s = c.sample.ensures in
-    let t = c.tick.ensures in
-    let u = c.pump.ensures in
-    let turns : AreTurns c.args.ms c.args.closing player.session sampled ticked new told between after = record {
-      sample_is = s.sampled;
-      more = s.more;
-      lawful = s.lawful;
-      changes = s.rest;
-      stood = s.stands;
-      counts = t.left;
-      leads = c.in-Done.ensures.leads refl;
-      keeps = t.passes;
-      appends = t.appends;
-      pumped = u.left;
-      leads_on = λ p steps stands. let on = u.leads p steps stands in (on.0, on.1);
-      passes = u.passes;
-      plan = u.plan;
-      appends_then = u.appends;
-    } in
+    let after = g.L.Link.told c.pass.new.link in
+    let r = c.pass.result in
+    let e = c.pass.ensures in
+    let known = both-ok _ _ r e.session (both-ok _ _ r e.bank (both-ok _ _ r e.targets e.passes)) in
     record {
-      player = player-passed c.args.ms c.args.closing player c.requires.player sampled ticked new told between after turns u.session u.targets s.bank;
-      passes = player-passes c.args.ms c.args.closing player c.requires.player sampled ticked new told between after turns;
-      link = record {
-        opening = u.link.opening ∙ t.link.opening;
-        counted = omega (arith, u.link.counted, t.link.counted);
-      };
+      player = on_ok_weaker r (λ k. player-passed c.args.ms c.args.closing player c.pass.new.session told after c.requires.player k.1.1.1 k.0 k.1.1.0 k.1.0) known;
+      passes = on_ok_weaker r (λ on. record { by = on; rest = refl }) e.passes;
+      link = e.link;
     }
