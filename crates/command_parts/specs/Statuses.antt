@@ -73,7 +73,7 @@ script_text line fault = codes "script: line " ++ decimal line ++ codes " S" ++ 
 -- the text of a status
 unfoldable pub text_of : Status → List ℕ
 text_of Done = []
-text_of BadWords = codes "usage: uapubsub check --config FILE | play SCRIPT [--config FILE] | run SCRIPT [--config FILE] | load N" ++ line_feed
+text_of BadWords = codes "usage: uapubsub check --config FILE | play SCRIPT [--config FILE] | run SCRIPT [--config FILE] | load N | keys FILE GROUP START COUNT MS" ++ line_feed
 text_of (ConfigRefused code path) = config_text code path
 text_of (ScriptRefused line fault) = script_text line fault
 text_of (Unread file) = codes "cannot read " ++ file.now ++ line_feed

@@ -10,7 +10,7 @@ use ps_script::ScriptFault;
 use ua_base::{Sink, WriteEnd};
 
 const USAGE: &str =
-    "usage: uapubsub check --config FILE | play SCRIPT [--config FILE] | run SCRIPT [--config FILE] | load N\n";
+    "usage: uapubsub check --config FILE | play SCRIPT [--config FILE] | run SCRIPT [--config FILE] | load N | keys FILE GROUP START COUNT MS\n";
 
 /// Writes the text of a status. A write that fails ends it, and changes nothing else.
 #[tactic(auto, unfolding(crate::specs::Statuses::text_of))]

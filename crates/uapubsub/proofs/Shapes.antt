@@ -1,28 +1,15 @@
--- The shapes of words.
-use Rattle.std.proofs.Common.{◌≡◌, ℕ, List, [], ◌∷◌, Option, Some, None, refl, sym, ◌∙◌}
-use Rattle.uapubsub.specs.Words.{checked_of, played_of, HaveNoShape}
+-- What the words ask for, and the command that it is.
+use Rattle.std.proofs.Common.{◌≡◌, List, ℕ, Option, Some, None, sym, ap, ◌∙◌, subst}
+use Rattle.std.specs.Prelude.{option_map}
+use Rattle.uapubsub.specs.declared.words.Command.{Command}
+use Rattle.uapubsub.specs.Words.{Shape, shape_by, shape_of}
 
--- words of `play` are none of `check`
-pub no_check : (words : List (List ℕ)) (asked : List ℕ × Option (List ℕ)) → played_of words ≡ Some asked → checked_of words ≡ None
-no_check [] asked is = refl
-no_check (a ∷ []) asked is = refl
-no_check (a ∷ b ∷ []) asked is = refl
-no_check (a ∷ b ∷ c ∷ []) asked is = let none : None ≡ Some asked = is in absurd cc
-no_check (a ∷ b ∷ c ∷ d ∷ words) asked is = refl
+some-shape : (x y : Shape) → Path (Option Shape) (Some x) (Some y) → x ≡ y
+some-shape x y e = cc
 
--- so no words are of both
-pub one_shape : (words : List (List ℕ)) (config : List ℕ) (asked : List ℕ × Option (List ℕ)) → checked_of words ≡ Some config → played_of words ≡ Some asked → ⊥
-one_shape words config asked a b = let none : None ≡ Some config = sym (no_check words asked b) ∙ a in cc
+-- words that ask for a command have its shape and no other
+pub one-shape : (words : List (List ℕ)) (command : Command) (shape : Shape) → shape_of words ≡ option_map shape_by (Some command) → shape_of words ≡ Some shape → shape_by command ≡ shape
+one-shape words command shape asks is = some-shape (shape_by command) shape (sym asks ∙ is)
 
-pub same_check : (words : List (List ℕ)) (config other : List ℕ) → checked_of words ≡ Some config → checked_of words ≡ Some other → config ≡ other
-same_check words config other a b = let both : Some config ≡ Some other = sym a ∙ b in cc
-
-pub same_play : (words : List (List ℕ)) (asked other : List ℕ × Option (List ℕ)) → played_of words ≡ Some asked → played_of words ≡ Some other → asked ≡ other
-same_play words asked other a b = let both : Some asked ≡ Some other = sym a ∙ b in cc
-
--- words that ask for something have a shape
-pub check_has_shape : (words : List (List ℕ)) (config : List ℕ) → checked_of words ≡ Some config → HaveNoShape words → ⊥
-check_has_shape words config is none = let e : None ≡ Some config = sym none.no_check ∙ is in cc
-
-pub play_has_shape : (words : List (List ℕ)) (asked : List ℕ × Option (List ℕ)) → played_of words ≡ Some asked → HaveNoShape words → ⊥
-play_has_shape words asked is none = let e : None ≡ Some asked = sym none.no_play ∙ is in cc
+pub has-shape : (words : List (List ℕ)) (command : Command) → shape_of words ≡ option_map shape_by (Some command) → shape_of words ≡ None → ⊥
+has-shape words command asks none = let e : Path (Option Shape) None (Some (shape_by command)) = sym none ∙ asks in absurd cc

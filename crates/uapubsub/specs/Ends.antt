@@ -1,8 +1,51 @@
--- How the program ends: what a status says by its number.
-use Rattle.std.specs.Prelude.{◌≡◌, ◌⊎◌, ℕ, List, Option}
+-- How the program ends: what each command does, and what a status says by its number.
+use Rattle.std.specs.Prelude.{◌≡◌, ◌⊎◌, ℕ, List, Option, Bool, true, false}
 use Rattle.command_parts.specs.declared.status.Status.{Status}
+use Rattle.command_parts.specs.Outside.{Outside, Wire}
 use Rattle.command_parts.specs.Statuses.{number_of, text_of}
 use Rattle.command_parts.specs.Telling.{WritesText}
+use Rattle.check_command.specs.Checks.{CheckEnds}
+use Rattle.play_command.specs.Plays.{PlayEnds}
+use Rattle.run_command.specs.Runs.{RunEnds}
+use Rattle.load_command.specs.Loads.{LoadEnds, Output}
+use Rattle.keys_command.specs.Ends.{KeysEnds}
+use Rattle.uapubsub.specs.Words.{Shape, Check, Play, Run, Load, Keys}
+
+-- folder and output, and the two links
+pub record World : Type 0 where
+  pub outside : Outside
+  pub lab : Wire
+  pub wire : Wire
+
+abbrev pub world_of : Outside → Wire → Wire → World
+world_of outside lab wire = record { outside = outside; lab = lab; wire = wire }
+
+-- what the output tells
+abbrev pub output_in : World → Output
+output_in world = record { written = world.outside.written; faults = world.outside.write_faults }
+
+-- a command ends so
+abbrev pub Does : Shape → Status → World → World → Type 0
+Does (Check config) status old new = CheckEnds status config old.outside new.outside
+Does (Play script config) status old new = PlayEnds status script config old.outside new.outside old.lab new.lab
+Does (Run script config) status old new = RunEnds status script config old.outside new.outside old.wire new.wire
+Does (Load n) status old new = LoadEnds status n (output_in old) (output_in new) old.lab new.lab
+Does (Keys config asked) status old new = KeysEnds status config asked old.outside new.outside
+
+-- the commands that use the link in memory, and the one that uses the network
+abbrev pub uses_lab : Shape → Bool
+uses_lab (Check config) = false
+uses_lab (Play script config) = true
+uses_lab (Run script config) = false
+uses_lab (Load n) = true
+uses_lab (Keys config asked) = false
+
+abbrev pub uses_wire : Shape → Bool
+uses_wire (Check config) = false
+uses_wire (Play script config) = false
+uses_wire (Run script config) = true
+uses_wire (Load n) = false
+uses_wire (Keys config asked) = false
 
 -- The number is that of a status that says so, and the text of this status stands on the error output. old, new: what this tells before and behind; before,
 -- after: its counts of faults

@@ -1,30 +1,61 @@
 -- What the words of the command line ask for.
-use Rattle.std.specs.Prelude.{◌≡◌, ℕ, List, [], ◌∷◌, Option, Some, None, codes, ◌&&◌, if◌then◌else◌, option_copied}
+use Rattle.std.specs.Prelude.{◌≡◌, ◌≤◌, ⊤, ℕ, List, [], ◌∷◌, Option, Some, None, codes, ◌&&◌, if◌then◌else◌, option_copied, option_map}
 use Rattle.std.specs.Str.{bytes_eq}
 use Rattle.command_parts.specs.Words.{is_file_name}
+use Rattle.keys_command.specs.declared.words.Asked.{Asked}
+use Rattle.keys_command.specs.Words.{keys_of}
+use Rattle.load_command.specs.Numbers.{load_number}
 use Rattle.uapubsub.specs.declared.words.Command.{Command}
-use Rattle.uapubsub.specs.declared.words.Command.TheVariants.{Check, Play}
+use Rattle.uapubsub.specs.declared.words.Command.TheVariants as commands
 
--- the configuration of `check --config FILE`, and of no other words
-abbrev pub checked_of : List (List ℕ) → Option (List ℕ)
-checked_of (command ∷ option ∷ config ∷ []) =
-    if bytes_eq command (codes "check") && (bytes_eq option (codes "--config") && is_file_name config) then Some config else None
-checked_of _ = None
+-- a command, with what its words name
+pub data Shape : Type 0 where
+  Check : (config : List ℕ) → Shape
+  Play : (script : List ℕ) (config : Option (List ℕ)) → Shape
+  Run : (script : List ℕ) (config : Option (List ℕ)) → Shape
+  Load : (n : ℕ) → Shape
+  Keys : (config : List ℕ) (asked : Asked) → Shape
 
--- the script of `play SCRIPT` or `play SCRIPT --config FILE`, with the configuration that is named, and of no other words
-abbrev pub played_of : List (List ℕ) → Option (List ℕ × Option (List ℕ))
-played_of (command ∷ script ∷ []) = if bytes_eq command (codes "play") && is_file_name script then Some (script, None) else None
-played_of (command ∷ script ∷ option ∷ config ∷ []) =
-    if bytes_eq command (codes "play") && (bytes_eq option (codes "--config") && (is_file_name script && is_file_name config)) then Some (script, Some config) else None
-played_of _ = None
+-- `play` or `run` of a script, with the configuration that is named
+abbrev pub script_shape : List ℕ → List ℕ → Option (List ℕ) → Option Shape
+script_shape command script config =
+    if bytes_eq command (codes "play") then Some (Play script config)
+    else if bytes_eq command (codes "run") then Some (Run script config)
+    else None
 
--- the words have no shape
-pub record HaveNoShape (words : List (List ℕ)) : Type 0 where
-  pub no_check : checked_of words ≡ None
-  pub no_play : played_of words ≡ None
+-- `load N`, or a command of a script with the built-in configuration
+abbrev pub short_shape : List ℕ → List ℕ → Option Shape
+short_shape command word =
+    if bytes_eq command (codes "load") then option_map Load (load_number word)
+    else if is_file_name word then script_shape command word None
+    else None
+
+-- `check --config FILE`
+abbrev pub check_shape : List ℕ → List ℕ → List ℕ → Option Shape
+check_shape command option config =
+    if bytes_eq command (codes "check") && (bytes_eq option (codes "--config") && is_file_name config) then Some (Check config) else None
+
+-- a command of `SCRIPT --config FILE`
+abbrev pub named_shape : List ℕ → List ℕ → List ℕ → List ℕ → Option Shape
+named_shape command script option config =
+    if bytes_eq option (codes "--config") && (is_file_name script && is_file_name config) then script_shape command script (Some config) else None
 
 -- what these words ask for
-abbrev pub Asks : List (List ℕ) → Option Command → Type 0
-Asks words None = HaveNoShape words
-Asks words (Some (Check config)) = checked_of words ≡ Some config.now
-Asks words (Some (Play script config)) = played_of words ≡ Some (script.now, option_copied config)
+abbrev pub shape_of : List (List ℕ) → Option Shape
+shape_of (command ∷ word ∷ []) = short_shape command word
+shape_of (command ∷ option ∷ config ∷ []) = check_shape command option config
+shape_of (command ∷ script ∷ option ∷ config ∷ []) = named_shape command script option config
+shape_of words = option_map (λ found. Keys found.0 found.1) (keys_of words)
+
+-- the size of a load is one that may be asked for
+abbrev pub IsBounded : Command → Type 0
+IsBounded (commands.Load n) = (1 ≤ n) × (n ≤ 1024)
+IsBounded _ = ⊤
+
+-- the shape that a command has
+abbrev pub shape_by : Command → Shape
+shape_by (commands.Check config) = Check config.now
+shape_by (commands.Play script config) = Play script.now (option_copied config)
+shape_by (commands.Run script config) = Run script.now (option_copied config)
+shape_by (commands.Load n) = Load n
+shape_by (commands.Keys config asked) = Keys config.now asked

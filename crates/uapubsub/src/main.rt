@@ -21,7 +21,7 @@ use std::process::ExitCode;
 use std::rt::Env;
 use top::top;
 use ua_base::Sink;
-use udp_edge::{DirFolder, StdSink};
+use udp_edge::{DirFolder, StdSink, UdpLink};
 
 /// The words after the program's name.
 fn words_of(rt: &(impl Env + AllocGlobal), alloc: Global) -> io::Result<Vec<Word>> {
@@ -69,13 +69,7 @@ fn main(rt: HostRuntime) -> ExitCode {
         Vec::new(alloc),
         false,
     );
-    let mut wire = MemoryLink::new(
-        alloc,
-        Vec::new(alloc),
-        Vec::new(alloc),
-        Vec::new(alloc),
-        false,
-    );
+    let mut wire = UdpLink::new(&rt, alloc);
     let mut out = StdSink::new(&rt);
     ExitCode::from(top(
         &rt,

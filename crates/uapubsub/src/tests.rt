@@ -62,7 +62,7 @@ link sent 2 failed 0 received 2 broken 0 long 0 limit 0
 end
 status 0, error output []
 $ play; write 0 demo a=7/tick 100/; none; words without a shape
-status 2, error output [usage: uapubsub check --config FILE | play SCRIPT [--config FILE] | run SCRIPT [--config FILE] | load N
+status 2, error output [usage: uapubsub check --config FILE | play SCRIPT [--config FILE] | run SCRIPT [--config FILE] | load N | keys FILE GROUP START COUNT MS
 ]
 $ play s; no file; none; no file
 status 5, error output [cannot read s
@@ -182,13 +182,58 @@ $ play s --config c; write 0 demo a=7/ | [publisher]/id = \"u8:5\"/; read1; the 
 status 5, error output [cannot read s
 ]
 $ play s --configs c; write 0 demo a=7/; none; another option
-status 2, error output [usage: uapubsub check --config FILE | play SCRIPT [--config FILE] | run SCRIPT [--config FILE] | load N
+status 2, error output [usage: uapubsub check --config FILE | play SCRIPT [--config FILE] | run SCRIPT [--config FILE] | load N | keys FILE GROUP START COUNT MS
 ]
 $ play s --config -c; write 0 demo a=7/; none; a word that names no file
-status 2, error output [usage: uapubsub check --config FILE | play SCRIPT [--config FILE] | run SCRIPT [--config FILE] | load N
+status 2, error output [usage: uapubsub check --config FILE | play SCRIPT [--config FILE] | run SCRIPT [--config FILE] | load N | keys FILE GROUP START COUNT MS
 ]
 $ play s --config; write 0 demo a=7/; none; an option without its word
-status 2, error output [usage: uapubsub check --config FILE | play SCRIPT [--config FILE] | run SCRIPT [--config FILE] | load N
+status 2, error output [usage: uapubsub check --config FILE | play SCRIPT [--config FILE] | run SCRIPT [--config FILE] | load N | keys FILE GROUP START COUNT MS
+]
+$ run s; ; none; a run without a line
+history demo 0:
+group g1 operational sent 1
+writer w1 operational 1: 0=0
+readgroup rg1 operational taken 1:
+reader r1 operational number 0 version 0: a=0 b=0 c=0 d=0
+gaps r1 0:
+link sent 1 failed 0 received 1 broken 0 long 0 limit 0
+end
+status 0, error output []
+$ run s; ; open0; the network is not there
+status 8, error output [cannot open link
+]
+$ run s; fate 1 drop/; none; nobody rules what a network loses
+status 4, error output [script: line 1 S11 BadFate
+]
+$ run s; ; out0; the report of a run is not written
+status 6, error output []
+$ load 1; no file; none; generated work
+load 1 history 32 ticks 4
+reader r1 a=8 b=100008 c=200008 d=300008
+end
+status 0, error output []
+$ load 0; no file; none; no work
+status 2, error output [usage: uapubsub check --config FILE | play SCRIPT [--config FILE] | run SCRIPT [--config FILE] | load N | keys FILE GROUP START COUNT MS
+]
+$ load 01; no file; none; a leading zero
+status 2, error output [usage: uapubsub check --config FILE | play SCRIPT [--config FILE] | run SCRIPT [--config FILE] | load N | keys FILE GROUP START COUNT MS
+]
+$ load 1025; no file; none; too much work
+status 2, error output [usage: uapubsub check --config FILE | play SCRIPT [--config FILE] | run SCRIPT [--config FILE] | load N | keys FILE GROUP START COUNT MS
+]
+$ load 1; no file; open0; work without its link
+status 8, error output [cannot open link
+]
+$ keys c k1 0 2 500; no file | [publisher]/id = \"u8:5\"/; none; a group that is not there
+refused NotFound
+end
+status 0, error output []
+$ keys c k1 0 2 1099511627777; no file | [publisher]/id = \"u8:5\"/; none; too late a moment
+status 2, error output [usage: uapubsub check --config FILE | play SCRIPT [--config FILE] | run SCRIPT [--config FILE] | load N | keys FILE GROUP START COUNT MS
+]
+$ keys c k1 0 2 500; no file; none; no configuration to ask
+status 5, error output [cannot read c
 ]
 $ check --config s; [publisher]/id = \"u8:5\"/; none; a configuration
 ok

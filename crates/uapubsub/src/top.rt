@@ -1,18 +1,20 @@
 //! The whole program over an outside that is handed in.
-ghost use Rattle.std.specs.Prelude.{◌≡◌, ◌≢◌, ◌↔◌, ◌≤◌, ℕ, List, Option, Some};
+ghost use Rattle.std.specs.Prelude.{◌≡◌, ◌≢◌, ◌↔◌, ◌≤◌, ℕ, List, Option, Some, None, true, false};
 ghost use Rattle.command_parts.specs.Outside.{outside_of, wire_of};
-ghost use Rattle.command_parts.specs.Statuses.{number_of, text_of};
+ghost use Rattle.command_parts.specs.Statuses.{IsDone, IsUnwritten, number_of, text_of};
 ghost use Rattle.command_parts.specs.Telling.{WritesText};
-ghost use Rattle.check_command.specs.Checks.{CheckEnds};
-ghost use Rattle.play_command.specs.Plays.{PlayEnds};
-ghost use Rattle.uapubsub.specs.Words.{checked_of, played_of, HaveNoShape};
-ghost use Rattle.uapubsub.specs.Ends.{EndsAs, IsBeforeLink};
-ghost use Rattle.uapubsub.specs.Headline.{WritesHeadline};
+ghost use Rattle.session_command.specs.Links.{IsBeforeLink as IsStatusBeforeLink};
+ghost use Rattle.uapubsub.specs.Words.{IsBounded, Shape, Play, Run, shape_by, shape_of};
+ghost use Rattle.uapubsub.specs.Ends.{Does, EndsAs, IsBeforeLink, uses_lab, uses_wire, world_of};
+ghost use Rattle.uapubsub.specs.Headline.{WritesPlay, WritesRun};
 
 use crate::words::{Command, command_in};
 use check_command::check;
 use command_parts::{Status, Word, tell};
+use keys_command::keys;
+use load_command::load;
 use play_command::play;
+use run_command::run;
 use std::alloc::Global;
 use std::sync::Wait;
 use std::thread::Threads;
@@ -35,64 +37,92 @@ pub fn top<R: Threads + Wait + Sync, F: Folder, A: Link, B: Link, G: Gate, K: Si
     out: &mut K,
     err: &mut E,
 ) -> u8
-    ensures words { (result ≡ 2) ↔ HaveNoShape words.now }
+    ensures words { (result ≡ 2) ↔ (shape_of words.now ≡ None) }
 
-    // The command `check`.
-    ensures checks { (file : List ℕ) → checked_of words.now ≡ Some file
-        → EndsAs (λ status. CheckEnds status file
-        (outside_of F.tells F.faults K.written K.faults folder.old out.old)
-        (outside_of F.tells F.faults K.written K.faults folder.new out.new))
+    // Each command.
+    ensures ends { (shape : Shape) → shape_of words.now ≡ Some shape
+        → EndsAs (λ status. Does shape status
+        (world_of (outside_of F.tells F.faults K.written K.faults folder.old out.old)
+        (wire_of A.told A.faults A.opened_with lab.old) (wire_of B.told B.faults B.opened_with wire.old))
+        (world_of (outside_of F.tells F.faults K.written K.faults folder.new out.new)
+        (wire_of A.told A.faults A.opened_with lab.new) (wire_of B.told B.faults B.opened_with wire.new)))
         result (E.written err.old) (E.written err.new) (E.faults err.old) (E.faults err.new) }
-    ensures no_link { (file : List ℕ) → checked_of words.now ≡ Some file → lab.new ≡ lab.old }
 
-    // The command `play`.
-    ensures plays { (script : List ℕ) (config : Option (List ℕ))
-        → played_of words.now ≡ Some (script, config)
-        → EndsAs (λ status. PlayEnds status script config
-        (outside_of F.tells F.faults K.written K.faults folder.old out.old)
-        (outside_of F.tells F.faults K.written K.faults folder.new out.new)
-        (wire_of A.told A.faults A.opened_with lab.old)
-        (wire_of A.told A.faults A.opened_with lab.new))
-        result (E.written err.old) (E.written err.new) (E.faults err.old) (E.faults err.new) }
-    // Each data message stands for one whole version, and each reader holds the one that its messages name.
-    ensures headline { (script : List ℕ) (config : Option (List ℕ))
-        → played_of words.now ≡ Some (script, config) → result ≡ 0
-        → WritesHeadline script config
+    // Each data message stands for one whole version, and each reader holds the one that its messages name: of the history that
+    // the script's writes make in the order of its lines, or, where threads make them, of a legal one.
+    ensures played { (script : List ℕ) (config : Option (List ℕ))
+        → shape_of words.now ≡ Some (Play script config) → result ≡ 0
+        → WritesPlay script config
         (outside_of F.tells F.faults K.written K.faults folder.old out.old)
         (outside_of F.tells F.faults K.written K.faults folder.new out.new)
         (wire_of A.told A.faults A.opened_with lab.new) }
+    ensures ran { (script : List ℕ) (config : Option (List ℕ))
+        → shape_of words.now ≡ Some (Run script config) → result ≡ 0
+        → WritesRun script config
+        (outside_of F.tells F.faults K.written K.faults folder.old out.old)
+        (outside_of F.tells F.faults K.written K.faults folder.new out.new)
+        (wire_of B.told B.faults B.opened_with wire.new) }
 
     // Other words.
-    ensures usage { HaveNoShape words.now
+    ensures usage { shape_of words.now ≡ None
         → WritesText (E.written err.old) (E.written err.new)
         (E.faults err.old) (E.faults err.new) (text_of Status.BadWords) }
     ensures untouched { result ≡ 2 → folder.new ≡ folder.old }
 
-    // What an answer other than 0 leaves, and what any does.
-    ensures unlinked { IsBeforeLink result → lab.new ≡ lab.old }
+    // What no command uses, what an answer other than 0 leaves, and what any does.
+    ensures lab { (shape : Shape) → shape_of words.now ≡ Some shape → uses_lab shape ≡ false → lab.new ≡ lab.old }
+    ensures wire { (shape : Shape) → shape_of words.now ≡ Some shape → uses_wire shape ≡ false → wire.new ≡ wire.old }
+    ensures unlinked { IsBeforeLink result → (lab.new ≡ lab.old) × (wire.new ≡ wire.old) }
     ensures silent { result ≢ 0 → result ≢ 6 → out.new ≡ out.old }
     ensures files { (name : List ℕ) → F.tells folder.new name ≡ F.tells folder.old name }
-    ensures wire { wire.new ≡ wire.old }
 
     // No count of faults falls.
     ensures folder_faults { F.faults folder.old ≤ F.faults folder.new }
-    ensures link_faults { A.faults lab.old ≤ A.faults lab.new }
+    ensures lab_faults { A.faults lab.old ≤ A.faults lab.new }
+    ensures wire_faults { B.faults wire.old ≤ B.faults wire.new }
     ensures out_faults { K.faults out.old ≤ K.faults out.new }
     ensures err_faults { E.faults err.old ≤ E.faults err.new }
 {
-    // No command uses the other link or the gate.
-    let _ = wire;
-    let _ = gate;
-    match command_in(words) {
-        None => told(err, &Status::BadWords),
-        Some(Command::Check { config }) => {
-            let status = check(alloc, config, folder, out);
-            told(err, &status)
-        }
-        Some(Command::Play { script, config }) => {
-            let status = play(rt, alloc, script, config, folder, lab, out);
-            told(err, &status)
-        }
+    let Some(command) = command_in(words) else {
+        return told(err, &Status::BadWords);
+    };
+    let status = act(rt, alloc, command, folder, lab, wire, gate, out);
+    told(err, &status)
+}
+
+/// Does what a command does.
+fn act<'w, R: Threads + Wait + Sync, F: Folder, A: Link, B: Link, G: Gate, K: Sink>(
+    rt: &R,
+    alloc: Global,
+    command: Command<'w>,
+    folder: &mut F,
+    lab: &mut A,
+    wire: &mut B,
+    gate: &G,
+    out: &mut K,
+) -> Status<'w>
+    requires bounded { IsBounded command }
+    ensures does { Does (shape_by command) result
+        (world_of (outside_of F.tells F.faults K.written K.faults folder.old out.old)
+        (wire_of A.told A.faults A.opened_with lab.old) (wire_of B.told B.faults B.opened_with wire.old))
+        (world_of (outside_of F.tells F.faults K.written K.faults folder.new out.new)
+        (wire_of A.told A.faults A.opened_with lab.new) (wire_of B.told B.faults B.opened_with wire.new)) }
+    ensures lab { uses_lab (shape_by command) ≡ false → lab.new ≡ lab.old }
+    ensures wire { uses_wire (shape_by command) ≡ false → wire.new ≡ wire.old }
+    ensures unlinked { IsStatusBeforeLink result → (lab.new ≡ lab.old) × (wire.new ≡ wire.old) }
+    ensures silent { ¬ IsDone result → ¬ IsUnwritten result → out.new ≡ out.old }
+    ensures files { (name : List ℕ) → F.tells folder.new name ≡ F.tells folder.old name }
+    ensures folder_faults { F.faults folder.old ≤ F.faults folder.new }
+    ensures lab_faults { A.faults lab.old ≤ A.faults lab.new }
+    ensures wire_faults { B.faults wire.old ≤ B.faults wire.new }
+    ensures out_faults { K.faults out.old ≤ K.faults out.new }
+{
+    match command {
+        Command::Check { config } => check(alloc, config, folder, out),
+        Command::Play { script, config } => play(rt, alloc, script, config, folder, lab, out),
+        Command::Run { script, config } => run(rt, alloc, script, config, folder, wire, gate, out),
+        Command::Load { n } => load(rt, alloc, n, lab, gate, out),
+        Command::Keys { config, asked } => keys(alloc, config, &asked, folder, out),
     }
 }
 

@@ -1,42 +1,67 @@
 //! The words of the command line.
-ghost use Rattle.std.specs.Prelude.{◌≡◌, ◌∷◌, []};
-ghost use Rattle.uapubsub.specs.Words.{Asks};
+ghost use Rattle.std.specs.Prelude.{◌≡◌, IfSome, option_copied, option_map};
+ghost use Rattle.uapubsub.specs.Words.{IsBounded, check_shape, named_shape, script_shape, shape_by, shape_of, short_shape};
 
 use command_parts::{Word, names_file};
+use keys_command::{Asked, keys_in};
+use load_command::load_number;
 
 /// What the words ask for.
 #[derive(Clone, Copy)]
 pub enum Command<'w> {
     /// To judge the configuration in this file.
-    Check {
-        config: &'w str,
-    },
+    Check { config: &'w str },
     /// To play the script in this file over a link in memory, with the configuration in that file or the built-in one.
     Play {
         script: &'w str,
         config: Option<&'w str>,
     },
+    /// To run the script in this file with threads over a network, with the configuration in that file or the built-in one.
+    Run {
+        script: &'w str,
+        config: Option<&'w str>,
+    },
+    /// To run so much generated work, 1 to 1024, with threads over a link in memory.
+    Load { n: u32 },
+    /// To ask a key group of the configuration in this file for keys.
+    Keys { config: &'w str, asked: Asked },
 }
 
-/// What the words ask for: `check --config FILE`, `play SCRIPT` or `play SCRIPT --config FILE`. No other words ask for anything.
+/// What the words ask for: `check --config FILE`; `play` or `run` with `SCRIPT` or `SCRIPT --config FILE`; `load N`;
+/// `keys FILE GROUP START COUNT MS`. No other words ask for anything.
 pub fn command_in(words: &[Word]) -> Option<Command<'_>>
-    ensures { Asks words.now result }
+    ensures shape { shape_of words.now ≡ option_map shape_by result }
+    ensures bounded { IfSome result IsBounded }
 {
     match words {
-        [command, script] => play_of(command.as_str(), script.as_str()),
+        [command, word] => short(command.as_str(), word.as_str()),
         [command, option, config] => check_of(command.as_str(), option.as_str(), config.as_str()),
-        [command, script, option, config] => play_with(
+        [command, script, option, config] => named(
             command.as_str(),
             script.as_str(),
             option.as_str(),
             config.as_str(),
         ),
-        _ => None,
+        words => keys_in(words).map(|(config, asked)| Command::Keys { config, asked }),
+    }
+}
+
+fn short<'w>(command: &str, word: &'w str) -> Option<Command<'w>>
+    ensures shape { short_shape command.now word.now ≡ option_map shape_by result }
+    ensures bounded { IfSome result IsBounded }
+{
+    if command == "load" {
+        load_number(word.as_bytes()).map(|n| Command::Load { n })
+    } else if names_file(word.as_bytes()) {
+        scripted(command, word, None)
+    } else {
+        None
     }
 }
 
 fn check_of<'w>(command: &str, option: &str, config: &'w str) -> Option<Command<'w>>
-    ensures { Asks (command.now ∷ option.now ∷ config.now ∷ []) result }
+    ensures shape { check_shape command.now option.now config.now ≡ option_map shape_by result }
+    ensures bounded { IfSome result IsBounded }
 {
     if command == "check" && option == "--config" && names_file(config.as_bytes()) {
         Some(Command::Check { config })
@@ -45,33 +70,34 @@ fn check_of<'w>(command: &str, option: &str, config: &'w str) -> Option<Command<
     }
 }
 
-fn play_of<'w>(command: &str, script: &'w str) -> Option<Command<'w>>
-    ensures { Asks (command.now ∷ script.now ∷ []) result }
-{
-    if command == "play" && names_file(script.as_bytes()) {
-        Some(Command::Play {
-            script,
-            config: None,
-        })
-    } else {
-        None
-    }
-}
-
-fn play_with<'w>(
+fn named<'w>(
     command: &str,
     script: &'w str,
     option: &str,
     config: &'w str,
 ) -> Option<Command<'w>>
-    ensures { Asks (command.now ∷ script.now ∷ option.now ∷ config.now ∷ []) result }
+    ensures shape { named_shape command.now script.now option.now config.now ≡ option_map shape_by result }
+    ensures bounded { IfSome result IsBounded }
 {
-    let named = names_file(script.as_bytes()) && names_file(config.as_bytes());
-    if command == "play" && option == "--config" && named {
-        Some(Command::Play {
-            script,
-            config: Some(config),
-        })
+    if option == "--config" && names_file(script.as_bytes()) && names_file(config.as_bytes()) {
+        scripted(command, script, Some(config))
+    } else {
+        None
+    }
+}
+
+fn scripted<'w>(
+    command: &str,
+    script: &'w str,
+    config: Option<&'w str>,
+) -> Option<Command<'w>>
+    ensures shape { script_shape command.now script.now (option_copied config) ≡ option_map shape_by result }
+    ensures bounded { IfSome result IsBounded }
+{
+    if command == "play" {
+        Some(Command::Play { script, config })
+    } else if command == "run" {
+        Some(Command::Run { script, config })
     } else {
         None
     }

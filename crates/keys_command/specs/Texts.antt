@@ -1,0 +1,43 @@
+-- The lines of the command.
+use Rattle.std.specs.Prelude.{ℕ, ◌==◌, Bool, List, [], ◌++◌, codes, flat_map, if◌then◌else◌, Result, Ok, Err}
+use Rattle.std.specs.Fmt.{decimal}
+use Rattle.group_keys.specs.declared.key_set.KeySet.{KeySet}
+use Rattle.key_service.specs.declared.service.Keys.{Keys}
+use Rattle.key_service.specs.declared.service_fault.ServiceFault.TheVariants.{TooFew, NotConsecutive, Uneven}
+use Rattle.key_service.specs.Spelling.{policy_of}
+use Rattle.command_parts.specs.Statuses.{line_feed}
+use Rattle.keys_command.specs.declared.refusal.Refusal.{Refusal}
+use Rattle.keys_command.specs.declared.refusal.Refusal.TheVariants.{NotFound, Unserved}
+
+-- the name of a refusal
+abbrev pub refusal_name : Refusal → List ℕ
+refusal_name NotFound = codes "NotFound"
+refusal_name (Unserved TooFew) = codes "TooFew"
+refusal_name (Unserved (NotConsecutive index)) = codes "NotConsecutive"
+refusal_name (Unserved (Uneven index)) = codes "Uneven"
+
+-- `policy NAME first T next A lifetime B`
+unfoldable pub policy_line : Keys → List ℕ
+policy_line keys =
+    codes "policy " ++ policy_of keys.long ++ codes " first " ++ decimal keys.first ++ codes " next " ++ decimal keys.next
+    ++ codes " lifetime " ++ decimal keys.lifetime ++ line_feed
+
+-- `key T opens`, or `key T`
+unfoldable pub key_line : Bool → ℕ → List ℕ
+key_line opens token = codes "key " ++ decimal token ++ (if opens then codes " opens" else []) ++ line_feed
+
+-- a line for each key
+abbrev pub key_lines : Bool → List KeySet → List ℕ
+key_lines opens sets = flat_map (λ set. key_line opens set.token) sets
+
+abbrev pub end_line : List ℕ
+end_line = codes "end" ++ line_feed
+
+-- `refused NAME`
+abbrev pub refused_text : Refusal → List ℕ
+refused_text refusal = codes "refused " ++ refusal_name refusal ++ line_feed ++ end_line
+
+-- what is written of an answer to this START: of keys the policy and each key, which opens where START is 0; else the refusal
+abbrev pub keys_text : ℕ → Result Keys Refusal → List ℕ
+keys_text start (Ok keys) = policy_line keys ++ key_lines (start == 0) keys.keys.items ++ end_line
+keys_text start (Err refusal) = refused_text refusal

@@ -1,0 +1,88 @@
+-- How the command ends, from what its status says and from the counts.
+use Rattle.std.proofs.Common.{◌≡◌, ◌⊎◌, inl, inr, ℕ, List, Option, Err, Result, refl, ap, arith}
+use Rattle.ua_base.specs.Cause.{HasCause}
+use Rattle.command_parts.specs.declared.status.Status.{Status}
+use Rattle.command_parts.specs.declared.status.Status.TheVariants.{Done, BadWords, ConfigRefused, ScriptRefused, Unread, Unwritten, OutOfMemory, Unopened, Long}
+use Rattle.command_parts.specs.Outputs.{EndsWriting}
+use Rattle.command_parts.specs.Outside.{Wire}
+use Rattle.command_parts.specs.Statuses.{IsDone, IsUnwritten, IsOutOfMemory, IsUnopened}
+use Rattle.session_command.specs.Links.{EndsSession, UsesLink}
+use Rattle.session_command.proofs.Ended.{unopened_is, written_late}
+use Rattle.load_command.specs.Loads.{LoadEnds, Loads, OpensForWork, Output, Summarizes}
+
+-- the last write ends the command
+loads_written : (status : Status) (n : ℕ) (old new : Output) (after : Wire) (text : List ℕ) → Summarizes n after text → EndsWriting old.written new.written text status → Loads status n old new after
+loads_written Done n old new after text summary written = (text, summary, written)
+loads_written Unwritten n old new after text summary written = (text, summary, written)
+loads_written BadWords n old new after text summary written = absurd written
+loads_written (ConfigRefused code path) n old new after text summary written = absurd written
+loads_written (ScriptRefused line fault) n old new after text summary written = absurd written
+loads_written (Unread file) n old new after text summary written = absurd written
+loads_written OutOfMemory n old new after text summary written = absurd written
+loads_written Unopened n old new after text summary written = absurd written
+loads_written (Long file) n old new after text summary written = absurd written
+
+-- and so does a status of the session
+loads_ended : (status : Status) (n : ℕ) (old new : Output) (after : Wire) → EndsSession status → Loads status n old new after
+loads_ended OutOfMemory n old new after ends = tt
+loads_ended Unopened n old new after ends = tt
+loads_ended Done n old new after ends = absurd ends
+loads_ended BadWords n old new after ends = absurd ends
+loads_ended (ConfigRefused code path) n old new after ends = absurd ends
+loads_ended (ScriptRefused line fault) n old new after ends = absurd ends
+loads_ended (Unread file) n old new after ends = absurd ends
+loads_ended Unwritten n old new after ends = absurd ends
+loads_ended (Long file) n old new after ends = absurd ends
+
+not_written : (status : Status) → EndsSession status → IsUnwritten status → ⊥
+not_written OutOfMemory ends is = omega arith
+not_written Unopened ends is = omega arith
+not_written Done ends is = ends
+not_written BadWords ends is = ends
+not_written (ConfigRefused code path) ends is = ends
+not_written (ScriptRefused line fault) ends is = ends
+not_written (Unread file) ends is = ends
+not_written Unwritten ends is = ends
+not_written (Long file) ends is = ends
+
+-- what is said of a status leaves four
+completes : {X : Type 0} (status : Status) (n : ℕ) (old new : Output) (after : Wire) → Loads status n old new after → (IsUnwritten status → ⊥) → (IsUnopened status → X)
+    → IsDone status ⊎ IsOutOfMemory status ⊎ X
+completes Done n old new after says written other = inl refl
+completes OutOfMemory n old new after says written other = inr (inl refl)
+completes Unopened n old new after says written other = inr (inr (other refl))
+completes Unwritten n old new after says written other = absurd (written refl)
+completes BadWords n old new after says written other = absurd says
+completes (ConfigRefused code path) n old new after says written other = absurd says
+completes (ScriptRefused line fault) n old new after says written other = absurd says
+completes (Unread file) n old new after says written other = absurd says
+completes (Long file) n old new after says written other = absurd says
+
+load_ends : (status : Status) (n : ℕ) (old new : Output) (before after : Wire) → Loads status n old new after → UsesLink (OpensForWork n) (IsUnopened status) before after
+    → HasCause old.faults new.faults (IsUnwritten status) → LoadEnds status n old new before after
+load_ends status n old new before after says link writes = record {
+  says = says;
+  link = link;
+  complete = λ out_quiet link_quiet.
+      elim (completes {X = ⊥} status n old new after says (λ is. out_quiet (writes.rose is)) (λ is. link_quiet (link.cause.rose is))) [
+        | inl e ↦ inl e
+        | inr rest ↦ elim rest [ inl e ↦ inr e | inr e ↦ absurd e ]
+      ];
+  complete_but_for_opening = λ out_quiet. completes {X = IsUnopened status} status n old new after says (λ is. out_quiet (writes.rose is)) (λ is. is);
+  writes = writes;
+}
+
+-- the summary was made, and the last write ends the command
+pub ends_written : {U : Type 0} (status : Status) (n : ℕ) (old new : Output) (before after : Wire) (text : List ℕ) → Summarizes n after text → EndsWriting old.written new.written text status
+    → UsesLink (OpensForWork n) U before after → HasCause old.faults new.faults (IsUnwritten status) → LoadEnds status n old new before after
+ends_written status n old new before after text summary written link writes =
+    let late = written_late status old.written new.written text written in
+    load_ends status n old new before after (loads_written status n old new after text summary written)
+    (record { opens = link.opens; unused = λ is. absurd (late.opened is); cause = record { later = link.cause.later; rose = λ is. absurd (late.opened is) } }) writes
+
+-- there was no summary
+pub ends_without : (status : Status) (n : ℕ) (old new : Output) (before after : Wire) → EndsSession status → UsesLink (OpensForWork n) (IsUnopened status) before after
+    → old.faults ≡ new.faults → LoadEnds status n old new before after
+ends_without status n old new before after ends link same =
+    load_ends status n old new before after (loads_ended status n old new after ends) link
+    (record { later = omega (arith, same); rose = λ is. absurd (not_written status ends is) })

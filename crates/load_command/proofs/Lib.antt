@@ -1,0 +1,4 @@
+pub mod Work
+pub mod Last
+pub mod Told
+pub mod Ends

@@ -1,0 +1,69 @@
+//! Running a script.
+ghost use Rattle.std.specs.Prelude.{◌≡◌, option_copied};
+ghost use Rattle.command_parts.specs.Outside.{outside_of, wire_of};
+ghost use Rattle.command_parts.specs.Statuses.{IsDone, IsUnwritten};
+ghost use Rattle.session_command.specs.Links.{IsBeforeLink};
+ghost use Rattle.run_command.specs.Runs.{RunEnds};
+
+use command_parts::Status;
+use ps_config::Config;
+use ps_report::Closed;
+use ps_script::Script;
+use script_player::PlayEnd;
+use script_runner::run_script;
+use session_command::{Performer, session};
+use std::alloc::Global;
+use std::sync::Wait;
+use std::thread::Threads;
+use ua_base::{Folder, Gate, Link, Sink};
+
+/// Runs the script of this name over the link, each thread's writes and watches on a thread of its own, for a session with the
+/// configuration of this name or the built-in one, and writes its report. The gate is called before and after each write and watch
+/// and each tick.
+pub fn run<'w, R: Threads + Wait + Sync, F: Folder, B: Link, G: Gate, K: Sink>(
+    rt: &R,
+    alloc: Global,
+    script: &'w str,
+    config: Option<&'w str>,
+    folder: &mut F,
+    wire: &mut B,
+    gate: &G,
+    out: &mut K,
+) -> Status<'w>
+    ensures ends { RunEnds result script.now (option_copied config.entry)
+        (outside_of F.tells F.faults K.written K.faults folder.old out.old)
+        (outside_of F.tells F.faults K.written K.faults folder.new out.new)
+        (wire_of B.told B.faults B.opened_with wire.old)
+        (wire_of B.told B.faults B.opened_with wire.new) }
+    ensures unlinked { IsBeforeLink result → wire.new ≡ wire.old }
+    ensures silent { ¬ IsDone result → ¬ IsUnwritten result → out.new ≡ out.old }
+{
+    session(&Runner { rt, gate }, alloc, script, config, folder, wire, out)
+}
+
+/// Runs scripts with threads, past a gate.
+struct Runner<'r, R, G> {
+    rt: &'r R,
+    gate: &'r G,
+}
+
+impl<'r, R: Threads + Wait + Sync, G: Gate> Performer for Runner<'r, R, G> {
+    ghost use Rattle.std.specs.Prelude.{false};
+    ghost use Rattle.script_runner.specs.Runs.{IsRunOf};
+
+    ghost performs = { IsRunOf };
+
+    ghost FATES = { false };
+
+    const FATES: bool = false;
+
+    fn perform<L: Link>(
+        &self,
+        alloc: Global,
+        config: &Config,
+        script: &Script,
+        link: &mut L,
+    ) -> Result<Closed, PlayEnd> {
+        run_script(self.rt, alloc, config, script, link, self.gate)
+    }
+}

@@ -1,0 +1,120 @@
+//! Runs, and what their reports tell.
+use crate::order::{Item, Order, Until};
+use mem_edge::{MemoryFolder, MemoryLink, MemorySink, Name};
+use run_command::run;
+use std::alloc::Global;
+use std::sync::Wait;
+use std::test::Fail;
+use std::thread::Threads;
+
+/// The publisher's number at a gate.
+const PUBLISHER: u32 = 8;
+
+/// Five writes of thread 0, five of thread 1, and two ticks.
+const TEN_WRITES: &[u8] = b"write 0 demo a=1\nwrite 0 demo a=2\nwrite 0 demo a=3\nwrite 0 demo a=4\nwrite 0 demo a=5\nwrite 1 demo b=1\nwrite 1 demo b=2\nwrite 1 demo b=3\nwrite 1 demo b=4\nwrite 1 demo b=5\ntick 100\ntick 100\n";
+
+/// Five writes of thread 0, and five ticks.
+const FIVE_WRITES: &[u8] = b"write 0 demo a=1\nwrite 0 demo a=2\nwrite 0 demo a=3\nwrite 0 demo a=4\nwrite 0 demo a=5\ntick 100\ntick 100\ntick 100\ntick 100\ntick 100\n";
+
+fn item(thread: u32, k: u32) -> Item {
+    Item { thread, k }
+}
+
+/// Runs a script with the built-in configuration, over a link that loses nothing, and demands that no hold was missed. The answer is
+/// the report.
+fn report_of<R: Threads + Wait + Sync>(
+    rt: &R,
+    alloc: Global,
+    script: &[u8],
+    order: &Order,
+) -> Result<Vec<u8>, Fail> {
+    let mut files = Vec::new(alloc);
+    files.push((Name::new(b"s").ok_or("no name")?, Vec::from_slice(alloc, script)?)).ok().ok_or("memory")?;
+    let mut folder = MemoryFolder::new(files, Vec::new(alloc));
+    let mut wire = MemoryLink::new(alloc, Vec::new(alloc), Vec::new(alloc), Vec::new(alloc), false);
+    let mut out = MemorySink::new(alloc, Vec::new(alloc)).ok().ok_or("memory")?;
+    let status = run(rt, alloc, "s", None, &mut folder, &mut wire, order, &mut out);
+    if status.number() != 0 {
+        return Err("another status than 0".into());
+    }
+    if order.missed() != 0 {
+        return Err("a hold was missed".into());
+    }
+    Ok(Vec::from_slice(alloc, out.bytes())?)
+}
+
+/// The line of a report that begins so, without this beginning.
+fn line_of<'t>(report: &'t str, front: &str) -> Option<&'t str> {
+    for line in report.split('\n') {
+        if let Some(rest) = line.strip_prefix(front) {
+            return Some(rest);
+        }
+    }
+    None
+}
+
+/// How often a thread stands in a history.
+fn times_of(history: &str, thread: &str) -> u32 {
+    let mut times = 0u32;
+    for word in history.split(' ') {
+        if word == thread {
+            times = times.saturating_add(1);
+        }
+    }
+    times
+}
+
+/// The version that the log's entry of this place has.
+fn version_at(log: &str, place: &str) -> Option<u64> {
+    for entry in log.split(' ') {
+        if let Some(version) = entry.strip_prefix(place) {
+            return version.parse::<u64>().ok();
+        }
+    }
+    None
+}
+
+/// The holds of the ten writes: no body on one thread passes them. By the second tick there are four writes.
+fn ten_holds(alloc: Global) -> Result<Vec<(Item, Until)>, Fail> {
+    let mut holds = Vec::new(alloc);
+    holds.push((item(0, 0), Until::Answered(item(1, 0))))?;
+    holds.push((item(0, 1), Until::Came(item(1, 1))))?;
+    holds.push((item(1, 1), Until::Came(item(0, 1))))?;
+    holds.push((item(0, 2), Until::Answered(item(PUBLISHER, 0))))?;
+    holds.push((item(PUBLISHER, 1), Until::Answered(item(0, 2))))?;
+    Ok(holds)
+}
+
+#[test]
+fn threads_write_while_the_publisher_ticks(rt: HostRuntime) -> Result<(), Fail> {
+    let order = Order::new(rt.alloc(), ten_holds(rt.alloc())?)?;
+    let report = report_of(&rt, rt.alloc(), TEN_WRITES, &order)?;
+    let text = str::from_utf8(&report).ok().ok_or("no text")?;
+    assert_eq!(&rt; order.all_calls(), (12, 12));
+    let history = line_of(text, "history demo 10: ").ok_or("no history")?;
+    assert_eq!(&rt; (times_of(history, "0"), times_of(history, "1")), (5, 5));
+    let log = line_of(text, "writer w1 operational 3: ").ok_or("no log")?;
+    assert_eq!(&rt; version_at(log, "2="), Some(10));
+    assert!(&rt; version_at(log, "1=").is_some_and(|version| version >= 4));
+    assert_eq!(&rt; line_of(text, "reader r1 "), Some("operational number 2 version 10: a=5 b=5 c=0 d=0"));
+    Ok(())
+}
+
+/// Each tick is held until the write of its number is answered, and each write until the tick before it is done.
+fn holds_in_step(alloc: Global) -> Result<Vec<(Item, Until)>, Fail> {
+    let mut holds = Vec::new(alloc);
+    for k in 0..5u32 {
+        holds.push((item(PUBLISHER, k), Until::Answered(item(0, k))))?;
+        holds.push((item(0, k + 1), Until::Answered(item(PUBLISHER, k))))?;
+    }
+    Ok(holds)
+}
+
+#[test]
+fn each_tick_samples_what_is_written_by_then(rt: HostRuntime) -> Result<(), Fail> {
+    let order = Order::new(rt.alloc(), holds_in_step(rt.alloc())?)?;
+    let report = report_of(&rt, rt.alloc(), FIVE_WRITES, &order)?;
+    let text = str::from_utf8(&report).ok().ok_or("no text")?;
+    assert_eq!(&rt; line_of(text, "writer w1 "), Some("operational 6: 0=1 1=2 2=3 3=4 4=5 5=5"));
+    Ok(())
+}

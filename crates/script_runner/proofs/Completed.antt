@@ -1,0 +1,61 @@
+-- A script that was run with threads, from its opening to its close.
+use Rattle.std.proofs.Common.{List, map, reverse, Option, Vec}
+use Rattle.std.specs.declared.alloc.Global.{Global}
+use Rattle.ua_base.specs.Journal.{LinkState}
+use Rattle.version_cell.specs.Cells.{CellData}
+use Rattle.version_cell.specs.Known.{Known}
+use Rattle.version_cell.specs.Passes.{shared_by}
+use Rattle.target_cells.specs.Keeping.{TargetsData}
+use Rattle.app_threads.specs.declared.done.Done.{Done}
+use Rattle.app_threads.specs.declared.item.Item.{Item}
+use Rattle.app_threads.specs.Crews.{AreDone, given_to}
+use Rattle.app_threads.specs.Duties.{Duty}
+use Rattle.ps_config.specs.declared.parts.Config.{Config}
+use Rattle.ps_report.specs.declared.closed.Closed.{Closed}
+use Rattle.ps_report.specs.Conditions.{IsClosedOf}
+use Rattle.ps_script.specs.declared.script.Script.{Script}
+use Rattle.ps_script.specs.Sound.{IsScript}
+use Rattle.session_model.specs.Keeping.{IsPlan}
+use Rattle.pubsub_engine.specs.declared.session.Session.{Session}
+use Rattle.pubsub_engine.specs.Holding.{AreTargetsOf, IsBankOf, IsSession}
+use Rattle.script_player.specs.Plays.{plan_by}
+use Rattle.script_player.proofs.Finished.{RunsTellTheHeadline}
+use Rattle.script_player.proofs.Headline.{HistoriesHaveRows}
+use Rattle.script_runner.specs.Conducting.{HasConducted}
+use Rattle.script_runner.specs.Ended.{HasEnded}
+use Rattle.script_runner.specs.Finishing.{Finishes}
+use Rattle.script_runner.specs.Runs.{IsRunOf}
+use Rattle.script_runner.proofs.Ended.{Ends, ends}
+use Rattle.script_runner.proofs.Legal.{ClosedHistoriesAreLegal}
+use Rattle.script_runner.proofs.Opened.{IsOpened, are-duties}
+use Rattle.script_runner.proofs.Whole.{is-run, stands, steps}
+
+module _ (config : Config) (script : Script) (is : IsScript config script) (plan : IsPlan (plan_by config script)) (opened : Session) (bank : List CellData) (targets : TargetsData)
+    (hands : List (List Known)) (watches : List Known) (lists : List (Vec Item Global)) (o : IsOpened config script opened bank targets hands watches lists) (dones : List Done)
+    (done : AreDone bank targets.cells (given_to lists hands (map shared_by watches)) dones) (told after : Option LinkState) (session : Session) (was : IsSession session)
+    (bank-is : IsBankOf session bank) (targets-are : AreTargetsOf session targets) (h : HasConducted config script (reverse script.lines) told session) (closed : Closed)
+    (f : Finishes bank targets.cells session dones told after closed) (laws : ClosedHistoriesAreLegal) where
+  abbrev duties : List Duty
+  duties = given_to lists hands (map shared_by watches)
+
+  abbrev ended : HasEnded config script bank targets duties dones session h.steps told after closed
+  ended = record {
+    script_is = is;
+    duties_are = are-duties config script is opened bank targets hands watches lists o;
+    done = done;
+    stands = h.stands;
+    bank_is = bank-is;
+    targets_are = targets-are;
+    finishes = f;
+  }
+
+  all-ends : Ends config script h.steps f.new dones closed
+  all-ends =
+      ends config script bank targets duties dones session h.steps told after closed ended
+      (steps config script is plan bank targets.cells dones told after session was h closed f) (stands config script is plan bank targets.cells dones told after session was h closed f) laws
+
+  pub run-is : HistoriesHaveRows → RunsTellTheHeadline → IsRunOf config script after closed
+  run-is rows tells-all = is-run config script is plan bank targets.cells dones told after session was h closed f rows tells-all all-ends
+
+  pub closed-is : IsClosedOf config closed
+  closed-is = all-ends.closed_of

@@ -1,0 +1,16 @@
+pub mod Growing
+pub mod Sampling
+pub mod Conducted
+pub mod Turned
+pub mod Versions
+pub mod Beginning
+pub mod Whole
+pub mod Items
+pub mod Handing
+pub mod Legal
+pub mod Looks
+pub mod Meeting
+pub mod Finishing
+pub mod Ended
+pub mod Opened
+pub mod Completed

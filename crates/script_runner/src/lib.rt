@@ -1,0 +1,9 @@
+//! A script run with threads: its writes and watches on a thread each, and its other lines over a session and a link beside them.
+#![tactic(auto)]
+
+mod conductor;
+mod ending;
+mod lists;
+mod run;
+
+pub use run::run_script;
