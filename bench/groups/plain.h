@@ -14,15 +14,32 @@ enum { UINT32 = 7 };
 
 typedef enum { UNSECURED, SIGNED, ENCRYPTED } mode;
 
-// A field's type in a Variant, and its bytes on the wire; all fields are scalars.
+// A field's type in a Variant, and its bytes on the wire. Without TEXTS all fields are scalars, each in the word of its own number; with
+// it a field of no bytes is a text of at most `cap`, whose length stands in its first word and whose bytes in those behind it.
+#ifdef TEXTS
+struct field {
+    uint8_t type, size;
+    uint16_t cap, word;
+};
+#define WORD_OF(meta, i) (meta)->fields[i].word
+#define WORDS_OF(meta) (meta)->words
+enum { MESSAGE_WORDS = WORDS };
+#else
 struct field {
     uint8_t type, size;
 };
+#define WORD_OF(meta, i) (i)
+#define WORDS_OF(meta) (meta)->count
+enum { MESSAGE_WORDS = MAX_FIELDS };
+#endif
 
 struct meta {
     size_t count;
     struct field fields[MAX_FIELDS];
     uint32_t major, minor;
+#ifdef TEXTS
+    size_t words;
+#endif
 };
 
 // What is measured: `writers` writers, and as many readers, by turns of `datasets` data sets.
@@ -128,7 +145,8 @@ void close_read_group(struct read_group *group);
 verdict take_datagram(struct read_group *group, const struct meta *metas, uint64_t now, const bool *on, uint8_t *datagram,
                       size_t length, struct taken *taken);
 
-// Keys that both sides have: the signing key has the bytes 0 to 31, the encrypting key 64 and on, the key nonce 51 four times.
+// Keys that both sides have: the signing key has the bytes 0 to 31, the encrypting key 64 and on, the key nonce 51 four times. The
+// cipher is AES-128 in counter mode, or CIPHER.
 void key_contexts(struct keys *keys, mode mode);
 void free_contexts(struct keys *keys);
 void add_stream(struct keys *keys, const uint8_t *nonce, uint8_t *bytes, size_t length);

@@ -196,6 +196,35 @@ static bool read_front(struct cursor *cursor, struct front *front) {
     return true;
 }
 
+#ifdef TEXTS
+static bool is_utf8(const uint8_t *at, size_t length) {
+    static const uint32_t least[] = {0, 0x80, 0x800, 0x10000};
+    for (const uint8_t *end = at + length; at < end;) {
+        int more = *at < 0x80 ? 0 : (*at & 0xe0) == 0xc0 ? 1 : (*at & 0xf0) == 0xe0 ? 2 : (*at & 0xf8) == 0xf0 ? 3 : -1;
+        if (more < 0 || end - at <= more) return false;
+        uint32_t point = more ? *at & (0x3f >> more) : *at;
+        for (at++; more > 0 && (*at & 0xc0) == 0x80; more--, at++) point = point << 6 | (*at & 0x3f);
+        if (more || point > 0x10ffff || (point >= 0xd800 && point < 0xe000)) return false;
+        if (point >= 0x80 && point < least[point < 0x800 ? 1 : point < 0x10000 ? 2 : 3]) return false;
+    }
+    return true;
+}
+
+// A text of null is read as empty.
+static bool read_text(struct cursor *cursor, const struct field *field, uint64_t *words) {
+    const uint8_t *at = next(cursor, 4);
+    if (!at) return false;
+    int32_t length = (int32_t)get32(at);
+    if (length < -1 || length > field->cap) return false;
+    if (length < 0) length = 0;
+    if (!(at = next(cursor, (size_t)length)) || !is_utf8(at, (size_t)length)) return false;
+    *words = (uint64_t)length;
+    memset(words + 1, 0, 8 * ((field->cap + 7u) / 8));
+    memcpy(words + 1, at, (size_t)length);
+    return true;
+}
+#endif
+
 static bool read_scalar(struct cursor *cursor, struct field field, uint64_t *word) {
     const uint8_t *at = next(cursor, field.size);
     if (!at) return false;
@@ -207,19 +236,26 @@ static bool read_scalar(struct cursor *cursor, struct field field, uint64_t *wor
     }
 }
 
+static bool read_value(struct cursor *cursor, const struct meta *meta, size_t i, uint64_t *words) {
+#ifdef TEXTS
+    if (!meta->fields[i].size) return read_text(cursor, &meta->fields[i], &words[WORD_OF(meta, i)]);
+#endif
+    return read_scalar(cursor, meta->fields[i], &words[WORD_OF(meta, i)]);
+}
+
 static bool read_whole(struct cursor *cursor, const struct meta *meta, uint64_t *words) {
     const uint8_t *at = next(cursor, 2);
     if (!at || get16(at) != meta->count) return false;
     for (size_t i = 0; i < meta->count; i++) {
         if (!(at = next(cursor, 1)) || *at != meta->fields[i].type) return false;
-        if (!read_scalar(cursor, meta->fields[i], &words[i])) return false;
+        if (!read_value(cursor, meta, i, words)) return false;
     }
     return true;
 }
 
 static bool read_raw(struct cursor *cursor, const struct meta *meta, uint64_t *words) {
     for (size_t i = 0; i < meta->count; i++)
-        if (!read_scalar(cursor, meta->fields[i], &words[i])) return false;
+        if (!read_value(cursor, meta, i, words)) return false;
     return true;
 }
 
@@ -230,7 +266,7 @@ static bool read_change(struct cursor *cursor, const struct meta *meta, uint64_t
         if (!(at = next(cursor, 3))) return false;
         size_t i = get16(at);
         if (i >= meta->count || *mask >> i & 1 || at[2] != meta->fields[i].type) return false;
-        if (!read_scalar(cursor, meta->fields[i], &words[i])) return false;
+        if (!read_value(cursor, meta, i, words)) return false;
         *mask |= (uint64_t)1 << i;
     }
     return true;
@@ -244,7 +280,7 @@ static bool is_padding(const struct cursor *cursor) {
 
 struct message {
     struct front front;
-    uint64_t mask, words[MAX_FIELDS];
+    uint64_t mask, words[MESSAGE_WORDS];
 };
 
 static bool read_message(const uint8_t *bytes, size_t length, const struct meta *meta, bool fixed, struct message *message) {
@@ -286,12 +322,15 @@ static void note_break(struct reader *reader, uint16_t expected, uint16_t got) {
 
 static void hold(struct reader *reader, const struct meta *meta, const struct message *message, uint64_t now) {
     if (message->front.kind == 0) {
-        memcpy(reader->row.words, message->words, 8 * meta->count);
+        memcpy(reader->row.words, message->words, 8 * WORDS_OF(meta));
         reader->holds = true;
     }
     for (uint64_t mask = message->mask; mask; mask &= mask - 1) {
-        size_t i = (size_t)__builtin_ctzll(mask);
-        reader->row.words[i] = message->words[i];
+        size_t i = (size_t)__builtin_ctzll(mask), word = WORD_OF(meta, i);
+#ifdef TEXTS
+        if (!meta->fields[i].size) memcpy(reader->row.words + word + 1, message->words + word + 1, 8 * ((meta->fields[i].cap + 7u) / 8));
+#endif
+        reader->row.words[word] = message->words[word];
     }
     reader->number = message->front.number;
     reader->ready = true;

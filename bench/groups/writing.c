@@ -26,6 +26,18 @@ static uint8_t *put_scalar(uint8_t *at, struct field field, uint64_t word) {
     }
 }
 
+static uint8_t *put_value(uint8_t *at, const struct meta *meta, size_t i, const uint64_t *words) {
+    uint64_t word = words[WORD_OF(meta, i)];
+#ifdef TEXTS
+    if (!meta->fields[i].size) {
+        at = put32(at, (uint32_t)word);
+        memcpy(at, words + WORD_OF(meta, i) + 1, word);
+        return at + word;
+    }
+#endif
+    return put_scalar(at, meta->fields[i], word);
+}
+
 // ---- frames
 
 static uint8_t *put_front(uint8_t *at, const struct writer *writer, const struct meta *meta, uint8_t encoding, int kind) {
@@ -41,13 +53,13 @@ static uint8_t *put_whole(uint8_t *at, const struct meta *meta, const uint64_t *
     at = put16(at, (uint16_t)meta->count);
     for (size_t i = 0; i < meta->count; i++) {
         *at++ = meta->fields[i].type;
-        at = put_scalar(at, meta->fields[i], words[i]);
+        at = put_value(at, meta, i, words);
     }
     return at;
 }
 
 static uint8_t *put_raw(uint8_t *at, const struct meta *meta, const uint64_t *words) {
-    for (size_t i = 0; i < meta->count; i++) at = put_scalar(at, meta->fields[i], words[i]);
+    for (size_t i = 0; i < meta->count; i++) at = put_value(at, meta, i, words);
     return at;
 }
 
@@ -57,19 +69,27 @@ static uint8_t *put_change(uint8_t *at, const struct meta *meta, const uint64_t 
         size_t i = (size_t)__builtin_ctzll(mask);
         at = put16(at, (uint16_t)i);
         *at++ = meta->fields[i].type;
-        at = put_scalar(at, meta->fields[i], words[i]);
+        at = put_value(at, meta, i, words);
     }
     return at;
 }
 
+static bool differs([[maybe_unused]] const struct meta *meta, size_t i, const uint64_t *old, const uint64_t *words) {
+    size_t word = WORD_OF(meta, i);
+#ifdef TEXTS
+    if (!meta->fields[i].size) return old[word] != words[word] || memcmp(old + word + 1, words + word + 1, words[word]);
+#endif
+    return old[word] != words[word];
+}
+
 static uint64_t changed(const struct meta *meta, const uint64_t *old, const uint64_t *words) {
     uint64_t mask = 0;
-    for (size_t i = 0; i < meta->count; i++) mask |= (uint64_t)(old[i] != words[i]) << i;
+    for (size_t i = 0; i < meta->count; i++) mask |= (uint64_t)differs(meta, i, old, words) << i;
     return mask;
 }
 
 static void keep(struct writer *writer, const struct meta *meta, uint64_t now, const uint64_t *words, uint64_t version) {
-    memcpy(writer->row.words, words, 8 * meta->count);
+    memcpy(writer->row.words, words, 8 * WORDS_OF(meta));
     writer->log[writer->logged++] = (struct log_entry){writer->place, version};
     writer->place++;
     writer->sent_at = now;
@@ -87,7 +107,7 @@ static uint8_t *answer(struct writer *writer, bool fixed, const struct meta *met
         return at;
     }
     writer->until_key--;
-    if (memcmp(writer->row.words, words, 8 * meta->count)) {
+    if (memcmp(writer->row.words, words, 8 * WORDS_OF(meta))) {
         at = put_front(at, writer, meta, 0, 1);
         at = put_change(at, meta, words, changed(meta, writer->row.words, words));
         keep(writer, meta, now, words, version);

@@ -1,11 +1,14 @@
 #!/usr/bin/env python3
 """Prints cases of whole sessions by chance, for crates/session_rows and models/session/model.py: a configuration, a script, failing sends
-and receives.
+and receives, and datagrams that come besides: copies of what was sent before, whole, cut, lengthened or with a bit altered, and bytes by chance.
 
-usage: random_cases.py FIRST COUNT     (the seeds FIRST to FIRST + COUNT - 1)"""
+usage: random_cases.py FIRST COUNT     (the seeds FIRST to FIRST + COUNT - 1)
+
+A seed that ends with 9 is wide: up to 8 data sets of up to 40 fields, 4 groups of 4 writers, 4 read groups and 120 lines; the others have up to
+3 data sets of up to 7 fields, 3 groups of 3 writers, 3 read groups and 40 lines."""
 import os, random, sys
 sys.path.insert(0, os.path.dirname(os.path.abspath(__file__)))
-from model import value_text
+from model import Link, Session, value_text
 
 SIZES = dict(Boolean=1, SByte=1, Byte=1, Int16=2, UInt16=2, Int32=4, UInt32=4, Int64=8, UInt64=8, Float=4, Double=8, DateTime=8, Guid=16, StatusCode=4)
 RANGES = dict(SByte=(-2**7, 2**7 - 1), Byte=(0, 2**8 - 1), Int16=(-2**15, 2**15 - 1), UInt16=(0, 2**16 - 1), Int32=(-2**31, 2**31 - 1),
@@ -24,6 +27,10 @@ def value(r, kind, cap):
 def raw_size(field):
     return 4 + field["cap"] if field["kind"] in ("String", "ByteString") else SIZES[field["kind"]]
 
+def words_of(fields):
+    """the words of a row (docs/LIMITS.md)"""
+    return sum({"Guid": 2}.get(f["kind"], 1 + (f["cap"] + 7) // 8) for f in fields) + (len(fields) + 1) // 2
+
 def field(r, name):
     kind = r.choice(KINDS + ["UInt32"] * 8)
     return dict(name=name, kind=kind, cap=r.choice([1, 5, 40, 200]) if kind in ("String", "ByteString") else 0)
@@ -36,15 +43,17 @@ def text(t): return f'"{t}"'
 class Case:
     def __init__(self, seed):
         r = self.r = random.Random(seed)
+        self.wide = seed % 10 == 9
         self.sets = []
-        for i in range(r.choice([1, 1, 2, 3])):
-            fields = [field(r, f"f{k}") for k in range(r.choice([1, 2, 4, 7]))]
+        for i in range(r.choice([4, 8]) if self.wide else r.choice([1, 1, 2, 3])):
+            fields = [field(r, f"f{k}") for k in range(r.choice([7, 20, 40]) if self.wide else r.choice([1, 2, 4, 7]))]
+            while words_of(fields) > 125: fields.pop()
             self.sets.append(dict(name=f"d{i}", fields=fields, quality=r.random() < 0.25, minor=r.choice([0, 0, 3])))
         self.publisher = r.choice(["u8:5", "u16:2234", "u32:70000", "u64:5000000000", "text:line-1"])
         self.keys = [self.keygroup(k) for k in range(r.choice([0, 1, 2]))]
         self.writer_ids = iter(range(1, 100))
-        self.groups = [self.group(g) for g in range(r.choice([1, 1, 2, 3]))]
-        self.reads = [self.readgroup(k) for k in range(r.choice([0, 1, 1, 2, 3]))]
+        self.groups = [self.group(g) for g in range(r.choice([3, 4]) if self.wide else r.choice([1, 1, 2, 3]))]
+        self.reads = [self.readgroup(k) for k in range(r.choice([2, 4]) if self.wide else r.choice([0, 1, 1, 2, 3]))]
 
     def keygroup(self, k):
         r = self.r
@@ -65,7 +74,8 @@ class Case:
                   class_id="72962b91-fa75-4ae6-8d28-b404dc7daf63" if r.random() < 0.15 else None, max_size=1400, writers=[])
         plain = [s for s in self.sets if not s["quality"]]
         if fixed and not plain: it["layout"] = "dynamic"
-        for _ in range(r.choice([1, 1, 2, 3])): it["writers"].append(self.writer(it, plain))
+        for _ in range(r.choice([2, 4]) if self.wide else r.choice([1, 1, 2, 3])): it["writers"].append(self.writer(it, plain))
+        if self.slots_end(it) > 1300: it["layout"] = "dynamic"
         if it["layout"] == "fixed": self.lay_out(it)
         elif r.random() < 0.3: it["max_size"] = r.choice([128, 200, 400])
         return it
@@ -82,6 +92,10 @@ class Case:
         size = 1 + (kind != "u8" or it["class_id"] is not None or it["security"] != "none")
         size += dict(u8=1, u16=2, u32=4, u64=8).get(kind, 4 + len(name)) + (16 if it["class_id"] else 0) + 3
         return size + (4 if it["version"] else 0) + (2 if it["message_number"] else 0) + (2 if it["sequence"] else 0) + (14 if it["security"] != "none" else 0)
+
+    def slots_end(self, it):
+        """where the slots end at most"""
+        return self.header_size(it) + 3 + sum(13 + sum(map(raw_size, w["set"]["fields"])) for w in it["writers"])
 
     def lay_out(self, it):
         at = self.header_size(it) + self.r.choice([0, 0, 3])
@@ -137,7 +151,7 @@ class Case:
         out, on, appended, fates = [], {}, 0, set()
         names = ["root", "connection"] + [g["name"] for g in self.groups + self.reads] + [w["name"] for g in self.groups for w in g["writers"]]
         names += [x["name"] for g in self.reads for x in g["readers"]]
-        for _ in range(r.choice([3, 10, 25, 40])):
+        for _ in range(r.choice([40, 120]) if self.wide else r.choice([3, 10, 25, 40])):
             what = r.random()
             if what < 0.35: out.append(self.write(r.choice(self.sets)))
             elif what < 0.75: out.append(f"tick {r.choice([1, 10, 50, 100, 100, 100, 250, 400])}")
@@ -172,19 +186,48 @@ class Case:
         if not may: return None
         s = r.choice(may)
         f = field(r, f"x{nth}")
+        if words_of(s["fields"] + [f]) > 125: return None
         s["fields"].append(f)
         return f"append {s['name']} {f['name']} {f['kind']}" + (f" {f['cap']}" if f["cap"] else "")
+
+def sent_by(config, script):
+    """what the session sends, in order"""
+    session = Session(config, Link({}))
+    for line in script.split("\n"):
+        if line: session.line(line.split())
+    session.tick(0, True)
+    return [session.link.sent[k] for k in sorted(session.link.sent)]
+
+def altered(r, datagram):
+    """as it was, a bit altered, cut, lengthened, or other bytes"""
+    bytes_ = bytearray(datagram)
+    what = r.choice(["whole", "bit", "bit", "bits", "cut", "longer", "other"])
+    for _ in range(dict(bit=1, bits=3).get(what, 0)): bytes_[r.randrange(len(bytes_))] ^= 1 << r.randrange(8)
+    if what == "cut": return bytes(bytes_[:r.randrange(len(bytes_))])
+    if what == "longer": return bytes(bytes_) + r.randbytes(r.randrange(1, 9))
+    return r.randbytes(r.randrange(40)) if what == "other" else bytes(bytes_)
+
+def injected(r, config, script):
+    """lines of datagrams that come besides, each behind one that was sent before or just then"""
+    if r.random() < 0.5: return
+    sent = sent_by(config, script)
+    for _ in range(r.choice([1, 2, 5])):
+        if not sent: return
+        after = r.randrange(len(sent))
+        yield f"inject {after} {altered(r, sent[r.randrange(after + 1)]).hex() or '-'}"
 
 def main():
     first, count = int(sys.argv[1]), int(sys.argv[2])
     for seed in range(first, first + count):
         case = Case(seed)
         print(f"# seed {seed}")
-        print("config " + case.config().replace("\n", "\\n"))
-        print("script " + case.script().replace("\n", "\\n"))
+        config, script = case.config(), case.script()
+        print("config " + config.replace("\n", "\\n"))
+        print("script " + script.replace("\n", "\\n"))
         for word in ("sends", "receives"):
             fails = sorted(case.r.sample(range(12), case.r.choice([0, 0, 0, 1, 3])))
             if fails: print(word + "".join(f" {k}" for k in fails))
+        for line in injected(case.r, config, script): print(line)
         print("play")
 
 if __name__ == "__main__": main()
