@@ -1,4 +1,5 @@
-use Rattle.std.proofs.Common.{refl}
+use Rattle.std.proofs.Common.{Err, ap}
+use Rattle.script_player.specs.declared.play.PlayEnd.{PlayEnd}
 use Rattle.load_command.proofs.Told.{opens_for, summarized}
 use Rattle.load_command.proofs.command.work_summary.Goals as goal
 
@@ -30,6 +31,6 @@ returns-in-Err-Memory-clause-link g c = record {
 pub returns-in-Err-Unopened-clause-link : goal.returns-in-Err-Unopened-clause-link
 returns-in-Err-Unopened-clause-link g c = record {
   opens = λ other. opens_for _ _ _ _ c.requires.config c.requires.script (c.in-Err-Unopened.ensures.opens other);
-  unused = λ is. c.in-Err-Unopened.ensures.unused refl;
-  cause = record { later = c.in-Err-Unopened.ensures.faults; rose = λ is. c.in-Err-Unopened.ensures.unopened refl };
+  unused = λ is. c.in-Err-Unopened.ensures.unused (ap (λ (e : PlayEnd). Err e) c.in-Err-Unopened.field-0-is);
+  cause = record { later = c.in-Err-Unopened.ensures.faults; rose = λ is. c.in-Err-Unopened.ensures.unopened (ap (λ (e : PlayEnd). Err e) c.in-Err-Unopened.field-0-is) };
 }
