@@ -2,7 +2,6 @@
 use Rattle.std.proofs.Common.{◌≡◌, ◌⊎◌, inl, inr, ℕ, ◌<◌, ◌≤◌, Bool, true, false, List, [], ◌∷◌, length, reverse, sym, ap, ◌∙◌, subst, arith, Option}
 use Rattle.std.proofs.lemmas.Bool.{cases_lt}
 use Rattle.std.proofs.lemmas.List.FromFn.{fill_by_all, get_or-map-range_with_len, length-map-range_with_len}
-use Rattle.dataset_meta.specs.declared.field.Field.{Field}
 use Rattle.dataset_meta.specs.DataValues.{DataValue}
 use Rattle.dataset_meta.specs.Metas.{MetaData}
 use Rattle.ua_base.specs.Journal.{LinkState}

@@ -9,17 +9,16 @@ use Rattle.std.proofs.lemmas.List.Concat.{flat_map-append}
 use Rattle.std.proofs.lemmas.List.Elements.{All-append, All-cons, All-head, All-map, All-nil, All-push, All-tail}
 use Rattle.std.proofs.lemmas.List.FromFn.{get_or-map-range_with_len, length-map-range_with_len}
 use Rattle.std.proofs.lemmas.Option.{slice_get-get_or}
-use Rattle.dataset_meta.specs.declared.field.Field.{Field}
 use Rattle.dataset_meta.specs.Metas.{MetaData, IsMeta, no_meta}
 use Rattle.row_words.specs.declared.patch.Patch.{Patch}
 use Rattle.row_words.specs.Patches.{IsPatchOf, patched_words}
 use Rattle.row_words.specs.Shapes.{BelongsTo, shape_of}
 use Rattle.version_cell.proofs.Logs.{last_words-push, own-push_other}
 use Rattle.version_cell.specs.declared.rule.Entry.{Entry}
-use Rattle.version_cell.specs.Cells.{CellData, IsCell, terms_of}
+use Rattle.version_cell.specs.Cells.{CellData, terms_of}
 use Rattle.version_cell.specs.Histories.{entry, opening_words, own, row_after}
 use Rattle.version_cell.specs.Known.{Known, no_table}
-use Rattle.version_cell.specs.Terms.{IsEntry, IsLawful, quota, shape_in}
+use Rattle.version_cell.specs.Terms.{IsLawful, quota, shape_in}
 use Rattle.app_threads.specs.Closing.{IsClosed}
 use Rattle.app_threads.specs.Marks.{AreLaid, Mark, marks_of}
 use Rattle.app_threads.proofs.Marking.{AreLaid-length, AreLaid-push, length-marks, marks_push, marks_same}
@@ -279,7 +278,7 @@ module _ (config : Config) (script : Script) (is : IsScript config script) (laws
   small =
       subst (λ (q : List ℕ). sum q < 2 ^ 63)
       (get_or-map-range_with_len (λ (s : ℕ). map (λ (thread : ℕ). writes_in thread s script.lines) (range_with_len 0 8)) 0 (length config.dataset) set set [] there (omega arith))
-      (few-writes (length config.dataset) script.lines is.few set [] 
+      (few-writes (length config.dataset) script.lines is.few set []
       (let e = length-map-range_with_len (λ (s : ℕ). map (λ (thread : ℕ). writes_in thread s script.lines) (range_with_len 0 8)) 0 (length config.dataset) in omega (arith, e, there)))
 
   lawful : IsLawful pass.terms log

@@ -1,5 +1,5 @@
 -- The looks of a played script, thread by thread: they are those of its watches, and count ever more stores.
-use Rattle.std.proofs.Common.{◌≡◌, ◌⊎◌, inl, inr, ℕ, zero, suc, ◌+◌, ◌<◌, ◌≤◌, ◌==◌, Bool, true, false, cond, not, List, [], ◌∷◌, ◌++◌, length, map, replicate, reverse, get_or, refl, sym, ap, ◌∙◌, subst, arith, le_refl, eq-eqb, ne_eqb, Option, Some, None}
+use Rattle.std.proofs.Common.{◌≡◌, ◌⊎◌, inl, inr, ℕ, zero, suc, ◌<◌, ◌≤◌, ◌==◌, Bool, true, false, cond, not, List, [], ◌∷◌, ◌++◌, length, map, replicate, reverse, get_or, refl, sym, ap, ◌∙◌, subst, arith, le_refl, eq-eqb, ne_eqb, Option, Some, None}
 use Rattle.std.specs.Prelude.{All, slice_get}
 use Rattle.std.specs.List.{AllZip, filter, flat_map, range_with_len}
 use Rattle.std.specs.Option.{option_map_or}
@@ -21,7 +21,7 @@ use Rattle.reader_group.specs.Settings.{setting_of}
 use Rattle.writer_group.specs.declared.sampled.Sampled.{Sampled}
 use Rattle.session_model.specs.Closing.{MemberPlace, reader_places}
 use Rattle.session_model.specs.Events.{reader_at}
-use Rattle.session_model.specs.Steps.{Plan, Step, Enable, Disable, Append, Tick, Pump}
+use Rattle.session_model.specs.Steps.{Plan, Step, Tick, Pump}
 use Rattle.session_model.specs.Stores.{Store, held_by, is_same, stored_on, stores}
 use Rattle.pubsub_engine.specs.Authored.{watch_of}
 use Rattle.pubsub_engine.proofs.Pairing.{pairs-push}
@@ -29,7 +29,7 @@ use Rattle.script_player.specs.Playing.{IsLineBy, IsPlayed, look_at, samples_aft
 use Rattle.script_player.specs.Plays.{by_threads}
 use Rattle.script_player.proofs.Lines.{reverse-cons}
 use Rattle.script_runner.specs.Lists.{watch_by, watches_by}
-use Rattle.script_runner.specs.Looks.{AreLooks, AreLooksBy}
+use Rattle.script_runner.specs.Looks.{AreLooks}
 
 -- ---- stores stay
 
