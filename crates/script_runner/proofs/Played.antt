@@ -1,5 +1,5 @@
 -- A played script is a run of it: its threads wrote in the order of the lines, and each tick sampled what was written before it.
-use Rattle.std.proofs.Common.{◌≡◌, ◌⊎◌, inl, inr, ℕ, ◌<◌, ◌≤◌, Bool, true, false, List, [], ◌∷◌, length, reverse, sym, ap, ◌∙◌, subst, arith, Option}
+use Rattle.std.proofs.Common.{◌≡◌, ◌⊎◌, inl, inr, ℕ, ◌<◌, ◌≤◌, Bool, true, false, List, [], ◌∷◌, length, reverse, refl, sym, ap, ◌∙◌, subst, arith, Option}
 use Rattle.std.proofs.lemmas.Bool.{cases_lt}
 use Rattle.std.proofs.lemmas.List.FromFn.{fill_by_all, get_or-map-range_with_len, length-map-range_with_len}
 use Rattle.dataset_meta.specs.DataValues.{DataValue}
@@ -28,6 +28,7 @@ use Rattle.script_player.specs.Playing.{IsLineBy, IsPlayed, IsTickedBy, log_afte
 use Rattle.script_player.proofs.Headline.{HistoriesHaveRows, headline, starts-taken, starts-with-write}
 use Rattle.script_runner.specs.Legal.{IsLegalLog, fields_in, history_by, row_made}
 use Rattle.script_runner.specs.Running.{AreWithin, IsLineRun, IsRunBy, IsTickedAt, Logs, sample_at, samples_at}
+use Rattle.script_runner.specs.Played.{IsRunInOrder}
 use Rattle.script_runner.specs.Runs.{IsRunOf}
 use Rattle.script_runner.proofs.Legal.{ClosedHistoriesAreLegal}
 use Rattle.script_runner.proofs.PlayedLegal.{RowLaws, past-none, played-legal}
@@ -108,7 +109,7 @@ module _ (config : Config) (script : Script) (told : Option LinkState) (closed :
           ap (λ (log : List Entry). row_of (fields_in script set) (history_of (fields_in script set) log) version) none
           ∙ sym (ap (λ (log : List Entry). row_of (fields_in script set) (history_by script set (threads_of log)) version) none)
 
-  pub is-run : IsRunOf config script told closed
+  abbrev is-run : IsRunOf config script told closed
   is-run = record {
     logs = logs;
     earlier = play.earlier;
@@ -125,3 +126,6 @@ module _ (config : Config) (script : Script) (told : Option LinkState) (closed :
     watches = are-looks p script.lines play.earlier play.looks closed.watches play.played play.watches;
     headline = subst (λ (r : ℕ → ℕ → List DataValue). TellsHeadline p play.steps r closed) (λ i set version. row-same set version i) play.headline;
   }
+
+  pub in-order : IsRunInOrder config script told closed play
+  in-order = record { run = is-run; steps = refl; logs = λ set. refl }

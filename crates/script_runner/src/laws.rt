@@ -6,18 +6,17 @@ ghost use Rattle.ps_report.specs.declared.closed.Closed.{Closed};
 ghost use Rattle.ps_script.specs.declared.script.Script.{Script};
 ghost use Rattle.ps_script.specs.Sound.{IsScript};
 ghost use Rattle.script_player.specs.Plays.{IsPlayOf};
-ghost use Rattle.script_runner.specs.Runs.{IsRunOf};
+ghost use Rattle.script_runner.specs.Played.{IsRunInOrder};
 
 use app_threads::closed_histories_are_legal;
 use row_words::{patched_words_belong, words_belong_by_shape};
 use version_cell::histories_are_the_models;
 
-/// A played script is a run of it, in which the threads write in the order of the lines, and each tick samples all that was written
-/// before it.
+/// A played script is a run of it, with the same steps, in which the threads write in the order of the lines.
 pub fn a_played_script_is_a_run()
     ensures { (config : Config) (script : Script) (told : Option LinkState) (closed : Closed)
-        → IsScript config script → IsPlayOf config script told closed
-        → IsRunOf config script told closed }
+        → IsScript config script → (play : IsPlayOf config script told closed)
+        → IsRunInOrder config script told closed play }
 {
     histories_are_the_models();
     closed_histories_are_legal();
