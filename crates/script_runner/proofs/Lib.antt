@@ -14,3 +14,6 @@ pub mod Finishing
 pub mod Ended
 pub mod Opened
 pub mod Completed
+pub mod PlayedLegal
+pub mod PlayedLooks
+pub mod Played

@@ -2,6 +2,7 @@ pub mod Legal
 pub mod Running
 pub mod Looks
 pub mod Runs
+pub mod Played
 pub mod Lists
 pub mod Conducting
 pub mod Finishing

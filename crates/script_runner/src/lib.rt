@@ -3,7 +3,9 @@
 
 mod conductor;
 mod ending;
+mod laws;
 mod lists;
 mod run;
 
+pub use laws::a_played_script_is_a_run;
 pub use run::run_script;
