@@ -38,7 +38,15 @@ pub fn run<'w, R: Threads + Wait + Sync, F: Folder, B: Link, G: Gate, K: Sink>(
     ensures unlinked { IsBeforeLink result → wire.new ≡ wire.old }
     ensures silent { ¬ IsDone result → ¬ IsUnwritten result → out.new ≡ out.old }
 {
-    session(&Runner { rt, gate }, alloc, script, config, folder, wire, out)
+    session(
+        &Runner { rt, gate },
+        alloc,
+        script,
+        config,
+        folder,
+        wire,
+        out,
+    )
 }
 
 /// Runs scripts with threads, past a gate.

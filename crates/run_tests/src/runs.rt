@@ -11,10 +11,12 @@ use std::thread::Threads;
 const PUBLISHER: u32 = 8;
 
 /// Five writes of thread 0, five of thread 1, and two ticks.
-const TEN_WRITES: &[u8] = b"write 0 demo a=1\nwrite 0 demo a=2\nwrite 0 demo a=3\nwrite 0 demo a=4\nwrite 0 demo a=5\nwrite 1 demo b=1\nwrite 1 demo b=2\nwrite 1 demo b=3\nwrite 1 demo b=4\nwrite 1 demo b=5\ntick 100\ntick 100\n";
+const TEN_WRITES: &[u8] =
+    b"write 0 demo a=1\nwrite 0 demo a=2\nwrite 0 demo a=3\nwrite 0 demo a=4\nwrite 0 demo a=5\nwrite 1 demo b=1\nwrite 1 demo b=2\nwrite 1 demo b=3\nwrite 1 demo b=4\nwrite 1 demo b=5\ntick 100\ntick 100\n";
 
 /// Five writes of thread 0, and five ticks.
-const FIVE_WRITES: &[u8] = b"write 0 demo a=1\nwrite 0 demo a=2\nwrite 0 demo a=3\nwrite 0 demo a=4\nwrite 0 demo a=5\ntick 100\ntick 100\ntick 100\ntick 100\ntick 100\n";
+const FIVE_WRITES: &[u8] =
+    b"write 0 demo a=1\nwrite 0 demo a=2\nwrite 0 demo a=3\nwrite 0 demo a=4\nwrite 0 demo a=5\ntick 100\ntick 100\ntick 100\ntick 100\ntick 100\n";
 
 fn item(thread: u32, k: u32) -> Item {
     Item { thread, k }
@@ -29,11 +31,34 @@ fn report_of<R: Threads + Wait + Sync>(
     order: &Order,
 ) -> Result<Vec<u8>, Fail> {
     let mut files = Vec::new(alloc);
-    files.push((Name::new(b"s").ok_or("no name")?, Vec::from_slice(alloc, script)?)).ok().ok_or("memory")?;
+    files
+        .push((
+            Name::new(b"s").ok_or("no name")?,
+            Vec::from_slice(alloc, script)?,
+        ))
+        .ok()
+        .ok_or("memory")?;
     let mut folder = MemoryFolder::new(files, Vec::new(alloc));
-    let mut wire = MemoryLink::new(alloc, Vec::new(alloc), Vec::new(alloc), Vec::new(alloc), false);
-    let mut out = MemorySink::new(alloc, Vec::new(alloc)).ok().ok_or("memory")?;
-    let status = run(rt, alloc, "s", None, &mut folder, &mut wire, order, &mut out);
+    let mut wire = MemoryLink::new(
+        alloc,
+        Vec::new(alloc),
+        Vec::new(alloc),
+        Vec::new(alloc),
+        false,
+    );
+    let mut out = MemorySink::new(alloc, Vec::new(alloc))
+        .ok()
+        .ok_or("memory")?;
+    let status = run(
+        rt,
+        alloc,
+        "s",
+        None,
+        &mut folder,
+        &mut wire,
+        order,
+        &mut out,
+    );
     if status.number() != 0 {
         return Err("another status than 0".into());
     }
@@ -96,7 +121,10 @@ fn threads_write_while_the_publisher_ticks(rt: HostRuntime) -> Result<(), Fail> 
     let log = line_of(text, "writer w1 operational 3: ").ok_or("no log")?;
     assert_eq!(&rt; version_at(log, "2="), Some(10));
     assert!(&rt; version_at(log, "1=").is_some_and(|version| version >= 4));
-    assert_eq!(&rt; line_of(text, "reader r1 "), Some("operational number 2 version 10: a=5 b=5 c=0 d=0"));
+    assert_eq!(&rt;
+        line_of(text, "reader r1 "),
+        Some("operational number 2 version 10: a=5 b=5 c=0 d=0")
+    );
     Ok(())
 }
 
@@ -115,6 +143,9 @@ fn each_tick_samples_what_is_written_by_then(rt: HostRuntime) -> Result<(), Fail
     let order = Order::new(rt.alloc(), holds_in_step(rt.alloc())?)?;
     let report = report_of(&rt, rt.alloc(), FIVE_WRITES, &order)?;
     let text = str::from_utf8(&report).ok().ok_or("no text")?;
-    assert_eq!(&rt; line_of(text, "writer w1 "), Some("operational 6: 0=1 1=2 2=3 3=4 4=5 5=5"));
+    assert_eq!(&rt;
+        line_of(text, "writer w1 "),
+        Some("operational 6: 0=1 1=2 2=3 3=4 4=5 5=5")
+    );
     Ok(())
 }
