@@ -38,6 +38,7 @@ pub fn play<'w, R: Wait, F: Folder, A: Link, K: Sink>(
 }
 
 /// Plays scripts on the thread that calls it.
+#[derive(Drop)]
 struct Player<'r, R> {
     rt: &'r R,
 }

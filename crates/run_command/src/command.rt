@@ -50,6 +50,7 @@ pub fn run<'w, R: Threads + Wait + Sync, F: Folder, B: Link, G: Gate, K: Sink>(
 }
 
 /// Runs scripts with threads, past a gate.
+#[derive(Drop)]
 struct Runner<'r, R, G> {
     rt: &'r R,
     gate: &'r G,
