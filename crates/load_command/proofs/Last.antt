@@ -1,14 +1,13 @@
 -- The row that the threads of generated work leave, in whatever order they write.
-use Rattle.std.proofs.Common.{◌≡◌, ℕ, zero, suc, ◌+◌, ◌-◌, ◌*◌, ◌/◌, ◌%◌, ◌^◌, ◌<◌, ◌≤◌, ◌==◌, Bool, true, false, cond, List, [], ◌∷◌, ◌++◌, map, length, get_or, Some, refl, sym, ap, ◌∙◌, subst, arith}
-use Rattle.std.specs.Prelude.{slice_get, slice_index_or, slice_set, option_map, unwrap_or, sum_by, Option}
-use Rattle.std.specs.List.{HoldsAt, range_with_len}
+use Rattle.std.proofs.Common.{◌≡◌, ℕ, zero, suc, ◌+◌, ◌-◌, ◌*◌, ◌/◌, ◌%◌, ◌^◌, ◌<◌, ◌≤◌, ◌==◌, Bool, true, false, cond, List, [], ◌∷◌, map, length, refl, sym, ap, ◌∙◌, subst, arith}
+use Rattle.std.specs.Prelude.{slice_index_or, slice_set, option_map, unwrap_or, Option}
+use Rattle.std.specs.List.{range_with_len}
 use Rattle.std.proofs.lemmas.Bool.Decides.{nat_tests}
 use Rattle.std.proofs.lemmas.List.FromFn.{get_or-map-range_with_len, length-map-range_with_len}
 use Rattle.ua_values.specs.declared.value.Value.TheVariants.{UInt32}
-use Rattle.dataset_meta.specs.DataValues.{DataValue, FitsField}
+use Rattle.dataset_meta.specs.DataValues.{DataValue}
 use Rattle.dataset_meta.specs.Metas.{IsMeta}
 use Rattle.dataset_meta.specs.Rows.{IsPatch, opening_row, patched}
-use Rattle.row_words.specs.declared.patch.Patch.{Patch}
 use Rattle.row_words.specs.Patches.{patch_in}
 use Rattle.row_words.proofs.MeaningLaws.{patch_in-spelled_patch}
 use Rattle.pubsub_model.specs.History.{Written, IsLegal, last_row, legal_history, legal_rows, no_patch, patch_at, row_of, times_of}

@@ -1,5 +1,5 @@
 -- What the summary of generated work tells.
-use Rattle.std.proofs.Common.{◌≡◌, inl, ℕ, zero, suc, ◌+◌, ◌*◌, ◌<◌, ◌≤◌, List, [], ◌∷◌, ◌++◌, map, length, reverse, Option, Some, None, refl, sym, ap, ◌∙◌, subst, append_assoc, arith, lit<}
+use Rattle.std.proofs.Common.{◌≡◌, inl, ℕ, zero, suc, ◌+◌, ◌*◌, ◌<◌, ◌≤◌, List, [], ◌∷◌, ◌++◌, map, length, Option, Some, refl, sym, ap, ◌∙◌, subst, append_assoc, arith, lit<}
 use Rattle.std.specs.Prelude.{slice_get, codes}
 use Rattle.std.specs.List.{range_with_len}
 use Rattle.std.specs.Fmt.{decimal}
@@ -27,16 +27,13 @@ use Rattle.ps_config.specs.declared.parts.Config.{Config}
 use Rattle.ps_script.specs.declared.script.Script.{Script}
 use Rattle.ps_script.specs.Generated.{generated}
 use Rattle.ps_script.specs.Sessions.{ticks_in}
-use Rattle.group_laws.specs.Matching.{IsMatchedTo}
 use Rattle.reader_group.specs.Settings.{setting_of}
-use Rattle.session_model.specs.Closing.{reader_places}
 use Rattle.session_model.specs.Sends.{TellsRun, journal}
 use Rattle.session_model.specs.Steps.{Plan, Step}
-use Rattle.session_laws.specs.Headline.{meta_of}
-use Rattle.session_laws.specs.Printed.{TellsPublished, TellsVersion}
+use Rattle.session_laws.specs.Printed.{TellsPublished}
 use Rattle.session_laws.specs.Reading.{IsMatchedIn}
 use Rattle.session_laws.specs.Sessions.{IsHonestFor}
-use Rattle.session_laws.specs.Telling.{IsReaderTold, TellsHeadline}
+use Rattle.session_laws.specs.Telling.{IsReaderTold}
 use Rattle.script_player.specs.Plays.{opening_of, plan_by}
 use Rattle.script_runner.specs.Legal.{fields_in, history_by, row_made, writes_to}
 use Rattle.script_runner.specs.Runs.{IsRunOf}

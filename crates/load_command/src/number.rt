@@ -5,9 +5,10 @@ ghost use Rattle.load_command.specs.Numbers.{load_number};
 
 use value_texts::decimal_number;
 
-/// The least that may be loaded, and the most: 32,768 writes and 4,096 ticks.
+/// The least that may be loaded.
 const LEAST: u64 = 1;
 
+/// The most: 32,768 writes and 4,096 ticks.
 const MOST: u64 = 1024;
 
 /// The number that the word spells: 1 to 1024, in decimal digits without a leading zero. No other word spells one.

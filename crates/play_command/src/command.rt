@@ -44,8 +44,13 @@ struct Player<'r, R> {
 }
 
 impl<'r, R: Wait> Performer for Player<'r, R> {
-    ghost use Rattle.std.specs.Prelude.{true};
-    ghost use Rattle.script_player.specs.Plays.{IsPlayOf};
+    ghost use Rattle.std.specs.Prelude.{◌≡◌, ◌≢◌, ◌≤◌, IfOk, OnOk, Some, Err, true};
+    ghost use Rattle.ua_base.specs.Cause.{Rose};
+    ghost use Rattle.ps_config.specs.Types.{HasTypes};
+    ghost use Rattle.ps_report.specs.Conditions.{IsClosedOf};
+    ghost use Rattle.ps_script.specs.Sound.{IsScript};
+    ghost use Rattle.writer_group.specs.Standing.{IsGood};
+    ghost use Rattle.script_player.specs.Plays.{IsPlayOf, opening_of};
 
     ghost performs = { IsPlayOf };
 
@@ -59,7 +64,20 @@ impl<'r, R: Wait> Performer for Player<'r, R> {
         config: &Config,
         script: &Script,
         link: &mut L,
-    ) -> Result<Closed, PlayEnd> {
+    ) -> Result<Closed, PlayEnd>
+        requires good { IsGood config.now }
+        requires types { HasTypes config.now }
+        requires script { IsScript config.now script.now }
+        ensures performed { IfOk result (IsPlayOf config.now script.now (L.told link.new)) }
+        ensures closed { IfOk result (IsClosedOf config.now) }
+        ensures opened { OnOk result (L.opened_with link.new ≡ Some (opening_of config.now script.now)) }
+        ensures opens { L.opened_with link.new ≢ L.opened_with link.old
+            → L.opened_with link.new ≡ Some (opening_of config.now script.now) }
+        ensures unopened { result ≡ Err PlayEnd.Unopened → Rose (L.faults link.old) (L.faults link.new) }
+        ensures unused { result ≡ Err PlayEnd.Unopened
+            → (L.told link.new ≡ L.told link.old) × (L.opened_with link.new ≡ L.opened_with link.old) }
+        ensures faults { L.faults link.old ≤ L.faults link.new }
+    {
         play_script(self.rt, alloc, config, script, link)
     }
 }

@@ -57,7 +57,13 @@ struct Runner<'r, R, G> {
 }
 
 impl<'r, R: Threads + Wait + Sync, G: Gate> Performer for Runner<'r, R, G> {
-    ghost use Rattle.std.specs.Prelude.{false};
+    ghost use Rattle.std.specs.Prelude.{◌≡◌, ◌≢◌, ◌≤◌, IfOk, OnOk, Some, Err, false};
+    ghost use Rattle.ua_base.specs.Cause.{Rose};
+    ghost use Rattle.ps_config.specs.Types.{HasTypes};
+    ghost use Rattle.ps_report.specs.Conditions.{IsClosedOf};
+    ghost use Rattle.ps_script.specs.Sound.{IsScript};
+    ghost use Rattle.writer_group.specs.Standing.{IsGood};
+    ghost use Rattle.script_player.specs.Plays.{opening_of};
     ghost use Rattle.script_runner.specs.Runs.{IsRunOf};
 
     ghost performs = { IsRunOf };
@@ -72,7 +78,20 @@ impl<'r, R: Threads + Wait + Sync, G: Gate> Performer for Runner<'r, R, G> {
         config: &Config,
         script: &Script,
         link: &mut L,
-    ) -> Result<Closed, PlayEnd> {
+    ) -> Result<Closed, PlayEnd>
+        requires good { IsGood config.now }
+        requires types { HasTypes config.now }
+        requires script { IsScript config.now script.now }
+        ensures performed { IfOk result (IsRunOf config.now script.now (L.told link.new)) }
+        ensures closed { IfOk result (IsClosedOf config.now) }
+        ensures opened { OnOk result (L.opened_with link.new ≡ Some (opening_of config.now script.now)) }
+        ensures opens { L.opened_with link.new ≢ L.opened_with link.old
+            → L.opened_with link.new ≡ Some (opening_of config.now script.now) }
+        ensures unopened { result ≡ Err PlayEnd.Unopened → Rose (L.faults link.old) (L.faults link.new) }
+        ensures unused { result ≡ Err PlayEnd.Unopened
+            → (L.told link.new ≡ L.told link.old) × (L.opened_with link.new ≡ L.opened_with link.old) }
+        ensures faults { L.faults link.old ≤ L.faults link.new }
+    {
         run_script(self.rt, alloc, config, script, link, self.gate)
     }
 }
