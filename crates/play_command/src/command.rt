@@ -34,7 +34,16 @@ pub fn play<'w, R: Wait, F: Folder, A: Link, K: Sink>(
     ensures unlinked { IsBeforeLink result → lab.new ≡ lab.old }
     ensures silent { ¬ IsDone result → ¬ IsUnwritten result → out.new ≡ out.old }
 {
-    session(&Player { rt }, alloc, script, config, folder, lab, out)
+    session(
+        &Player { rt },
+        alloc,
+        script,
+        config,
+        true,
+        folder,
+        lab,
+        out,
+    )
 }
 
 /// Plays scripts on the thread that calls it.
@@ -44,7 +53,7 @@ struct Player<'r, R> {
 }
 
 impl<'r, R: Wait> Performer for Player<'r, R> {
-    ghost use Rattle.std.specs.Prelude.{◌≡◌, ◌≢◌, ◌≤◌, IfOk, OnOk, Some, Err, true};
+    ghost use Rattle.std.specs.Prelude.{◌≡◌, ◌≢◌, ◌≤◌, IfOk, OnOk, Some, Err};
     ghost use Rattle.ua_base.specs.Cause.{Rose};
     ghost use Rattle.ps_config.specs.Types.{HasTypes};
     ghost use Rattle.ps_report.specs.Conditions.{IsClosedOf};
@@ -53,10 +62,6 @@ impl<'r, R: Wait> Performer for Player<'r, R> {
     ghost use Rattle.script_player.specs.Plays.{IsPlayOf, opening_of};
 
     ghost performs = { IsPlayOf };
-
-    ghost FATES = { true };
-
-    const FATES: bool = true;
 
     fn perform<L: Link>(
         &self,

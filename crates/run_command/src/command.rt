@@ -43,6 +43,7 @@ pub fn run<'w, R: Threads + Wait + Sync, F: Folder, B: Link, G: Gate, K: Sink>(
         alloc,
         script,
         config,
+        false,
         folder,
         wire,
         out,
@@ -57,7 +58,7 @@ struct Runner<'r, R, G> {
 }
 
 impl<'r, R: Threads + Wait + Sync, G: Gate> Performer for Runner<'r, R, G> {
-    ghost use Rattle.std.specs.Prelude.{◌≡◌, ◌≢◌, ◌≤◌, IfOk, OnOk, Some, Err, false};
+    ghost use Rattle.std.specs.Prelude.{◌≡◌, ◌≢◌, ◌≤◌, IfOk, OnOk, Some, Err};
     ghost use Rattle.ua_base.specs.Cause.{Rose};
     ghost use Rattle.ps_config.specs.Types.{HasTypes};
     ghost use Rattle.ps_report.specs.Conditions.{IsClosedOf};
@@ -67,10 +68,6 @@ impl<'r, R: Threads + Wait + Sync, G: Gate> Performer for Runner<'r, R, G> {
     ghost use Rattle.script_runner.specs.Runs.{IsRunOf};
 
     ghost performs = { IsRunOf };
-
-    ghost FATES = { false };
-
-    const FATES: bool = false;
 
     fn perform<L: Link>(
         &self,

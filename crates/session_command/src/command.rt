@@ -20,17 +20,18 @@ use std::alloc::Global;
 use ua_base::{Folder, Link, NoMemory, Sink};
 
 /// Has the script of this name performed over the link, in a session with the configuration of this name or the built-in one, and
-/// writes the session's report.
+/// writes the session's report. Where links have no fates, a script that gives one is refused.
 pub fn session<'w, P: Performer, F: Folder, L: Link, K: Sink>(
     performer: &P,
     alloc: Global,
     script: &'w str,
     config: Option<&'w str>,
+    fates: bool,
     folder: &mut F,
     link: &mut L,
     out: &mut K,
 ) -> Status<'w>
-    ensures ends { SessionEnds P.performs P.FATES result script.now (option_copied config.entry)
+    ensures ends { SessionEnds P.performs fates result script.now (option_copied config.entry)
         (outside_of F.tells F.faults K.written K.faults folder.old out.old)
         (outside_of F.tells F.faults K.written K.faults folder.new out.new)
         (wire_of L.told L.faults L.opened_with link.old)
@@ -38,7 +39,7 @@ pub fn session<'w, P: Performer, F: Folder, L: Link, K: Sink>(
     ensures unlinked { IsBeforeLink result → link.new ≡ link.old }
     ensures silent { ¬ IsDone result → ¬ IsUnwritten result → out.new ≡ out.old }
 {
-    let text = match report_of(performer, alloc, script, config, folder, link) {
+    let text = match report_of(performer, alloc, script, config, fates, folder, link) {
         Ok(text) => text,
         Err(status) => return status,
     };
@@ -51,16 +52,17 @@ fn report_of<'w, P: Performer, F: Folder, L: Link>(
     alloc: Global,
     script: &'w str,
     config: Option<&'w str>,
+    fates: bool,
     folder: &mut F,
     link: &mut L,
 ) -> Result<Vec<u8>, Status<'w>>
-    ensures report { IfOk result (λ text. Reports P.performs P.FATES
+    ensures report { IfOk result (λ text. Reports P.performs fates
         (F.tells folder.old) script.now (option_copied config.entry)
         (wire_of L.told L.faults L.opened_with link.new) text.items) }
     ensures ends { IfErr result
-        (EndsBefore P.FATES (F.tells folder.old) script.now (option_copied config.entry)) }
+        (EndsBefore fates (F.tells folder.old) script.now (option_copied config.entry)) }
     ensures link { UsesLink
-        (OpensFor P.FATES (F.tells folder.old) script.now (option_copied config.entry))
+        (OpensFor fates (F.tells folder.old) script.now (option_copied config.entry))
         (result ≡ Err Status.Unopened)
         (wire_of L.told L.faults L.opened_with link.old)
         (wire_of L.told L.faults L.opened_with link.new) }
@@ -73,7 +75,7 @@ fn report_of<'w, P: Performer, F: Folder, L: Link>(
         Ok(taken) => taken,
         Err(status) => return Err(status),
     };
-    let script = match script_in(alloc, &taken, script, P::FATES, folder) {
+    let script = match script_in(alloc, &taken, script, fates, folder) {
         Ok(script) => script,
         Err(status) => return Err(status),
     };

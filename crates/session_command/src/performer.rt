@@ -1,5 +1,5 @@
 //! Who performs a script.
-ghost use Rattle.std.specs.Prelude.{◌≡◌, ◌≢◌, ◌≤◌, Bool, Option, IfOk, OnOk, Some, Err};
+ghost use Rattle.std.specs.Prelude.{◌≡◌, ◌≢◌, ◌≤◌, Option, IfOk, OnOk, Some, Err};
 ghost use Rattle.ua_base.specs.Cause.{Rose};
 ghost use Rattle.ua_base.specs.Journal.{LinkState};
 ghost use Rattle.ps_config.specs.declared.parts.Config.{Config as ConfigValue};
@@ -22,11 +22,6 @@ use ua_base::Link;
 pub trait Performer {
     /// What a closed session is of the configuration, the script and what the link tells behind it.
     ghost performs: { ConfigValue → ScriptValue → Option LinkState → ClosedValue → Type 0 };
-
-    /// Whether its scripts may give datagrams fates.
-    ghost FATES: { Bool };
-
-    const FATES: bool;
 
     /// Opens a session and the link, with the configuration's port and the script's fates, performs the script and closes the
     /// session.
