@@ -13,17 +13,19 @@ use script_player::{PlayEnd, play_script};
 use session_command::{Performer, session};
 use std::alloc::Global;
 use std::sync::Wait;
-use ua_base::{Folder, Link, Sink};
+use std::thread::Threads;
+use ua_base::{Folder, Gate, Link, Sink};
 
 /// Plays the script of this name over the link, for a session with the configuration of this name or the built-in one, and writes
 /// its report.
-pub fn play<'w, R: Wait, F: Folder, A: Link, K: Sink>(
+pub fn play<'w, R: Threads + Wait + Sync, F: Folder, A: Link, G: Gate, K: Sink>(
     rt: &R,
     alloc: Global,
     script: &'w str,
     config: Option<&'w str>,
     folder: &mut F,
     lab: &mut A,
+    gate: &G,
     out: &mut K,
 ) -> Status<'w>
     ensures ends { PlayEnds result script.now (option_copied config.entry)
@@ -35,24 +37,15 @@ pub fn play<'w, R: Wait, F: Folder, A: Link, K: Sink>(
     ensures silent { ¬ IsDone result → ¬ IsUnwritten result → out.new ≡ out.old }
 {
     session(
-        &Player { rt },
-        alloc,
-        script,
-        config,
-        true,
-        folder,
-        lab,
-        out,
+        &Player, rt, alloc, script, config, true, folder, lab, gate, out,
     )
 }
 
-/// Plays scripts on the thread that calls it.
+/// Plays scripts on the thread that calls it, past no gate.
 #[derive(Drop)]
-struct Player<'r, R> {
-    rt: &'r R,
-}
+struct Player;
 
-impl<'r, R: Wait> Performer for Player<'r, R> {
+impl Performer for Player {
     ghost use Rattle.std.specs.Prelude.{◌≡◌, ◌≢◌, ◌≤◌, IfOk, OnOk, Some, Err};
     ghost use Rattle.ua_base.specs.Cause.{Rose};
     ghost use Rattle.ps_config.specs.Types.{HasTypes};
@@ -63,12 +56,14 @@ impl<'r, R: Wait> Performer for Player<'r, R> {
 
     ghost performs = { IsPlayOf };
 
-    fn perform<L: Link>(
+    fn perform<R: Threads + Wait + Sync, G: Gate, L: Link>(
         &self,
+        rt: &R,
         alloc: Global,
         config: &Config,
         script: &Script,
         link: &mut L,
+        _gate: &G,
     ) -> Result<Closed, PlayEnd>
         requires good { IsGood config.now }
         requires types { HasTypes config.now }
@@ -83,6 +78,6 @@ impl<'r, R: Wait> Performer for Player<'r, R> {
             → (L.told link.new ≡ L.told link.old) × (L.opened_with link.new ≡ L.opened_with link.old) }
         ensures faults { L.faults link.old ≤ L.faults link.new }
     {
-        play_script(self.rt, alloc, config, script, link)
+        play_script(rt, alloc, config, script, link)
     }
 }

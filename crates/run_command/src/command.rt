@@ -39,25 +39,15 @@ pub fn run<'w, R: Threads + Wait + Sync, F: Folder, B: Link, G: Gate, K: Sink>(
     ensures silent { ¬ IsDone result → ¬ IsUnwritten result → out.new ≡ out.old }
 {
     session(
-        &Runner { rt, gate },
-        alloc,
-        script,
-        config,
-        false,
-        folder,
-        wire,
-        out,
+        &Runner, rt, alloc, script, config, false, folder, wire, gate, out,
     )
 }
 
 /// Runs scripts with threads, past a gate.
 #[derive(Drop)]
-struct Runner<'r, R, G> {
-    rt: &'r R,
-    gate: &'r G,
-}
+struct Runner;
 
-impl<'r, R: Threads + Wait + Sync, G: Gate> Performer for Runner<'r, R, G> {
+impl Performer for Runner {
     ghost use Rattle.std.specs.Prelude.{◌≡◌, ◌≢◌, ◌≤◌, IfOk, OnOk, Some, Err};
     ghost use Rattle.ua_base.specs.Cause.{Rose};
     ghost use Rattle.ps_config.specs.Types.{HasTypes};
@@ -69,12 +59,14 @@ impl<'r, R: Threads + Wait + Sync, G: Gate> Performer for Runner<'r, R, G> {
 
     ghost performs = { IsRunOf };
 
-    fn perform<L: Link>(
+    fn perform<R: Threads + Wait + Sync, G: Gate, L: Link>(
         &self,
+        rt: &R,
         alloc: Global,
         config: &Config,
         script: &Script,
         link: &mut L,
+        gate: &G,
     ) -> Result<Closed, PlayEnd>
         requires good { IsGood config.now }
         requires types { HasTypes config.now }
@@ -89,6 +81,6 @@ impl<'r, R: Threads + Wait + Sync, G: Gate> Performer for Runner<'r, R, G> {
             → (L.told link.new ≡ L.told link.old) × (L.opened_with link.new ≡ L.opened_with link.old) }
         ensures faults { L.faults link.old ≤ L.faults link.new }
     {
-        run_script(self.rt, alloc, config, script, link, self.gate)
+        run_script(rt, alloc, config, script, link, gate)
     }
 }
