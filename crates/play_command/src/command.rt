@@ -13,19 +13,17 @@ use script_player::{PlayEnd, play_script};
 use session_command::{Performer, session};
 use std::alloc::Global;
 use std::sync::Wait;
-use std::thread::Threads;
-use ua_base::{Folder, Gate, Link, Sink};
+use ua_base::{Folder, Link, Sink};
 
 /// Plays the script of this name over the link, for a session with the configuration of this name or the built-in one, and writes
 /// its report.
-pub fn play<'w, R: Threads + Wait + Sync, F: Folder, A: Link, G: Gate, K: Sink>(
+pub fn play<'w, R: Wait, F: Folder, A: Link, K: Sink>(
     rt: &R,
     alloc: Global,
     script: &'w str,
     config: Option<&'w str>,
     folder: &mut F,
     lab: &mut A,
-    gate: &G,
     out: &mut K,
 ) -> Status<'w>
     ensures ends { PlayEnds result script.now (option_copied config.entry)
@@ -37,15 +35,24 @@ pub fn play<'w, R: Threads + Wait + Sync, F: Folder, A: Link, G: Gate, K: Sink>(
     ensures silent { ¬ IsDone result → ¬ IsUnwritten result → out.new ≡ out.old }
 {
     session(
-        &Player, rt, alloc, script, config, true, folder, lab, gate, out,
+        &Player { rt },
+        alloc,
+        script,
+        config,
+        true,
+        folder,
+        lab,
+        out,
     )
 }
 
-/// Plays scripts on the thread that calls it, past no gate.
+/// Plays scripts on the thread that calls it.
 #[derive(Drop)]
-struct Player;
+struct Player<'r, R> {
+    rt: &'r R,
+}
 
-impl Performer for Player {
+impl<'r, R: Wait> Performer for Player<'r, R> {
     ghost use Rattle.std.specs.Prelude.{◌≡◌, ◌≢◌, ◌≤◌, IfOk, OnOk, Some, Err};
     ghost use Rattle.ua_base.specs.Cause.{Rose};
     ghost use Rattle.ps_config.specs.Types.{HasTypes};
@@ -56,14 +63,12 @@ impl Performer for Player {
 
     ghost performs = { IsPlayOf };
 
-    fn perform<R: Threads + Wait + Sync, G: Gate, L: Link>(
+    fn perform<L: Link>(
         &self,
-        rt: &R,
         alloc: Global,
         config: &Config,
         script: &Script,
         link: &mut L,
-        _gate: &G,
     ) -> Result<Closed, PlayEnd>
         requires good { IsGood config.now }
         requires types { HasTypes config.now }
@@ -78,6 +83,6 @@ impl Performer for Player {
             → (L.told link.new ≡ L.told link.old) × (L.opened_with link.new ≡ L.opened_with link.old) }
         ensures faults { L.faults link.old ≤ L.faults link.new }
     {
-        play_script(rt, alloc, config, script, link)
+        play_script(self.rt, alloc, config, script, link)
     }
 }

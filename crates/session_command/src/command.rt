@@ -17,22 +17,18 @@ use ps_report::report;
 use ps_script::Script;
 use script_player::PlayEnd;
 use std::alloc::Global;
-use std::sync::Wait;
-use std::thread::Threads;
-use ua_base::{Folder, Gate, Link, NoMemory, Sink};
+use ua_base::{Folder, Link, NoMemory, Sink};
 
 /// Has the script of this name performed over the link, in a session with the configuration of this name or the built-in one, and
 /// writes the session's report. Where links have no fates, a script that gives one is refused.
-pub fn session<'w, P: Performer, R: Threads + Wait + Sync, F: Folder, L: Link, G: Gate, K: Sink>(
+pub fn session<'w, P: Performer, F: Folder, L: Link, K: Sink>(
     performer: &P,
-    rt: &R,
     alloc: Global,
     script: &'w str,
     config: Option<&'w str>,
     fates: bool,
     folder: &mut F,
     link: &mut L,
-    gate: &G,
     out: &mut K,
 ) -> Status<'w>
     ensures ends { SessionEnds P.performs fates result script.now (option_copied config.entry)
@@ -43,9 +39,7 @@ pub fn session<'w, P: Performer, R: Threads + Wait + Sync, F: Folder, L: Link, G
     ensures unlinked { IsBeforeLink result → link.new ≡ link.old }
     ensures silent { ¬ IsDone result → ¬ IsUnwritten result → out.new ≡ out.old }
 {
-    let text = match report_of(
-        performer, rt, alloc, script, config, fates, folder, link, gate,
-    ) {
+    let text = match report_of(performer, alloc, script, config, fates, folder, link) {
         Ok(text) => text,
         Err(status) => return status,
     };
@@ -53,16 +47,14 @@ pub fn session<'w, P: Performer, R: Threads + Wait + Sync, F: Folder, L: Link, G
 }
 
 /// The report of the session of the script of this name.
-fn report_of<'w, P: Performer, R: Threads + Wait + Sync, F: Folder, L: Link, G: Gate>(
+fn report_of<'w, P: Performer, F: Folder, L: Link>(
     performer: &P,
-    rt: &R,
     alloc: Global,
     script: &'w str,
     config: Option<&'w str>,
     fates: bool,
     folder: &mut F,
     link: &mut L,
-    gate: &G,
 ) -> Result<Vec<u8>, Status<'w>>
     ensures report { IfOk result (λ text. Reports P.performs fates
         (F.tells folder.old) script.now (option_copied config.entry)
@@ -87,18 +79,16 @@ fn report_of<'w, P: Performer, R: Threads + Wait + Sync, F: Folder, L: Link, G: 
         Ok(script) => script,
         Err(status) => return Err(status),
     };
-    session_report(performer, rt, alloc, &taken, &script, link, gate)
+    session_report(performer, alloc, &taken, &script, link)
 }
 
 /// The report of a session of the script.
-fn session_report<'w, P: Performer, R: Threads + Wait + Sync, L: Link, G: Gate>(
+fn session_report<'w, P: Performer, L: Link>(
     performer: &P,
-    rt: &R,
     alloc: Global,
     config: &Config,
     script: &Script,
     link: &mut L,
-    gate: &G,
 ) -> Result<Vec<u8>, Status<'w>>
     requires good { IsGood config.now }
     requires types { HasTypes config.now }
@@ -113,7 +103,7 @@ fn session_report<'w, P: Performer, R: Threads + Wait + Sync, L: Link, G: Gate>(
         (wire_of L.told L.faults L.opened_with link.old)
         (wire_of L.told L.faults L.opened_with link.new) }
 {
-    let closed = match performer.perform(rt, alloc, config, script, link, gate) {
+    let closed = match performer.perform(alloc, config, script, link) {
         Ok(closed) => closed,
         Err(PlayEnd::Memory) => return Err(Status::OutOfMemory),
         Err(PlayEnd::Unopened) => return Err(Status::Unopened),

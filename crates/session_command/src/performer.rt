@@ -16,9 +16,7 @@ use ps_report::Closed;
 use ps_script::Script;
 use script_player::PlayEnd;
 use std::alloc::Global;
-use std::sync::Wait;
-use std::thread::Threads;
-use ua_base::{Gate, Link};
+use ua_base::Link;
 
 /// Performs a script over a link: a player on the thread that calls it, or a runner with threads of its own.
 pub trait Performer {
@@ -27,14 +25,12 @@ pub trait Performer {
 
     /// Opens a session and the link, with the configuration's port and the script's fates, performs the script and closes the
     /// session.
-    fn perform<R: Threads + Wait + Sync, G: Gate, L: Link>(
+    fn perform<L: Link>(
         &self,
-        rt: &R,
         alloc: Global,
         config: &Config,
         script: &Script,
         link: &mut L,
-        gate: &G,
     ) -> Result<Closed, PlayEnd>
         requires good { IsGood config.now }
         requires types { HasTypes config.now }

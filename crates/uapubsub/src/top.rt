@@ -119,7 +119,7 @@ fn act<'w, R: Threads + Wait + Sync, F: Folder, A: Link, B: Link, G: Gate, K: Si
 {
     match command {
         Command::Check { config } => check(alloc, config, folder, out),
-        Command::Play { script, config } => play(rt, alloc, script, config, folder, lab, gate, out),
+        Command::Play { script, config } => play(rt, alloc, script, config, folder, lab, out),
         Command::Run { script, config } => run(rt, alloc, script, config, folder, wire, gate, out),
         Command::Load { n } => load(rt, alloc, n, lab, gate, out),
         Command::Keys { config, asked } => keys(alloc, config, &asked, folder, out),
