@@ -1,5 +1,5 @@
 -- A gateway is a session, and so the laws of sessions are its.
-use Rattle.std.proofs.Common.{◌≡◌, arith, ℕ, ◌<◌, true, List, ◌∷◌, ◌++◌, length, Some}
+use Rattle.std.proofs.Common.{◌≡◌, ℕ, ◌<◌, true, List, ◌∷◌, ◌++◌, length, Some}
 use Rattle.std.specs.List.Sorted.{IsNonDecreasingBy}
 use Rattle.dataset_meta.specs.DataValues.{DataValue}
 use Rattle.pubsub_model.specs.Cadence.{WriterDeed, WriterTurn, HadTurn, is_data}

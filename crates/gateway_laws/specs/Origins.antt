@@ -1,5 +1,5 @@
 -- Where a store comes from: the message that its row came with, and the version of the history that this names.
-use Rattle.std.specs.Prelude.{◌≡◌, ℕ, ◌+◌, List, [], ◌∷◌, ◌++◌, map, length, Option, Some, None, option_and_then}
+use Rattle.std.specs.Prelude.{◌≡◌, ℕ, ◌+◌, List, [], ◌∷◌, ◌++◌, map, length, Some, None, option_and_then}
 use Rattle.dataset_meta.specs.DataValues.{DataValue}
 use Rattle.pubsub_model.specs.Records.{Arrival, Came, Item}
 use Rattle.ua_base.specs.Journal.{Entry}
