@@ -1,0 +1,198 @@
+//! Laws of gateways, each the contract of a function that does nothing.
+ghost use Rattle.std.specs.Prelude.{◌≡◌, ◌⊎◌, ◌<◌, ◌≤◌, ℕ, not, true, [], List, ◌∷◌, ◌++◌, length, Some};
+ghost use Rattle.std.specs.List.Sorted.{IsNonDecreasingBy};
+ghost use Rattle.dataset_meta.specs.DataValues.{DataValue};
+ghost use Rattle.pubsub_model.specs.Cadence.{WriterDeed, WriterTurn, HadTurn, is_data};
+ghost use Rattle.ps_config.specs.declared.parts.Config.{Config};
+ghost use Rattle.writer_group.specs.Payloads.{writer_at};
+ghost use Rattle.writer_group.specs.declared.sampled.Sampled.{Sampled};
+ghost use Rattle.session_model.specs.Steps.{Plan, is_on, switches_in};
+ghost use Rattle.session_model.specs.Sets.{meta_in};
+ghost use Rattle.session_model.specs.Deeds.{Deed, is_spent, log_at, works, writer_deeds};
+ghost use Rattle.writer_group.specs.Parts.{group_at};
+ghost use Rattle.pubsub_states.specs.declared.component.Component.{Component};
+ghost use Rattle.pubsub_states.specs.declared.component.Component.TheVariants.{Group, Writer};
+ghost use Rattle.session_model.specs.Events.{reader_at, receives};
+ghost use Rattle.session_model.specs.Keeping.{AreSteps};
+ghost use Rattle.session_laws.specs.Reading.{IsMatchedIn, ReadsByRecords, first_number_of};
+ghost use Rattle.session_laws.specs.Headline.{IsPublished, PublishesVersion, answered_turn};
+ghost use Rattle.session_laws.specs.Pasts.{settings_at};
+ghost use Rattle.session_laws.specs.Sessions.{AreVersions, HasSample, SamplesRise};
+ghost use Rattle.gateway_laws.specs.Sources.{Source, source_at};
+ghost use Rattle.gateway_laws.specs.Relays.{RelayStep, WasCounted, firsts, seconds, stored_rows, stores_of};
+ghost use Rattle.config_tables.specs.declared.words.NumberingWord.TheVariants.{Message};
+ghost use Rattle.reader_group.specs.Members.{seat_at};
+ghost use Rattle.reader_group.specs.Settings.{setting_of};
+ghost use Rattle.session_model.specs.Steps.{Step};
+ghost use Rattle.session_laws.specs.Headline.{InSession};
+ghost use Rattle.gateway_laws.specs.Origins.{CameWith, HoldsVersionAt, IsUncutBetween, IsUncutSince};
+ghost use Rattle.dataset_meta.specs.Metas.{MetaData};
+ghost use Rattle.version_cell.specs.Cells.{CellData, IsCell};
+ghost use Rattle.version_cell.specs.Known.{Known};
+ghost use Rattle.version_cell.specs.Passes.{IsPassOf, SeesLawful};
+ghost use Rattle.session_model.specs.Stores.{Store};
+ghost use Rattle.gateway_laws.specs.Relays.{IsCollected};
+ghost use Rattle.gateway_laws.specs.Versions.{HasStored, versions_kept};
+ghost use Rattle.gateway_laws.specs.Gateways.{IsRelay, IsHonestSource, IsHonestAgain, IsOfHistory, IsRelayed, set_of};
+ghost use Rattle.gateway_core.specs.Lived.{plan_again, sample_of, version_in};
+
+use group_laws::{a_matched_reader_reads_its_writer, a_ring_makes_senders_of_its_key_group};
+use pubsub_model::a_held_row_was_sent;
+use row_words::cut_rows_have_words;
+use session_laws::{
+    a_session_has_at_most_4097_ticks, data_messages_stand_for_versions,
+    each_turn_of_a_session_holds, matched_readers_hold_published_versions,
+};
+use version_cell::histories_are_the_models;
+
+/// A gateway is a session of its configuration whose samples are the counts of its sources' stores, which never fall: each data
+/// frame of its writers publishes the row of the store that its log has, its logs never fall, and each reader that is matched
+/// within it reads by *Records*, and holds the row of the store that the log has at its number.
+pub fn a_gateway_publishes_what_is_stored()
+    ensures session { (p : Plan) (second : Config) (sources : List Source) (relay : List RelayStep)
+        → IsRelay p second sources relay
+        → AreSteps (plan_again second) (seconds relay) × SamplesRise (plan_again second) (seconds relay)
+        × AreVersions (plan_again second) (seconds relay) (stored_rows p.config second sources (firsts relay)) }
+    ensures counts { (p : Plan) (second : Config) (sources : List Source) (relay : List RelayStep) (set : ℕ)
+        (now : MetaData) (sample : Sampled) → IsRelay p second sources relay → set < length second.dataset
+        → HasSample (plan_again second) (seconds relay) set now sample → WasCounted p.config sources relay set sample }
+    ensures publish { (p : Plan) (second : Config) (sources : List Source) (relay : List RelayStep) (g w : ℕ)
+        (later before : List WriterDeed) (turn : WriterTurn) → IsRelay p second sources relay
+        → w < length (group_at second g).writer
+        → writer_deeds (plan_again second) g w (seconds relay) ≡ later ++ HadTurn turn ∷ before
+        → let part = writer_at (group_at second g) w in let s = settings_at (group_at second g) w in
+        is_data (answered_turn s before turn) ≡ true
+        → PublishesVersion (plan_again second) (seconds relay) s part.dataset
+        (stored_rows p.config second sources (firsts relay)) before turn }
+    ensures never_fall { (p : Plan) (second : Config) (sources : List Source) (relay : List RelayStep) (g w : ℕ)
+        → IsRelay p second sources relay → w < length (group_at second g).writer
+        → IsNonDecreasingBy (λ entry. entry.1) (log_at (plan_again second) g w (seconds relay)) }
+    ensures reads { (p : Plan) (second : Config) (sources : List Source) (relay : List RelayStep) (r i g w : ℕ)
+        → IsRelay p second sources relay → IsMatchedIn second r i g w → g < length second.group
+        → IsHonestAgain second r relay → ReadsByRecords second r i (first_number_of second g w) (seconds relay) }
+    ensures holds { (p : Plan) (second : Config) (sources : List Source) (relay : List RelayStep) (r i g w : ℕ)
+        (row : List DataValue) → IsRelay p second sources relay → IsMatchedIn second r i g w → g < length second.group
+        → IsHonestAgain second r relay → (reader_at second r i (seconds relay)).kept.row ≡ Some row
+        → IsPublished (plan_again second) r i g w (seconds relay) (stored_rows p.config second sources (firsts relay))
+        (reader_at second r i (seconds relay)).kept.number row }
+{
+    matched_readers_hold_published_versions();
+    data_messages_stand_for_versions();
+}
+
+/// Each store of a source has a row that its reader held at the end of the pump that made it: that of the version that the first
+/// history's writer logged at the number of the message, which is what the store's origin tells, cut to the reader's fields.
+pub fn what_is_stored_was_published()
+    ensures { (p : Plan) (second : Config) (sources : List Source) (relay : List RelayStep) (set store : ℕ)
+        (rows : ℕ → ℕ → List DataValue) → IsRelay p second sources relay → set < length second.dataset
+        → IsHonestSource p (source_at sources set) (firsts relay) → AreVersions p (firsts relay) rows
+        → store ≤ length (stores_of p.config sources set (firsts relay))
+        → IsOfHistory p (meta_in second.dataset set) (source_at sources set) (firsts relay) rows store
+        (stored_rows p.config second sources (firsts relay) set store) }
+{
+    matched_readers_hold_published_versions();
+}
+
+/// A reader that isn't cut between two moments of a session doesn't hold an older version at the later one than at the earlier.
+pub fn an_uncut_reader_never_holds_an_older_version()
+    ensures { (p : Plan) (r i g w : ℕ) (later now : List Step) (one other : ℕ) → InSession p r i g w (later ++ now)
+        → (seat_at (setting_of p.config r).seats i).part.numbering ≡ Message
+        → IsUncutBetween p r i g w now (later ++ now) → HoldsVersionAt p r i g w now one
+        → HoldsVersionAt p r i g w (later ++ now) other → one ≤ other }
+{
+    matched_readers_hold_published_versions();
+    a_held_row_was_sent();
+    cut_rows_have_words();
+    a_ring_makes_senders_of_its_key_group();
+    each_turn_of_a_session_holds();
+    a_session_has_at_most_4097_ticks();
+}
+
+/// From one moment of a relay to a later one the store that the second reader holds doesn't fall, where that reader isn't cut
+/// between them; nor does the version that the store came with, where the source isn't cut between the making of the two stores.
+/// So the version that is printed doesn't fall, where the source isn't cut after the making of the store that was held earlier.
+pub fn a_relayed_version_never_falls()
+    ensures stores { (p : Plan) (second : Config) (sources : List Source) (newer older : List RelayStep) (r i g w : ℕ)
+        (one other : ℕ) → IsRelay p second sources (newer ++ older) → IsMatchedIn second r i g w
+        → g < length second.group → IsHonestAgain second r (newer ++ older)
+        → (seat_at (setting_of second r).seats i).part.numbering ≡ Message
+        → IsUncutBetween (plan_again second) r i g w (seconds older) (seconds (newer ++ older))
+        → HoldsVersionAt (plan_again second) r i g w (seconds older) one
+        → HoldsVersionAt (plan_again second) r i g w (seconds (newer ++ older)) other → one ≤ other }
+    ensures versions { (p : Plan) (second : Config) (sources : List Source) (relay : List RelayStep) (set : ℕ)
+        (store later_store one other : ℕ) → IsRelay p second sources relay → set < length second.dataset
+        → let source = source_at sources set in IsHonestSource p source (firsts relay) → store ≤ later_store
+        → (old : CameWith p source (firsts relay) store one)
+        → (new : CameWith p source (firsts relay) later_store other)
+        → IsUncutBetween p source.read_group source.reader source.group source.writer old.was.now new.was.now
+        → one ≤ other }
+    ensures printed { (p : Plan) (second : Config) (sources : List Source) (newer older : List RelayStep) (r i g w : ℕ)
+        (store later_store version later_version : ℕ) → IsRelay p second sources (newer ++ older)
+        → IsMatchedIn second r i g w → g < length second.group → IsHonestAgain second r (newer ++ older)
+        → let source = source_at sources (set_of second g w) in let q = plan_again second in
+        IsHonestSource p source (firsts (newer ++ older))
+        → (seat_at (setting_of second r).seats i).part.numbering ≡ Message
+        → IsUncutBetween q r i g w (seconds older) (seconds (newer ++ older))
+        → IsUncutSince p source (firsts (newer ++ older)) store
+        → HoldsVersionAt q r i g w (seconds older) store
+        → HoldsVersionAt q r i g w (seconds (newer ++ older)) later_store
+        → version_in (versions_kept p source older) store ≡ Some version
+        → version_in (versions_kept p source (newer ++ older)) later_store ≡ Some later_version
+        → version ≤ later_version }
+{
+    matched_readers_hold_published_versions();
+    a_held_row_was_sent();
+    cut_rows_have_words();
+    a_ring_makes_senders_of_its_key_group();
+    each_turn_of_a_session_holds();
+    a_session_has_at_most_4097_ticks();
+}
+
+/// A reader that is matched within the second configuration, and holds a row, holds the row of a store, which is the opening row or
+/// the row of a version of the first history.
+pub fn a_relayed_row_is_of_the_first_history()
+    ensures { (p : Plan) (second : Config) (sources : List Source) (relay : List RelayStep) (r i g w : ℕ)
+        (row : List DataValue) → IsRelay p second sources relay → IsMatchedIn second r i g w → g < length second.group
+        → IsHonestAgain second r relay → (seat_at (setting_of second r).seats i).part.numbering ≡ Message
+        → (reader_at second r i (seconds relay)).kept.row ≡ Some row
+        → IsRelayed p second sources relay r i g w row }
+{
+    matched_readers_hold_published_versions();
+    a_held_row_was_sent();
+    cut_rows_have_words();
+    a_ring_makes_senders_of_its_key_group();
+    each_turn_of_a_session_holds();
+    a_session_has_at_most_4097_ticks();
+    a_matched_reader_reads_its_writer();
+}
+
+/// What a pass shows of a target is what is collected of its reader's stores, where the data set's fields are the reader's.
+pub fn passes_show_what_is_collected()
+    ensures { (cell : CellData) (meta : MetaData) (p : Known) (list : List Store) → IsCell cell → IsPassOf cell p
+        → SeesLawful p → cell.meta.fields ≡ meta.fields → cell.meta.quality ≡ meta.quality
+        → HasStored list cell.meta p → IsCollected meta list (sample_of p) }
+{
+    histories_are_the_models();
+}
+
+/// The version that a gateway keeps of a store is that of the store's origin at the end of the pump that made it; that of store 0
+/// is 0.
+pub fn a_kept_version_is_of_its_store()
+    ensures { (p : Plan) (source : Source) (relay : List RelayStep) (store version : ℕ)
+        → version_in (versions_kept p source relay) store ≡ Some version
+        → ((store ≡ 0) × (version ≡ 0)) ⊎ CameWith p source (firsts relay) store version }
+{}
+
+/// In a gateway nothing is ever switched: its groups and writers are Operational unless their sender is spent, whatever sends failed,
+/// and its read groups always are. So it needs no tree of states.
+pub fn a_gateway_has_all_enabled()
+    ensures none { (relay : List RelayStep) → switches_in (seconds relay) ≡ [] }
+    ensures on { (config : Config) (steps : List Step) (component : Component) → switches_in steps ≡ []
+        → is_on config steps component ≡ true }
+    ensures groups { (config : Config) (steps : List Step) (deeds : List Deed) (g : ℕ) → switches_in steps ≡ []
+        → works config steps deeds (Group g) ≡ not (is_spent config g deeds) }
+    ensures writers { (config : Config) (steps : List Step) (deeds : List Deed) (g w : ℕ) → switches_in steps ≡ []
+        → works config steps deeds (Writer g w) ≡ not (is_spent config g deeds) }
+    ensures reads { (config : Config) (steps : List Step) (r : ℕ) → switches_in steps ≡ []
+        → receives config steps r ≡ true }
+{}
