@@ -1,0 +1,12 @@
+pub mod Rows
+pub mod Works
+pub mod Past
+pub mod Passing
+pub mod LaneTurns
+pub mod Beginning
+pub mod Made
+pub mod Turned
+pub mod Sharing
+pub mod Refreshing
+pub mod Finding
+pub mod NewLanes
