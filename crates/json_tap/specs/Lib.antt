@@ -1,0 +1,5 @@
+pub mod Transcoding
+pub mod Keeping
+pub mod Made
+pub mod Parts
+pub mod Taps

@@ -1,0 +1,144 @@
+//! A link that writes what is sent over it.
+ghost use Rattle.std.specs.Prelude.{◌≡◌, [], true, false};
+ghost use Rattle.json_tap.specs.Keeping.{IsOfLink};
+
+use crate::book::Book;
+use crate::inner::{Inner, Tapped};
+use crate::line::JsonLine;
+use crate::made::Made;
+use crate::message::line_for;
+use ps_config::Config;
+use std::alloc::Global;
+use std::marker::PhantomData;
+use ua_base::{Fate, Link, Opened, Received, Sent};
+
+/// A link that passes every call on, and keeps a line in the JSON mapping (OPC 10000-14 section 7.2.5) for each datagram that was
+/// sent since it was opened by way of the tap, is unsecured, has a list of writer ids of the configuration, and whose parts all read
+/// as frames of these writers' data sets with a number and with both versions or neither. Each other datagram that was sent is
+/// counted as skipped, also one whose publisher isn't a text of at most 256 bytes. A line takes its memory before the datagram is
+/// sent.
+#[derive(Drop)]
+pub struct Tap<'a, L: Link, M: Made> {
+    link: &'a mut L,
+    config: &'a Config,
+    alloc: Global,
+    book: Book,
+    is_open: bool,
+    made: PhantomData<M>,
+    ghost same_loan: { link.ghost_name ≡ M.loan },
+    ghost same_config: { config.now ≡ M.config },
+    ghost unopened: { is_open ≡ false
+        → (L.told link.now ≡ M.told) × (L.opened_with link.now ≡ M.opening) },
+    ghost kept: { is_open ≡ true
+        → IsOfLink M.config (L.told link.now) book.lines.items book.skipped },
+}
+
+impl<'a, L: Link, M: Made> Tap<'a, L, M> {
+    ghost use Rattle.json_tap.specs.Taps.{link_of, lines_in, skipped_in, is_open};
+
+    /// A tap over a link, for the datagrams of this configuration. What it writes begins with its opening.
+    pub fn new(alloc: Global, inner: Inner<'a, L>, config: &'a Config) -> Tap<'a, L, M>
+        requires loan { inner.link.ghost_name ≡ M.loan }
+        requires config { config.now ≡ M.config }
+        requires told { L.told inner.link.now ≡ M.told }
+        requires opening { L.opened_with inner.link.now ≡ M.opening }
+        ensures link { link_of result ≡ inner.entry.link.now }
+        ensures lines { lines_in result ≡ [] }
+        ensures skipped { skipped_in result ≡ 0 }
+        ensures unopened { is_open result ≡ false }
+    {
+        let Inner { link } = inner;
+        Tap {
+            link,
+            config,
+            alloc,
+            book: Book {
+                lines: Vec::new(alloc),
+                skipped: 0,
+            },
+            is_open: false,
+            made: PhantomData,
+        }
+    }
+
+    /// The lines, in the order of the datagrams.
+    pub fn lines(&self) -> &[JsonLine]
+        ensures lines { result.now ≡ lines_in self.now }
+        ensures of_sent { is_open self.now ≡ true → IsOfLink
+            M.config (L.told (link_of self.now)) result.now (skipped_in self.now) }
+    {
+        &self.book.lines
+    }
+
+    /// How many datagrams that were sent gave no line. The count stands still at 2^64 - 1.
+    pub fn skipped(&self) -> u64
+        ensures skipped { result ≡ skipped_in self.now }
+        ensures of_sent { is_open self.now ≡ true → IsOfLink
+            M.config (L.told (link_of self.now)) (lines_in self.now) result }
+    {
+        self.book.skipped
+    }
+
+    /// Takes the tap off its link.
+    pub fn into_parts(self) -> Tapped<'a, L>
+        ensures same_loan { result.link.ghost_name ≡ M.loan }
+        ensures link { result.link.now ≡ link_of self.entry }
+        ensures lines { result.lines.items ≡ lines_in self.entry }
+        ensures skipped { result.skipped ≡ skipped_in self.entry }
+        ensures of_sent { is_open self.entry ≡ true → IsOfLink
+            M.config (L.told result.link.now) result.lines.items result.skipped }
+        ensures unopened { is_open self.entry ≡ false
+            → (L.told result.link.now ≡ M.told) × (L.opened_with result.link.now ≡ M.opening) }
+    {
+        let Tap { link, book, .. } = self;
+        let Book { lines, skipped } = book;
+        Tapped {
+            link,
+            lines,
+            skipped,
+        }
+    }
+}
+
+/// It tells and fails as its link does, and is opened with what its link was opened with by way of the tap.
+impl<L: Link, M: Made> Link for Tap<'_, L, M> {
+    ghost use Rattle.json_tap.specs.Taps.{link_of, lines_in, skipped_in, is_open};
+    ghost use Rattle.json_tap.specs.Keeping.{opened_if};
+
+    ghost takes_memory = { true };
+
+    ghost told = { λ t. L.told (link_of t) };
+
+    ghost faults = { λ t. L.faults (link_of t) };
+
+    ghost opened_with = { λ t. opened_if (is_open t) (L.opened_with (link_of t)) };
+
+    fn open(&mut self, port: u16, fates: &[(u64, Fate)]) -> Opened {
+        let opened = self.link.open(port, fates);
+        if opened == Opened::Done {
+            self.book.clear();
+            self.is_open = true;
+        }
+        opened
+    }
+
+    /// The line's memory is taken first: where it can't be had, the link isn't called.
+    fn send(&mut self, datagram: &[u8]) -> Sent {
+        let number = self.book.lines.len() as u64;
+        let Ok(line) = line_for(self.alloc, self.config, number, datagram) else {
+            return Sent::Memory;
+        };
+        if self.book.make_room().is_err() {
+            return Sent::Memory;
+        }
+        let sent = self.link.send(datagram);
+        if sent == Sent::Done {
+            self.book.keep(line);
+        }
+        sent
+    }
+
+    fn receive(&mut self, into: &mut [u8]) -> Received {
+        self.link.receive(into)
+    }
+}
