@@ -42,9 +42,13 @@ pub record Stays (before after : List (List ℕ)) (skipped left : ℕ) : Type 0 
   pub lines_are : after ≡ before
   pub others : left ≡ skipped
 
+-- what is given is kept where a send was done
+abbrev pub KeepsIf : SentEnd → Option (List ℕ) → List (List ℕ) → List (List ℕ) → ℕ → ℕ → Type 0
+KeepsIf sent.Done given before after skipped left = Keeps given before after skipped left
+KeepsIf sent.Failed given before after skipped left = Stays before after skipped left
+KeepsIf sent.Memory given before after skipped left = Stays before after skipped left
+
 -- a datagram that is sent gives exactly one line or is skipped; one that isn't gives nothing
 abbrev pub KeepsSent : Config → List ℕ → SentEnd → List (List ℕ) → List (List ℕ) → ℕ → ℕ → Type 0
-KeepsSent config datagram sent.Done before after skipped left =
-    Keeps (line_for config (length before) datagram) before after skipped left
-KeepsSent config datagram sent.Failed before after skipped left = Stays before after skipped left
-KeepsSent config datagram sent.Memory before after skipped left = Stays before after skipped left
+KeepsSent config datagram end before after skipped left =
+    KeepsIf end (line_for config (length before) datagram) before after skipped left

@@ -1,9 +1,12 @@
 //! The lines so far.
-ghost use Rattle.std.specs.Prelude.{◌≡◌, ◌<◌, [], OnOk, OnErr, vec_len, vec_capacity};
-ghost use Rattle.json_tap.specs.Keeping.{Keeps};
+ghost use Rattle.std.specs.Prelude.{◌≡◌, ◌<◌, [], length, IfOk, OnOk, vec_len, vec_capacity};
+ghost use Rattle.json_tap.specs.Keeping.{line_for, Keeps, KeepsIf};
 
 use crate::line::JsonLine;
-use std::alloc::AllocError;
+use crate::message::line_for;
+use ps_config::Config;
+use std::alloc::Global;
+use ua_base::{NoMemory, Sent};
 
 /// The lines, and how many datagrams gave none. The count stands still at 2^64 - 1.
 #[derive(Drop)]
@@ -13,17 +16,37 @@ pub struct Book {
 }
 
 impl Book {
-    /// Takes memory for one more line.
-    pub fn make_room(&mut self) -> Result<(), AllocError>
+    /// The line of a datagram behind those so far, where it gives one, and memory to keep it.
+    pub fn line_for(
+        &mut self,
+        alloc: Global,
+        config: &Config,
+        datagram: &[u8],
+    ) -> Result<Option<JsonLine>, NoMemory>
+        ensures line { IfOk result (λ line.
+            line ≡ line_for config.now (length self.old.lines.items) datagram.now) }
         ensures room { OnOk result (vec_len self.new.lines < vec_capacity self.new.lines) }
         ensures lines { self.new.lines.items ≡ self.old.lines.items }
         ensures skipped { self.new.skipped ≡ self.old.skipped }
     {
-        self.lines.reserve(1)
+        let line = line_for(alloc, config, self.lines.len() as u64, datagram)?;
+        self.lines.reserve(1)?;
+        Ok(line)
     }
 
-    /// Keeps the line of a datagram, or counts it where it has none.
-    pub fn keep(&mut self, line: Option<JsonLine>)
+    /// Keeps the line of a datagram that was sent, or counts it where it has none.
+    pub fn settle(&mut self, sent: Sent, line: Option<JsonLine>)
+        requires { vec_len self.old.lines < vec_capacity self.old.lines }
+        ensures { KeepsIf sent line
+            self.old.lines.items self.new.lines.items self.old.skipped self.new.skipped }
+    {
+        match sent {
+            Sent::Done => self.keep(line),
+            Sent::Failed | Sent::Memory => {}
+        }
+    }
+
+    fn keep(&mut self, line: Option<JsonLine>)
         requires { vec_len self.old.lines < vec_capacity self.old.lines }
         ensures { Keeps line self.old.lines.items self.new.lines.items self.old.skipped self.new.skipped }
     {

@@ -1,5 +1,6 @@
 //! What is transcoded of a datagram.
-ghost use Rattle.std.specs.Prelude.{◌≡◌, ◌≤◌, ◌*◌, ◌+◌, IfOk, length, map, zip, slice_index, All};
+ghost use Rattle.std.specs.Prelude.{◌≡◌, ◌≤◌, ◌*◌, ◌+◌, IfOk, length, map, take, drop, zip, All};
+ghost use Rattle.std.specs.Int.{w16, from_le_bytes};
 ghost use Rattle.uadp_header.specs.Headers.{ListOf, ids_of, ids_in, header_in};
 ghost use Rattle.uadp_header.specs.Spelling.{AreIds};
 ghost use Rattle.payload_layout.specs.Payloads.{frame_at, IsWithin};
@@ -90,7 +91,7 @@ fn parts_for(
 ) -> Result<Option<JsonParts>, NoMemory>
     requires { AreIds (ids_in ids) }
     ensures { IfOk result (λ found.
-        ArePartsIf config.now found (parts_for config.now (ids_in ids) payload.now)) }
+        ArePartsIf config.now found (parts_for config.now (ids_in ids.entry) payload.now)) }
 {
     match ids {
         Ids::None | Ids::Chunk(_) => Ok(None),
@@ -142,7 +143,7 @@ fn parts_at(
 /// The id with this index.
 fn id_at(ids: &[u8], index: usize) -> u16
     requires { 2 * (index + 1) ≤ length ids.now }
-    ensures { result ≡ slice_index (ids_of ids.now) index }
+    ensures { result ≡ from_le_bytes w16 (take 2 (drop (2 * index) ids.now)) }
 {
     u16::from_le_bytes([ids[2 * index], ids[2 * index + 1]])
 }

@@ -67,8 +67,9 @@ fn set_of(config: &Config, writer: u16) -> Option<u8>
     ensures { result ≡ set_of (sets_of config.now) writer }
 {
     for group in config.group.as_slice() {
-        if let Some(set) = set_in(group.writer.as_slice(), writer) {
-            return Some(set);
+        match set_in(group.writer.as_slice(), writer) {
+            Some(set) => return Some(set),
+            None => {}
         }
     }
     None

@@ -10,7 +10,7 @@ use uadp_header::PublisherId;
 
 /// A number as decimal text, a text as itself, where it is told and has at most 256 bytes.
 pub fn publisher_of(publisher: Option<PublisherId<'_>>) -> Option<Text>
-    ensures { result ≡ publisher_of (if_there publisher_in publisher) }
+    ensures { result ≡ publisher_of (if_there publisher_in publisher.entry) }
 {
     match publisher {
         None => None,

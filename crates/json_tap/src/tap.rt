@@ -1,12 +1,15 @@
 //! A link that writes what is sent over it.
-ghost use Rattle.std.specs.Prelude.{◌≡◌, [], true, false};
+ghost use Rattle.std.specs.Prelude.{◌≡◌, ◌<◌, ◌^◌, [], true, false, length, IsTrue, IsSome};
+ghost use Rattle.ua_base.specs.Cause.{Rose};
+ghost use Rattle.ua_base.specs.Journal.{Tells};
+ghost use Rattle.ua_base.specs.Links.{KeepsLink};
+ghost use Rattle.ua_base.specs.Net.{Sends, Queues};
 ghost use Rattle.json_tap.specs.Keeping.{IsOfLink};
 
 use crate::book::Book;
 use crate::inner::{Inner, Tapped};
 use crate::line::JsonLine;
 use crate::made::Made;
-use crate::message::line_for;
 use ps_config::Config;
 use std::alloc::Global;
 use std::marker::PhantomData;
@@ -103,7 +106,7 @@ impl<'a, L: Link, M: Made> Tap<'a, L, M> {
 /// It tells and fails as its link does, and is opened with what its link was opened with by way of the tap.
 impl<L: Link, M: Made> Link for Tap<'_, L, M> {
     ghost use Rattle.json_tap.specs.Taps.{link_of, lines_in, skipped_in, is_open};
-    ghost use Rattle.json_tap.specs.Keeping.{opened_if};
+    ghost use Rattle.json_tap.specs.Keeping.{opened_if, KeepsSent};
 
     ghost takes_memory = { true };
 
@@ -123,18 +126,27 @@ impl<L: Link, M: Made> Link for Tap<'_, L, M> {
     }
 
     /// The line's memory is taken first: where it can't be had, the link isn't called.
-    fn send(&mut self, datagram: &[u8]) -> Sent {
-        let number = self.book.lines.len() as u64;
-        let Ok(line) = line_for(self.alloc, self.config, number, datagram) else {
+    fn send(&mut self, datagram: &[u8]) -> Sent
+        requires open { IsSome (opened_if (is_open self.old) (L.opened_with (link_of self.old))) }
+        requires short { length datagram.now < 2 ^ 32 }
+
+        ensures entry { Tells (L.told (link_of self.old)) (L.told (link_of self.new))
+            (Sends datagram.now result) }
+        ensures waiting { Tells (L.told (link_of self.old)) (L.told (link_of self.new)) (Queues result) }
+        ensures link { KeepsLink (λ t. opened_if (is_open t) (L.opened_with (link_of t)))
+            (λ t. L.faults (link_of t)) self.old self.new }
+        ensures only_where_taken { result ≡ Sent.Memory → IsTrue true }
+        ensures cause { result ≡ Sent.Failed
+            → Rose (L.faults (link_of self.old)) (L.faults (link_of self.new)) }
+
+        ensures line { KeepsSent M.config datagram.now result
+            (lines_in self.old) (lines_in self.new) (skipped_in self.old) (skipped_in self.new) }
+    {
+        let Ok(line) = self.book.line_for(self.alloc, self.config, datagram) else {
             return Sent::Memory;
         };
-        if self.book.make_room().is_err() {
-            return Sent::Memory;
-        }
         let sent = self.link.send(datagram);
-        if sent == Sent::Done {
-            self.book.keep(line);
-        }
+        self.book.settle(sent, line);
         sent
     }
 

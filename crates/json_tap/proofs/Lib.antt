@@ -1,0 +1,4 @@
+mod Lines
+mod Listed
+mod Sent
+mod Sets
