@@ -49,7 +49,8 @@ kept-of config sent datagram lines after skipped left (Some message) e is keeps 
     let none_more = skipped-more config sent datagram (Some message) e in
     let before = is.others in
     let now = keeps.others in
-    let count : length lines ≡ 0 + length (messages_of config sent) = ap length is.lines_are ∙ lines-count config 0 (messages_of config sent) in
+    let from_zero : length (messages_of config sent) ≡ 0 + length (messages_of config sent) = omega arith in
+    let count : length lines ≡ 0 + length (messages_of config sent) = ap length is.lines_are ∙ lines-count config 0 (messages_of config sent) ∙ from_zero in
     record {
       lines_are = keeps.lines_are ∙ ap (λ (n : ℕ). lines ++ line config n message ∷ []) count ∙ ap (λ (l : List (List ℕ)). l ++ line config (0 + length (messages_of config sent)) message ∷ []) is.lines_are ∙ sym (lines-more config 0 (messages_of config sent) (message ∷ [])) ∙ ap (lines_from config 0) (sym messages);
       others = omega (arith, none_more, before, now);

@@ -1,0 +1,70 @@
+//! Sending the datagrams of a case over a tap.
+ghost use Rattle.std.specs.Prelude.{◌≡◌, IsSome, IsTrue};
+ghost use Rattle.mem_edge.specs.MemoryLinks.{told_by, opened_by};
+ghost use Rattle.json_tap.specs.Keeping.{opened_if};
+ghost use Rattle.json_tap.specs.Taps.{link_of, is_open};
+
+use crate::cases::Case;
+use json_tap::{Inner, JsonLine, Made, Tap};
+use mem_edge::MemoryLink;
+use ps_config::Config;
+use std::alloc::{AllocError, Global};
+use std::marker::Brand;
+use std::str;
+use ua_base::{Link, Opened};
+
+/// More bytes than any datagram has over UDP.
+const MAX_BYTES: usize = 65_508;
+
+/// What a tap writes of the datagrams.
+pub fn written(alloc: Global, case: Case) -> Result<String, AllocError> {
+    let Case {
+        config,
+        datagrams,
+        fails,
+    } = case;
+    let mut link = MemoryLink::new(alloc, Vec::new(alloc), fails, Vec::new(alloc), false);
+    tapped::<Brand>(alloc, Inner { link: &mut link }, &config, &datagrams)
+}
+
+fn tapped<'a, M: Made>(
+    alloc: Global,
+    inner: Inner<'a, MemoryLink>,
+    config: &'a Config,
+    datagrams: &[Vec<u8>],
+) -> Result<String, AllocError>
+    requires loan { inner.link.ghost_name ≡ M.loan }
+    requires config { config.now ≡ M.config }
+    requires told { told_by inner.link.now ≡ M.told }
+    requires opening { opened_by inner.link.now ≡ M.opening }
+{
+    let mut tap: Tap<'a, MemoryLink, M> = Tap::new(alloc, inner, config);
+    if tap.open(1, &[]) != Opened::Done {
+        return format!(in alloc; "not opened");
+    }
+    send_all(&mut tap, datagrams);
+    shown(alloc, tap.lines(), tap.skipped())
+}
+
+fn send_all<M: Made>(tap: &mut Tap<'_, MemoryLink, M>, datagrams: &[Vec<u8>])
+    requires { IsSome (opened_if (is_open tap.old) (opened_by (link_of tap.old))) }
+{
+    for datagram in datagrams {
+        if datagram.len() < MAX_BYTES {
+            tap.send(datagram);
+        }
+    }
+}
+
+fn shown(alloc: Global, lines: &[JsonLine], skipped: u64) -> Result<String, AllocError> {
+    let mut text = String::new(alloc);
+    for line in lines {
+        if let Ok(line) = str::from_utf8(line.as_bytes()) {
+            text.push_str(line)?;
+            text.push(' ')?;
+        }
+    }
+    let count = format!(in alloc; "skipped {skipped}")?;
+    text.push_str(count.as_str())?;
+    Ok(text)
+}
