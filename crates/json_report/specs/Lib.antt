@@ -1,0 +1,4 @@
+pub mod Matching
+pub mod Folding
+pub mod Steps
+pub mod Texts
