@@ -1,12 +1,12 @@
 -- The lines of datagrams, one datagram after another.
-use Rattle.std.proofs.Common.{◌≡◌, ℕ, ◌+◌, Bool, List, [], ◌∷◌, ◌++◌, length, Option, Some, None, refl, sym, ap, ◌∙◌, append-nil, arith}
-use Rattle.std.specs.Prelude.{filter_map, count_by, is_none, cond, option_map, option_to_list}
+use Rattle.std.proofs.Common.{◌≡◌, ℕ, ◌+◌, List, [], ◌∷◌, ◌++◌, length, Option, Some, None, refl, sym, ap, ◌∙◌, append-nil, arith}
+use Rattle.std.specs.Prelude.{is_none, cond, option_map, option_to_list}
 use Rattle.std.specs.List.{cons_option, sum_by}
 use Rattle.std.proofs.lemmas.List.Elements.{filter_map-append}
 use Rattle.std.proofs.lemmas.List.Sums.{sum_by-append}
 use Rattle.ps_config.specs.declared.parts.Config.{Config}
-use Rattle.json_tap.specs.Transcoding.{Message, transcoded, line, lines_from, lines_of, messages_of, skipped_of}
-use Rattle.json_tap.specs.Keeping.{counted, IsOf, line_for, Keeps}
+use Rattle.json_tap.specs.Transcoding.{Message, transcoded, line, lines_from, messages_of, skipped_of}
+use Rattle.json_tap.specs.Keeping.{IsOf, line_for, Keeps}
 
 lines-more : (config : Config) (number : ℕ) (one other : List Message) → lines_from config number (one ++ other) ≡ lines_from config number one ++ lines_from config (number + length one) other
 lines-more config number [] other =

@@ -1,11 +1,11 @@
 -- What a tap keeps of a link.
-use Rattle.std.specs.Prelude.{◌≡◌, ◌≢◌, ◌^◌, ◌-◌, ◌+◌, min, ℕ, Bool, if◌then◌else◌, List, ◌∷◌, [], ◌++◌, length, Option, Some, None, option_map, option_to_list}
+use Rattle.std.specs.Prelude.{◌≡◌, ◌^◌, ◌-◌, ◌+◌, min, ℕ, Bool, if◌then◌else◌, List, ◌++◌, length, Option, Some, None, option_map, option_to_list}
 use Rattle.ua_base.specs.declared.link.Sent.{Sent as SentEnd}
 use Rattle.ua_base.specs.declared.link.Sent.TheVariants as sent
 use Rattle.ua_base.specs.Journal.{LinkState, sent_list}
 use Rattle.ua_base.specs.Links.{Opening}
 use Rattle.ps_config.specs.declared.parts.Config.{Config}
-use Rattle.json_tap.specs.Transcoding.{Message, transcoded, line, lines_of, skipped_of}
+use Rattle.json_tap.specs.Transcoding.{transcoded, line, lines_of, skipped_of}
 
 -- a count that stands still at the end of 64 bits
 abbrev pub counted : ℕ → ℕ

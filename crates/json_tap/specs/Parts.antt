@@ -1,5 +1,5 @@
 -- What calls answer of what is transcoded.
-use Rattle.std.specs.Prelude.{◌≡◌, ℕ, List, IsSome, Option, Some, None, option_map}
+use Rattle.std.specs.Prelude.{◌≡◌, ℕ, List, IsSome, Option, Some, None}
 use Rattle.std.specs.List.{All}
 use Rattle.dataset_meta.specs.Metas.{MetaData}
 use Rattle.frame_codec.specs.declared.frame.Frame.{Frame as FrameWords}

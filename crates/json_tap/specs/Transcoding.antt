@@ -3,7 +3,6 @@ use Rattle.std.specs.Prelude.{ℕ, ◌+◌, ◌*◌, Bool, true, false, ◌&&◌
 use Rattle.serde_json.specs.Written.{compact_text}
 use Rattle.ua_values.specs.declared.text.TextFault.{TextFault}
 use Rattle.ua_values.specs.Texts.{text_of}
-use Rattle.dataset_meta.specs.Metas.{MetaData}
 use Rattle.frame_codec.specs.declared.fault.FrameFault.{FrameFault}
 use Rattle.frame_codec.specs.Frames.{Frame}
 use Rattle.frame_codec.specs.Reading.{frame_at}

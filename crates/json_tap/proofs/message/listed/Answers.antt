@@ -1,11 +1,10 @@
-use Rattle.std.proofs.Common.{◌≡◌, ◌∙◌, ap, sym, subst, refl, List, Option, map}
+use Rattle.std.proofs.Common.{◌∙◌, ap, sym, subst, refl, List, Option, map}
 use Rattle.std.specs.Prelude.{IfOk}
 use Rattle.std.proofs.lemmas.Bool.{false≢true}
-use Rattle.payload_layout.specs.declared.parts.Part.{Part as Place}
 use Rattle.payload_layout.specs.Payloads.{frame_at}
 use Rattle.json_frames.specs.Parts.{Part}
 use Rattle.json_tap.specs.Parts.{ArePartsIf}
-use Rattle.json_tap.proofs.Listed.{messages_at, places-count, listed-found, listed-refused}
+use Rattle.json_tap.proofs.Listed.{places-count, listed-found, listed-refused}
 use Rattle.json_tap.proofs.message.listed.Goals as goal
 
 pub parts_at-requires-clause-count : goal.parts_at-requires-clause-count
