@@ -1,12 +1,11 @@
 //! A reader over lines.
-ghost use Rattle.std.specs.Prelude.{◌≡◌, ◌<◌, List, IfOk, OnOk, length};
+ghost use Rattle.std.specs.Prelude.{◌≡◌, ◌≢◌, ◌<◌, List, IfOk, OnOk, length};
 ghost use Rattle.std.specs.List.{All};
 ghost use Rattle.frame_codec.specs.Frames.{Frame as AnyFrame};
-ghost use Rattle.frame_codec.specs.Words.{IsFrameOf};
 ghost use Rattle.dataset_reader.specs.Reader.{IsReaderOf, kept_by, numbering_of};
 ghost use Rattle.reader_group.specs.Members.{numbering_of as numbering_word};
-ghost use Rattle.json_frames.specs.Parts.{meta_at, part_in};
-ghost use Rattle.json_report.specs.Folding.{ReadsLine, ReadsLines, kept_of};
+ghost use Rattle.json_frames.specs.Parts.{meta_at};
+ghost use Rattle.json_report.specs.Folding.{ReadsLines, kept_of};
 ghost use Rattle.json_report.specs.Steps.{IsFor, Folds, FoldsLine};
 
 use dataset_meta::Meta;
@@ -67,8 +66,19 @@ fn take_line(
             take_parts(meta_of(config, part), read.parts.as_slice(), reader);
             Ok(())
         }
-        Err(JsonEnd::Memory) => Err(NoMemory),
-        Err(_) => Ok(()),
+        Err(end) => {
+            unless_memory(end)?;
+            Ok(())
+        }
+    }
+}
+
+fn unless_memory(end: JsonEnd) -> Result<(), NoMemory>
+    ensures { OnOk result (end ≢ JsonEnd.Memory) }
+{
+    match end {
+        JsonEnd::Memory => Err(NoMemory),
+        JsonEnd::NotJson | JsonEnd::NotData | JsonEnd::BadPublisher | JsonEnd::NoMessages => Ok(()),
     }
 }
 

@@ -78,7 +78,8 @@ fn put_reader(
         &config.dataset.as_slice()[usize::from(part.dataset)],
         &reader,
     )?;
-    put_feed(out)
+    put_feed(out)?;
+    Ok(())
 }
 
 #[tactic(auto, unfolding(crate::specs::Texts::counts_text))]

@@ -1,6 +1,5 @@
 //! Sending the datagrams of a case over a tap.
-ghost use Rattle.std.specs.Prelude.{◌≡◌, IsSome, IsTrue};
-ghost use Rattle.mem_edge.specs.MemoryLinks.{told_by, opened_by};
+ghost use Rattle.std.specs.Prelude.{◌≡◌, IsSome};
 ghost use Rattle.json_tap.specs.Keeping.{opened_if};
 ghost use Rattle.json_tap.specs.Taps.{link_of, is_open};
 
@@ -24,30 +23,31 @@ pub fn written(alloc: Global, case: Case) -> Result<String, AllocError> {
         fails,
     } = case;
     let mut link = MemoryLink::new(alloc, Vec::new(alloc), fails, Vec::new(alloc), false);
-    tapped::<Brand>(alloc, Inner { link: &mut link }, &config, &datagrams)
+    tapped::<Brand, MemoryLink>(alloc, Inner { link: &mut link }, &config, &datagrams)
 }
 
-fn tapped<'a, M: Made>(
+fn tapped<'a, M: Made, L: Link>(
     alloc: Global,
-    inner: Inner<'a, MemoryLink>,
+    inner: Inner<'a, L>,
     config: &'a Config,
     datagrams: &[Vec<u8>],
 ) -> Result<String, AllocError>
     requires loan { inner.link.ghost_name ≡ M.loan }
     requires config { config.now ≡ M.config }
-    requires told { told_by inner.link.now ≡ M.told }
-    requires opening { opened_by inner.link.now ≡ M.opening }
+    requires told { L.told inner.link.now ≡ M.told }
+    requires opening { L.opened_with inner.link.now ≡ M.opening }
 {
-    let mut tap: Tap<'a, MemoryLink, M> = Tap::new(alloc, inner, config);
-    if tap.open(1, &[]) != Opened::Done {
-        return format!(in alloc; "not opened");
+    let mut tap: Tap<'a, L, M> = Tap::new(alloc, inner, config);
+    match tap.open(1, &[]) {
+        Opened::Done => {}
+        Opened::Failed | Opened::Memory => return format!(in alloc; "not opened"),
     }
     send_all(&mut tap, datagrams);
     shown(alloc, tap.lines(), tap.skipped())
 }
 
-fn send_all<M: Made>(tap: &mut Tap<'_, MemoryLink, M>, datagrams: &[Vec<u8>])
-    requires { IsSome (opened_if (is_open tap.old) (opened_by (link_of tap.old))) }
+fn send_all<M: Made, L: Link>(tap: &mut Tap<'_, L, M>, datagrams: &[Vec<u8>])
+    requires { IsSome (opened_if (is_open tap.old) (L.opened_with (link_of tap.old))) }
 {
     for datagram in datagrams {
         if datagram.len() < MAX_BYTES {
