@@ -3,7 +3,7 @@ use crate::configurations::configuration;
 use ps_config::Config;
 use std::alloc::Global;
 
-/// The datagrams that are sent, each shorter than any over UDP may be, and the numbers of those whose send fails.
+/// The datagrams that are sent, and the numbers of those whose send fails.
 #[derive(Drop)]
 pub struct Case {
     pub config: Config,
@@ -14,9 +14,9 @@ pub struct Case {
 impl Case {
     /// The case of a line.
     pub fn read(alloc: Global, text: &str) -> Option<Case> {
-        let (name, rest) = match text.split_once(' ') {
-            Some((name, rest)) => (name, rest),
-            None => (text, ""),
+        let mut words = text.split_whitespace();
+        let Some(name) = words.next() else {
+            return None;
         };
         let Some(config) = configuration(alloc, name) else {
             return None;
@@ -26,7 +26,7 @@ impl Case {
             datagrams: Vec::new(alloc),
             fails: Vec::new(alloc),
         };
-        for word in rest.split_whitespace() {
+        for word in words {
             if !case.add(alloc, word) {
                 return None;
             }
@@ -36,16 +36,19 @@ impl Case {
 
     /// One datagram more, where the word is one and memory is there.
     fn add(&mut self, alloc: Global, word: &str) -> bool {
+        match word.strip_prefix('!') {
+            Some(digits) => self.add_failing() && self.add_bytes(alloc, digits),
+            None => self.add_bytes(alloc, word),
+        }
+    }
+
+    /// The send of the next datagram fails.
+    fn add_failing(&mut self) -> bool {
         let number = self.datagrams.len() as u64;
-        let digits = match word.strip_prefix('!') {
-            Some(digits) => {
-                if self.fails.push(number).is_err() {
-                    return false;
-                }
-                digits
-            }
-            None => word,
-        };
+        self.fails.push(number).is_ok()
+    }
+
+    fn add_bytes(&mut self, alloc: Global, digits: &str) -> bool {
         match hex::decode(alloc, digits) {
             Ok(bytes) => self.datagrams.push(bytes).is_ok(),
             Err(_) => false,

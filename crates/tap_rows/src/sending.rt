@@ -4,7 +4,7 @@ ghost use Rattle.json_tap.specs.Keeping.{opened_if};
 ghost use Rattle.json_tap.specs.Taps.{link_of, is_open};
 
 use crate::cases::Case;
-use json_tap::{Inner, JsonLine, Made, Tap};
+use json_tap::{Inner, JsonLine, Made, Tap, Tapped};
 use mem_edge::MemoryLink;
 use ps_config::Config;
 use std::alloc::{AllocError, Global};
@@ -23,15 +23,34 @@ pub fn written(alloc: Global, case: Case) -> Result<String, AllocError> {
         fails,
     } = case;
     let mut link = MemoryLink::new(alloc, Vec::new(alloc), fails, Vec::new(alloc), false);
-    tapped::<Brand, MemoryLink>(alloc, Inner { link: &mut link }, &config, &datagrams)
+    let (lines, skipped) = tap_over(alloc, &mut link, &config, &datagrams);
+    shown(alloc, &lines, skipped)
 }
+
+fn tap_over<L: Link>(
+    alloc: Global,
+    link: &mut L,
+    config: &Config,
+    datagrams: &[Vec<u8>],
+) -> (Vec<JsonLine>, u64) {
+    let Tapped {
+        link,
+        lines,
+        skipped,
+    } = tapped::<Brand, L>(alloc, Inner { link }, config, datagrams);
+    take_back(link);
+    (lines, skipped)
+}
+
+/// This use of the link ties it to the one that was lent.
+fn take_back<L: Link>(_link: &mut L) {}
 
 fn tapped<'a, M: Made, L: Link>(
     alloc: Global,
     inner: Inner<'a, L>,
     config: &'a Config,
     datagrams: &[Vec<u8>],
-) -> Result<String, AllocError>
+) -> Tapped<'a, L>
     requires loan { inner.link.ghost_name ≡ M.loan }
     requires config { config.now ≡ M.config }
     requires told { L.told inner.link.now ≡ M.told }
@@ -39,11 +58,10 @@ fn tapped<'a, M: Made, L: Link>(
 {
     let mut tap: Tap<'a, L, M> = Tap::new(alloc, inner, config);
     match tap.open(1, &[]) {
-        Opened::Done => {}
-        Opened::Failed | Opened::Memory => return format!(in alloc; "not opened"),
+        Opened::Done => send_all(&mut tap, datagrams),
+        Opened::Failed | Opened::Memory => {}
     }
-    send_all(&mut tap, datagrams);
-    shown(alloc, tap.lines(), tap.skipped())
+    tap.into_parts()
 }
 
 fn send_all<M: Made, L: Link>(tap: &mut Tap<'_, L, M>, datagrams: &[Vec<u8>])
