@@ -1,4 +1,0 @@
-pub mod Matching
-pub mod Folding
-pub mod Steps
-pub mod Texts
