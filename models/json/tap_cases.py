@@ -33,7 +33,11 @@ def note(text): print("# " + text)
 
 first = demo(0, 0, 0, 0, 0)
 second = demo(1, 7, 0, 0, 0)
-note("the two datagrams of the first run: a key frame of zeros, and one of a=7")
+note("the two datagrams of the built-in configuration's first run, where a=7 was written before the first tick; the first is known from outside")
+run = [datagram(U8, [(1, demo(k, 7, 0, 0, 0))], sequence=k) for k in (0, 1)]
+assert run[0].hex(" ") == "71 05 09 01 00 00 00 01 01 00 09 00 00 04 00 07 07 00 00 00 07 00 00 00 00 07 00 00 00 00 07 00 00 00 00"
+case("built-in", *run)
+note("key frames of two rows")
 case("built-in", datagram(U8, [(1, first)]), datagram(U8, [(1, second)]))
 note("one that isn't sent gives nothing, and takes no number")
 case("built-in", datagram(U8, [(1, first)]), "!" + datagram(U8, [(1, second)]).hex(), datagram(U8, [(1, second)]))
