@@ -86,7 +86,7 @@ pub fn top<R: Threads + Wait + Sync, F: Folder, A: Link, B: Link, G: Gate, K: Si
     let Some(command) = command_in(words) else {
         return told(err, &Status::BadWords);
     };
-    let status = act(rt, alloc, command, folder, lab, wire, gate, out);
+    let status = act(rt, alloc, &command, folder, lab, wire, gate, out);
     told(err, &status)
 }
 
@@ -94,21 +94,21 @@ pub fn top<R: Threads + Wait + Sync, F: Folder, A: Link, B: Link, G: Gate, K: Si
 fn act<'w, R: Threads + Wait + Sync, F: Folder, A: Link, B: Link, G: Gate, K: Sink>(
     rt: &R,
     alloc: Global,
-    command: Command<'w>,
+    command: &Command<'w>,
     folder: &mut F,
     lab: &mut A,
     wire: &mut B,
     gate: &G,
     out: &mut K,
 ) -> Status<'w>
-    requires bounded { IsBounded command }
-    ensures does { Does (shape_by command) result
+    requires bounded { IsBounded command.now }
+    ensures does { Does (shape_by command.now) result
         (world_of (outside_of F.tells F.faults K.written K.faults folder.old out.old)
         (wire_of A.told A.faults A.opened_with lab.old) (wire_of B.told B.faults B.opened_with wire.old))
         (world_of (outside_of F.tells F.faults K.written K.faults folder.new out.new)
         (wire_of A.told A.faults A.opened_with lab.new) (wire_of B.told B.faults B.opened_with wire.new)) }
-    ensures lab { uses_lab (shape_by command) ≡ false → lab.new ≡ lab.old }
-    ensures wire { uses_wire (shape_by command) ≡ false → wire.new ≡ wire.old }
+    ensures lab { uses_lab (shape_by command.now) ≡ false → lab.new ≡ lab.old }
+    ensures wire { uses_wire (shape_by command.now) ≡ false → wire.new ≡ wire.old }
     ensures unlinked { IsStatusBeforeLink result → (lab.new ≡ lab.old) × (wire.new ≡ wire.old) }
     ensures silent { ¬ IsDone result → ¬ IsUnwritten result → out.new ≡ out.old }
     ensures files { (name : List ℕ) → F.tells folder.new name ≡ F.tells folder.old name }
@@ -119,10 +119,10 @@ fn act<'w, R: Threads + Wait + Sync, F: Folder, A: Link, B: Link, G: Gate, K: Si
 {
     match command {
         Command::Check { config } => check(alloc, config, folder, out),
-        Command::Play { script, config } => play(rt, alloc, script, config, folder, lab, out),
-        Command::Run { script, config } => run(rt, alloc, script, config, folder, wire, gate, out),
-        Command::Load { n } => load(rt, alloc, n, lab, gate, out),
-        Command::Keys { config, asked } => keys(alloc, config, &asked, folder, out),
+        Command::Play { script, config } => play(rt, alloc, script, *config, folder, lab, out),
+        Command::Run { script, config } => run(rt, alloc, script, *config, folder, wire, gate, out),
+        Command::Load { n } => load(rt, alloc, *n, lab, gate, out),
+        Command::Keys { config, asked } => keys(alloc, config, asked, folder, out),
     }
 }
 

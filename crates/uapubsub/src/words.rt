@@ -49,7 +49,10 @@ pub fn command_in(words: &[Word]) -> Option<Command<'_>>
             option.as_str(),
             config.as_str(),
         ),
-        words => keys_in(words).map(|(config, asked)| Command::Keys { config, asked }),
+        _ => match keys_in(words) {
+            Some((config, asked)) => Some(Command::Keys { config, asked }),
+            None => None,
+        },
     }
 }
 
@@ -89,7 +92,7 @@ fn named<'w>(command: &str, script: &'w str, option: &str, config: &'w str) -> O
 }
 
 fn scripted<'w>(command: &str, script: &'w str, config: Option<&'w str>) -> Option<Command<'w>>
-    ensures shape { script_shape command.now script.now (option_copied config) ≡ option_map shape_by result }
+    ensures shape { script_shape command.now script.now (option_copied config.entry) ≡ option_map shape_by result }
     ensures bounded { IfSome result IsBounded }
 {
     if command == "play" {
