@@ -6,7 +6,7 @@ use Rattle.config_tables.specs.FaultNumbers.{number_of as fault_number, fault_na
 use Rattle.ps_script.specs.FaultNumbers.{number_of as script_number, fault_name as script_fault_name}
 use Rattle.ps_script.specs.declared.fault.ScriptFault.{ScriptFault}
 use Rattle.command_parts.specs.declared.status.Status.{Status}
-use Rattle.command_parts.specs.declared.status.Status.TheVariants.{Done, BadWords, ConfigRefused, ScriptRefused, Unread, Unwritten, OutOfMemory, Unopened, Long}
+use Rattle.command_parts.specs.declared.status.Status.TheVariants.{Done, BadWords, ConfigRefused, NoSource, ScriptRefused, NotInLanes, Unread, Unwritten, OutOfMemory, Unopened, Long}
 
 -- ---- numbers
 
@@ -14,7 +14,9 @@ abbrev pub number_of : Status → ℕ
 number_of Done = 0
 number_of BadWords = 2
 number_of (ConfigRefused code path) = 3
+number_of (NoSource set) = 3
 number_of (ScriptRefused line fault) = 4
+number_of (NotInLanes line) = 4
 number_of (Unread file) = 5
 number_of Unwritten = 6
 number_of OutOfMemory = 7
@@ -62,6 +64,10 @@ place_text code path = name_numbered code ++ codes " " ++ path ++ line_feed
 abbrev pub config_text : ℕ → List ℕ → List ℕ
 config_text code path = codes "config: C" ++ decimal code ++ codes " " ++ place_text code path
 
+-- `config: C26 NoSource dataset[I]`
+abbrev pub source_text : ℕ → List ℕ
+source_text set = codes "config: C26 NoSource dataset[" ++ decimal set ++ codes "]\n"
+
 -- `n NAME`
 abbrev pub fault_text : ScriptFault → List ℕ
 fault_text fault = decimal (script_number fault) ++ codes " " ++ script_fault_name fault ++ line_feed
@@ -70,12 +76,18 @@ fault_text fault = decimal (script_number fault) ++ codes " " ++ script_fault_na
 abbrev pub script_text : ℕ → ScriptFault → List ℕ
 script_text line fault = codes "script: line " ++ decimal line ++ codes " S" ++ fault_text fault
 
+-- `script: line L S13 NotInLanes`
+abbrev pub lanes_text : ℕ → List ℕ
+lanes_text line = codes "script: line " ++ decimal line ++ codes " S13 NotInLanes\n"
+
 -- the text of a status
 unfoldable pub text_of : Status → List ℕ
 text_of Done = []
-text_of BadWords = codes "usage: uapubsub check --config FILE | play SCRIPT [--config FILE] | run SCRIPT [--config FILE] | load N | keys FILE GROUP START COUNT MS" ++ line_feed
+text_of BadWords = codes "usage: uapubsub check --config FILE | play SCRIPT [--config FILE] | run SCRIPT [--config FILE] | load N | json SCRIPT [--config FILE] | keys FILE GROUP START COUNT MS | relay SCRIPT FILE SECOND | lanes SCRIPT [--config FILE]" ++ line_feed
 text_of (ConfigRefused code path) = config_text code path
+text_of (NoSource set) = source_text set
 text_of (ScriptRefused line fault) = script_text line fault
+text_of (NotInLanes line) = lanes_text line
 text_of (Unread file) = codes "cannot read " ++ file.now ++ line_feed
 text_of Unwritten = []
 text_of OutOfMemory = codes "out of memory" ++ line_feed

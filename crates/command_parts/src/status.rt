@@ -13,8 +13,12 @@ pub enum Status<'w> {
     BadWords,
     /// The configuration was read whole, and this fault of it stands here.
     ConfigRefused { code: u8, path: Path },
+    /// The configuration was accepted, and no reader of the first session can be the source of this data set of it, counted from 0.
+    NoSource { set: u32 },
     /// The script was read whole, and this line, counted from 1, is the first that has a fault.
     ScriptRefused { line: u32, fault: ScriptFault },
+    /// The script was accepted, and this line, counted from 1, is the first that lanes don't take.
+    NotInLanes { line: u32 },
     /// The file could not be read.
     Unread { file: &'w str },
     /// The report or the answer could not be written.
@@ -37,8 +41,8 @@ impl<'w> Status<'w> {
         match self {
             Status::Done => 0,
             Status::BadWords => 2,
-            Status::ConfigRefused { .. } => 3,
-            Status::ScriptRefused { .. } => 4,
+            Status::ConfigRefused { .. } | Status::NoSource { .. } => 3,
+            Status::ScriptRefused { .. } | Status::NotInLanes { .. } => 4,
             Status::Unread { .. } => 5,
             Status::Unwritten => 6,
             Status::OutOfMemory => 7,

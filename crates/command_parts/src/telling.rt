@@ -1,6 +1,6 @@
 //! The text of a status on the error output.
 ghost use Rattle.std.specs.Prelude.{◌≡◌, ◌≤◌, ◌++◌};
-ghost use Rattle.command_parts.specs.Statuses.{name_numbered, place_text, config_text, script_text, fault_text, text_of};
+ghost use Rattle.command_parts.specs.Statuses.{name_numbered, place_text, config_text, source_text, script_text, lanes_text, fault_text, text_of};
 ghost use Rattle.command_parts.specs.Telling.{Puts, WritesText};
 
 use crate::status::Status;
@@ -10,7 +10,7 @@ use ps_script::ScriptFault;
 use ua_base::{Sink, WriteEnd};
 
 const USAGE: &str =
-    "usage: uapubsub check --config FILE | play SCRIPT [--config FILE] | run SCRIPT [--config FILE] | load N | keys FILE GROUP START COUNT MS\n";
+    "usage: uapubsub check --config FILE | play SCRIPT [--config FILE] | run SCRIPT [--config FILE] | load N | json SCRIPT [--config FILE] | keys FILE GROUP START COUNT MS | relay SCRIPT FILE SECOND | lanes SCRIPT [--config FILE]\n";
 
 /// Writes the text of a status. A write that fails ends it, and changes nothing else.
 #[tactic(auto, unfolding(crate::specs::Statuses::text_of))]
@@ -23,7 +23,9 @@ pub fn tell<E: Sink>(err: &mut E, status: &Status<'_>)
         Status::Done | Status::Unwritten => true,
         Status::BadWords => put(err, USAGE),
         Status::ConfigRefused { code, path } => put_config(err, *code, path.as_str()),
+        Status::NoSource { set } => put_source(err, *set),
         Status::ScriptRefused { line, fault } => put_script(err, *line, *fault),
+        Status::NotInLanes { line } => put_lanes(err, *line),
         Status::Unread { file } => put_three(err, "cannot read ", file, "\n"),
         Status::OutOfMemory => put(err, "out of memory\n"),
         Status::Unopened => put(err, "cannot open link\n"),
@@ -47,6 +49,26 @@ fn put_place<E: Sink>(err: &mut E, code: u8, path: &str) -> bool
     ensures faults { E.faults err.old ≤ E.faults err.new }
 {
     put_three(err, name_numbered(code), " ", path) && put(err, "\n")
+}
+
+// A second configuration that is refused: the data set that has no source.
+fn put_source<E: Sink>(err: &mut E, set: u32) -> bool
+    ensures told { Puts result (E.written err.old) (E.written err.new)
+        (E.faults err.old) (E.faults err.new) (source_text set) }
+    ensures faults { E.faults err.old ≤ E.faults err.new }
+{
+    let mut digits = Buffer::new();
+    put_three(err, "config: C26 NoSource dataset[", digits.format(set), "]\n")
+}
+
+// A script that lanes don't take: its first line that they don't.
+fn put_lanes<E: Sink>(err: &mut E, line: u32) -> bool
+    ensures told { Puts result (E.written err.old) (E.written err.new)
+        (E.faults err.old) (E.faults err.new) (lanes_text line) }
+    ensures faults { E.faults err.old ≤ E.faults err.new }
+{
+    let mut digits = Buffer::new();
+    put_three(err, "script: line ", digits.format(line), " S13 NotInLanes\n")
 }
 
 // A script that is refused: the line, and the number and the name of its fault.

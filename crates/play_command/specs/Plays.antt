@@ -3,8 +3,9 @@ use Rattle.std.specs.Prelude.{ℕ, true, List, Option}
 use Rattle.script_player.specs.Plays.{IsPlayOf}
 use Rattle.command_parts.specs.declared.status.Status.{Status}
 use Rattle.command_parts.specs.Outside.{Outside, Wire}
-use Rattle.session_command.specs.Sessions.{SessionEnds}
+use Rattle.session_command.specs.Sessions.{IsReportOf, SessionEnds, takes_all}
 
 -- With a play of the script, whose fates the link obeys. old, new: what the folder and the output tell before and behind; before, after: what the link tells
 abbrev pub PlayEnds : Status → List ℕ → Option (List ℕ) → Outside → Outside → Wire → Wire → Type 0
-PlayEnds status script_name config_name old new before after = SessionEnds IsPlayOf true status script_name config_name old new before after
+PlayEnds status script_name config_name old new before after =
+    SessionEnds (IsReportOf IsPlayOf) takes_all true status script_name config_name old new before after

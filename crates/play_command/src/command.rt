@@ -1,16 +1,20 @@
 //! Playing a script.
-ghost use Rattle.std.specs.Prelude.{◌≡◌, option_copied};
+ghost use Rattle.std.specs.Prelude.{◌≡◌, ◌≢◌, ◌≤◌, Some, Err, IfOk, OnOk, option_copied};
+ghost use Rattle.ua_base.specs.Cause.{Rose};
+ghost use Rattle.ps_config.specs.Types.{HasTypes};
+ghost use Rattle.ps_script.specs.Sound.{IsScript};
+ghost use Rattle.writer_group.specs.Standing.{IsGood};
+ghost use Rattle.script_player.specs.Plays.{IsPlayOf, opening_of};
 ghost use Rattle.command_parts.specs.Outside.{outside_of, wire_of};
 ghost use Rattle.command_parts.specs.Statuses.{IsDone, IsUnwritten};
 ghost use Rattle.session_command.specs.Links.{IsBeforeLink};
+ghost use Rattle.session_command.specs.Sessions.{IsReportOf};
 ghost use Rattle.play_command.specs.Plays.{PlayEnds};
 
-use command_parts::Status;
-use ps_config::Config;
-use ps_report::Closed;
-use ps_script::Script;
+use command_parts::{Status, write_text};
+use ps_report::report;
 use script_player::{PlayEnd, play_script};
-use session_command::{Performer, session};
+use session_command::{Accepted, accepted, status_of};
 use std::alloc::Global;
 use std::sync::Wait;
 use ua_base::{Folder, Link, Sink};
@@ -34,55 +38,37 @@ pub fn play<'w, R: Wait, F: Folder, A: Link, K: Sink>(
     ensures unlinked { IsBeforeLink result → lab.new ≡ lab.old }
     ensures silent { ¬ IsDone result → ¬ IsUnwritten result → out.new ≡ out.old }
 {
-    session(
-        &Player { rt },
-        alloc,
-        script,
-        config,
-        true,
-        folder,
-        lab,
-        out,
-    )
-}
-
-/// Plays scripts on the thread that calls it.
-#[derive(Drop)]
-struct Player<'r, R> {
-    rt: &'r R,
-}
-
-impl<'r, R: Wait> Performer for Player<'r, R> {
-    ghost use Rattle.std.specs.Prelude.{◌≡◌, ◌≢◌, ◌≤◌, IfOk, OnOk, Some, Err};
-    ghost use Rattle.ua_base.specs.Cause.{Rose};
-    ghost use Rattle.ps_config.specs.Types.{HasTypes};
-    ghost use Rattle.ps_report.specs.Conditions.{IsClosedOf};
-    ghost use Rattle.ps_script.specs.Sound.{IsScript};
-    ghost use Rattle.writer_group.specs.Standing.{IsGood};
-    ghost use Rattle.script_player.specs.Plays.{IsPlayOf, opening_of};
-
-    ghost performs = { IsPlayOf };
-
-    fn perform<L: Link>(
-        &self,
-        alloc: Global,
-        config: &Config,
-        script: &Script,
-        link: &mut L,
-    ) -> Result<Closed, PlayEnd>
-        requires good { IsGood config.now }
-        requires types { HasTypes config.now }
-        requires script { IsScript config.now script.now }
-        ensures performed { IfOk result (IsPlayOf config.now script.now (L.told link.new)) }
-        ensures closed { IfOk result (IsClosedOf config.now) }
-        ensures opened { OnOk result (L.opened_with link.new ≡ Some (opening_of config.now script.now)) }
-        ensures opens { L.opened_with link.new ≢ L.opened_with link.old
-            → L.opened_with link.new ≡ Some (opening_of config.now script.now) }
-        ensures unopened { result ≡ Err PlayEnd.Unopened → Rose (L.faults link.old) (L.faults link.new) }
-        ensures unused { result ≡ Err PlayEnd.Unopened
-            → (L.told link.new ≡ L.told link.old) × (L.opened_with link.new ≡ L.opened_with link.old) }
-        ensures faults { L.faults link.old ≤ L.faults link.new }
-    {
-        play_script(self.rt, alloc, config, script, link)
+    let accepted = match accepted(alloc, script, config, true, folder) {
+        Ok(accepted) => accepted,
+        Err(status) => return status,
+    };
+    match played(rt, alloc, &accepted, lab) {
+        Ok(text) => write_text(out, &text),
+        Err(end) => status_of(end),
     }
+}
+
+/// The report of the session of a script that is played.
+fn played<R: Wait, A: Link>(
+    rt: &R,
+    alloc: Global,
+    accepted: &Accepted,
+    lab: &mut A,
+) -> Result<Vec<u8>, PlayEnd>
+    requires good { IsGood accepted.now.config }
+    requires types { HasTypes accepted.now.config }
+    requires script { IsScript accepted.now.config accepted.now.script }
+    ensures report { IfOk result (λ text. IsReportOf IsPlayOf
+        accepted.now.config accepted.now.script (A.told lab.new) text.items) }
+    ensures opened { OnOk result (A.opened_with lab.new
+        ≡ Some (opening_of accepted.now.config accepted.now.script)) }
+    ensures opens { A.opened_with lab.new ≢ A.opened_with lab.old
+        → A.opened_with lab.new ≡ Some (opening_of accepted.now.config accepted.now.script) }
+    ensures unopened { result ≡ Err PlayEnd.Unopened → Rose (A.faults lab.old) (A.faults lab.new) }
+    ensures unused { result ≡ Err PlayEnd.Unopened
+        → (A.told lab.new ≡ A.told lab.old) × (A.opened_with lab.new ≡ A.opened_with lab.old) }
+    ensures faults { A.faults lab.old ≤ A.faults lab.new }
+{
+    let closed = play_script(rt, alloc, &accepted.config, &accepted.script, lab)?;
+    Ok(report(alloc, &accepted.config, &closed)?)
 }

@@ -1,6 +1,6 @@
 -- What a status of the command says, where the folder tells the files.
-use Rattle.std.proofs.Common.{◌≡◌, ◌↔◌, ◌⊎◌, inl, inr, ℕ, Bool, List, Option, Some, Result, Ok, Err, refl, sym, ap, ◌∙◌, subst, arith}
-use Rattle.std.specs.Prelude.{IsErr, is_err}
+use Rattle.std.proofs.Common.{◌≡◌, ◌↔◌, ◌⊎◌, inl, inr, ℕ, Bool, List, Option, Some, None, Result, Ok, Err, refl, sym, ap, ◌∙◌, subst, arith}
+use Rattle.std.specs.Prelude.{IsErr, is_err, is_some}
 use Rattle.std.proofs.lemmas.Bool.{false≢true}
 use Rattle.ua_base.specs.Files.{ToldFile, TellsFile}
 use Rattle.ps_config.specs.declared.parts.Config.{Config}
@@ -10,14 +10,14 @@ use Rattle.ps_script.specs.declared.script.Script.{Script}
 use Rattle.ps_script.specs.Scripts.{script as script_in}
 use Rattle.ps_script.specs.Values.{ValueReader}
 use Rattle.command_parts.specs.declared.status.Status.{Status}
-use Rattle.command_parts.specs.declared.status.Status.TheVariants.{Done, BadWords, ConfigRefused, ScriptRefused, Unread, Unwritten, OutOfMemory, Unopened, Long}
+use Rattle.command_parts.specs.declared.status.Status.TheVariants.{Done, BadWords, ConfigRefused, NoSource, ScriptRefused, NotInLanes, Unread, Unwritten, OutOfMemory, Unopened, Long}
 use Rattle.command_parts.specs.Configurations.{IsConfigured, IsJudged, IsToldConfig}
 use Rattle.command_parts.specs.Files.{IsLong, IsTold}
 use Rattle.command_parts.specs.Outside.{Outside, Wire}
 use Rattle.command_parts.specs.Scripts.{IsJudgedScript}
 use Rattle.command_parts.specs.Statuses.{IsDone, IsConfigRefused, IsScriptRefused, IsUnread, IsUnwritten, IsOutOfMemory, IsUnopened, IsTooLong}
 use Rattle.command_parts.proofs.Told.{judged_told, script_told, config_told, config_not_refused, config_not_long, long_read, long_judged, long_is, long_short}
-use Rattle.session_command.specs.Sessions.{Performance, Accepts, AreTold, NamesLong, Reads, Says}
+use Rattle.session_command.specs.Sessions.{Text, Refusal, Accepts, AreTold, IsRefused, NamesLong, Reads, Says}
 
 -- ---- results
 
@@ -26,6 +26,18 @@ ok_not_err result a e err = false≢true (sym (ap is_err e) ∙ err)
 
 err_is : {A B : Type 0} (result : Result A B) (b : B) → result ≡ Err b → IsErr result
 err_is result b e = ap is_err e
+
+-- ---- refusals
+
+not_refused : (refusal : Refusal) (result : Result Script (ℕ × ScriptFault)) (script : Script) → result ≡ Ok script → refusal script ≡ None → IsRefused refusal result → ⊥
+not_refused refusal result script e takes refused =
+    false≢true (sym (ap is_some takes) ∙ subst (λ (r : Result Script (ℕ × ScriptFault)). IsRefused refusal r) e refused)
+
+line_refused : (refusal : Refusal) (result : Result Script (ℕ × ScriptFault)) (script : Script) (line : ℕ) → result ≡ Ok script → refusal script ≡ Some line → IsRefused refusal result
+line_refused refusal result script line e refuses = subst (λ (r : Result Script (ℕ × ScriptFault)). IsRefused refusal r) (sym e) (ap is_some refuses)
+
+err_refused : (refusal : Refusal) (result : Result Script (ℕ × ScriptFault)) (fault : ℕ × ScriptFault) → result ≡ Err fault → IsRefused refusal result
+err_refused refusal result fault e = subst (λ (r : Result Script (ℕ × ScriptFault)). IsRefused refusal r) (sym e) tt
 
 -- ---- the configuration
 
@@ -73,25 +85,29 @@ module _ (fates : Bool) where
   script_is reader tells script_name config_name config taken bytes judgement known configured told judged =
       subst (λ (c : Config). script_in reader c bytes fates ≡ judgement) (config_told tells config_name config taken known configured) (script_told reader (tells script_name) taken fates bytes judgement told judged)
 
-  accepted : (reader : ValueReader) (tells : List ℕ → ToldFile) (script_name : List ℕ) (config_name : Option (List ℕ)) (config taken : Config) (script : Script) (bytes : List ℕ) (n : ℕ)
-      → IsToldConfig tells config_name config → IsTold (tells script_name) bytes → Accepts fates tells script_name config_name taken script → (n ≡ 4 → ⊥)
-      → (n ≡ 4) ↔ IsErr (script_in reader config bytes fates)
-  accepted reader tells script_name config_name config taken script bytes n known told accepts differs = (
+  -- what was accepted and taken is not refused
+  taken_is_not_refused : (refusal : Refusal) (reader : ValueReader) (tells : List ℕ → ToldFile) (script_name : List ℕ) (config_name : Option (List ℕ)) (config taken : Config) (script : Script)
+      (bytes : List ℕ) (n : ℕ) → IsToldConfig tells config_name config → IsTold (tells script_name) bytes → Accepts fates tells script_name config_name taken script → refusal script ≡ None
+      → (n ≡ 4 → ⊥) → (n ≡ 4) ↔ IsRefused refusal (script_in reader config bytes fates)
+  taken_is_not_refused refusal reader tells script_name config_name config taken script bytes n known told accepts takes differs = (
     (λ four. absurd (differs four)),
-    (λ err. absurd (ok_not_err (script_in reader config bytes fates) script (script_is reader tells script_name config_name config taken bytes (Ok script) known accepts.configured told.told accepts.scripted) err)),
+    (λ refused. absurd (not_refused refusal (script_in reader config bytes fates) script
+        (script_is reader tells script_name config_name config taken bytes (Ok script) known accepts.configured told.told accepts.scripted) takes refused)),
   )
 
   short : (file : ToldFile) (config : Config) (bytes : List ℕ) (judgement : Result Script (ℕ × ScriptFault)) (n : ℕ) → file ≡ Some (Some bytes) → IsJudgedScript file config fates judgement → (n ≡ 9 → ⊥)
       → (n ≡ 9) ↔ IsLong bytes
   short file config bytes judgement n told j differs = ((λ nine. absurd (differs nine)), (λ long. absurd (long_read file j.bytes bytes told j.read long)))
 
-module _ (Performs : Performance) (fates : Bool) where
+module _ (IsText : Text) (refusal : Refusal) (fates : Bool) where
   pub config_refused : (status : Status) (script_name : List ℕ) (config_name : Option (List ℕ)) (old new : Outside) (after : Wire) (name bytes : List ℕ)
-      → Says Performs fates status script_name config_name old new after → config_name ≡ Some name → IsTold (old.file name) bytes → (IsUnread status → ⊥) → (IsOutOfMemory status → ⊥)
+      → Says IsText refusal fates status script_name config_name old new after → config_name ≡ Some name → IsTold (old.file name) bytes → (IsUnread status → ⊥) → (IsOutOfMemory status → ⊥)
       → IsConfigRefused status ↔ IsErr (configuration bytes)
   config_refused Done script_name config_name old new after name bytes h is told a b = taken_accepts old.file config_name name bytes h.1.config 0 is told h.1.accepts.configured (λ e. omega arith)
   config_refused Unwritten script_name config_name old new after name bytes h is told a b = taken_accepts old.file config_name name bytes h.1.config 6 is told h.1.accepts.configured (λ e. omega arith)
-  config_refused Unopened script_name config_name old new after name bytes h is told a b = taken_accepts old.file config_name name bytes h.0 8 is told h.2.configured (λ e. omega arith)
+  config_refused Unopened script_name config_name old new after name bytes h is told a b = taken_accepts old.file config_name name bytes h.config 8 is told h.accepts.configured (λ e. omega arith)
+  config_refused (NotInLanes line) script_name config_name old new after name bytes h is told a b = taken_accepts old.file config_name name bytes h.config 4 is told h.accepts.configured (λ e. omega arith)
+  config_refused (NoSource set) script_name config_name old new after name bytes h is told a b = absurd h
   config_refused (ScriptRefused line fault) script_name config_name old new after name bytes h is told a b = taken_accepts old.file config_name name bytes h.0 4 is told h.1 (λ e. omega arith)
   config_refused (ConfigRefused code path) script_name config_name old new after name bytes h is told a b =
       let judged = subst (λ (l : List ℕ). IsJudged (old.file l) (Err (code, path))) (same_name config_name name h.0 is h.1) h.2 in
@@ -106,11 +122,13 @@ module _ (Performs : Performance) (fates : Bool) where
   config_refused BadWords script_name config_name old new after name bytes h is told a b = absurd h
 
   pub config_long : (status : Status) (script_name : List ℕ) (config_name : Option (List ℕ)) (old new : Outside) (after : Wire) (name bytes : List ℕ)
-      → Says Performs fates status script_name config_name old new after → config_name ≡ Some name → old.file name ≡ Some (Some bytes) → (IsUnread status → ⊥) → (IsOutOfMemory status → ⊥)
+      → Says IsText refusal fates status script_name config_name old new after → config_name ≡ Some name → old.file name ≡ Some (Some bytes) → (IsUnread status → ⊥) → (IsOutOfMemory status → ⊥)
       → NamesLong status name ↔ IsLong bytes
   config_long Done script_name config_name old new after name bytes h is told a b = taken_short old.file config_name name bytes h.1.config is told h.1.accepts.configured
   config_long Unwritten script_name config_name old new after name bytes h is told a b = taken_short old.file config_name name bytes h.1.config is told h.1.accepts.configured
-  config_long Unopened script_name config_name old new after name bytes h is told a b = taken_short old.file config_name name bytes h.0 is told h.2.configured
+  config_long Unopened script_name config_name old new after name bytes h is told a b = taken_short old.file config_name name bytes h.config is told h.accepts.configured
+  config_long (NotInLanes line) script_name config_name old new after name bytes h is told a b = taken_short old.file config_name name bytes h.config is told h.accepts.configured
+  config_long (NoSource set) script_name config_name old new after name bytes h is told a b = absurd h
   config_long (ScriptRefused line fault) script_name config_name old new after name bytes h is told a b = taken_short old.file config_name name bytes h.0 is told h.1
   config_long (ConfigRefused code path) script_name config_name old new after name bytes h is told a b =
       let judged = subst (λ (l : List ℕ). IsJudged (old.file l) (Err (code, path))) (same_name config_name name h.0 is h.1) h.2 in
@@ -127,16 +145,20 @@ module _ (Performs : Performance) (fates : Bool) where
   config_long BadWords script_name config_name old new after name bytes h is told a b = absurd h
 
   pub script_refused : (status : Status) (script_name : List ℕ) (config_name : Option (List ℕ)) (old new : Outside) (after : Wire) (reader : ValueReader) (config : Config) (bytes : List ℕ)
-      → Says Performs fates status script_name config_name old new after → IsToldConfig old.file config_name config → IsTold (old.file script_name) bytes → (IsUnread status → ⊥) → (IsOutOfMemory status → ⊥)
-      → IsScriptRefused status ↔ IsErr (script_in reader config bytes fates)
+      → Says IsText refusal fates status script_name config_name old new after → IsToldConfig old.file config_name config → IsTold (old.file script_name) bytes → (IsUnread status → ⊥) → (IsOutOfMemory status → ⊥)
+      → IsScriptRefused status ↔ IsRefused refusal (script_in reader config bytes fates)
   script_refused Done script_name config_name old new after reader config bytes h known told a b =
-      accepted fates reader old.file script_name config_name config h.1.config h.1.script bytes 0 known told h.1.accepts (λ e. omega arith)
+      taken_is_not_refused fates refusal reader old.file script_name config_name config h.1.config h.1.script bytes 0 known told h.1.accepts h.1.taken (λ e. omega arith)
   script_refused Unwritten script_name config_name old new after reader config bytes h known told a b =
-      accepted fates reader old.file script_name config_name config h.1.config h.1.script bytes 6 known told h.1.accepts (λ e. omega arith)
+      taken_is_not_refused fates refusal reader old.file script_name config_name config h.1.config h.1.script bytes 6 known told h.1.accepts h.1.taken (λ e. omega arith)
   script_refused Unopened script_name config_name old new after reader config bytes h known told a b =
-      accepted fates reader old.file script_name config_name config h.0 h.1 bytes 8 known told h.2 (λ e. omega arith)
+      taken_is_not_refused fates refusal reader old.file script_name config_name config h.config h.script bytes 8 known told h.accepts h.taken (λ e. omega arith)
+  script_refused (NotInLanes line) script_name config_name old new after reader config bytes h known told a b =
+      ((λ four. line_refused refusal (script_in reader config bytes fates) h.script line
+          (script_is fates reader old.file script_name config_name config h.config bytes (Ok h.script) known h.accepts.configured told.told h.accepts.scripted) h.refused), (λ refused. refl))
+  script_refused (NoSource set) script_name config_name old new after reader config bytes h known told a b = absurd h
   script_refused (ScriptRefused line fault) script_name config_name old new after reader config bytes h known told a b =
-      ((λ four. err_is (script_in reader config bytes fates) (line, fault) (script_is fates reader old.file script_name config_name config h.0 bytes (Err (line, fault)) known h.1 told.told h.2)), (λ err. refl))
+      ((λ four. err_refused refusal (script_in reader config bytes fates) (line, fault) (script_is fates reader old.file script_name config_name config h.0 bytes (Err (line, fault)) known h.1 told.told h.2)), (λ refused. refl))
   script_refused (ConfigRefused code path) script_name config_name old new after reader config bytes h known told a b =
       absurd (config_not_refused old.file config_name config h.0 (code, path) known h.1 h.2)
   script_refused (Long file) script_name config_name old new after reader config bytes h known told a b =
@@ -146,13 +168,16 @@ module _ (Performs : Performance) (fates : Bool) where
   script_refused BadWords script_name config_name old new after reader config bytes h known told a b = absurd h
 
   pub script_long : (status : Status) (script_name : List ℕ) (config_name : Option (List ℕ)) (old new : Outside) (after : Wire) (config : Config) (bytes : List ℕ)
-      → Says Performs fates status script_name config_name old new after → IsToldConfig old.file config_name config → old.file script_name ≡ Some (Some bytes) → (IsUnread status → ⊥) → (IsOutOfMemory status → ⊥)
+      → Says IsText refusal fates status script_name config_name old new after → IsToldConfig old.file config_name config → old.file script_name ≡ Some (Some bytes) → (IsUnread status → ⊥) → (IsOutOfMemory status → ⊥)
       → IsTooLong status ↔ IsLong bytes
   script_long Done script_name config_name old new after config bytes h known told a b =
       short fates (old.file script_name) h.1.config bytes (Ok h.1.script) 0 told h.1.accepts.scripted (λ e. omega arith)
   script_long Unwritten script_name config_name old new after config bytes h known told a b =
       short fates (old.file script_name) h.1.config bytes (Ok h.1.script) 6 told h.1.accepts.scripted (λ e. omega arith)
-  script_long Unopened script_name config_name old new after config bytes h known told a b = short fates (old.file script_name) h.0 bytes (Ok h.1) 8 told h.2.scripted (λ e. omega arith)
+  script_long Unopened script_name config_name old new after config bytes h known told a b = short fates (old.file script_name) h.config bytes (Ok h.script) 8 told h.accepts.scripted (λ e. omega arith)
+  script_long (NotInLanes line) script_name config_name old new after config bytes h known told a b =
+      short fates (old.file script_name) h.config bytes (Ok h.script) 4 told h.accepts.scripted (λ e. omega arith)
+  script_long (NoSource set) script_name config_name old new after config bytes h known told a b = absurd h
   script_long (ScriptRefused line fault) script_name config_name old new after config bytes h known told a b =
       short fates (old.file script_name) h.0 bytes (Err (line, fault)) 4 told h.2 (λ e. omega arith)
   script_long (ConfigRefused code path) script_name config_name old new after config bytes h known told a b =
@@ -169,8 +194,8 @@ module _ (Performs : Performance) (fates : Bool) where
   script_long BadWords script_name config_name old new after config bytes h known told a b = absurd h
 
   -- it is played, or memory ran out, or the link was not opened
-  pub completes : {X : Type 0} (status : Status) (script_name : List ℕ) (config_name : Option (List ℕ)) (old new : Outside) (after : Wire) → Says Performs fates status script_name config_name old new after
-      → AreTold fates old.file script_name config_name → (IsUnread status → ⊥) → (IsUnwritten status → ⊥) → (IsUnopened status → X) → IsDone status ⊎ IsOutOfMemory status ⊎ X
+  pub completes : {X : Type 0} (status : Status) (script_name : List ℕ) (config_name : Option (List ℕ)) (old new : Outside) (after : Wire) → Says IsText refusal fates status script_name config_name old new after
+      → AreTold refusal fates old.file script_name config_name → (IsUnread status → ⊥) → (IsUnwritten status → ⊥) → (IsUnopened status → X) → IsDone status ⊎ IsOutOfMemory status ⊎ X
   completes Done script_name config_name old new after h t a b other = inl refl
   completes OutOfMemory script_name config_name old new after h t a b other = inr (inl refl)
   completes Unopened script_name config_name old new after h t a b other = inr (inr (other refl))
@@ -181,4 +206,10 @@ module _ (Performs : Performance) (fates : Bool) where
       let judged = script_is fates t.reader old.file script_name config_name t.config h.0 t.bytes (Err (line, fault)) t.configured h.1 t.told.told h.2 in
       absurd (ok_not_err (script_in t.reader t.config t.bytes fates) t.script t.scripted (err_is (script_in t.reader t.config t.bytes fates) (line, fault) judged))
   completes (Long file) script_name config_name old new after h t a b other = absurd (not_long old.file script_name config_name t.config t.bytes file.now t.configured t.told h.0 h.1)
+  completes (NotInLanes line) script_name config_name old new after h t a b other =
+      let judged = script_is fates t.reader old.file script_name config_name t.config h.config t.bytes (Ok h.script) t.configured h.accepts.configured t.told.told h.accepts.scripted in
+      let both : Ok h.script ≡ Ok t.script = sym judged ∙ t.scripted in
+      let same : h.script ≡ t.script = cc in
+      absurd (false≢true (sym (ap is_some (ap refusal same ∙ t.taken)) ∙ ap is_some h.refused))
+  completes (NoSource set) script_name config_name old new after h t a b other = absurd h
   completes BadWords script_name config_name old new after h t a b other = absurd h

@@ -1,9 +1,8 @@
 -- What a command does to the link of its session.
-use Rattle.std.specs.Prelude.{◌≡◌, ◌≢◌, ◌⊎◌, ⊤, Option}
+use Rattle.std.specs.Prelude.{◌≡◌, ◌≢◌, ◌⊎◌, Option}
 use Rattle.ua_base.specs.Cause.{HasCause}
 use Rattle.ua_base.specs.Links.{Opening}
 use Rattle.command_parts.specs.declared.status.Status.{Status}
-use Rattle.command_parts.specs.declared.status.Status.TheVariants.{OutOfMemory, Unopened}
 use Rattle.command_parts.specs.Outside.{Wire}
 use Rattle.command_parts.specs.Statuses.{IsConfigRefused, IsScriptRefused, IsUnread, IsTooLong}
 
@@ -16,9 +15,3 @@ pub record UsesLink (Opens : Option Opening → Type 0) (unopened : Type 0) (bef
 -- the statuses that come before a link is used
 abbrev pub IsBeforeLink : Status → Type 0
 IsBeforeLink status = IsConfigRefused status ⊎ IsScriptRefused status ⊎ IsUnread status ⊎ IsTooLong status
-
--- the statuses that a session may end with before its report is made
-abbrev pub EndsSession : Status → Type 0
-EndsSession OutOfMemory = ⊤
-EndsSession Unopened = ⊤
-EndsSession _ = ⊥

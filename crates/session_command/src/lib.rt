@@ -1,8 +1,8 @@
-//! What the commands share that perform a script: a session over a link, and its report.
+//! What the commands share that take a script: how it is accepted, and how a command ends.
 #![tactic(auto)]
 
-mod command;
-mod performer;
+mod accepting;
+mod ending;
 
-pub use command::session;
-pub use performer::Performer;
+pub use accepting::{Accepted, accepted};
+pub use ending::status_of;

@@ -30,3 +30,11 @@ returns-in-ScriptRefused-clause-told g c = rw c.in-ScriptRefused.is (puts_tells 
 pub returns-in-ConfigRefused-clause-told : goal.returns-in-ConfigRefused-clause-told
 unfolding text_of
 returns-in-ConfigRefused-clause-told g c = rw (c.in-ConfigRefused.is, sym c.as_str.ensures) (puts_tells _ _ _ _ _ _ c.put_config-whole.ensures.told)
+
+pub returns-in-NoSource-clause-told : goal.returns-in-NoSource-clause-told
+unfolding text_of
+returns-in-NoSource-clause-told g c = rw c.in-NoSource.is (puts_tells _ _ _ _ _ _ c.put_source-whole.ensures.told)
+
+pub returns-in-NotInLanes-clause-told : goal.returns-in-NotInLanes-clause-told
+unfolding text_of
+returns-in-NotInLanes-clause-told g c = rw c.in-NotInLanes.is (puts_tells _ _ _ _ _ _ c.put_lanes-whole.ensures.told)

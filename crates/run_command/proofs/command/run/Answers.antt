@@ -1,20 +1,5 @@
 use Rattle.std.proofs.Common.{List, ℕ, refl, subst}
 use Rattle.command_parts.specs.Outputs.{EndsWriting}
 use Rattle.session_command.proofs.Ended.{written_late}
-use Rattle.session_command.proofs.Ends.{ends_written, ends_without}
+use Rattle.session_command.proofs.Ends.{ends_unaccepted, ends_unplayed, ends_written}
 use Rattle.run_command.proofs.command.run.Goals as goal
-
-pub returns-clause-ends : goal.returns-clause-ends
-returns-clause-ends g c =
-    let written = subst (λ (text : List ℕ). EndsWriting (g.K.Sink.written c.args.out.now) (g.K.Sink.written c.write_text.new.out) text c.write_text.result) c.deref.ensures.value c.write_text.ensures.written in
-    ends_written _ _ _ _ _ _ _ _ _ c.in-Ok.text.items c.in-Ok.ensures.report written c.in-Ok.ensures.link c.in-Ok.ensures.folder.counted c.write_text.ensures.cause c.in-Ok.ensures.folder.files
-
-pub returns-clause-unlinked : goal.returns-clause-unlinked
-returns-clause-unlinked g c = λ is. absurd ((written_late _ _ _ _ c.write_text.ensures.written).behind_link is)
-
-pub returns-clause-silent : goal.returns-clause-silent
-returns-clause-silent g c = λ done unwritten. absurd ((written_late _ _ _ _ c.write_text.ensures.written).written done unwritten)
-
-pub returns-in-Err-clause-ends : goal.returns-in-Err-clause-ends
-returns-in-Err-clause-ends g c =
-    ends_without _ _ _ _ _ _ _ _ _ c.in-Err.ensures.ends c.in-Err.ensures.link c.in-Err.ensures.folder.counted c.in-Err.ensures.unread refl c.in-Err.ensures.folder.files

@@ -1,0 +1,5 @@
+use Rattle.std.proofs.Common.{List, ℕ, refl, subst}
+use Rattle.command_parts.specs.Outputs.{EndsWriting}
+use Rattle.session_command.proofs.Ended.{written_late}
+use Rattle.session_command.proofs.Ends.{ends_unaccepted, ends_unplayed, ends_written}
+use Rattle.play_command.proofs.command.play.Goals as goal
