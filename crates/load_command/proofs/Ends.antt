@@ -1,15 +1,20 @@
 -- How the command ends, from what its status says and from the counts.
-use Rattle.std.proofs.Common.{◌≡◌, ◌⊎◌, inl, inr, ℕ, List, Err, refl, ap, arith}
+use Rattle.std.proofs.Common.{◌≡◌, ◌⊎◌, inl, inr, ℕ, List, Result, Err, refl, ap, arith}
 use Rattle.ua_base.specs.Cause.{HasCause}
 use Rattle.command_parts.specs.declared.status.Status.{Status}
-use Rattle.command_parts.specs.declared.status.Status.TheVariants.{Done, BadWords, ConfigRefused, ScriptRefused, Unread, Unwritten, OutOfMemory, Unopened, Long}
+use Rattle.command_parts.specs.declared.status.Status.TheVariants.{Done, BadWords, ConfigRefused, NoSource, ScriptRefused, NotInLanes, Unread, Unwritten, OutOfMemory, Unopened, Long}
 use Rattle.command_parts.specs.Outputs.{EndsWriting}
 use Rattle.command_parts.specs.Outside.{Wire}
 use Rattle.command_parts.specs.Statuses.{IsDone, IsUnwritten, IsOutOfMemory, IsUnopened}
-use Rattle.session_command.specs.Links.{EndsSession, UsesLink}
-use Rattle.session_command.proofs.Ended.{unopened_is, written_late}
-use Rattle.session_command.proofs.Ends.{ended}
+use Rattle.script_player.specs.declared.play.PlayEnd.{PlayEnd}
+use Rattle.script_player.specs.declared.play.PlayEnd.TheVariants as ends
+use Rattle.session_command.specs.Endings.{status_of}
+use Rattle.session_command.specs.Links.{UsesLink}
+use Rattle.session_command.proofs.Ended.{written_late}
 use Rattle.load_command.specs.Loads.{LoadEnds, Loads, OpensForWork, Output, Summarizes}
+
+abbrev pub ended : {T : Type 0} → PlayEnd → Result T PlayEnd
+ended end = Err end
 
 -- the last write ends the command
 loads_written : (status : Status) (n : ℕ) (old new : Output) (after : Wire) (text : List ℕ) → Summarizes n after text → EndsWriting old.written new.written text status → Loads status n old new after
@@ -18,33 +23,25 @@ loads_written Unwritten n old new after text summary written = (text, summary, w
 loads_written BadWords n old new after text summary written = absurd written
 loads_written (ConfigRefused code path) n old new after text summary written = absurd written
 loads_written (ScriptRefused line fault) n old new after text summary written = absurd written
+loads_written (NoSource set) n old new after text summary written = absurd written
+loads_written (NotInLanes line) n old new after text summary written = absurd written
 loads_written (Unread file) n old new after text summary written = absurd written
 loads_written OutOfMemory n old new after text summary written = absurd written
 loads_written Unopened n old new after text summary written = absurd written
 loads_written (Long file) n old new after text summary written = absurd written
 
--- and so does a status of the session
-loads_ended : (status : Status) (n : ℕ) (old new : Output) (after : Wire) → EndsSession status → Loads status n old new after
-loads_ended OutOfMemory n old new after ends = tt
-loads_ended Unopened n old new after ends = tt
-loads_ended Done n old new after ends = absurd ends
-loads_ended BadWords n old new after ends = absurd ends
-loads_ended (ConfigRefused code path) n old new after ends = absurd ends
-loads_ended (ScriptRefused line fault) n old new after ends = absurd ends
-loads_ended (Unread file) n old new after ends = absurd ends
-loads_ended Unwritten n old new after ends = absurd ends
-loads_ended (Long file) n old new after ends = absurd ends
+-- and so does why there is no summary
+loads_unplayed : (end : PlayEnd) (n : ℕ) (old new : Output) (after : Wire) → Loads (status_of end) n old new after
+loads_unplayed ends.Memory n old new after = tt
+loads_unplayed ends.Unopened n old new after = tt
 
-not_written : (status : Status) → EndsSession status → IsUnwritten status → ⊥
-not_written OutOfMemory ends is = omega arith
-not_written Unopened ends is = omega arith
-not_written Done ends is = ends
-not_written BadWords ends is = ends
-not_written (ConfigRefused code path) ends is = ends
-not_written (ScriptRefused line fault) ends is = ends
-not_written (Unread file) ends is = ends
-not_written Unwritten ends is = ends
-not_written (Long file) ends is = ends
+not_written : (end : PlayEnd) → IsUnwritten (status_of end) → ⊥
+not_written ends.Memory is = omega arith
+not_written ends.Unopened is = omega arith
+
+unopened_is : (end : PlayEnd) → IsUnopened (status_of end) → end ≡ ends.Unopened
+unopened_is ends.Memory is = absurd (omega arith)
+unopened_is ends.Unopened is = refl
 
 -- what is said of a status leaves four
 completes : {X : Type 0} (status : Status) (n : ℕ) (old new : Output) (after : Wire) → Loads status n old new after → (IsUnwritten status → ⊥) → (IsUnopened status → X)
@@ -56,6 +53,8 @@ completes Unwritten n old new after says written other = absurd (written refl)
 completes BadWords n old new after says written other = absurd says
 completes (ConfigRefused code path) n old new after says written other = absurd says
 completes (ScriptRefused line fault) n old new after says written other = absurd says
+completes (NoSource set) n old new after says written other = absurd says
+completes (NotInLanes line) n old new after says written other = absurd says
 completes (Unread file) n old new after says written other = absurd says
 completes (Long file) n old new after says written other = absurd says
 
@@ -82,13 +81,13 @@ ends_written status n old new before after text summary written link writes =
     (record { opens = link.opens; unused = λ is. absurd (late.opened is); cause = record { later = link.cause.later; rose = λ is. absurd (late.opened is) } }) writes
 
 -- there was no summary
-pub ends_without : {T : Type 0} (status : Status) (n : ℕ) (old new : Output) (before after : Wire) → EndsSession status → UsesLink (OpensForWork n) (ended {T = T} status ≡ Err Unopened) before after
-    → old.faults ≡ new.faults → LoadEnds status n old new before after
-ends_without status n old new before after ends link same =
-    load_ends status n old new before after (loads_ended status n old new after ends)
+pub ends_unplayed : {T : Type 0} (end : PlayEnd) (n : ℕ) (old new : Output) (before after : Wire) → UsesLink (OpensForWork n) (ended {T = T} end ≡ Err ends.Unopened) before after
+    → old.faults ≡ new.faults → LoadEnds (status_of end) n old new before after
+ends_unplayed end n old new before after link same =
+    load_ends (status_of end) n old new before after (loads_unplayed end n old new after)
     (record {
       opens = link.opens;
-      unused = λ is. link.unused (ap (λ (s : Status). Err s) (unopened_is status is));
-      cause = record { later = link.cause.later; rose = λ is. link.cause.rose (ap (λ (s : Status). Err s) (unopened_is status is)) };
+      unused = λ is. link.unused (ap (λ (e : PlayEnd). Err e) (unopened_is end is));
+      cause = record { later = link.cause.later; rose = λ is. link.cause.rose (ap (λ (e : PlayEnd). Err e) (unopened_is end is)) };
     })
-    (record { later = omega (arith, same); rose = λ is. absurd (not_written status ends is) })
+    (record { later = omega (arith, same); rose = λ is. absurd (not_written end is) })

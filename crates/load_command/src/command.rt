@@ -1,5 +1,5 @@
 //! Running generated work.
-ghost use Rattle.std.specs.Prelude.{◌≡◌, ◌≤◌, Err, IfOk, IfErr};
+ghost use Rattle.std.specs.Prelude.{◌≡◌, ◌≤◌, Err, IfOk};
 ghost use Rattle.ps_config.specs.BuiltIn.{built_in_config};
 ghost use Rattle.ps_config.specs.Types.{HasTypes};
 ghost use Rattle.ps_script.specs.Generated.{generated};
@@ -7,7 +7,7 @@ ghost use Rattle.ps_script.specs.Sound.{IsScript};
 ghost use Rattle.writer_group.specs.Standing.{IsGood};
 ghost use Rattle.command_parts.specs.Outside.{wire_of};
 ghost use Rattle.command_parts.specs.Statuses.{IsDone, IsUnwritten};
-ghost use Rattle.session_command.specs.Links.{EndsSession, UsesLink};
+ghost use Rattle.session_command.specs.Links.{UsesLink};
 ghost use Rattle.load_command.specs.Loads.{LoadEnds, OpensForWork, Summarizes, output_of};
 
 use command_parts::{Status, write_text};
@@ -16,10 +16,11 @@ use ps_report::load_summary;
 use ps_script::{Script, generate};
 use script_player::PlayEnd;
 use script_runner::run_script;
+use session_command::status_of;
 use std::alloc::Global;
 use std::sync::Wait;
 use std::thread::Threads;
-use ua_base::{Gate, Link, NoMemory, Sink};
+use ua_base::{Gate, Link, Sink};
 
 /// Runs `32n` generated writes, of four threads, beside `4n` ticks over the link, with the built-in configuration, and writes the
 /// summary of the session. The gate is called before and after each write and each tick.
@@ -39,42 +40,36 @@ pub fn load<'w, R: Threads + Wait + Sync, A: Link, G: Gate, K: Sink>(
         (wire_of A.told A.faults A.opened_with lab.new) }
     ensures silent { ¬ IsDone result → ¬ IsUnwritten result → out.new ≡ out.old }
 {
-    let text = match summary_of(rt, alloc, n, lab, gate) {
-        Ok(text) => text,
-        Err(status) => return status,
-    };
-    write_text(out, &text)
+    match summary_of(rt, alloc, n, lab, gate) {
+        Ok(text) => write_text(out, &text),
+        Err(end) => status_of(end),
+    }
 }
 
 /// The summary of a session of the generated work.
-fn summary_of<'w, R: Threads + Wait + Sync, A: Link, G: Gate>(
+fn summary_of<R: Threads + Wait + Sync, A: Link, G: Gate>(
     rt: &R,
     alloc: Global,
     n: u32,
     lab: &mut A,
     gate: &G,
-) -> Result<Vec<u8>, Status<'w>>
+) -> Result<Vec<u8>, PlayEnd>
     requires least { 1 ≤ n }
     requires most { n ≤ 1024 }
     ensures summary { IfOk result (λ text.
         Summarizes n (wire_of A.told A.faults A.opened_with lab.new) text.items) }
-    ensures ends { IfErr result EndsSession }
-    ensures link { UsesLink (OpensForWork n) (result ≡ Err Status.Unopened)
+    ensures link { UsesLink (OpensForWork n) (result ≡ Err PlayEnd.Unopened)
         (wire_of A.told A.faults A.opened_with lab.old)
         (wire_of A.told A.faults A.opened_with lab.new) }
 {
     the_built_in_configuration_is_sound();
-    let Ok(config) = built_in(alloc) else {
-        return Err(Status::OutOfMemory);
-    };
-    let Ok(script) = generate(alloc, n) else {
-        return Err(Status::OutOfMemory);
-    };
+    let config = built_in(alloc)?;
+    let script = generate(alloc, n)?;
     work_summary(rt, alloc, n, &config, &script, lab, gate)
 }
 
 /// The summary of a session of this work, with this configuration.
-fn work_summary<'w, R: Threads + Wait + Sync, A: Link, G: Gate>(
+fn work_summary<R: Threads + Wait + Sync, A: Link, G: Gate>(
     rt: &R,
     alloc: Global,
     n: u32,
@@ -82,7 +77,7 @@ fn work_summary<'w, R: Threads + Wait + Sync, A: Link, G: Gate>(
     script: &Script,
     lab: &mut A,
     gate: &G,
-) -> Result<Vec<u8>, Status<'w>>
+) -> Result<Vec<u8>, PlayEnd>
     requires least { 1 ≤ n }
     requires most { n ≤ 1024 }
     requires config { config.now ≡ built_in_config }
@@ -92,18 +87,11 @@ fn work_summary<'w, R: Threads + Wait + Sync, A: Link, G: Gate>(
     requires work { IsScript config.now script.now }
     ensures summary { IfOk result (λ text.
         Summarizes n (wire_of A.told A.faults A.opened_with lab.new) text.items) }
-    ensures ends { IfErr result EndsSession }
-    ensures link { UsesLink (OpensForWork n) (result ≡ Err Status.Unopened)
+    ensures link { UsesLink (OpensForWork n) (result ≡ Err PlayEnd.Unopened)
         (wire_of A.told A.faults A.opened_with lab.old)
         (wire_of A.told A.faults A.opened_with lab.new) }
 {
-    let closed = match run_script(rt, alloc, config, script, lab, gate) {
-        Ok(closed) => closed,
-        Err(PlayEnd::Memory) => return Err(Status::OutOfMemory),
-        Err(PlayEnd::Unopened) => return Err(Status::Unopened),
-    };
-    match load_summary(alloc, config, &closed, n, script.ticks() as u64) {
-        Ok(text) => Ok(text),
-        Err(NoMemory) => Err(Status::OutOfMemory),
-    }
+    let closed = run_script(rt, alloc, config, script, lab, gate)?;
+    let ticks = script.ticks() as u64;
+    Ok(load_summary(alloc, config, &closed, n, ticks)?)
 }

@@ -1,6 +1,6 @@
 -- What a command does that takes a script, and what each status says of it. `IsText` says what it writes, `refusal` which line of an accepted script it doesn't
 -- take, and `fates` whether the script may give datagrams fates.
-use Rattle.std.specs.Prelude.{◌≡◌, ◌↔◌, ◌⊎◌, ⊤, ⊥, Bool, ℕ, List, Option, Some, None, Result, Ok, Err, IsErr, IsSome}
+use Rattle.std.specs.Prelude.{◌≡◌, ◌↔◌, ◌⊎◌, ⊤, Bool, ℕ, List, Option, Some, None, Result, Ok, Err, IsErr, IsSome}
 use Rattle.ua_base.specs.Cause.{HasCause}
 use Rattle.ua_base.specs.Files.{ToldFile, TellsFile}
 use Rattle.ua_base.specs.Journal.{LinkState}

@@ -1,7 +1,7 @@
 use Rattle.std.proofs.Common.{List, ℕ, refl, subst}
 use Rattle.command_parts.specs.Outputs.{EndsWriting}
 use Rattle.session_command.proofs.Ended.{written_late}
-use Rattle.load_command.proofs.Ends.{ends_written, ends_without}
+use Rattle.load_command.proofs.Ends.{ends_written, ends_unplayed}
 use Rattle.load_command.proofs.command.load.Goals as goal
 
 pub returns-clause-ends : goal.returns-clause-ends
@@ -13,4 +13,4 @@ pub returns-clause-silent : goal.returns-clause-silent
 returns-clause-silent g c = λ done unwritten. absurd ((written_late _ _ _ _ c.write_text.ensures.written).written done unwritten)
 
 pub returns-in-Err-clause-ends : goal.returns-in-Err-clause-ends
-returns-in-Err-clause-ends g c = ends_without _ _ _ _ _ _ c.in-Err.ensures.ends c.in-Err.ensures.link refl
+returns-in-Err-clause-ends g c = ends_unplayed _ _ _ _ _ _ c.in-Err.ensures.link refl
