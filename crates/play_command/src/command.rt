@@ -14,7 +14,7 @@ ghost use Rattle.play_command.specs.Plays.{PlayEnds};
 use command_parts::{Status, write_text};
 use ps_report::report;
 use script_player::{PlayEnd, play_script};
-use session_command::{Accepted, accepted, status_of};
+use session_command::{Accepted, accept, status_of};
 use std::alloc::Global;
 use std::sync::Wait;
 use ua_base::{Folder, Link, Sink};
@@ -38,7 +38,7 @@ pub fn play<'w, R: Wait, F: Folder, A: Link, K: Sink>(
     ensures unlinked { IsBeforeLink result → lab.new ≡ lab.old }
     ensures silent { ¬ IsDone result → ¬ IsUnwritten result → out.new ≡ out.old }
 {
-    let accepted = match accepted(alloc, script, config, true, folder) {
+    let accepted = match accept(alloc, script, config, true, folder) {
         Ok(accepted) => accepted,
         Err(status) => return status,
     };

@@ -16,7 +16,7 @@ use command_parts::{Status, write_text};
 use ps_report::report;
 use script_player::PlayEnd;
 use script_runner::run_script;
-use session_command::{Accepted, accepted, status_of};
+use session_command::{Accepted, accept, status_of};
 use std::alloc::Global;
 use std::sync::Wait;
 use std::thread::Threads;
@@ -43,7 +43,7 @@ pub fn run<'w, R: Threads + Wait + Sync, F: Folder, B: Link, G: Gate, K: Sink>(
     ensures unlinked { IsBeforeLink result → wire.new ≡ wire.old }
     ensures silent { ¬ IsDone result → ¬ IsUnwritten result → out.new ≡ out.old }
 {
-    let accepted = match accepted(alloc, script, config, false, folder) {
+    let accepted = match accept(alloc, script, config, false, folder) {
         Ok(accepted) => accepted,
         Err(status) => return status,
     };

@@ -23,7 +23,7 @@ pub struct Accepted {
 
 /// Reads and judges the configuration of this name, or takes the built-in one, and then the script of this name. Where links have no
 /// fates, a script that gives one is refused.
-pub fn accepted<'w, F: Folder>(
+pub fn accept<'w, F: Folder>(
     alloc: Global,
     script: &'w str,
     config: Option<&'w str>,

@@ -4,5 +4,5 @@
 mod accepting;
 mod ending;
 
-pub use accepting::{Accepted, accepted};
+pub use accepting::{Accepted, accept};
 pub use ending::status_of;
