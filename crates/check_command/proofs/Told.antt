@@ -7,7 +7,7 @@ use Rattle.ua_base.specs.Files.{ToldFile}
 use Rattle.ps_config.specs.declared.parts.Config.{Config}
 use Rattle.ps_config.specs.Reading.{Judgement, configuration}
 use Rattle.command_parts.specs.declared.status.Status.{Status}
-use Rattle.command_parts.specs.declared.status.Status.TheVariants.{Done, BadWords, ConfigRefused, ScriptRefused, Unread, Unwritten, OutOfMemory, Unopened, Long}
+use Rattle.command_parts.specs.declared.status.Status.TheVariants.{Done, BadWords, ConfigRefused, NoSource, ScriptRefused, NotInLanes, Unread, Unwritten, OutOfMemory, Unopened, Long}
 use Rattle.command_parts.specs.Outside.{Outside}
 use Rattle.command_parts.specs.Outputs.{EndsWriting}
 use Rattle.command_parts.specs.Statuses.{IsDone, IsConfigRefused, IsUnread, IsUnwritten, IsOutOfMemory, IsTooLong}
@@ -24,6 +24,8 @@ checks_written Unwritten name file old new accepts written = (accepts, written)
 checks_written BadWords name file old new accepts written = absurd written
 checks_written (ConfigRefused code path) name file old new accepts written = absurd written
 checks_written (ScriptRefused line fault) name file old new accepts written = absurd written
+checks_written (NoSource set) name file old new accepts written = absurd written
+checks_written (NotInLanes line) name file old new accepts written = absurd written
 checks_written (Unread unread) name file old new accepts written = absurd written
 checks_written OutOfMemory name file old new accepts written = absurd written
 checks_written Unopened name file old new accepts written = absurd written
@@ -38,6 +40,8 @@ checks_ended OutOfMemory name file out ends = tt
 checks_ended Done name file out ends = absurd ends
 checks_ended BadWords name file out ends = absurd ends
 checks_ended (ScriptRefused line fault) name file out ends = absurd ends
+checks_ended (NoSource set) name file out ends = absurd ends
+checks_ended (NotInLanes line) name file out ends = absurd ends
 checks_ended Unwritten name file out ends = absurd ends
 checks_ended Unopened name file out ends = absurd ends
 
@@ -49,6 +53,8 @@ not_written OutOfMemory name file ends is = omega arith
 not_written Done name file ends is = absurd ends
 not_written BadWords name file ends is = absurd ends
 not_written (ScriptRefused line fault) name file ends is = absurd ends
+not_written (NoSource set) name file ends is = absurd ends
+not_written (NotInLanes line) name file ends is = absurd ends
 not_written Unwritten name file ends is = absurd ends
 not_written Unopened name file ends is = absurd ends
 
@@ -65,6 +71,8 @@ refuses (Unread unread) name file old new bytes h is a b = absurd (a refl)
 refuses OutOfMemory name file old new bytes h is a b = absurd (b refl)
 refuses BadWords name file old new bytes h is a b = absurd h
 refuses (ScriptRefused line fault) name file old new bytes h is a b = absurd h
+refuses (NoSource set) name file old new bytes h is a b = absurd h
+refuses (NotInLanes line) name file old new bytes h is a b = absurd h
 refuses Unopened name file old new bytes h is a b = absurd h
 
 accepts : (status : Status) (name : List ℕ) (file : ToldFile) (old new : Option (List ℕ)) (bytes : List ℕ) (config : Config) → Checks status name file old new → IsTold file bytes
@@ -77,6 +85,8 @@ accepts (ConfigRefused code path) name file old new bytes config h is ok a b = a
 accepts (Long which) name file old new bytes config h is ok a b = absurd (long_short file bytes is h.1)
 accepts BadWords name file old new bytes config h is ok a b = absurd h
 accepts (ScriptRefused line fault) name file old new bytes config h is ok a b = absurd h
+accepts (NoSource set) name file old new bytes config h is ok a b = absurd h
+accepts (NotInLanes line) name file old new bytes config h is ok a b = absurd h
 accepts Unopened name file old new bytes config h is ok a b = absurd h
 
 too_long : (status : Status) (name : List ℕ) (file : ToldFile) (old new : Option (List ℕ)) (bytes : List ℕ) → Checks status name file old new → file ≡ Some (Some bytes)
@@ -89,6 +99,8 @@ too_long (Unread unread) name file old new bytes h is a b = absurd (a refl)
 too_long OutOfMemory name file old new bytes h is a b = absurd (b refl)
 too_long BadWords name file old new bytes h is a b = absurd h
 too_long (ScriptRefused line fault) name file old new bytes h is a b = absurd h
+too_long (NoSource set) name file old new bytes h is a b = absurd h
+too_long (NotInLanes line) name file old new bytes h is a b = absurd h
 too_long Unopened name file old new bytes h is a b = absurd h
 
 -- all that is said of the end follows from what the status says, and from the counts

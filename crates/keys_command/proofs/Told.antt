@@ -7,7 +7,7 @@ use Rattle.ua_base.specs.Files.{ToldFile}
 use Rattle.ps_config.specs.declared.parts.Config.{Config}
 use Rattle.ps_config.specs.Reading.{Judgement, configuration}
 use Rattle.command_parts.specs.declared.status.Status.{Status}
-use Rattle.command_parts.specs.declared.status.Status.TheVariants.{Done, BadWords, ConfigRefused, ScriptRefused, Unread, Unwritten, OutOfMemory, Unopened, Long}
+use Rattle.command_parts.specs.declared.status.Status.TheVariants.{Done, BadWords, ConfigRefused, NoSource, ScriptRefused, NotInLanes, Unread, Unwritten, OutOfMemory, Unopened, Long}
 use Rattle.command_parts.specs.Outside.{Outside}
 use Rattle.command_parts.specs.Outputs.{EndsWriting}
 use Rattle.command_parts.specs.Statuses.{number_of, IsDone, IsConfigRefused, IsUnread, IsUnwritten, IsOutOfMemory, IsTooLong}
@@ -25,6 +25,8 @@ says_written Unwritten name asked file old new text tells written = (text, tells
 says_written BadWords name asked file old new text tells written = absurd written
 says_written (ConfigRefused code path) name asked file old new text tells written = absurd written
 says_written (ScriptRefused line fault) name asked file old new text tells written = absurd written
+says_written (NoSource set) name asked file old new text tells written = absurd written
+says_written (NotInLanes line) name asked file old new text tells written = absurd written
 says_written (Unread unread) name asked file old new text tells written = absurd written
 says_written OutOfMemory name asked file old new text tells written = absurd written
 says_written Unopened name asked file old new text tells written = absurd written
@@ -37,6 +39,8 @@ says_ended Unwritten name asked file out ends = absurd ends
 says_ended BadWords name asked file out ends = ends
 says_ended (ConfigRefused code path) name asked file out ends = ends
 says_ended (ScriptRefused line fault) name asked file out ends = ends
+says_ended (NoSource set) name asked file out ends = ends
+says_ended (NotInLanes line) name asked file out ends = ends
 says_ended (Unread unread) name asked file out ends = ends
 says_ended OutOfMemory name asked file out ends = ends
 says_ended Unopened name asked file out ends = ends
@@ -48,6 +52,8 @@ not_written Done name file ends is = omega arith
 not_written BadWords name file ends is = omega arith
 not_written (ConfigRefused code path) name file ends is = omega arith
 not_written (ScriptRefused line fault) name file ends is = omega arith
+not_written (NoSource set) name file ends is = omega arith
+not_written (NotInLanes line) name file ends is = omega arith
 not_written (Unread unread) name file ends is = omega arith
 not_written OutOfMemory name file ends is = omega arith
 not_written Unopened name file ends is = omega arith
@@ -59,6 +65,8 @@ no_usage BadWords name asked file old new h two = h
 no_usage Done name asked file old new h two = omega arith
 no_usage (ConfigRefused code path) name asked file old new h two = omega arith
 no_usage (ScriptRefused line fault) name asked file old new h two = omega arith
+no_usage (NoSource set) name asked file old new h two = omega arith
+no_usage (NotInLanes line) name asked file old new h two = omega arith
 no_usage (Unread unread) name asked file old new h two = omega arith
 no_usage Unwritten name asked file old new h two = omega arith
 no_usage OutOfMemory name asked file old new h two = omega arith
@@ -72,6 +80,8 @@ ends_writing Unwritten old new text written = inr refl
 ends_writing BadWords old new text written = absurd written
 ends_writing (ConfigRefused code path) old new text written = absurd written
 ends_writing (ScriptRefused line fault) old new text written = absurd written
+ends_writing (NoSource set) old new text written = absurd written
+ends_writing (NotInLanes line) old new text written = absurd written
 ends_writing (Unread unread) old new text written = absurd written
 ends_writing OutOfMemory old new text written = absurd written
 ends_writing Unopened old new text written = absurd written
@@ -98,6 +108,8 @@ refuses (Unread unread) name asked file old new bytes h is a b = absurd (a refl)
 refuses OutOfMemory name asked file old new bytes h is a b = absurd (b refl)
 refuses BadWords name asked file old new bytes h is a b = absurd h
 refuses (ScriptRefused line fault) name asked file old new bytes h is a b = absurd h
+refuses (NoSource set) name asked file old new bytes h is a b = absurd h
+refuses (NotInLanes line) name asked file old new bytes h is a b = absurd h
 refuses Unopened name asked file old new bytes h is a b = absurd h
 
 accepts : (status : Status) (name : List ℕ) (asked : Asked) (file : ToldFile) (old new : Option (List ℕ)) (bytes : List ℕ) (config : Config) → Says status name asked file old new → IsTold file bytes
@@ -111,6 +123,8 @@ accepts (ConfigRefused code path) name asked file old new bytes config h is ok a
 accepts (Long which) name asked file old new bytes config h is ok a b = absurd (long_short file bytes is h.1)
 accepts BadWords name asked file old new bytes config h is ok a b = absurd h
 accepts (ScriptRefused line fault) name asked file old new bytes config h is ok a b = absurd h
+accepts (NoSource set) name asked file old new bytes config h is ok a b = absurd h
+accepts (NotInLanes line) name asked file old new bytes config h is ok a b = absurd h
 accepts Unopened name asked file old new bytes config h is ok a b = absurd h
 
 too_long : (status : Status) (name : List ℕ) (asked : Asked) (file : ToldFile) (old new : Option (List ℕ)) (bytes : List ℕ) → Says status name asked file old new → file ≡ Some (Some bytes)
@@ -123,6 +137,8 @@ too_long (Unread unread) name asked file old new bytes h is a b = absurd (a refl
 too_long OutOfMemory name asked file old new bytes h is a b = absurd (b refl)
 too_long BadWords name asked file old new bytes h is a b = absurd h
 too_long (ScriptRefused line fault) name asked file old new bytes h is a b = absurd h
+too_long (NoSource set) name asked file old new bytes h is a b = absurd h
+too_long (NotInLanes line) name asked file old new bytes h is a b = absurd h
 too_long Unopened name asked file old new bytes h is a b = absurd h
 
 -- all that is said of the end follows from what the status says, and from the counts
