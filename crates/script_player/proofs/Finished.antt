@@ -333,12 +333,12 @@ module _ (config : Config) (script : Script) (is : IsScript config script) (plan
           ends = ticked;
           steps_are = stands.steps_are;
           run = stands.run;
+          lived = lived;
           tells = led.3 h.tells;
           closed_after = closed_after;
           histories = histories;
           watches = watches;
-          headline = tells-all p steps (row_written script) closed
-              (record { plan = plan; steps_are = stands.steps_are; run = stands.run; rise = have.0; versions = have.1 }) closed_after;
+          headline = tells-all p steps (row_written script) closed lived closed_after;
         },
         refl,
       )
