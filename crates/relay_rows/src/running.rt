@@ -74,8 +74,9 @@ fn told(alloc: Global, out: &MemorySink, status: u8, err: &MemorySink) -> Answer
     let Ok(text) = str::from_utf8(out.bytes()) else {
         return Err(LineFault::Text);
     };
-    match str::from_utf8(err.bytes()) {
-        Ok(refusal) => Ok(Some(format!(in alloc; "{text}status {status} {refusal}")?)),
-        Err(_) => Err(LineFault::Text),
-    }
+    let Ok(refusal) = str::from_utf8(err.bytes()) else {
+        return Err(LineFault::Text);
+    };
+    let refusal = refusal.trim_end_matches('\n');
+    Ok(Some(format!(in alloc; "{text}status {status} [{refusal}]")?))
 }

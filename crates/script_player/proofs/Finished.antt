@@ -324,7 +324,9 @@ module _ (config : Config) (script : Script) (is : IsScript config script) (plan
   -- by these steps
   pub is-play-by : (play : IsPlayOf config script after closed) × (play.steps ≡ steps)
   is-play-by =
-      let have = headline config script h.steps steps h.looks is exact.played ticked rows in (
+      let have = headline config script h.steps steps h.looks is exact.played ticked rows in
+      let lived : HasRun p steps (row_written script) =
+      record { plan = plan; steps_are = stands.steps_are; run = stands.run; rise = have.0; versions = have.1 } in (
         record {
           earlier = h.steps;
           steps = steps;
