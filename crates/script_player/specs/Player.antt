@@ -11,7 +11,7 @@ use Rattle.version_cell.specs.declared.rule.Entry.{Entry}
 use Rattle.version_cell.specs.Histories.{StartsWith, entry, own, row_after}
 use Rattle.version_cell.specs.Known.{Known}
 use Rattle.version_cell.specs.Cells.{CellData, IsCell}
-use Rattle.version_cell.specs.Passes.{HasLeft, SeesMore}
+use Rattle.version_cell.specs.Passes.{HasLeft}
 use Rattle.version_cell.specs.Sets.{ArePassesOf, EachSeesLawful, cell_at, pass_at}
 use Rattle.target_cells.specs.Keeping.{AreLevel}
 use Rattle.ps_config.specs.declared.parts.Config.{Config}
@@ -27,7 +27,6 @@ use Rattle.ps_script.specs.Sessions.{ticks_in, writes_in}
 use Rattle.pubsub_states.specs.Changes.{Change, Enable as SwitchedOn, Disable as SwitchedOff}
 use Rattle.pubsub_states.specs.Components.{IsId, counts_of}
 use Rattle.writer_group.specs.declared.sampled.Sampled.{Sampled}
-use Rattle.session_model.specs.Counts.{most_ms}
 use Rattle.session_model.specs.Steps.{Plan, Step, Enable, Disable, Append, Tick, Pump, is_on, switches_in}
 use Rattle.session_model.specs.Deeds.{component_at}
 use Rattle.session_model.specs.Sends.{TellsRun}
@@ -38,8 +37,8 @@ use Rattle.app_threads.specs.declared.done.Looked.{Looked}
 use Rattle.app_threads.specs.Items.{versions_in}
 use Rattle.app_threads.specs.Marks.{authors}
 use Rattle.pubsub_engine.specs.declared.session.Session.{Session}
-use Rattle.pubsub_engine.specs.Holding.{AreTargetsOf, ChangesSamples, ChangesStores, IsBankOf, IsRunning, IsSession, KeepsPasses, appends_left, keeper_of, left_of, passes_of, plan_of, ticks_needed}
-use Rattle.pubsub_engine.specs.Standing.{KeepsStands, Stands, samples_of}
+use Rattle.pubsub_engine.specs.Holding.{AreTargetsOf, ChangesSamples, ChangesStores, IsBankOf, IsRunning, IsSession, KeepsPasses, appends_left, keeper_of, left_of, passes_of, plan_of}
+use Rattle.pubsub_engine.specs.Standing.{KeepsStands, Stands}
 use Rattle.pubsub_engine.specs.Authored.{AreInOrder, AreLooksAt, IsAuthored, watch_of, watches_of}
 use Rattle.script_player.specs.declared.hand.Hand.{Hand}
 use Rattle.script_player.specs.declared.player.Player.{Player}

@@ -4,7 +4,7 @@ use Rattle.script_player.proofs.Levelling.{player-levelled}
 use Rattle.script_player.proofs.player.Player.level.Goals as goal
 
 pub level-requires : goal.level-requires
-level-requires g c = record { session = c.requires.session; targets = c.requires.targets; own = c.requires.watches }
+level-requires g c = record { session = c.requires.player.session; targets = c.requires.player.targets; own = c.requires.player.watches }
 
 pub returns : goal.returns
 returns g c =
@@ -18,6 +18,6 @@ returns g c =
       rest = refl;
     } in
     record {
-      player = player-levelled c.args.self.now c.level.new.self c.level.new.looks c.requires levels e.session e.targets e.own;
+      player = player-levelled c.args.self.now c.level.new.self c.level.new.looks c.requires.player levels e.session e.targets e.own;
       levels = levels;
     }
