@@ -80,7 +80,14 @@ module _ (first second : Config) (sources : List Source) where
       (two-later set (steps.Pump entries) (steps.Tick ms closing samples done) (firsts before)) (sampled before set now sample collects.1 has)
 
   counted-later : (step : RelayStep) (before : List RelayStep) (set : ℕ) (sample : Sampled) → WasCounted first sources before set sample → WasCounted first sources (step ∷ before) set sample
-  counted-later step before set sample is = record { newer = step ∷ is.newer; older = is.older; split = ap (λ (l : List RelayStep). step ∷ l) is.split; count = is.count }
+  counted-later step before set sample is = record {
+    newer = step ∷ is.newer;
+    round = is.round;
+    before = is.before;
+    split = ap (λ (l : List RelayStep). step ∷ l) is.split;
+    collected = is.collected;
+    count = is.count;
+  }
 
   -- each is the count of its source's stores when it was collected
   pub was-counted : (relay : List RelayStep) (set : ℕ) (now : MetaData) (sample : Sampled) → set < length second.dataset → Collects first second sources relay → HasSample (plan_again second) (seconds relay) set now sample
@@ -91,8 +98,10 @@ module _ (first second : Config) (sources : List Source) where
   was-counted (Append at field ∷ before) set now sample lt collects has = counted-later (Append at field) before set sample (was-counted before set now sample lt collects has)
   was-counted (Round ms closing samples done entries collected again back ∷ before) set now sample lt collects (inl is) = record {
     newer = [];
-    older = Round ms closing samples done entries collected again back ∷ before;
+    round = Round ms closing samples done entries collected again back;
+    before = before;
     split = refl;
+    collected = is.0;
     count = sym (ap (λ (s : Sampled). s.version) is.0) ∙ (collects.0.each set lt).version;
   }
   was-counted (Round ms closing samples done entries collected again back ∷ before) set now sample lt collects (inr has) =

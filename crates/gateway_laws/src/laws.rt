@@ -1,5 +1,5 @@
 //! Laws of gateways, each the contract of a function that does nothing.
-ghost use Rattle.std.specs.Prelude.{◌≡◌, ◌⊎◌, ◌<◌, ◌≤◌, ℕ, not, true, [], List, ◌∷◌, ◌++◌, length, Some};
+ghost use Rattle.std.specs.Prelude.{◌≡◌, ◌⊎◌, ◌<◌, ◌≤◌, ℕ, not, true, [], List, ◌∷◌, ◌++◌, length, slice_index_or, Some};
 ghost use Rattle.std.specs.List.Sorted.{IsNonDecreasingBy};
 ghost use Rattle.dataset_meta.specs.DataValues.{DataValue};
 ghost use Rattle.pubsub_model.specs.Cadence.{WriterDeed, WriterTurn, HadTurn, is_data};
@@ -18,7 +18,7 @@ ghost use Rattle.session_laws.specs.Reading.{IsMatchedIn, ReadsByRecords, first_
 ghost use Rattle.session_laws.specs.Headline.{IsPublished, PublishesVersion, answered_turn};
 ghost use Rattle.session_laws.specs.Pasts.{settings_at};
 ghost use Rattle.session_laws.specs.Sessions.{AreVersions, HasSample, SamplesRise};
-ghost use Rattle.gateway_laws.specs.Sources.{Source, source_at};
+ghost use Rattle.gateway_laws.specs.Sources.{HaveSources, Source, source_at};
 ghost use Rattle.gateway_laws.specs.Relays.{RelayStep, WasCounted, firsts, seconds, stored_rows, stores_of};
 ghost use Rattle.config_tables.specs.declared.words.NumberingWord.TheVariants.{Message};
 ghost use Rattle.reader_group.specs.Members.{seat_at};
@@ -34,7 +34,9 @@ ghost use Rattle.session_model.specs.Stores.{Store};
 ghost use Rattle.gateway_laws.specs.Relays.{IsCollected};
 ghost use Rattle.gateway_laws.specs.Versions.{HasStored, versions_kept};
 ghost use Rattle.gateway_laws.specs.Gateways.{IsRelay, IsHonestSource, IsHonestAgain, IsOfHistory, IsRelayed, set_of};
-ghost use Rattle.gateway_core.specs.Lived.{plan_again, sample_of, version_in};
+ghost use Rattle.gateway_core.specs.Lived.{GatewayStep, plan_again, sample_of, session_steps, version_in, versions_kept as versions_by_index};
+ghost use Rattle.gateway_core.specs.Sources.{HaveSources as HaveIndexes};
+ghost use Rattle.gateway_laws.specs.Lives.{ArePlaces, Lives};
 
 use group_laws::{a_matched_reader_reads_its_writer, a_ring_makes_senders_of_its_key_group};
 use pubsub_model::a_held_row_was_sent;
@@ -195,4 +197,17 @@ pub fn a_gateway_has_all_enabled()
         → works config steps deeds (Writer g w) ≡ not (is_spent config g deeds) }
     ensures reads { (config : Config) (steps : List Step) (r : ℕ) → switches_in steps ≡ []
         → receives config steps r ≡ true }
+{}
+
+/// A gateway that lives through a relay, with its sources at these indexes over all read groups, is the relay's second session, and
+/// keeps of each store the version that its source's origin told. There are sources for indexes of readers.
+pub fn a_gateway_lives_through_its_relay()
+    ensures session { (p : Plan) (places : List ℕ) (sources : List Source) (relay : List RelayStep)
+        (lived : List GatewayStep) → Lives p places sources relay lived
+        → session_steps places lived ≡ seconds relay }
+    ensures versions { (p : Plan) (places : List ℕ) (sources : List Source) (relay : List RelayStep)
+        (lived : List GatewayStep) (set : ℕ) → set < length places → Lives p places sources relay lived
+        → versions_by_index (slice_index_or places set 0) lived ≡ versions_kept p (source_at sources set) relay }
+    ensures sources { (first second : Config) (places : List ℕ) → HaveIndexes first second places
+        → (sources : List Source) × HaveSources first second sources × ArePlaces first places sources }
 {}

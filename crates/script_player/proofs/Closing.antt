@@ -16,7 +16,7 @@ use Rattle.pubsub_engine.specs.Standing.{Stands}
 use Rattle.pubsub_engine.specs.Authored.{AreInOrder, AreLooksAt, HasThreads, IsAuthored, watches_of}
 use Rattle.script_player.specs.declared.hand.Hand.{Hand}
 use Rattle.script_player.specs.declared.player.Player.{Player}
-use Rattle.script_player.specs.Player.{AreDonesOf, Closes, IsPlayer, Passes}
+use Rattle.script_player.specs.Player.{AreDonesOf, Closes, IsClosedBy, IsPlayer, Passes}
 
 -- there are as many as threads
 dones-count : (hands : List Hand) (dones : List Done) → AreDonesOf hands dones → length dones ≡ length hands
@@ -36,21 +36,17 @@ in-order hands dones eight are =
     }
 
 -- the player is closed, where there was memory
-pub player-closes : {E : Type 0} (old new : Player) (told after : Option LinkState) (dones : List Done) (r : Result Closed E) → IsPlayer new → Passes 0 true old new told after
-    → AreDonesOf new.hands.items dones
-    → ((p : Plan) (steps : List Step) → Stands p steps new.session → AreInOrder dones → IfOk r (IsClosedAfter p steps))
-    → (length dones ≤ 256 → IfOk r (λ closed. (set : ℕ) (threads : List ℕ) → set < length (passes_of new.session) → IsAuthored set dones threads
-    → length threads ≡ length (pass_at (passes_of new.session) set).seen → HasThreads closed.histories set threads))
+pub player-closes : {E : Type 0} (player : Player) (dones : List Done) (r : Result Closed E) → IsPlayer player → AreDonesOf player.hands.items dones
+    → ((p : Plan) (steps : List Step) → Stands p steps player.session → AreInOrder dones → IfOk r (IsClosedAfter p steps))
+    → (length dones ≤ 256 → IfOk r (λ closed. (set : ℕ) (threads : List ℕ) → set < length (passes_of player.session) → IsAuthored set dones threads
+    → length threads ≡ length (pass_at (passes_of player.session) set).seen → HasThreads closed.histories set threads))
     → (AreInOrder dones → IfOk r (λ closed. closed.watches ≡ watches_of dones))
-    → IfOk r (λ closed. (steps : List Step) → Stands (plan_of new.session) steps new.session → AreLooksAt (readers (plan_of new.session).config) dones
-    → IsClosedOf (plan_of new.session).config closed)
-    → IfOk r (Closes old told after)
-player-closes old new told after dones (Ok closed) is ends are closed_after histories watches of =
-    let order = in-order new.hands.items dones is.eight are in
+    → IfOk r (λ closed. (steps : List Step) → Stands (plan_of player.session) steps player.session → AreLooksAt (readers (plan_of player.session).config) dones
+    → IsClosedOf (plan_of player.session).config closed)
+    → IfOk r (IsClosedBy player)
+player-closes player dones (Ok closed) is are closed_after histories watches of =
+    let order = in-order player.hands.items dones is.eight are in
     record {
-      new = new;
-      player = is;
-      ends = ends;
       dones = dones;
       dones_are = are;
       closed_after = closed_after;
@@ -58,4 +54,8 @@ player-closes old new told after dones (Ok closed) is ends are closed_after hist
       watches = watches order;
       closed_of = of;
     }
-player-closes old new told after dones (Err e) is ends are closed_after histories watches of = tt
+player-closes player dones (Err e) is are closed_after histories watches of = tt
+
+-- the closing tick came, and then it was closed
+pub closes : (old new : Player) (told after : Option LinkState) (closed : Closed) → IsPlayer new → Passes 0 true old new told after → IsClosedBy new closed → Closes old told after closed
+closes old new told after closed is ends by = record { new = new; player = is; ends = ends; by = by }

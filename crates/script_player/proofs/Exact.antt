@@ -30,7 +30,7 @@ use Rattle.pubsub_engine.specs.Standing.{Stands, sample_of, samples_of}
 use Rattle.script_player.specs.declared.player.Player.{Player}
 use Rattle.script_player.specs.Playing.{IsLineBy, log_after, sample_after, samples_after, with_write}
 use Rattle.script_player.specs.Plays.{plan_by}
-use Rattle.script_player.specs.Player.{HasPlayed, IsExact, IsFlush, IsPlayer, Passes, with_switch}
+use Rattle.script_player.specs.Player.{HasPlayed, IsExact, IsFlush, IsPlayer, Passes, PlaysOn, with_switch}
 use Rattle.script_player.specs.Sizes.{appended_by, appended_sets}
 use Rattle.script_player.proofs.Lines.{appended-cons, count_by-cons}
 use Rattle.script_player.proofs.Hands.{count_cells}
@@ -80,23 +80,26 @@ module _ (config : Config) (script : Script) (lines : List Line) (told : Option 
         → (appended_sets (reverse lines) ++ appended_by what) ++ appends_left s ≡ appended_sets script.lines
         → ((meta : MetaData) (set : ℕ) → with_write meta set (log_after meta set lines) what ≡ log_after meta set lines)
         → IsLineBy (plan_by config script) lines what h.steps steps h.looks h.looks
-        → HasPlayed config script (line ∷ lines) told (record old { session = s })
-    kept steps stands tells switches passes left no_tick no_write appends logs by = record {
-      steps = steps;
-      looks = h.looks;
-      stands = stands;
-      tells = tells;
-      switches = switches ∙ ap (λ (l : List Change). with_switch l what) h.switches;
-      ticks = (let a = h.ticks in let b = ap (λ (l : Left). l.ticks) left in omega (arith, a, b, skips (λ (l : Line). is_tick l.act) line lines no_tick));
-      pumps = ap (λ (l : Left). l.pumps) left ∙ h.pumps;
-      running = ap (λ (l : Left). l.is_closed) left ∙ h.running;
-      appends = ap (λ (l : List ℕ). l ++ appends_left s) (appended-cons line lines) ∙ appends;
-      quotas = h.quotas;
-      made = λ t set lt there. h.made t set lt there ∙ sym (skips (λ (l : Line). is_write t set l.act) line lines (no_write t set));
-      looked = h.looked;
-      looks_there = h.looks_there;
-      exact = λ flush. exact (λ set lt. (let a = flush set lt in let b = ap (λ (l : List Known). length (pass_at l set).seen) passes in let c = ap length (logs (meta_in script.metas set) set) in omega (arith, a, b, c)));
-    }
+        → (next : HasPlayed config script (line ∷ lines) told (record old { session = s })) × (next.steps ≡ steps)
+    kept steps stands tells switches passes left no_tick no_write appends logs by = (
+      record {
+        steps = steps;
+        looks = h.looks;
+        stands = stands;
+        tells = tells;
+        switches = switches ∙ ap (λ (l : List Change). with_switch l what) h.switches;
+        ticks = (let a = h.ticks in let b = ap (λ (l : Left). l.ticks) left in omega (arith, a, b, skips (λ (l : Line). is_tick l.act) line lines no_tick));
+        pumps = ap (λ (l : Left). l.pumps) left ∙ h.pumps;
+        running = ap (λ (l : Left). l.is_closed) left ∙ h.running;
+        appends = ap (λ (l : List ℕ). l ++ appends_left s) (appended-cons line lines) ∙ appends;
+        quotas = h.quotas;
+        made = λ t set lt there. h.made t set lt there ∙ sym (skips (λ (l : Line). is_write t set l.act) line lines (no_write t set));
+        looked = h.looked;
+        looks_there = h.looks_there;
+        exact = λ flush. exact (λ set lt. (let a = flush set lt in let b = ap (λ (l : List Known). length (pass_at l set).seen) passes in let c = ap length (logs (meta_in script.metas set) set) in omega (arith, a, b, c)));
+      },
+      refl,
+    )
       where
         exact : IsFlush script.metas lines (passes_of old.session) → IsExact (plan_by config script) (line ∷ lines) steps h.looks (record old { session = s })
         exact flush =
@@ -141,7 +144,7 @@ module _ (config : Config) (script : Script) (lines : List Line) (told : Option 
           versions = e.versions;
         }
 
-    passed : HasPlayed config script (tick ∷ lines) after (record old { session = new.session })
+    abbrev passed : HasPlayed config script (tick ∷ lines) after (record old { session = new.session })
     passed = record {
       steps = steps_after;
       looks = h.looks;
@@ -159,5 +162,5 @@ module _ (config : Config) (script : Script) (lines : List Line) (told : Option 
       exact = exact_after;
     }
 
-    pub ticked : HasPlayed config script (tick ∷ lines) after new
-    ticked = subst (λ (player : Player). HasPlayed config script (tick ∷ lines) after player) (sym t.rest) passed
+    pub ticked : PlaysOn config script lines told old h tick after new
+    ticked = subst (λ (player : Player). PlaysOn config script lines told old h tick after player) (sym t.rest) (passed, (samples_of (passes_of new.session), led.0, led.1, refl))

@@ -245,27 +245,27 @@ module _ (config : Config) (script : Script) (is : IsScript config script) (plan
 
   -- ---- what the threads left
 
-  done-eight : length c.dones ≡ 8
-  done-eight = done-count new.hands.items c.dones c.dones_are ∙ c.player.eight
+  done-eight : length c.by.dones ≡ 8
+  done-eight = done-count new.hands.items c.by.dones c.by.dones_are ∙ c.player.eight
 
-  in-hands : (t : ℕ) → t < length c.dones → t < length new.hands.items
-  in-hands t lt = let e = done-count new.hands.items c.dones c.dones_are in omega (arith, e, lt)
+  in-hands : (t : ℕ) → t < length c.by.dones → t < length new.hands.items
+  in-hands t lt = let e = done-count new.hands.items c.by.dones c.by.dones_are in omega (arith, e, lt)
 
-  in-eight : (t : ℕ) → t < length c.dones → t < 8
+  in-eight : (t : ℕ) → t < length c.by.dones → t < 8
   in-eight t lt = let e = done-eight in omega (arith, e, lt)
 
-  in-order : AreInOrder c.dones
+  in-order : AreInOrder c.by.dones
   in-order = record {
     few = let e = done-eight in omega (arith, e);
-    numbers = λ t lt d. done-list new.hands.items c.dones c.dones_are t d (in-hands t lt);
+    numbers = λ t lt d. done-list new.hands.items c.by.dones c.by.dones_are t d (in-hands t lt);
   }
 
-  authored : (set : ℕ) → set < length script.metas → IsAuthored set c.dones (writers_in script set)
+  authored : (set : ℕ) → set < length script.metas → IsAuthored set c.by.dones (writers_in script set)
   authored set there = record {
     known = known;
     placed = λ t lt d.
         ap (versions_in set)
-        (done-versions new.hands.items c.dones c.dones_are t d (in-hands t lt)
+        (done-versions new.hands.items c.by.dones c.by.dones_are t d (in-hands t lt)
         ∙ ap (λ (q : Player). versions_at q t) c.ends.rest)
         ∙ exact.versions t set (in-eight t lt) there;
   }
@@ -273,35 +273,35 @@ module _ (config : Config) (script : Script) (is : IsScript config script) (plan
       law : All (λ (e : Entry). e.author < 8) (pass_at (passes_of new.session) set).seen
       law = λ k d lt. ((c.ends.by.lawful set (let e = count in omega (arith, e, there))).entries k d lt).author
 
-      known : All (λ (thread : ℕ). thread < length c.dones) (writers_in script set)
-      known = All-map (λ (thread : ℕ). thread < length c.dones) (λ (e : Entry). e.author) (log_after (meta_in script.metas set) set lines)
-          (subst (λ (log : List Entry). All (λ (e : Entry). e.author < length c.dones) log) (seen set there)
+      known : All (λ (thread : ℕ). thread < length c.by.dones) (writers_in script set)
+      known = All-map (λ (thread : ℕ). thread < length c.by.dones) (λ (e : Entry). e.author) (log_after (meta_in script.metas set) set lines)
+          (subst (λ (log : List Entry). All (λ (e : Entry). e.author < length c.by.dones) log) (seen set there)
           (λ k d lt. let low = law k d lt in let e = done-eight in omega (arith, low, e)))
 
   closed_after : IsClosedAfter p steps closed
-  closed_after = c.closed_after p steps stands in-order
+  closed_after = c.by.closed_after p steps stands in-order
 
   -- ---- the looks
 
-  look-of : (k : ℕ) → k < length c.dones → (d : Done) → map (watch_of k) (get_or c.dones k d).looks ≡ filter (λ (look : WatchEnd). look.thread == k) h.looks
+  look-of : (k : ℕ) → k < length c.by.dones → (d : Done) → map (watch_of k) (get_or c.by.dones k d).looks ≡ filter (λ (look : WatchEnd). look.thread == k) h.looks
   look-of k lt d =
       ap (λ (l : List Looked). map (watch_of k) l)
-      (done-looks new.hands.items c.dones c.dones_are k d (in-hands k lt) ∙ ap (λ (q : Player). looks_at q k) c.ends.rest)
+      (done-looks new.hands.items c.by.dones c.by.dones_are k d (in-hands k lt) ∙ ap (λ (q : Player). looks_at q k) c.ends.rest)
       ∙ h.looked k (in-eight k lt)
 
   watches : closed.watches ≡ by_threads h.looks
   watches =
-      c.watches
-      ∙ by-numbers c.dones 0 g (c.dones_are.lists ∙ ap (λ (n : ℕ). range_with_len 0 n) (sym (done-count new.hands.items c.dones c.dones_are)))
-      (λ k lt d. let same : k ≡ 0 + k = omega arith in subst (λ (t : ℕ). map (watch_of t) (get_or c.dones k d).looks ≡ g t) same (look-of k lt d))
+      c.by.watches
+      ∙ by-numbers c.by.dones 0 g (c.by.dones_are.lists ∙ ap (λ (n : ℕ). range_with_len 0 n) (sym (done-count new.hands.items c.by.dones c.by.dones_are)))
+      (λ k lt d. let same : k ≡ 0 + k = omega arith in subst (λ (t : ℕ). map (watch_of t) (get_or c.by.dones k d).looks ≡ g t) same (look-of k lt d))
       ∙ ap (λ (n : ℕ). flat_map g (range_with_len 0 n)) done-eight
     where
       g : ℕ → List WatchEnd
       g thread = filter (λ (look : WatchEnd). look.thread == thread) h.looks
 
-  are-looks : AreLooksAt (readers config) c.dones
+  are-looks : AreLooksAt (readers config) c.by.dones
   are-looks = λ k d lt.
-      looks-within k (length (readers config)) (get_or c.dones k d).looks
+      looks-within k (length (readers config)) (get_or c.by.dones k d).looks
       (subst (λ (l : List WatchEnd). All (λ (end : WatchEnd). end.reader < length (readers config)) l) (sym (look-of k lt d))
       (All-filter (λ (look : WatchEnd). look.thread == k) (λ (end : WatchEnd). end.reader < length (readers config)) h.looks h.looks_there))
 
@@ -309,8 +309,8 @@ module _ (config : Config) (script : Script) (is : IsScript config script) (plan
   is-closed-of =
       let named : config_of new ≡ config = config_is config script steps new c.player stands in
       subst (λ (k : Config). IsClosedOf k closed) named
-      (c.closed_of steps (subst (λ (q : Plan). Stands q steps new.session) (sym stands.plan) stands)
-      (subst (λ (k : Config). AreLooksAt (readers k) c.dones) (sym named) are-looks))
+      (c.by.closed_of steps (subst (λ (q : Plan). Stands q steps new.session) (sym stands.plan) stands)
+      (subst (λ (k : Config). AreLooksAt (readers k) c.by.dones) (sym named) are-looks))
 
   histories : map (λ (history : History). history.threads) closed.histories ≡ map (writers_in script) (range_with_len 0 (length config.dataset))
   histories =
@@ -318,24 +318,32 @@ module _ (config : Config) (script : Script) (is : IsScript config script) (plan
       (length-map closed.histories (λ (history : History). history.threads) ∙ is-closed-of.histories)
       (λ k lt. let there : k < length script.metas = (let e = is.sets in omega (arith, e, lt)) in
       named-at closed.histories k (writers_in script k)
-      (c.histories k (writers_in script k) (let e = count in omega (arith, e, there)) (authored k there)
+      (c.by.histories k (writers_in script k) (let e = count in omega (arith, e, there)) (authored k there)
       (length-authors (log_after (meta_in script.metas k) k lines) ∙ sym (ap (λ (l : List Entry). length l) (seen k there)))))
 
-  pub is-play : IsPlayOf config script after closed
-  is-play =
+  -- by these steps
+  pub is-play-by : (play : IsPlayOf config script after closed) × (play.steps ≡ steps)
+  is-play-by =
       let have = headline config script h.steps steps h.looks is exact.played ticked rows in
-      record {
-        earlier = h.steps;
-        steps = steps;
-        looks = h.looks;
-        played = exact.played;
-        ends = ticked;
-        steps_are = stands.steps_are;
-        run = stands.run;
-        tells = led.3 h.tells;
-        closed_after = closed_after;
-        histories = histories;
-        watches = watches;
-        headline = tells-all p steps (row_written script) closed
-            (record { plan = plan; steps_are = stands.steps_are; run = stands.run; rise = have.0; versions = have.1 }) closed_after;
-      }
+      let lived : HasRun p steps (row_written script) =
+      record { plan = plan; steps_are = stands.steps_are; run = stands.run; rise = have.0; versions = have.1 } in (
+        record {
+          earlier = h.steps;
+          steps = steps;
+          looks = h.looks;
+          played = exact.played;
+          ends = ticked;
+          steps_are = stands.steps_are;
+          run = stands.run;
+          lived = lived;
+          tells = led.3 h.tells;
+          closed_after = closed_after;
+          histories = histories;
+          watches = watches;
+          headline = tells-all p steps (row_written script) closed lived closed_after;
+        },
+        refl,
+      )
+
+  pub is-play : IsPlayOf config script after closed
+  is-play = is-play-by.0

@@ -19,3 +19,4 @@ pub mod Closing
 pub mod Newly
 pub mod Stored
 pub mod Next
+pub mod Levelling

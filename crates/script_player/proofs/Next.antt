@@ -41,7 +41,7 @@ use Rattle.script_player.specs.declared.hand.Hand.{Hand}
 use Rattle.script_player.specs.declared.player.Player.{Player}
 use Rattle.script_player.specs.Plays.{plan_by}
 use Rattle.script_player.specs.Playing.{IsLineBy, log_after, with_write}
-use Rattle.script_player.specs.Player.{Does, HasPlayed, IsPlayer, MayDo, Switches, switches_by, with_switch}
+use Rattle.script_player.specs.Player.{Does, GrowsBy, HasPlayed, IsPlayer, MayDo, PlaysOn, Switches, switches_by, with_switch}
 use Rattle.script_player.specs.Sizes.{appended_by, appended_sets}
 use Rattle.script_player.proofs.Lines.{appended-append, count_by-append, count_by-cons, count_by-reverse, enabled_behind}
 use Rattle.script_player.proofs.Hands.{cell_meta, config_is, count_cells}
@@ -174,9 +174,9 @@ module _ (config : Config) (script : Script) (lines : List Line) (told : Option 
       → is_tick what ≡ false → ((t set : ℕ) → is_write t set what ≡ false) → appended_by what ≡ []
       → ((meta : MetaData) (set : ℕ) → with_write meta set (log_after meta set lines) what ≡ log_after meta set lines)
       → IsLineBy (plan_by config script) lines what h.steps (step ∷ h.steps) h.looks h.looks
-      → HasPlayed config script (record { at = at; act = what } ∷ lines) told new
+      → (next : HasPlayed config script (record { at = at; act = what } ∷ lines) told new) × (next.steps ≡ step ∷ h.steps)
   switched at id was what step new w stands tells switches no_tick no_write none logs by =
-      subst (λ (x : Player). HasPlayed config script (record { at = at; act = what } ∷ lines) told x) (sym w.rest)
+      subst (λ (x : Player). (next : HasPlayed config script (record { at = at; act = what } ∷ lines) told x) × (next.steps ≡ step ∷ h.steps)) (sym w.rest)
       (kept config script lines told player is h at what new.session (step ∷ h.steps) stands tells switches w.keeps.passes w.left no_tick no_write
       (ap (λ (l : List ℕ). (appended_sets (reverse lines) ++ l) ++ appends_left new.session) none
       ∙ ap (λ (l : List ℕ). l ++ appends_left new.session) (append-nil (appended_sets (reverse lines)))
@@ -184,27 +184,27 @@ module _ (config : Config) (script : Script) (lines : List Line) (told : Option 
       logs by)
 
   pub played_next : (at : ℕ) (what : Act) (after : Option LinkState) (new : Player) → IsPlayer new → IsNextLine config script lines (record { at = at; act = what })
-      → Does what player new told after → HasPlayed config script (record { at = at; act = what } ∷ lines) after new
+      → Does what player new told after → PlaysOn config script lines told player h (record { at = at; act = what }) after new
   played_next at (act.Write thread set patch) after new now next (w, same) =
       let w' = next.acts in
-      subst (λ (t : Option LinkState). HasPlayed config script (record { at = at; act = act.Write thread set patch } ∷ lines) t new) (sym same)
+      subst (λ (t : Option LinkState). PlaysOn config script lines told player h (record { at = at; act = act.Write thread set patch }) t new) (sym same)
       (written config script lines told player is h at thread set patch new w w'.bound (let e = count_cells config script h.steps player is h.stands in let t = w'.there in omega arith))
   played_next at (act.Tick ms) after new now next w = ticked config script lines told player is h at ms after new now w
   played_next at (act.Enable id) after new now next (w, same) =
-      subst (λ (t : Option LinkState). HasPlayed config script (record { at = at; act = act.Enable id } ∷ lines) t new) (sym same)
+      subst (λ (t : Option LinkState). PlaysOn config script lines told player h (record { at = at; act = act.Enable id }) t new) (sym same)
       (switched at id false (act.Enable id) (Enable id) new w (w.stands (plan_by config script) h.steps h.stands (was_on config lines h.steps h.switches id false next.acts.there next.acts.was)) h.tells refl refl (λ t set. refl) refl
       (λ meta set. refl) (refl, refl))
   played_next at (act.Disable id) after new now next (w, same) =
-      subst (λ (t : Option LinkState). HasPlayed config script (record { at = at; act = act.Disable id } ∷ lines) t new) (sym same)
+      subst (λ (t : Option LinkState). PlaysOn config script lines told player h (record { at = at; act = act.Disable id }) t new) (sym same)
       (switched at id true (act.Disable id) (Disable id) new w (w.stands (plan_by config script) h.steps h.stands (was_on config lines h.steps h.switches id true next.acts.there next.acts.was)) h.tells refl refl (λ t set. refl) refl
       (λ meta set. refl) (refl, refl))
   played_next at (act.Fated k fate) after new now next (unchanged, same) =
-      subst (λ (t : Option LinkState). HasPlayed config script (record { at = at; act = act.Fated k fate } ∷ lines) t new) (sym same)
-      (subst (λ (x : Player). HasPlayed config script (record { at = at; act = act.Fated k fate } ∷ lines) told x) (sym unchanged)
+      subst (λ (t : Option LinkState). PlaysOn config script lines told player h (record { at = at; act = act.Fated k fate }) t new) (sym same)
+      (subst (λ (x : Player). PlaysOn config script lines told player h (record { at = at; act = act.Fated k fate }) told x) (sym unchanged)
       (kept config script lines told player is h at (act.Fated k fate) player.session h.steps h.stands h.tells refl refl refl refl (λ t set. refl)
       (ap (λ (l : List ℕ). l ++ appends_left player.session) (append-nil (appended_sets (reverse lines))) ∙ h.appends) (λ meta set. refl) (refl, refl)))
   played_next at (act.Watch thread reader times) after new now next (w, same) =
-      subst (λ (t : Option LinkState). HasPlayed config script (record { at = at; act = act.Watch thread reader times } ∷ lines) t new) (sym same)
+      subst (λ (t : Option LinkState). PlaysOn config script lines told player h (record { at = at; act = act.Watch thread reader times }) t new) (sym same)
       (looked_at config script lines told player is h at thread reader times new w next.acts.bound next.acts.there
       (stored_is (plan_by config script) h.steps player.session reader h.stands next.acts.there))
   played_next at (act.Append set) after new now next (w, same) =
@@ -213,11 +213,12 @@ module _ (config : Config) (script : Script) (lines : List Line) (told : Option 
       let rest_is : appends_left new.session ≡ appended_sets next.rest = (let e = w.next in cc) in
       let stands = w.stands (plan_by config script) h.steps h.stands in
       let stands_set = subst (λ (s : ℕ). Stands (plan_by config script) (Append s stands.0 ∷ h.steps) new.session) set_is stands.1 in
-      subst (λ (t : Option LinkState). HasPlayed config script (record { at = at; act = act.Append set } ∷ lines) t new) (sym same)
-      (subst (λ (x : Player). HasPlayed config script (record { at = at; act = act.Append set } ∷ lines) told x) (sym w.rest)
-      (kept config script lines told player is h at (act.Append set) new.session (Append set stands.0 ∷ h.steps) stands_set h.tells refl w.keeps.passes w.left refl (λ t other. refl)
+      subst (λ (t : Option LinkState). PlaysOn config script lines told player h (record { at = at; act = act.Append set }) t new) (sym same)
+      (subst (λ (x : Player). PlaysOn config script lines told player h (record { at = at; act = act.Append set }) told x) (sym w.rest)
+      (let grown = kept config script lines told player is h at (act.Append set) new.session (Append set stands.0 ∷ h.steps) stands_set h.tells refl w.keeps.passes w.left refl (λ t other. refl)
       (append_assoc (appended_sets (reverse lines)) (set ∷ []) (appends_left new.session) ∙ ap (λ (l : List ℕ). appended_sets (reverse lines) ++ l) (ap (λ (s : ℕ). s ∷ appends_left new.session) (sym set_is) ∙ sym w.next) ∙ h.appends)
-      (λ meta other. refl) ((stands.0, refl), refl)))
+      (λ meta other. refl) ((stands.0, refl), refl) in
+      (grown.0, (stands.0, grown.1))))
 
 -- ---- the lines in order
 
@@ -243,9 +244,9 @@ module _ (config : Config) (script : Script) (items : List Line) (k : ℕ) (told
   next-may = may_do config script (reverse (take k script.lines)) told player is h line.at scripts line.act next
 
   pub next-played : (after : Option LinkState) (new : Player) → IsPlayer new → Does line.act player new told after
-      → HasPlayed config script (reverse (take (k + 1) script.lines)) after new
+      → (later : HasPlayed config script (reverse (take (k + 1) script.lines)) after new) × GrowsBy line.act h.steps later.steps
   next-played after new now does =
-      subst (λ (l : List Line). HasPlayed config script l after new) (sym turned)
+      subst (λ (l : List Line). (later : HasPlayed config script l after new) × GrowsBy line.act h.steps later.steps) (sym turned)
       (played_next config script (reverse (take k script.lines)) told player is h line.at line.act after new now next does)
 
 pub none-played : (config : Config) (script : Script) (told : Option LinkState) (player : Player) → HasPlayed config script [] told player

@@ -1,5 +1,5 @@
 -- A sample, a tick with it, and a pump, one after another.
-use Rattle.std.proofs.Common.{◌≡◌, ℕ, ◌<◌, ◌≤◌, Bool, List, ◌∷◌, length, get_or, refl, sym, ap, ◌∙◌, subst, arith}
+use Rattle.std.proofs.Common.{◌≡◌, ℕ, ◌<◌, ◌≤◌, Bool, List, ◌∷◌, length, get_or, sym, ap, ◌∙◌, subst, arith}
 use Rattle.std.specs.Prelude.{Option}
 use Rattle.ua_base.specs.Journal.{Entry as LinkEntry, LinkState}
 use Rattle.writer_group.specs.declared.sampled.Sampled.{Sampled}

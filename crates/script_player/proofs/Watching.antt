@@ -23,7 +23,7 @@ use Rattle.pubsub_engine.specs.Authored.{watch_of}
 use Rattle.script_player.specs.declared.player.Player.{Player}
 use Rattle.script_player.specs.Playing.{look_at, stores_at}
 use Rattle.script_player.specs.Plays.{plan_by}
-use Rattle.script_player.specs.Player.{HasPlayed, IsExact, IsFlush, IsPlayer, Watches, looks_at, made_at, stored, versions_at}
+use Rattle.script_player.specs.Player.{HasPlayed, IsExact, IsFlush, IsPlayer, PlaysOn, Watches, looks_at, made_at, stored, versions_at}
 use Rattle.script_player.specs.Sizes.{appended_sets}
 use Rattle.script_player.proofs.Lines.{appended-cons}
 use Rattle.script_player.proofs.Hands.{at_new, at_old, at_other}
@@ -96,7 +96,7 @@ module _ (config : Config) (script : Script) (lines : List Line) (told : Option 
           versions = λ t set lt here. ap (versions_in set) (versions_same t) ∙ e.versions t set lt here;
         }
 
-    watched_by : HasPlayed config script (watch ∷ lines) told watched
+    abbrev watched_by : HasPlayed config script (watch ∷ lines) told watched
     watched_by = record {
       steps = h.steps;
       looks = h.looks ++ end ∷ [];
@@ -115,5 +115,5 @@ module _ (config : Config) (script : Script) (lines : List Line) (told : Option 
       exact = exact_watched;
     }
 
-    pub looked_at : HasPlayed config script (watch ∷ lines) told new
-    looked_at = subst (λ (player : Player). HasPlayed config script (watch ∷ lines) told player) (sym w.rest) watched_by
+    pub looked_at : PlaysOn config script lines told old h watch told new
+    looked_at = subst (λ (player : Player). PlaysOn config script lines told old h watch told player) (sym w.rest) (watched_by, refl)

@@ -28,7 +28,7 @@ use Rattle.script_player.specs.declared.hand.Hand.{Hand}
 use Rattle.script_player.specs.declared.player.Player.{Player}
 use Rattle.script_player.specs.Playing.{log_after}
 use Rattle.script_player.specs.Plays.{plan_by}
-use Rattle.script_player.specs.Player.{HasPlayed, IsExact, IsFlush, IsPlayer, Writes, looks_at, made_at, versions_at}
+use Rattle.script_player.specs.Player.{HasPlayed, IsExact, IsFlush, IsPlayer, PlaysOn, Writes, looks_at, made_at, versions_at}
 use Rattle.script_player.specs.Sizes.{appended_sets}
 use Rattle.script_player.proofs.Lines.{appended-cons, authors-push, length-authors, log_after-write, log_after-write_other, places_push, places_push_other, versions_in-push, versions_in-push_other, write_line}
 use Rattle.script_player.proofs.Hands.{at_new, at_old, at_other, cell_meta, count_cells}
@@ -209,7 +209,7 @@ module _ (config : Config) (script : Script) (lines : List Line) (told : Option 
         versions = versions_after;
       }
 
-    written_by : HasPlayed config script (write ∷ lines) told wrote
+    abbrev written_by : HasPlayed config script (write ∷ lines) told wrote
     written_by = record {
       steps = h.steps;
       looks = h.looks;
@@ -228,5 +228,5 @@ module _ (config : Config) (script : Script) (lines : List Line) (told : Option 
       exact = exact_wrote;
     }
 
-    pub written : HasPlayed config script (write ∷ lines) told new
-    written = subst (λ (player : Player). HasPlayed config script (write ∷ lines) told player) (sym w.rest) written_by
+    pub written : PlaysOn config script lines told old h write told new
+    written = subst (λ (player : Player). PlaysOn config script lines told old h write told player) (sym w.rest) (written_by, refl)

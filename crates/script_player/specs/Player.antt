@@ -11,8 +11,9 @@ use Rattle.version_cell.specs.declared.rule.Entry.{Entry}
 use Rattle.version_cell.specs.Histories.{StartsWith, entry, own, row_after}
 use Rattle.version_cell.specs.Known.{Known}
 use Rattle.version_cell.specs.Cells.{CellData, IsCell}
-use Rattle.version_cell.specs.Passes.{HasLeft, SeesMore}
+use Rattle.version_cell.specs.Passes.{HasLeft}
 use Rattle.version_cell.specs.Sets.{ArePassesOf, EachSeesLawful, cell_at, pass_at}
+use Rattle.target_cells.specs.Keeping.{AreLevel}
 use Rattle.ps_config.specs.declared.parts.Config.{Config}
 use Rattle.ps_config.specs.Sound.{readers}
 use Rattle.ps_report.specs.declared.closed.Closed.{Closed}
@@ -25,7 +26,7 @@ use Rattle.ps_script.specs.declared.script.Script.{Script}
 use Rattle.ps_script.specs.Sessions.{ticks_in, writes_in}
 use Rattle.pubsub_states.specs.Changes.{Change, Enable as SwitchedOn, Disable as SwitchedOff}
 use Rattle.pubsub_states.specs.Components.{IsId, counts_of}
-use Rattle.session_model.specs.Counts.{most_ms}
+use Rattle.writer_group.specs.declared.sampled.Sampled.{Sampled}
 use Rattle.session_model.specs.Steps.{Plan, Step, Enable, Disable, Append, Tick, Pump, is_on, switches_in}
 use Rattle.session_model.specs.Deeds.{component_at}
 use Rattle.session_model.specs.Sends.{TellsRun}
@@ -36,8 +37,8 @@ use Rattle.app_threads.specs.declared.done.Looked.{Looked}
 use Rattle.app_threads.specs.Items.{versions_in}
 use Rattle.app_threads.specs.Marks.{authors}
 use Rattle.pubsub_engine.specs.declared.session.Session.{Session}
-use Rattle.pubsub_engine.specs.Holding.{AreTargetsOf, ChangesSamples, ChangesStores, IsBankOf, IsRunning, IsSession, KeepsPasses, appends_left, keeper_of, left_of, passes_of, plan_of, ticks_needed}
-use Rattle.pubsub_engine.specs.Standing.{KeepsStands, Stands, samples_of}
+use Rattle.pubsub_engine.specs.Holding.{AreTargetsOf, ChangesSamples, ChangesStores, IsBankOf, IsRunning, IsSession, KeepsPasses, appends_left, keeper_of, left_of, passes_of, plan_of}
+use Rattle.pubsub_engine.specs.Standing.{KeepsStands, Stands}
 use Rattle.pubsub_engine.specs.Authored.{AreInOrder, AreLooksAt, IsAuthored, watch_of, watches_of}
 use Rattle.script_player.specs.declared.hand.Hand.{Hand}
 use Rattle.script_player.specs.declared.player.Player.{Player}
@@ -205,20 +206,35 @@ pub record AreDonesOf (hands : List Hand) (dones : List Done) : Type 0 where
   pub versions : map (λ done. done.versions) dones ≡ map (λ hand. hand.versions.items) hands
   pub looks : map (λ done. done.looks) dones ≡ map (λ hand. hand.looks.items) hands
 
--- the closing tick with its pump, and then the session is closed with what each thread left
+-- the session is closed with what each thread left
+pub record IsClosedBy (player : Player) (closed : Closed) : Type 0 where
+  pub dones : List Done
+  pub dones_are : AreDonesOf player.hands.items dones
+  pub closed_after : (p : Plan) (steps : List Step) → Stands p steps player.session → AreInOrder dones → IsClosedAfter p steps closed
+  pub histories : (set : ℕ) (threads : List ℕ) → set < length (passes_of player.session) → IsAuthored set dones threads
+      → length threads ≡ length (pass_at (passes_of player.session) set).seen
+      → option_map (λ history. history.threads) (slice_get closed.histories set) ≡ Some threads
+  pub watches : closed.watches ≡ watches_of dones
+  pub closed_of : (steps : List Step) → Stands (plan_of player.session) steps player.session
+      → AreLooksAt (readers (config_of player)) dones → IsClosedOf (config_of player) closed
+
+-- the closing tick with its pump, and then the session is closed
 pub record Closes (old : Player) (told after : Option LinkState) (closed : Closed) : Type 0 where
   pub new : Player
   pub player : IsPlayer new
   pub ends : Passes 0 true old new told after
-  pub dones : List Done
-  pub dones_are : AreDonesOf new.hands.items dones
-  pub closed_after : (p : Plan) (steps : List Step) → Stands p steps new.session → AreInOrder dones → IsClosedAfter p steps closed
-  pub histories : (set : ℕ) (threads : List ℕ) → set < length (passes_of new.session) → IsAuthored set dones threads
-      → length threads ≡ length (pass_at (passes_of new.session) set).seen
-      → option_map (λ history. history.threads) (slice_get closed.histories set) ≡ Some threads
-  pub watches : closed.watches ≡ watches_of dones
-  pub closed_of : (steps : List Step) → Stands (plan_of new.session) steps new.session
-      → AreLooksAt (readers (config_of new)) dones → IsClosedOf (config_of new) closed
+  pub by : IsClosedBy new closed
+
+-- ---- what follows the session
+
+-- the passes that look came to see exactly the stores that there are, and nothing else changed
+pub record Levels (old new : Player) : Type 0 where
+  pub level : AreLevel (keeper_of old.session) old.watches new.watches
+  pub lawful : EachSeesLawful new.watches
+  pub same : keeper_of new.session ≡ keeper_of old.session
+  pub stores : ChangesStores old.session new.session
+  pub stands : KeepsStands old.session new.session
+  pub rest : new ≡ record old { session = new.session; watches = new.watches }
 
 -- ---- what a player has played
 
@@ -270,3 +286,19 @@ pub record HasPlayed (config : Config) (script : Script) (lines : List Line) (to
   pub looked : (t : ℕ) → t < 8 → map (watch_of t) (looks_at player t) ≡ filter (λ look. look.thread == t) looks
   pub looks_there : All (λ look. look.reader < length (readers config)) looks
   pub exact : IsFlush script.metas lines (passes_of player.session) → IsExact (plan_by config script) lines steps looks player
+
+-- what a line makes of the steps of a session
+abbrev pub GrowsBy : Act → List Step → List Step → Type 0
+GrowsBy (act.Write thread set patch) earlier steps = steps ≡ earlier
+GrowsBy (act.Tick ms) earlier steps =
+    (samples : List Sampled) × (done : List Bool) × (entries : List LinkEntry) × (steps ≡ Pump entries ∷ Tick ms false samples done ∷ earlier)
+GrowsBy (act.Enable id) earlier steps = steps ≡ Enable id ∷ earlier
+GrowsBy (act.Disable id) earlier steps = steps ≡ Disable id ∷ earlier
+GrowsBy (act.Fated k fate) earlier steps = steps ≡ earlier
+GrowsBy (act.Watch thread reader times) earlier steps = steps ≡ earlier
+GrowsBy (act.Append set) earlier steps = (field : Field) × (steps ≡ Append set field ∷ earlier)
+
+-- a line more was played, and the steps grew by it
+abbrev pub PlaysOn : (config : Config) (script : Script) (lines : List Line) (told : Option LinkState) (old : Player) → HasPlayed config script lines told old
+    → Line → Option LinkState → Player → Type 0
+PlaysOn config script lines told old h line after new = (next : HasPlayed config script (line ∷ lines) after new) × GrowsBy line.act h.steps next.steps

@@ -16,7 +16,7 @@ use Rattle.session_model.specs.Sets.{meta_in}
 use Rattle.session_model.specs.Sends.{IsRun, TellsRun}
 use Rattle.session_model.specs.Keeping.{AreSteps}
 use Rattle.session_model.specs.Closing.{IsClosedAfter}
-use Rattle.session_laws.specs.Telling.{TellsHeadline}
+use Rattle.session_laws.specs.Telling.{HasRun, TellsHeadline}
 use Rattle.script_player.specs.Playing.{IsPlayed, IsTickedBy, log_after}
 
 abbrev pub plan_by : Config → Script → Plan
@@ -50,6 +50,7 @@ pub record IsPlayOf (config : Config) (script : Script) (told : Option LinkState
   pub ends : IsTickedBy (plan_by config script) (reverse script.lines) 0 true earlier steps
   pub steps_are : AreSteps (plan_by config script) steps
   pub run : IsRun (plan_by config script) steps
+  pub lived : HasRun (plan_by config script) steps (row_written script)
   pub tells : TellsRun (plan_by config script) steps told
   pub closed_after : IsClosedAfter (plan_by config script) steps closed
   pub histories : map (λ history. history.threads) closed.histories ≡ map (writers_in script) (range_with_len 0 (length config.dataset))

@@ -1,4 +1,4 @@
-//! A script played on one thread: its lines over a session and a link, in order.
+//! A script played on one thread: its lines over a session and a link, in order, all at once or one by one.
 #![tactic(auto)]
 
 mod hand;
@@ -9,4 +9,5 @@ mod sizes;
 
 pub use passing::pass;
 pub use play::{PlayEnd, play_script};
+pub use player::Player;
 pub use sizes::size_of;

@@ -1,5 +1,5 @@
 //! What one line of a script makes of a session, whichever command plays it.
-ghost use Rattle.std.specs.Prelude.{IsSome, OnOk};
+ghost use Rattle.std.specs.Prelude.{IsSome, IsTrue, OnErr, OnOk};
 ghost use Rattle.ua_base.specs.Links.{KeepsLink};
 ghost use Rattle.pubsub_engine.specs.Holding.{AreTargetsOf, IsBankOf, IsSession};
 ghost use Rattle.script_player.specs.Passing.{MayPass, PassesOn};
@@ -30,6 +30,7 @@ pub fn pass<R: Wait, L: Link>(
     ensures targets { OnOk result (AreTargetsOf session.new targets.now) }
     ensures passes { OnOk result
         (PassesOn ms closing session.old session.new (L.told link.old) (L.told link.new)) }
+    ensures memory { OnErr result (IsTrue L.takes_memory) }
     ensures link { KeepsLink L.opened_with L.faults link.old link.new }
 {
     session.sample(rt, bank);

@@ -82,5 +82,6 @@ pub fn play_script<R: Wait, L: Link>(
         Opened::Memory => return Err(PlayEnd::Memory),
     }
     player.play(rt, alloc, script, link)?;
-    Ok(player.close(rt, alloc, link)?)
+    player.end(rt, link)?;
+    Ok(player.close(alloc)?)
 }

@@ -1,18 +1,22 @@
 //! What plays the lines of a script, one by one.
-ghost use Rattle.std.specs.Prelude.{◌≡◌, ◌<◌, ◌≤◌, [], ℕ, length, map, replicate, reverse, slice_index, All, IsSome, IfOk, OnOk, true, false};
+ghost use Rattle.std.specs.Prelude.{◌≡◌, ◌<◌, ◌≤◌, [], ℕ, length, map, replicate, reverse, slice_get, slice_index, All, IsSome, IfOk, OnOk, Some, List, true, false};
 ghost use Rattle.ua_base.specs.Links.{KeepsLink};
 ghost use Rattle.version_cell.specs.Passes.{SeesMore};
 ghost use Rattle.version_cell.specs.Sets.{ArePassesOf, pass_at};
 ghost use Rattle.cell_bank.specs.Hands.{AreSmall};
+ghost use Rattle.ps_config.specs.Sound.{readers};
 ghost use Rattle.ps_script.specs.Sound.{IsScript};
 ghost use Rattle.writer_group.specs.Standing.{IsGood};
 ghost use Rattle.ps_config.specs.Types.{HasTypes};
 ghost use Rattle.session_model.specs.Counts.{most_ticks};
 ghost use Rattle.session_model.specs.Keeping.{IsPlan};
-ghost use Rattle.session_model.specs.Steps.{Enable as EnableStep, Disable as DisableStep};
+ghost use Rattle.session_model.specs.Closing.{MemberPlace, reader_places};
+ghost use Rattle.session_model.specs.Steps.{Plan, Step, Enable as EnableStep, Disable as DisableStep};
+ghost use Rattle.target_cells.specs.Keeping.{AreSound};
 ghost use Rattle.pubsub_engine.specs.Holding.{AreAppends, appends_left, full_of, left_of, opening_left, plan_of};
+ghost use Rattle.pubsub_engine.specs.Standing.{IsOriginOf, Stands};
 ghost use Rattle.script_player.specs.Passing.{MayPass};
-ghost use Rattle.script_player.specs.Player.{Appends, AreDonesOf, Closes, Does, HasPlayed, IsNew, IsPlayer, MayAppend, MayDo, MaySwitch, MayWatch, MayWrite, Passes as PassesTick, Switches, Watches as WatchesReader, Writes, config_of};
+ghost use Rattle.script_player.specs.Player.{Appends, AreDonesOf, Does, HasPlayed, IsClosedBy, IsNew, IsPlayer, Levels, MayAppend, MayDo, MaySwitch, MayWatch, MayWrite, Passes as PassesTick, Switches, Watches as WatchesReader, Writes, config_of};
 
 use crate::hand::Hand;
 use crate::passing::pass;
@@ -25,12 +29,13 @@ use pubsub_engine::{Opening, Session, Size};
 use row_words::Patch;
 use std::alloc::Global;
 use std::sync::Wait;
-use target_cells::{Passes as Watches, Targets};
+use target_cells::{Origin, Passes as Watches, Targets};
 use ua_base::{Link, NoMemory};
 
-/// A session, the cells that its application writes, and what each thread has.
+/// A session, the cells that its application writes, and what each thread has. It plays a script line by line, so that what follows
+/// the session, as a gateway does, can see between two lines what its readers have stored.
 #[derive(Drop)]
-pub(crate) struct Player<'c> {
+pub struct Player<'c> {
     pub(crate) session: Session<'c>,
     pub(crate) bank: Bank,
     pub(crate) targets: Targets,
@@ -40,8 +45,8 @@ pub(crate) struct Player<'c> {
 }
 
 impl<'c> Player<'c> {
-    /// Before the first line.
-    pub(crate) fn open<R: Wait>(
+    /// Before the first line. All memory of the session is taken here.
+    pub fn open<R: Wait>(
         rt: &R,
         alloc: Global,
         config: &'c Config,
@@ -103,7 +108,7 @@ impl<'c> Player<'c> {
     }
 
     /// Plays one line.
-    fn play_line<R: Wait, L: Link>(
+    pub fn play_line<R: Wait, L: Link>(
         &mut self,
         rt: &R,
         alloc: Global,
@@ -229,20 +234,54 @@ impl<'c> Player<'c> {
         self.hands[usize::from(thread)].looked(reader, counts)
     }
 
-    /// The closing tick with its pump, and the end.
-    pub(crate) fn close<R: Wait, L: Link>(
-        mut self,
-        rt: &R,
-        alloc: Global,
-        link: &mut L,
-    ) -> Result<Closed, NoMemory>
+    /// The passes that look see exactly the stores that the session's readers have.
+    pub fn level<R: Wait>(&mut self, rt: &R)
+        requires player { IsPlayer self.old }
+        ensures player { IsPlayer self.new }
+        ensures levels { Levels self.old self.new }
+    {
+        self.session.level(rt, &self.targets, &mut self.watches);
+    }
+
+    /// The passes that look at the readers' stores, one for each reader over all read groups.
+    pub fn watches(&self) -> &Watches
+        ensures watches { result.now ≡ self.now.watches }
+    {
+        &self.watches
+    }
+
+    /// Where a reader's last store comes from, as `Session::origin` tells it.
+    pub fn origin(&self, reader: u8) -> Origin
+        requires player { IsPlayer self.now }
+        requires there { reader < length (readers (config_of self.now)) }
+        ensures origin { (p : Plan) (steps : List Step) (place : MemberPlace)
+            → Stands p steps self.now.session
+            → slice_get (reader_places p.config) reader ≡ Some place
+            → IsOriginOf p steps place result }
+        ensures sound { AreSound self.now.targets }
+    {
+        let _meta = self.targets.meta(reader);
+        self.session.origin(reader)
+    }
+
+    /// The closing tick, with a sample and a pump.
+    pub fn end<R: Wait, L: Link>(&mut self, rt: &R, link: &mut L) -> Result<(), NoMemory>
         requires open { IsSome (L.opened_with link.old) }
-        requires player { IsPlayer self }
-        requires may { MayPass 0 true self.session }
-        ensures closes { IfOk result (Closes self.entry (L.told link.old) (L.told link.new)) }
+        requires player { IsPlayer self.old }
+        requires may { MayPass 0 true self.old.session }
+        ensures player { OnOk result (IsPlayer self.new) }
+        ensures ends { OnOk result
+            (PassesTick 0 true self.old self.new (L.told link.old) (L.told link.new)) }
         ensures link { KeepsLink L.opened_with L.faults link.old link.new }
     {
-        self.tick(rt, 0, true, link)?;
+        self.tick(rt, 0, true, link)
+    }
+
+    /// Closes the session with what each thread leaves.
+    pub fn close(self, alloc: Global) -> Result<Closed, NoMemory>
+        requires player { IsPlayer self }
+        ensures closes { IfOk result (IsClosedBy self.entry) }
+    {
         let Player {
             session,
             targets,

@@ -46,6 +46,7 @@ returns g c =
       bank = bank-passes c.args.ms c.args.closing old sampled ticked new told between after turns c.args.bank.now s.bank;
       targets = u.targets;
       passes = passes-on c.args.ms c.args.closing old sampled ticked new told between after turns;
+      memory = tt;
       link = record {
         opening = u.link.opening ∙ t.link.opening;
         counted = omega (arith, u.link.counted, t.link.counted);

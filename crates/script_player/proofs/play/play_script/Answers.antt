@@ -13,6 +13,7 @@ use Rattle.pubsub_engine.specs.Holding.{opening_left, plan_of}
 use Rattle.script_player.specs.declared.player.Player.{Player}
 use Rattle.script_player.specs.Plays.{plan_by}
 use Rattle.script_player.specs.Player.{HasPlayed, config_of}
+use Rattle.script_player.proofs.Closing.{closes}
 use Rattle.script_player.proofs.Finished.{is-closed-of, is-play}
 use Rattle.script_player.proofs.Newly.{begins, may-close, opened-empty}
 use Rattle.script_player.proofs.play.play_script.Goals as goal
@@ -36,8 +37,8 @@ play-requires-clause-played g c =
     (begins config script told player o.player o.new plan (o.left ∙ ap opening_left size.ticks) (o.appends ∙ size.sets) (o.quotas ∙ size.writes)
     (opened-empty (g.L.Link.told c.args.link.now) told c.in-Done.ensures.empty))
 
-pub close-requires-clause-may : goal.close-requires-clause-may
-close-requires-clause-may g c =
+pub end-requires-clause-may : goal.end-requires-clause-may
+end-requires-clause-may g c =
     may-close (config_of c.in_ok-player.player) c.args.script.now (g.L.Link.told c.play.new.link) c.play.new.self c.in_ok-play.ensures.played
 
 pub returns-clause-played : goal.returns-clause-played
@@ -47,10 +48,10 @@ returns-clause-played g c =
     let size = c.size_of-size.ensures in
     let o = c.in_ok-player.ensures in
     let plan : plan_of c.in_ok-player.player.session ≡ plan_by config script = o.plan ∙ ap (λ (full : List MetaData). record { config = config; full = full }) size.full in
-    is-play config script c.requires.script (subst IsPlan plan (o.is_plan c.requires.types)) (g.L.Link.told c.play.new.link) (g.L.Link.told c.close.new.link) c.play.new.self
+    is-play config script c.requires.script (subst IsPlan plan (o.is_plan c.requires.types)) (g.L.Link.told c.play.new.link) (g.L.Link.told c.end.new.link) c.play.new.self
     c.in_ok-play.ensures.player
     (subst (λ (k : Config). HasPlayed k script (reverse script.lines) (g.L.Link.told c.play.new.link) c.play.new.self) (ap (λ (q : Plan). q.config) plan) c.in_ok-play.ensures.played)
-    c.in_ok-close.field-0 c.in_ok-close.ensures.closes c.histories_are_the_models.ensures.rows c.a_closed_session_tells_the_headline.ensures
+    c.in_ok-close.field-0 (closes c.play.new.self c.end.new.self (g.L.Link.told c.play.new.link) (g.L.Link.told c.end.new.link) c.in_ok-close.field-0 c.in_ok-end.ensures.player c.in_ok-end.ensures.ends c.in_ok-close.ensures.closes) c.histories_are_the_models.ensures.rows c.a_closed_session_tells_the_headline.ensures
 
 pub returns-clause-closed : goal.returns-clause-closed
 returns-clause-closed g c =
@@ -59,18 +60,18 @@ returns-clause-closed g c =
     let size = c.size_of-size.ensures in
     let o = c.in_ok-player.ensures in
     let plan : plan_of c.in_ok-player.player.session ≡ plan_by config script = o.plan ∙ ap (λ (full : List MetaData). record { config = config; full = full }) size.full in
-    is-closed-of config script c.requires.script (subst IsPlan plan (o.is_plan c.requires.types)) (g.L.Link.told c.play.new.link) (g.L.Link.told c.close.new.link) c.play.new.self
+    is-closed-of config script c.requires.script (subst IsPlan plan (o.is_plan c.requires.types)) (g.L.Link.told c.play.new.link) (g.L.Link.told c.end.new.link) c.play.new.self
     c.in_ok-play.ensures.player
     (subst (λ (k : Config). HasPlayed k script (reverse script.lines) (g.L.Link.told c.play.new.link) c.play.new.self) (ap (λ (q : Plan). q.config) plan) c.in_ok-play.ensures.played)
-    c.in_ok-close.field-0 c.in_ok-close.ensures.closes c.histories_are_the_models.ensures.rows c.a_closed_session_tells_the_headline.ensures
+    c.in_ok-close.field-0 (closes c.play.new.self c.end.new.self (g.L.Link.told c.play.new.link) (g.L.Link.told c.end.new.link) c.in_ok-close.field-0 c.in_ok-end.ensures.player c.in_ok-end.ensures.ends c.in_ok-close.ensures.closes) c.histories_are_the_models.ensures.rows c.a_closed_session_tells_the_headline.ensures
 
 pub returns-clause-opened : goal.returns-clause-opened
 returns-clause-opened g c =
-    c.close.ensures.link.opening ∙ c.play.ensures.link.opening ∙ c.in-Done.ensures.opening refl
+    c.end.ensures.link.opening ∙ c.play.ensures.link.opening ∙ c.in-Done.ensures.opening refl
     ∙ ap (λ (fates : List (ℕ × Fate)). Some (record { port = c.args.config.now.publisher.port; fates = fates })) (c.deref.ensures.value ∙ c.in_ok-fates.ensures)
 
 pub returns-clause-opens : goal.returns-clause-opens
 returns-clause-opens g c =
     λ other.
-    c.close.ensures.link.opening ∙ c.play.ensures.link.opening ∙ c.in-Done.ensures.opening refl
+    c.end.ensures.link.opening ∙ c.play.ensures.link.opening ∙ c.in-Done.ensures.opening refl
     ∙ ap (λ (fates : List (ℕ × Fate)). Some (record { port = c.args.config.now.publisher.port; fates = fates })) (c.deref.ensures.value ∙ c.in_ok-fates.ensures)

@@ -34,8 +34,8 @@ loop-line-preserved g c =
     let e = c.in_ok-play_line.ensures in
     record {
       player = e.player;
-      played = next-played (config_of c.args.self.now) c.args.script.now c.as_slice-line-items.result.now c.loop-line.line-index (g.L.Link.told c.loop-line.link) c.loop-line.self
-          c.requires.script c.as_slice-line-items.ensures inv.player inv.played c.loop-line-test.true (g.L.Link.told c.play_line.new.link) c.play_line.new.self e.player e.does;
+      played = (next-played (config_of c.args.self.now) c.args.script.now c.as_slice-line-items.result.now c.loop-line.line-index (g.L.Link.told c.loop-line.link) c.loop-line.self
+          c.requires.script c.as_slice-line-items.ensures inv.player inv.played c.loop-line-test.true (g.L.Link.told c.play_line.new.link) c.play_line.new.self e.player e.does).0;
       link = KeepsLink-then g.L.Link.opened_with g.L.Link.faults c.args.link.now c.loop-line.link c.play_line.new.link inv.link e.link;
     }
 

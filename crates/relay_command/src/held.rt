@@ -1,0 +1,41 @@
+//! What a reader of the gateway holds, or why it waits.
+ghost use Rattle.std.specs.Prelude.{◌≡◌, ◌++◌, OnOk};
+ghost use Rattle.dataset_reader.specs.Reader.{IsReaderOf, kept_by};
+ghost use Rattle.relay_command.specs.Texts.{relayed_as};
+
+use crate::put::{put, put_row, put_stored, why_word};
+use dataset_meta::Meta;
+use dataset_reader::Reader;
+use ua_base::NoMemory;
+
+/// The store that a reader's message has, and the version that this came with, as far as they are known.
+#[derive(Clone, Copy, Debug)]
+pub(crate) struct Stored {
+    pub(crate) store: Option<u64>,
+    pub(crate) version: Option<u64>,
+}
+
+/// What the reader holds, or why it waits.
+pub(crate) fn put_held(
+    out: &mut Vec<u8>,
+    meta: &Meta,
+    reader: &Reader,
+    stored: &Stored,
+) -> Result<(), NoMemory>
+    requires { IsReaderOf meta.now reader.now }
+    ensures { OnOk result (out.new.items ≡ out.old.items
+        ++ relayed_as meta.now.fields (kept_by meta.now.fields reader.now)
+        stored.now.store stored.now.version) }
+{
+    match reader.row() {
+        None => {
+            put(out, b" waits ")?;
+            put(out, why_word(reader.why()).as_bytes())
+        }
+        Some(row) => {
+            let number = reader.number().map(u64::from);
+            put_stored(out, number, stored.store, stored.version)?;
+            put_row(out, meta, row)
+        }
+    }
+}
