@@ -22,7 +22,7 @@ use Rattle.writer_group.specs.declared.sampled.Sampled.{Sampled}
 use Rattle.writer_group.specs.Turns.{no_sample}
 use Rattle.session_model.specs.Steps.{Plan, Step, Tick, Pump}
 use Rattle.session_model.specs.Sets.{meta_in}
-use Rattle.session_laws.specs.Telling.{TellsHeadline}
+use Rattle.session_laws.specs.Telling.{HasRun, TellsHeadline}
 use Rattle.script_player.specs.Plays.{IsPlayOf, plan_by, row_written}
 use Rattle.script_player.specs.Playing.{IsLineBy, IsPlayed, IsTickedBy, log_after, sample_after, samples_after, with_write}
 use Rattle.script_player.proofs.Headline.{HistoriesHaveRows, headline, starts-taken, starts-with-write}
@@ -120,6 +120,7 @@ module _ (config : Config) (script : Script) (told : Option LinkState) (closed :
     rise = (headline config script play.earlier play.steps play.looks is play.played play.ends rows).0;
     steps_are = play.steps_are;
     run = play.run;
+    lived = subst (λ (r : ℕ → ℕ → List DataValue). HasRun p play.steps r) (λ i set version. row-same set version i) play.lived;
     tells = play.tells;
     closed_after = play.closed_after;
     histories = play.histories;
