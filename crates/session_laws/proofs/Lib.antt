@@ -27,3 +27,5 @@ mod Newest
 mod Reaching
 mod LastItems
 mod ClosingHeld
+mod SameLines
+mod Anew
