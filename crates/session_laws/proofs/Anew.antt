@@ -16,11 +16,11 @@ use Rattle.pubsub_states.specs.declared.component.Component.{Component}
 use Rattle.pubsub_states.specs.declared.component.Component.TheVariants.{Group}
 use Rattle.writer_group.specs.declared.sampled.Sampled.{Sampled}
 use Rattle.writer_group.specs.Parts.{group_at}
-use Rattle.writer_group.specs.Turns.{GroupDeed, GroupTurn, RefreshedWriter, HadGroupTurn, deed_of, is_refreshed, took_by, writer_past}
+use Rattle.writer_group.specs.Turns.{GroupDeed, GroupTurn, RefreshedWriter, HadGroupTurn, is_refreshed, took_by, writer_past}
 use Rattle.group_laws.proofs.TurnTaken.{advanced-keys}
 use Rattle.session_model.specs.Steps.{Plan, Step, Enable, Disable, Append, Tick, Pump, moment_of}
-use Rattle.session_model.specs.Deeds.{Deed, RefreshedBelow, RefreshedSet, CameTo, TookTurn, advanced_if, answered_at, component_at, deeds, group_indexes, group_past, has_turn, is_rekeyed, is_writer_below, is_writer_of, refreshed_where, rekeyed, sender_after, sender_of, shares, turn_of, turned_on, writer_indexes}
-use Rattle.session_laws.specs.Fresh.{BeginWithKeys, KeyedTurn, keyed_in, keyed_turn, keyed_turns, token_after}
+use Rattle.session_model.specs.Deeds.{Deed, RefreshedBelow, RefreshedSet, CameTo, TookTurn, advanced_if, answered_at, component_at, deeds, group_indexes, group_past, has_turn, is_rekeyed, is_writer_below, is_writer_of, refreshed_where, rekeyed, sender_after, shares, turn_of, turned_on, writer_indexes}
+use Rattle.session_laws.specs.Fresh.{BeginWithKeys, KeyedTurn, keyed_turn, keyed_turns, token_after}
 use Rattle.session_laws.specs.Pasts.{settings_at}
 use Rattle.session_laws.proofs.Deeds.{refreshed-keeps}
 use Rattle.session_laws.proofs.Telling.{writer-index}

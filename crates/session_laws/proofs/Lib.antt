@@ -29,3 +29,6 @@ mod LastItems
 mod ClosingHeld
 mod SameLines
 mod Anew
+mod Coming
+mod GotParts
+mod ClosingGot

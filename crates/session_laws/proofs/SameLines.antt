@@ -1,10 +1,9 @@
 -- What a closed session tells is the same, but for the counts of causes and of received datagrams.
-use Rattle.std.proofs.Common.{◌≡◌, refl, sym, ap, ◌∙◌, subst, ℕ, ◌+◌, Bool, true, false, List, [], ◌∷◌, ◌++◌, map, inl, inr}
+use Rattle.std.proofs.Common.{◌≡◌, refl, sym, ap, ◌∙◌, subst, ℕ, ◌+◌, Bool, List, [], ◌∷◌, map, inl, inr}
 use Rattle.std.specs.Prelude.{count_by, zip}
 use Rattle.std.specs.List.{AllZip}
-use Rattle.ua_base.specs.Journal.{Entry, Sent, SendFailed, Got, Empty, Long, ReceiveFailed}
+use Rattle.ua_base.specs.Journal.{Entry, Got}
 use Rattle.ps_report.specs.declared.closed.Closed.{Closed}
-use Rattle.ps_report.specs.declared.closed.GroupEnd.{GroupEnd}
 use Rattle.ps_report.specs.declared.closed.LinkEnd.{LinkEnd}
 use Rattle.ps_report.specs.declared.closed.ReadGroupEnd.{ReadGroupEnd}
 use Rattle.ps_report.specs.declared.closed.ReaderEnd.{ReaderEnd}
@@ -20,10 +19,10 @@ use Rattle.writer_group.specs.Payloads.{writer_at}
 use Rattle.writer_group.specs.Turns.{settings_of, writer_past}
 use Rattle.session_model.specs.Answers.{counted, taken_by, causes_by, answers_at}
 use Rattle.session_model.specs.Closing.{IsClosedAfter, IsReaderEnd, IsWriterEnd, MemberPlace, Shows, group_end, is_broken, is_got, is_long, is_send_failed, is_sent, limits, link_end, read_group_end}
-use Rattle.session_model.specs.Deeds.{Deed, deeds, group_indexes, group_past, log_at}
+use Rattle.session_model.specs.Deeds.{Deed, deeds, group_indexes, group_past}
 use Rattle.session_model.specs.Sends.{is_done_by, journal, last_sends, send_entries, sent_by}
 use Rattle.session_model.specs.States.{state_at}
-use Rattle.session_model.specs.Steps.{Plan, Step}
+use Rattle.session_model.specs.Steps.{Plan}
 use Rattle.session_model.proofs.Sending.{count-append}
 use Rattle.session_laws.specs.Twins.{TwinStep, Enable, Disable, Append, Tick, Pump, AreTwins, HasFurther, HaveFurther, firsts, seconds, with_counts_of}
 use Rattle.session_laws.proofs.Refusing.{same-states, same-taken}

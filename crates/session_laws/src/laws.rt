@@ -7,7 +7,7 @@ ghost use Rattle.message_guard.specs.Senders.{HaveOtherNumbers};
 ghost use Rattle.pubsub_model.specs.Cadence.{WriterDeed, WriterTurn, HadTurn, cadence, is_data, next_place};
 ghost use Rattle.pubsub_model.specs.Frames.{Whole};
 ghost use Rattle.writer_group.specs.declared.sampled.Sampled.{Sampled};
-ghost use Rattle.writer_group.specs.Turns.{answer_of, writer_past};
+ghost use Rattle.writer_group.specs.Turns.{GroupDeed, GroupTurn, answer_of, writer_past};
 ghost use Rattle.writer_group.specs.Payloads.{writer_at};
 ghost use Rattle.pubsub_states.specs.declared.component.Component.{Component};
 ghost use Rattle.reader_group.specs.Agreeing.{MemberIs};
@@ -28,7 +28,7 @@ ghost use Rattle.session_model.specs.Turns.{deeds_before};
 ghost use Rattle.session_laws.specs.Courses.{HaveOneCourse};
 ghost use Rattle.session_laws.specs.Fresh.{BeginWithKeys, keyed_turns, protected_by};
 ghost use Rattle.session_laws.specs.Headline.{InSession, ComesFrom, IsPublished, PublishesVersion, answered_turn};
-ghost use Rattle.session_laws.specs.Newest.{BringsLast, ClosingCame, HoldsRowOf, IsLastLogged, IsNewest};
+ghost use Rattle.session_laws.specs.Newest.{BringsLast, ClosingCame, ClosingGot, HoldsRowOf, IsLastLogged, IsNewest};
 ghost use Rattle.session_laws.specs.Pasts.{settings_at};
 ghost use Rattle.session_laws.specs.Plays.{Play, IsPlay, ComesFromWriter, HoldsVersion, its_marks, its_member, its_way};
 ghost use Rattle.session_laws.specs.Sessions.{AreVersions, SamplesRise};
@@ -133,12 +133,26 @@ pub fn a_key_frame_that_comes_last_is_held()
 
 /// Where the last turn of a writer was a closing one, and its frame came to a matched reader that goes by numbers, since its last
 /// cut, the reader holds the row of the turn's version, cut to its fields: at whatever place of a pump the frame came, however
-/// often, and whatever came before or behind it.
+/// often, and whatever came before or behind it. It came where, without security, each datagram of the turn with a part for the
+/// reader is one that the journal has as received in the pumps behind it, whole or in chunks, in whichever order.
 pub fn a_closing_frame_that_came_is_held()
-    ensures { (p : Plan) (r i g w : ℕ) (steps : List Step) (rows : ℕ → ℕ → List DataValue)
+    ensures received { (p : Plan) (r i g w : ℕ) (steps : List Step) (rows : ℕ → ℕ → List DataValue)
+        (before : List GroupDeed) (turn : GroupTurn) (own : WriterTurn) → InSession p r i g w steps
+        → AreVersions p steps rows → ClosingGot p r i g w steps before turn own
+        → HoldsRowOf p r i g w steps rows own.version }
+    ensures came { (p : Plan) (r i g w : ℕ) (steps : List Step) (rows : ℕ → ℕ → List DataValue)
         (before : List WriterDeed) (turn : WriterTurn) → InSession p r i g w steps → AreVersions p steps rows
         → ClosingCame p r i g w steps before turn → HoldsRowOf p r i g w steps rows turn.version }
 {
+    each_datagram_is_taken_as_it_was_sent();
+    each_part_is_of_what_was_answered();
+    a_datagram_has_nothing_for_readers_of_other_groups();
+    a_matched_reader_reads_its_writer();
+    what_a_secured_group_takes_is_signed();
+    near_readers_have_their_records();
+    cut_rows_have_words();
+    a_ring_makes_senders_of_its_key_group();
+    each_turn_of_a_session_holds();
     answers_have_places_of_their_span();
     matched_readers_hold_published_versions();
 }
