@@ -27,3 +27,8 @@ mod Newest
 mod Reaching
 mod LastItems
 mod ClosingHeld
+mod SameLines
+mod Anew
+mod Coming
+mod GotParts
+mod ClosingGot
