@@ -1,5 +1,5 @@
 -- At a covered moment a puller uses the keys that the publisher uses.
-use Rattle.std.proofs.Common.{◌≡◌, ℕ, zero, suc, ◌+◌, ◌-◌, ◌<◌, ◌≤◌, Bool, inl, inr, List, length, get_or, Option, Some, sym, ap, ◌∙◌, arith}
+use Rattle.std.proofs.Common.{◌≡◌, ℕ, zero, suc, ◌+◌, ◌-◌, ◌<◌, ◌≤◌, Bool, inl, inr, List, length, get_or, Option, Some, sym, ap, subst, ◌∙◌, arith}
 use Rattle.std.proofs.lemmas.Bool.Decides.{leb_tells}
 use Rattle.group_keys.specs.declared.key_set.KeySet.{KeySet}
 use Rattle.group_keys.specs.declared.ring.Ring.{Ring}
@@ -8,10 +8,10 @@ use Rattle.group_keys.specs.KeySets.{moments, current}
 use Rattle.group_keys.specs.Ring.{key_sets, is_long}
 use Rattle.key_service.specs.Services.{lifetime_of, IsServed}
 use Rattle.key_service.specs.Answers.{answer, answered, next_of, left_of}
-use Rattle.key_service.specs.Pulled.{from_moment, moment_of, timed_from}
+use Rattle.key_service.specs.Pulled.{as_read, from_moment, moment_of, timed_from}
 use Rattle.key_service.specs.Laws.{IsCovered, IsServedRing, UsesKeyOfMoment}
 use Rattle.key_service.proofs.Covered.{IsAt, far, is_at, placed, timed_at, timed_length, times_more}
-use Rattle.key_service.proofs.Pullable.{current_one, moment_later, moments_at, pullable}
+use Rattle.key_service.proofs.Pullable.{current_one, moment_later, moments_at, pullable, same_pulled}
 
 -- behind the first pulled set the moments are those of the ring, less the moment of the answer
 same_moment : (sets : List KeySet) (now c i : ℕ) (cur : KeySet) → IsServed sets → current sets now ≡ Some cur → IsAt sets now cur c → 0 < i → c + i < length sets
@@ -75,3 +75,8 @@ puller_uses ring now count is moment set cover set_is =
     let there = (pullable ring now count is).accepted in
     let x = current_one (is_long ring) pulled (moment - now) there in
     used (is_long ring) sets now count moment cur.0 set x.0 is.accepted is.served cover cur.1 set_is there x.1
+
+pub used_read_back : (ring : Ring) (now count : ℕ) → IsServedRing ring → UsesKeyOfMoment ring now count (as_read (answer ring now 0 count))
+used_read_back ring now count is moment set cover set_is =
+    subst (λ (pulled : List KeySet). (from : ℕ) × (current pulled (moment - now) ≡ Some (from_moment set from))) (sym (same_pulled (answer ring now 0 count)))
+    (puller_uses ring now count is moment set cover set_is)

@@ -9,12 +9,15 @@ ghost use Rattle.key_service.specs.Spelling.{reply_bytes};
 ghost use Rattle.key_service.specs.declared.service.Keys.{Keys};
 
 /// What an answer to start 0 is written as is read as keys that a puller can make a ring of. This ring is that of the answer, and
-/// for each moment that the answer covers it has the keys that the publisher's ring uses then, under their token.
+/// for each moment that the answer covers it has the keys that the publisher's ring uses then, under their token, and uses them at
+/// that moment on a clock that stood at 0 when it was answered.
 pub fn a_written_answer_is_pulled()
     ensures ring { (ring : Ring) (now count : ℕ) → IsServedRing ring
         → IsPulledReadBack (answer ring now 0 count) }
     ensures keys { (ring : Ring) (now count : ℕ) → IsServedRing ring
         → HasKeysOfMoment ring now count (as_read (answer ring now 0 count)) }
+    ensures uses { (ring : Ring) (now count : ℕ) → IsServedRing ring
+        → UsesKeyOfMoment ring now count (as_read (answer ring now 0 count)) }
 {}
 
 /// A written request is read as itself.
