@@ -32,3 +32,6 @@ mod Anew
 mod Coming
 mod GotParts
 mod ClosingGot
+mod Delivering
+mod ThreeGroups
+mod Growing
