@@ -1,5 +1,5 @@
 -- What the command `json` writes of a played session.
-use Rattle.std.specs.Prelude.{◌≡◌, ℕ, List, Option, All}
+use Rattle.std.specs.Prelude.{◌≡◌, ℕ, true, List, Option, All}
 use Rattle.ua_base.specs.Journal.{LinkState}
 use Rattle.ps_config.specs.declared.parts.Config.{Config}
 use Rattle.ps_report.specs.declared.closed.Closed.{Closed}
@@ -7,6 +7,9 @@ use Rattle.ps_script.specs.declared.script.Script.{Script}
 use Rattle.json_frames.specs.Parts.{Part}
 use Rattle.json_tap.specs.Keeping.{IsOfLink}
 use Rattle.script_player.specs.Plays.{IsPlayOf}
+use Rattle.command_parts.specs.declared.status.Status.{Status}
+use Rattle.command_parts.specs.Outside.{Outside, Wire}
+use Rattle.session_command.specs.Sessions.{SessionEnds, takes_all}
 use Rattle.json_command.specs.Matching.{json_readers}
 use Rattle.json_command.specs.Reading.{ReadsLines}
 use Rattle.json_command.specs.Readers.{HasRecords}
@@ -25,3 +28,9 @@ pub record IsJsonOf (config : Config) (script : Script) (told : Option LinkState
   pub read : ReadsLines config lines parts
   pub records : All (HasRecords config parts) (json_readers config)
   pub text_is : text ≡ json_text config lines parts skipped
+
+-- How the command ends, with the text of a played session, whose fates the link obeys. old, new: what the folder and the output tell before and behind; before,
+-- after: what the link tells
+abbrev pub JsonEnds : Status → List ℕ → Option (List ℕ) → Outside → Outside → Wire → Wire → Type 0
+JsonEnds status script_name config_name old new before after =
+    SessionEnds IsJsonOf takes_all true status script_name config_name old new before after

@@ -2,6 +2,7 @@
 //! what its readers hold of these messages.
 #![tactic(auto)]
 
+mod command;
 mod matching;
 mod playing;
 mod put;
@@ -10,3 +11,5 @@ mod records;
 mod row;
 mod sets;
 mod text;
+
+pub use command::json;

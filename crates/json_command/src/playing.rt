@@ -4,8 +4,7 @@ ghost use Rattle.ua_base.specs.Cause.{Rose};
 ghost use Rattle.ps_config.specs.Types.{HasTypes};
 ghost use Rattle.ps_script.specs.Sound.{IsScript};
 ghost use Rattle.writer_group.specs.Standing.{IsGood};
-ghost use Rattle.script_player.specs.Plays.{IsPlayOf, opening_of};
-ghost use Rattle.json_tap.specs.Keeping.{IsOfLink};
+ghost use Rattle.script_player.specs.Plays.{opening_of};
 ghost use Rattle.json_command.specs.Playing.{IsTapped};
 
 use json_tap::{Inner, JsonLine, Made, Tap, Tapped};
@@ -45,12 +44,12 @@ pub(crate) fn written_play<R: Wait, L: Link>(
         → (L.told link.new ≡ L.told link.old) × (L.opened_with link.new ≡ L.opened_with link.old) }
     ensures faults { L.faults link.old ≤ L.faults link.new }
 {
-    let (tapped, end) = tapped_play::<Brand, R, L>(rt, alloc, Inner { link }, config, script);
-    let Tapped {
+    let Ended {
         link,
         lines,
         skipped,
-    } = tapped;
+        end,
+    } = tapped_play::<Brand, R, L>(rt, alloc, Inner { link }, config, script);
     take_back(link);
     match end {
         Ok(()) => Ok(Written { lines, skipped }),
@@ -59,7 +58,20 @@ pub(crate) fn written_play<R: Wait, L: Link>(
 }
 
 /// This use of the link ties it to the one that was lent.
-fn take_back<L: Link>(_link: &mut L) {}
+fn take_back<L: Link>(link: &mut L)
+    ensures { link.new ≡ link.old }
+{
+    let _link = link;
+}
+
+/// What a play leaves: its link, what was written, and how it ended.
+#[derive(Drop)]
+struct Ended<'a, L> {
+    link: &'a mut L,
+    lines: Vec<JsonLine>,
+    skipped: u64,
+    end: Result<(), PlayEnd>,
+}
 
 /// Plays a script over a tap, and takes the tap off its link.
 fn tapped_play<'a, M: Made, R: Wait, L: Link>(
@@ -68,7 +80,7 @@ fn tapped_play<'a, M: Made, R: Wait, L: Link>(
     inner: Inner<'a, L>,
     config: &'a Config,
     script: &Script,
-) -> (Tapped<'a, L>, Result<(), PlayEnd>)
+) -> Ended<'a, L>
     requires loan { inner.link.ghost_name ≡ M.loan }
     requires config { config.now ≡ M.config }
     requires told { L.told inner.link.now ≡ M.told }
@@ -76,21 +88,32 @@ fn tapped_play<'a, M: Made, R: Wait, L: Link>(
     requires good { IsGood config.now }
     requires types { HasTypes config.now }
     requires script { IsScript config.now script.now }
-    ensures same_loan { result.0.link.ghost_name ≡ M.loan }
-    ensures written { OnOk result.1 (IsTapped M.config script.now (L.told result.0.link.now)
-        result.0.lines.items result.0.skipped) }
-    ensures opened { OnOk result.1 (L.opened_with result.0.link.now ≡ Some (opening_of M.config script.now)) }
-    ensures opens { L.opened_with result.0.link.now ≢ M.opening
-        → L.opened_with result.0.link.now ≡ Some (opening_of M.config script.now) }
-    ensures unopened { result.1 ≡ Err PlayEnd.Unopened
-        → Rose (L.faults inner.entry.link.now) (L.faults result.0.link.now) }
-    ensures unused { result.1 ≡ Err PlayEnd.Unopened
-        → (L.told result.0.link.now ≡ M.told) × (L.opened_with result.0.link.now ≡ M.opening) }
-    ensures faults { L.faults inner.entry.link.now ≤ L.faults result.0.link.now }
+    ensures same_loan { result.link.ghost_name ≡ inner.entry.link.ghost_name }
+    ensures written { OnOk result.end (IsTapped M.config script.now (L.told result.link.now)
+        result.lines.items result.skipped) }
+    ensures opened { OnOk result.end (L.opened_with result.link.now ≡ Some (opening_of M.config script.now)) }
+    ensures opens { L.opened_with result.link.now ≢ M.opening
+        → L.opened_with result.link.now ≡ Some (opening_of M.config script.now) }
+    ensures unopened { result.end ≡ Err PlayEnd.Unopened
+        → Rose (L.faults inner.entry.link.now) (L.faults result.link.now) }
+    ensures unused { result.end ≡ Err PlayEnd.Unopened
+        → (L.told result.link.now ≡ M.told) × (L.opened_with result.link.now ≡ M.opening) }
+    ensures faults { L.faults inner.entry.link.now ≤ L.faults result.link.now }
 {
     let mut tap: Tap<'a, L, M> = Tap::new(alloc, inner, config);
-    match play_script(rt, alloc, config, script, &mut tap) {
-        Ok(_closed) => (tap.into_parts(), Ok(())),
-        Err(end) => (tap.into_parts(), Err(end)),
+    let end = match play_script(rt, alloc, config, script, &mut tap) {
+        Ok(_closed) => Ok(()),
+        Err(end) => Err(end),
+    };
+    let Tapped {
+        link,
+        lines,
+        skipped,
+    } = tap.into_parts();
+    Ended {
+        link,
+        lines,
+        skipped,
+        end,
     }
 }
