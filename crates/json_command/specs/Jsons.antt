@@ -10,10 +10,10 @@ use Rattle.script_player.specs.Plays.{IsPlayOf}
 use Rattle.command_parts.specs.declared.status.Status.{Status}
 use Rattle.command_parts.specs.Outside.{Outside, Wire}
 use Rattle.session_command.specs.Sessions.{SessionEnds, takes_all}
-use Rattle.json_command.specs.Matching.{json_readers}
-use Rattle.json_command.specs.Reading.{ReadsLines}
-use Rattle.json_command.specs.Readers.{HasRecords}
-use Rattle.json_command.specs.Texts.{json_text}
+use Rattle.json_text.specs.Matching.{json_readers}
+use Rattle.json_text.specs.Reading.{ReadsLines}
+use Rattle.json_text.specs.Readers.{HasRecords}
+use Rattle.json_text.specs.Texts.{json_text}
 
 -- The script was played in a session over the link, whose Sent datagrams are the session's. Where the link tells its journal, the lines spell exactly those of its
 -- Sent datagrams that can be transcoded, in their order, and the others are counted. The readers' lines tell what *Records* holds over the frames that are read of

@@ -1,7 +1,2 @@
-pub mod Matching
-pub mod Reading
-pub mod Parts
-pub mod Readers
-pub mod Texts
 pub mod Playing
 pub mod Jsons

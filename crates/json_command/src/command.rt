@@ -11,10 +11,8 @@ ghost use Rattle.session_command.specs.Links.{IsBeforeLink};
 ghost use Rattle.json_command.specs.Jsons.{IsJsonOf, JsonEnds};
 
 use crate::playing::written_play;
-use crate::text::json_text;
 use command_parts::{Status, write_text};
-use dataset_reader::each_list_keeps_records;
-use dataset_reader::each_unnumbered_list_keeps_the_last_whole;
+use json_text::{readers_keep_records, text_of_lines};
 use script_player::PlayEnd;
 use session_command::{Accepted, accepted, status_of};
 use std::alloc::Global;
@@ -72,8 +70,7 @@ fn written<R: Wait, A: Link>(
         → (A.told lab.new ≡ A.told lab.old) × (A.opened_with lab.new ≡ A.opened_with lab.old) }
     ensures faults { A.faults lab.old ≤ A.faults lab.new }
 {
-    each_list_keeps_records();
-    each_unnumbered_list_keeps_the_last_whole();
+    readers_keep_records();
     let written = written_play(rt, alloc, &accepted.config, &accepted.script, lab)?;
-    Ok(json_text(alloc, &accepted.config, &written.lines, written.skipped)?)
+    Ok(text_of_lines(alloc, &accepted.config, &written.lines, written.skipped)?)
 }

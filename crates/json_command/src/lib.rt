@@ -3,13 +3,6 @@
 #![tactic(auto)]
 
 mod command;
-mod matching;
 mod playing;
-mod put;
-mod reading;
-mod records;
-mod row;
-mod sets;
-mod text;
 
 pub use command::json;

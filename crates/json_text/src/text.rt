@@ -3,8 +3,8 @@ ghost use Rattle.std.specs.Prelude.{◌≡◌, ◌++◌, ◌<◌, length, IfOk, 
 ghost use Rattle.dataset_reader.specs.Reader.{IsReaderOf, kept_by};
 ghost use Rattle.ps_config.specs.Sound.{IsSound, IsReader, IsReadGroup};
 ghost use Rattle.json_frames.specs.Parts.{IsPartOf, meta_at, parts_in};
-ghost use Rattle.json_command.specs.Matching.{is_matched, readers_in, json_readers};
-ghost use Rattle.json_command.specs.Texts.{lines_text, kept_text, reader_line, readers_text, TellsLines};
+ghost use Rattle.json_text.specs.Matching.{is_matched, readers_in, json_readers};
+ghost use Rattle.json_text.specs.Texts.{lines_text, kept_text, reader_line, readers_text, TellsLines};
 
 use crate::matching::{is_matched, is_plain};
 use crate::put::{put, put_count, put_end, put_number_or_dash, put_waits};
@@ -20,7 +20,7 @@ use std::alloc::Global;
 use ua_base::NoMemory;
 
 /// The lines, what the readers hold of them, and how many there are.
-pub(crate) fn json_text(
+pub fn text_of_lines(
     alloc: Global,
     config: &Config,
     lines: &[JsonLine],

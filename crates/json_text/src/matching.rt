@@ -3,7 +3,7 @@ ghost use Rattle.std.specs.Prelude.{◌≡◌, Some};
 ghost use Rattle.std.specs.List.{list_any};
 ghost use Rattle.ps_config.specs.Headers.{publisher_value};
 ghost use Rattle.reader_group.specs.Filter.{is_same_publisher, is_any_or, has_class};
-ghost use Rattle.json_command.specs.Matching.{is_plain, asks_for, reads_writer, reads_group, is_matched};
+ghost use Rattle.json_text.specs.Matching.{is_plain, asks_for, reads_writer, reads_group, is_matched};
 
 use config_tables::{Layout, Publisher, Security};
 use ps_config::{Config, GroupPart, ReadGroupPart, ReaderPart, WriterPart};

@@ -4,7 +4,7 @@ ghost use Rattle.dataset_reader.specs.Reader.{IsReaderOf, kept_by, numbering_of 
 ghost use Rattle.frame_codec.specs.Words.{IsFrameOf, frame_in};
 ghost use Rattle.json_frames.specs.Parts.{IsPartOf, meta_at, part_in, parts_in};
 ghost use Rattle.reader_group.specs.Members.{numbering_of};
-ghost use Rattle.json_command.specs.Readers.{is_for, kept_for, kept_on};
+ghost use Rattle.json_text.specs.Readers.{is_for, kept_for, kept_on};
 
 use config_tables::NumberingWord;
 use dataset_meta::Meta;

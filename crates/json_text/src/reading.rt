@@ -4,8 +4,8 @@ ghost use Rattle.ps_config.specs.Sound.{IsSound};
 ghost use Rattle.json_frames.specs.Parts.{IsPartOf, parts_in};
 ghost use Rattle.json_frames.specs.Reading.{HavePlaces};
 ghost use Rattle.json_tap.specs.Transcoding.{sets_of};
-ghost use Rattle.json_command.specs.Reading.{ReadsLines};
-ghost use Rattle.json_command.specs.Parts.{AddsLine};
+ghost use Rattle.json_text.specs.Reading.{ReadsLines};
+ghost use Rattle.json_text.specs.Parts.{AddsLine};
 
 use crate::sets::sets_of;
 use json_frames::{JsonEnd, JsonPart, read_json};

@@ -4,7 +4,7 @@ ghost use Rattle.std.specs.Fmt.{decimal};
 ghost use Rattle.ps_report.specs.Lines.{number_or_dash, waits_text};
 ghost use Rattle.ps_report.specs.Reports.{end_line};
 ghost use Rattle.ps_report.specs.Words.{why_word};
-ghost use Rattle.json_command.specs.Texts.{count_line};
+ghost use Rattle.json_text.specs.Texts.{count_line};
 
 use dataset_reader::Why;
 use itoa::Buffer;

@@ -9,9 +9,9 @@ use Rattle.ps_config.specs.declared.parts.ReaderPart.{ReaderPart}
 use Rattle.ps_report.specs.Lines.{feed, fields_text, number_or_dash, waits_text}
 use Rattle.ps_report.specs.Reports.{end_line}
 use Rattle.json_frames.specs.Parts.{Part, meta_at}
-use Rattle.json_command.specs.Matching.{json_readers}
-use Rattle.json_command.specs.Reading.{ReadsLines}
-use Rattle.json_command.specs.Readers.{kept_for}
+use Rattle.json_text.specs.Matching.{json_readers}
+use Rattle.json_text.specs.Reading.{ReadsLines}
+use Rattle.json_text.specs.Readers.{kept_for}
 
 -- each line ends with a line feed
 abbrev pub lines_text : List (List ℕ) → List ℕ

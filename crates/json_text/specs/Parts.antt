@@ -3,7 +3,7 @@ use Rattle.std.specs.Prelude.{◌≡◌, ℕ, List, ◌++◌, All}
 use Rattle.ps_config.specs.declared.parts.Config.{Config}
 use Rattle.json_frames.specs.declared.message.JsonPart.{JsonPart}
 use Rattle.json_frames.specs.Parts.{IsPartOf, parts_in}
-use Rattle.json_command.specs.Reading.{ReadsLine}
+use Rattle.json_text.specs.Reading.{ReadsLine}
 
 -- the line is read as the parts that stand behind the old ones, each of which can be written again
 pub record AddsLine (config : Config) (line : List ℕ) (old new : List JsonPart) : Type 0 where
