@@ -1,5 +1,5 @@
 //! What is written of a session's lines.
-ghost use Rattle.std.specs.Prelude.{◌≡◌, ◌++◌, ◌<◌, length, IfOk, OnOk, All};
+ghost use Rattle.std.specs.Prelude.{◌≡◌, ◌++◌, ◌<◌, length, filter, IfOk, OnOk, All};
 ghost use Rattle.dataset_reader.specs.Reader.{IsReaderOf, kept_by};
 ghost use Rattle.ps_config.specs.Sound.{IsSound, IsReader, IsReadGroup};
 ghost use Rattle.json_frames.specs.Parts.{IsPartOf, meta_at, parts_in};
