@@ -1,8 +1,8 @@
 -- Lines read one after another.
-use Rattle.std.proofs.Common.{◌≡◌, ℕ, List, [], ◌∷◌, ◌++◌, refl, sym, ap, ◌∙◌, subst, append_assoc}
+use Rattle.std.proofs.Common.{◌≡◌, ℕ, ◌+◌, ◌<◌, List, [], ◌∷◌, ◌++◌, length, get_or, take, refl, sym, ap, ◌∙◌, subst, append_assoc}
 use Rattle.std.specs.Prelude.{All}
-use Rattle.std.proofs.lemmas.List.{append-nil, map-append}
-use Rattle.std.proofs.ByRecursion.{All-append}
+use Rattle.std.proofs.lemmas.List.{append-nil, map-append, take_more}
+use Rattle.std.proofs.lemmas.List.Elements.{All-append}
 use Rattle.ps_config.specs.declared.parts.Config.{Config}
 use Rattle.json_frames.specs.declared.message.JsonPart.{JsonPart}
 use Rattle.json_frames.specs.Parts.{Part, IsPartOf, part_in, parts_in}
@@ -21,3 +21,15 @@ line_more config lines line old new so adds =
     subst (ReadsLines config (lines ++ line ∷ []))
     (sym (ap (parts_in config.dataset) adds.new_is ∙ map-append (part_in config.dataset) old adds.added))
     (reads_more config lines line (parts_in config.dataset old) (parts_in config.dataset adds.added) so adds.read)
+
+-- the lines up to a place, one line more
+pub lines_more : (config : Config) (lines : List (List ℕ)) (i : ℕ) (line bytes : List ℕ) (old new : List JsonPart) → i < length lines → line ≡ get_or lines i line → bytes ≡ line
+    → ReadsLines config (take i lines) (parts_in config.dataset old) → AddsLine config bytes old new → ReadsLines config (take (i + 1) lines) (parts_in config.dataset new)
+lines_more config lines i line bytes old new below is same so adds =
+    subst (λ (l : List (List ℕ)). ReadsLines config l (parts_in config.dataset new))
+    (ap (λ (v : List ℕ). take i lines ++ v ∷ []) is ∙ sym (take_more lines i line below))
+    (line_more config (take i lines) line old new so (subst (λ (b : List ℕ). AddsLine config b old new) same adds))
+
+pub writable_more : (config : Config) (line : List ℕ) (old new : List JsonPart) → All (IsPartOf config.dataset) old → AddsLine config line old new → All (IsPartOf config.dataset) new
+writable_more config line old new each adds =
+    subst (All (IsPartOf config.dataset)) (sym adds.new_is) (All-append (IsPartOf config.dataset) old adds.added each adds.writable)

@@ -17,10 +17,14 @@ use Rattle.json_text.specs.Readers.{kept_for}
 abbrev pub lines_text : List (List ℕ) → List ℕ
 lines_text lines = flat_map (λ line. line ++ feed) lines
 
+-- ` number N:`
+abbrev pub number_text : Option ℕ → List ℕ
+number_text number = codes " number " ++ number_or_dash number ++ codes ":"
+
 -- ` number N: F=X ..` where a row is kept, else ` waits WHY`
 abbrev pub row_text : List Field → Kept → Option (List DataValue) → List ℕ
 row_text fields kept None = waits_text kept.why
-row_text fields kept (Some row) = codes " number " ++ number_or_dash kept.number ++ codes ":" ++ fields_text fields row
+row_text fields kept (Some row) = number_text kept.number ++ fields_text fields row
 
 abbrev pub kept_text : List Field → Kept → List ℕ
 kept_text fields kept = row_text fields kept kept.row

@@ -4,7 +4,7 @@ ghost use Rattle.std.specs.Fmt.{decimal};
 ghost use Rattle.ps_report.specs.Lines.{number_or_dash, waits_text};
 ghost use Rattle.ps_report.specs.Reports.{end_line};
 ghost use Rattle.ps_report.specs.Words.{why_word};
-ghost use Rattle.json_text.specs.Texts.{count_line};
+ghost use Rattle.json_text.specs.Texts.{count_line, number_text};
 
 use dataset_reader::Why;
 use itoa::Buffer;
@@ -17,20 +17,29 @@ pub(crate) fn put(out: &mut Vec<u8>, text: &[u8]) -> Result<(), NoMemory>
     Ok(())
 }
 
-pub(crate) fn put_number(out: &mut Vec<u8>, number: u64) -> Result<(), NoMemory>
+fn put_decimal(out: &mut Vec<u8>, number: u64) -> Result<(), NoMemory>
     ensures { OnOk result (out.new.items ≡ out.old.items ++ decimal number) }
 {
     let mut buffer = Buffer::new();
     put(out, buffer.format(number).as_bytes())
 }
 
+/// The number of the message that a row was last made of.
+pub(crate) fn put_number(out: &mut Vec<u8>, number: Option<u16>) -> Result<(), NoMemory>
+    ensures { OnOk result (out.new.items ≡ out.old.items ++ number_text number) }
+{
+    put(out, b" number ")?;
+    put_number_or_dash(out, number)?;
+    put(out, b":")
+}
+
 /// The number, or a dash where there is none.
 #[tactic(auto, unfolding(ps_report::specs::Lines::number_or_dash))]
-pub(crate) fn put_number_or_dash(out: &mut Vec<u8>, number: Option<u16>) -> Result<(), NoMemory>
+fn put_number_or_dash(out: &mut Vec<u8>, number: Option<u16>) -> Result<(), NoMemory>
     ensures { OnOk result (out.new.items ≡ out.old.items ++ number_or_dash number) }
 {
     match number {
-        Some(number) => put_number(out, u64::from(number)),
+        Some(number) => put_decimal(out, u64::from(number)),
         None => put(out, b"-"),
     }
 }
@@ -64,9 +73,9 @@ pub(crate) fn put_count(out: &mut Vec<u8>, lines: u64, skipped: u64) -> Result<(
     ensures { OnOk result (out.new.items ≡ out.old.items ++ count_line lines skipped) }
 {
     put(out, b"json lines ")?;
-    put_number(out, lines)?;
+    put_decimal(out, lines)?;
     put(out, b" skipped ")?;
-    put_number(out, skipped)?;
+    put_decimal(out, skipped)?;
     put(out, b"\n")
 }
 

@@ -7,7 +7,7 @@ ghost use Rattle.json_text.specs.Matching.{is_matched, readers_in, json_readers}
 ghost use Rattle.json_text.specs.Texts.{lines_text, kept_text, reader_line, readers_text, TellsLines};
 
 use crate::matching::{is_matched, is_plain};
-use crate::put::{put, put_count, put_end, put_number_or_dash, put_waits};
+use crate::put::{put, put_count, put_end, put_number, put_waits};
 use crate::reading::parts_of;
 use crate::records::{meta_of, reader_over};
 use crate::row::put_row;
@@ -127,9 +127,7 @@ fn put_kept(out: &mut Vec<u8>, meta: &Meta, reader: &Reader) -> Result<(), NoMem
     match reader.row() {
         None => put_waits(out, reader.why()),
         Some(row) => {
-            put(out, b" number ")?;
-            put_number_or_dash(out, reader.number())?;
-            put(out, b":")?;
+            put_number(out, reader.number())?;
             put_row(out, meta, row)
         }
     }
