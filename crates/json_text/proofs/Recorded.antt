@@ -1,5 +1,5 @@
 -- What a reader keeps of the parts of lines is what *Records* says of them: no frame has a nonce's number, so none is a jump.
-use Rattle.std.proofs.Common.{◌≡◌, ◌⊎◌, inl, inr, ℕ, List, [], ◌∷◌, reverse, Bool, true, false, cond, Option, Some, None, refl, sym, ap, ◌∙◌, subst}
+use Rattle.std.proofs.Common.{◌≡◌, inl, inr, ℕ, List, [], ◌∷◌, reverse, Bool, true, false, cond, Option, Some, None, refl, sym, ap, ◌∙◌, subst}
 use Rattle.std.specs.List.{filter_map, cons_option}
 use Rattle.pubsub_model.specs.declared.reading.Why.TheVariants.{Jump}
 use Rattle.frame_codec.specs.Frames.{Frame}

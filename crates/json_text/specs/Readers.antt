@@ -1,5 +1,5 @@
 -- What readers keep of the frames of the lines: *Records* over them, in their order.
-use Rattle.std.specs.Prelude.{◌≡◌, ⊤, ℕ, ◌==◌, Bool, ◌&&◌, List, reverse, filter_map, Option, Some, None, if◌then◌else◌}
+use Rattle.std.specs.Prelude.{⊤, ℕ, ◌==◌, Bool, ◌&&◌, List, reverse, filter_map, Option, Some, None, if◌then◌else◌}
 use Rattle.frame_codec.specs.Frames.{Frame}
 use Rattle.pubsub_model.specs.Records.{Arrival}
 use Rattle.dataset_reader.specs.declared.took.Numbering.{Numbering}

@@ -1,4 +1,4 @@
-use Rattle.std.proofs.Common.{◌≡◌, take}
+use Rattle.std.proofs.Common.{take}
 use Rattle.std.specs.Prelude.{All}
 use Rattle.json_frames.specs.Parts.{IsPartOf, parts_in}
 use Rattle.json_text.specs.Reading.{ReadsLines}

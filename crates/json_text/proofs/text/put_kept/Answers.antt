@@ -1,10 +1,9 @@
-use Rattle.std.proofs.Common.{◌≡◌, ◌++◌, ℕ, List, Option, sym, ap, subst, ◌∙◌}
+use Rattle.std.proofs.Common.{◌≡◌, ◌++◌, ℕ, List, Option, ap, subst, ◌∙◌}
 use Rattle.std.specs.Prelude.{OnOk}
 use Rattle.std.proofs.lemmas.Result.{on_ok_weaker}
 use Rattle.row_words.specs.Belonging.{row_in}
 use Rattle.dataset_reader.specs.Reader.{kept_by}
 use Rattle.ps_report.specs.Lines.{fields_text, waits_text}
-use Rattle.pubsub_model.specs.declared.reading.Why.{Why}
 use Rattle.json_text.specs.Texts.{kept_text, number_text, row_text}
 use Rattle.json_text.proofs.Puts.{two_put}
 use Rattle.json_text.proofs.text.put_kept.Goals as goal

@@ -1,8 +1,7 @@
-use Rattle.std.proofs.Common.{◌≡◌, ◌++◌, ℕ, List, sym, ap, subst, ◌∙◌}
-use Rattle.std.specs.Prelude.{codes, OnOk}
+use Rattle.std.proofs.Common.{◌≡◌, ◌++◌, ℕ, List, ap, ◌∙◌}
+use Rattle.std.specs.Prelude.{codes}
 use Rattle.std.proofs.lemmas.Result.{on_ok_weaker}
 use Rattle.dataset_meta.specs.Metas.{MetaData}
-use Rattle.dataset_reader.specs.Kept.{Kept}
 use Rattle.dataset_reader.specs.Reader.{kept_by}
 use Rattle.ps_report.specs.Lines.{feed}
 use Rattle.json_frames.specs.Parts.{meta_at, parts_in}
