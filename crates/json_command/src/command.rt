@@ -14,7 +14,7 @@ use crate::playing::written_play;
 use command_parts::{Status, write_text};
 use json_text::{readers_keep_records, text_of_lines};
 use script_player::PlayEnd;
-use session_command::{Accepted, accepted, status_of};
+use session_command::{Accepted, accept, status_of};
 use std::alloc::Global;
 use std::sync::Wait;
 use ua_base::{Folder, Link, Sink};
@@ -39,7 +39,7 @@ pub fn json<'w, R: Wait, F: Folder, A: Link, K: Sink>(
     ensures unlinked { IsBeforeLink result → lab.new ≡ lab.old }
     ensures silent { ¬ IsDone result → ¬ IsUnwritten result → out.new ≡ out.old }
 {
-    let accepted = match accepted(alloc, script, config, true, folder) {
+    let accepted = match accept(alloc, script, config, true, folder) {
         Ok(accepted) => accepted,
         Err(status) => return status,
     };

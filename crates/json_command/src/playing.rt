@@ -4,11 +4,13 @@ ghost use Rattle.ua_base.specs.Cause.{Rose};
 ghost use Rattle.ps_config.specs.Types.{HasTypes};
 ghost use Rattle.ps_script.specs.Sound.{IsScript};
 ghost use Rattle.writer_group.specs.Standing.{IsGood};
-ghost use Rattle.script_player.specs.Plays.{opening_of};
+ghost use Rattle.script_player.specs.Plays.{IsPlayOf, opening_of};
+ghost use Rattle.json_tap.specs.Keeping.{IsOfLink};
 ghost use Rattle.json_command.specs.Playing.{IsTapped};
 
 use json_tap::{Inner, JsonLine, Made, Tap, Tapped};
 use ps_config::Config;
+use ps_report::Closed;
 use ps_script::Script;
 use script_player::{PlayEnd, play_script};
 use std::alloc::Global;
@@ -52,7 +54,7 @@ pub(crate) fn written_play<R: Wait, L: Link>(
     } = tapped_play::<Brand, R, L>(rt, alloc, Inner { link }, config, script);
     take_back(link);
     match end {
-        Ok(()) => Ok(Written { lines, skipped }),
+        Ok(_closed) => Ok(Written { lines, skipped }),
         Err(end) => Err(end),
     }
 }
@@ -70,7 +72,7 @@ struct Ended<'a, L> {
     link: &'a mut L,
     lines: Vec<JsonLine>,
     skipped: u64,
-    end: Result<(), PlayEnd>,
+    end: Result<Closed, PlayEnd>,
 }
 
 /// Plays a script over a tap, and takes the tap off its link.
@@ -89,8 +91,9 @@ fn tapped_play<'a, M: Made, R: Wait, L: Link>(
     requires types { HasTypes config.now }
     requires script { IsScript config.now script.now }
     ensures same_loan { result.link.ghost_name ≡ inner.entry.link.ghost_name }
-    ensures written { OnOk result.end (IsTapped M.config script.now (L.told result.link.now)
-        result.lines.items result.skipped) }
+    ensures played { IfOk result.end (IsPlayOf M.config script.now (L.told result.link.now)) }
+    ensures of_sent { OnOk result.end
+        (IsOfLink M.config (L.told result.link.now) result.lines.items result.skipped) }
     ensures opened { OnOk result.end (L.opened_with result.link.now ≡ Some (opening_of M.config script.now)) }
     ensures opens { L.opened_with result.link.now ≢ M.opening
         → L.opened_with result.link.now ≡ Some (opening_of M.config script.now) }
@@ -101,10 +104,7 @@ fn tapped_play<'a, M: Made, R: Wait, L: Link>(
     ensures faults { L.faults inner.entry.link.now ≤ L.faults result.link.now }
 {
     let mut tap: Tap<'a, L, M> = Tap::new(alloc, inner, config);
-    let end = match play_script(rt, alloc, config, script, &mut tap) {
-        Ok(_closed) => Ok(()),
-        Err(end) => Err(end),
-    };
+    let end = play_script(rt, alloc, config, script, &mut tap);
     let Tapped {
         link,
         lines,
