@@ -129,7 +129,7 @@ module _ (config : Config) (script : Script) (told : Option LinkState) (closed :
     rise = (headline config script play.earlier play.steps play.looks is play.played play.ends rows).0;
     steps_are = play.steps_are;
     run = play.run;
-    lived = subst (λ (r : ℕ → ℕ → List DataValue). HasRun p play.steps r) (λ i set version. row-same set version i) play.lived;
+    lived = subst (λ (r : ℕ → ℕ → List DataValue). HasRun p play.steps r) (rows-same config script is row-laws closed-laws) play.lived;
     tells = play.tells;
     closed_after = play.closed_after;
     histories = play.histories;
