@@ -1,0 +1,5 @@
+pub mod Scripts
+pub mod Sends
+pub mod Texts
+pub mod Runs
+pub mod Courses

@@ -1,0 +1,35 @@
+//! A script over lanes, from its turns to the text of what was sent.
+use crate::course::turns_of;
+use crate::text::lanes_text;
+use lane_groups::{lanes_of, run_lanes};
+use ps_config::Config;
+use ps_script::Script;
+use script_player::PlayEnd;
+use std::alloc::Global;
+use std::sync::Wait;
+use std::thread::Threads;
+use ua_base::{Gate, Link, Opened};
+
+/// Applies the writes of a script that lanes take, opens the link with the configuration's port and the script's fates, runs each lane
+/// on a thread of its own through a queue with `room` places, and tells what they sent. The gate is called before and after each turn of
+/// a lane, with the lane's number as thread. The memory of turns and lanes is taken before the link is opened.
+pub fn play_lanes<R: Threads + Wait + Sync, L: Link, G: Gate>(
+    rt: &R,
+    alloc: Global,
+    config: &Config,
+    script: &Script,
+    room: u32,
+    link: &mut L,
+    gate: &G,
+) -> Result<Vec<u8>, PlayEnd>
+{
+    let turns = turns_of(alloc, script)?;
+    let lanes = lanes_of(alloc, config, turns.len() as u32)?;
+    match link.open(config.publisher.port, &script.fates(alloc)?) {
+        Opened::Done => {}
+        Opened::Failed => return Err(PlayEnd::Unopened),
+        Opened::Memory => return Err(PlayEnd::Memory),
+    }
+    let ran = run_lanes(rt, alloc, config, &turns, lanes, room, link, gate)?;
+    Ok(lanes_text(alloc, config, &ran)?)
+}
