@@ -52,9 +52,10 @@ pub record HasStopped (config : Config) (turns : List TurnIn) (first last : Opti
       → (rest : List (List ℕ)) × (datagrams_in_group g parcels ++ rest ≡ datagrams_by config g (turns_deeds config turns))
   pub others : (g : ℕ) → length config.group ≤ g → of_group g (map pair_of parcels) ≡ []
 
--- the lanes stand where these turns leave their groups and senders, and have the groups that they had
+-- the lanes are those of the configuration, stand where these turns leave their groups and senders, and have the groups that they had
 pub record AreBehind (config : Config) (turns : List TurnIn) (old new : List Lane) : Type 0 where
   pub count : length new ≡ length old
+  pub lanes : (lane : ℕ) (none : Lane) → lane < length old → IsLane config (slice_index_or new lane none)
   pub stand : (lane : ℕ) (none : Lane) → lane < length old → Stands config (turns_deeds config turns) (slice_index_or new lane none)
   pub groups : (lane : ℕ) (none : Lane) → lane < length old → (g : ℕ)
       → has_group (slice_index_or new lane none) g ≡ has_group (slice_index_or old lane none) g

@@ -3,3 +3,4 @@ pub mod Sends
 pub mod Texts
 pub mod Runs
 pub mod Courses
+pub mod Standing

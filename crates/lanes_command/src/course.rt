@@ -1,15 +1,16 @@
 //! The turns of a script, one for each tick.
-ghost use Rattle.std.specs.Prelude.{◌≡◌, ◌≤◌, [], ◌∷◌, List, IfOk, None, OnOk, length, reverse, true};
-ghost use Rattle.ps_config.specs.declared.parts.Config.{Config};
+ghost use Rattle.std.specs.Prelude.{◌≡◌, ◌≤◌, ◌+◌, ◌<◌, [], ◌∷◌, List, IfOk, None, OnOk, length, reverse, true, false};
+ghost use Rattle.dataset_meta.specs.Metas.{IsMeta, MetaData};
+ghost use Rattle.ps_config.specs.Sound.{IsSound};
 ghost use Rattle.ps_script.specs.declared.script.Line.{Line as LineValue};
-ghost use Rattle.ps_script.specs.Sessions.{ticks_in};
 ghost use Rattle.ps_script.specs.Sound.{IsScript};
-ghost use Rattle.lanes_command.specs.Courses.{AreTurnsOf, IsCourse, IsTick, MayFollow, MayTick, MayWrite};
+ghost use Rattle.lanes_command.specs.Courses.{AreTurnsOf, Follows, IsCourse, IsTicked, IsWritten, MayFollow, MayTick, MayWrite, is_opening};
 ghost use Rattle.lanes_command.specs.Scripts.{refusal};
 
 use dataset_meta::Meta;
 use lane_groups::TurnIn;
-use ps_script::{Act, Line, Script};
+use ps_config::Config;
+use ps_script::{Act, Script};
 use row_words::{Patch, Row};
 use std::alloc::Global;
 use ua_base::NoMemory;
@@ -26,13 +27,18 @@ pub(crate) struct Course {
 }
 
 /// The turns of a script that lanes take: one for each tick, with the rows that the writes before it leave, and the closing one.
-pub(crate) fn turns_of(alloc: Global, script: &Script) -> Result<Vec<TurnIn>, NoMemory>
+pub(crate) fn turns_of(
+    alloc: Global,
+    config: &Config,
+    script: &Script,
+) -> Result<Vec<TurnIn>, NoMemory>
+    requires sound { IsSound config.now }
+    requires script { IsScript config.now script.now }
     requires taken { refusal script.now ≡ None }
-    ensures turns { (config : Config) → IsScript config script.now
-        → IfOk result (λ turns. AreTurnsOf config script.now turns.items) }
+    ensures { IfOk result (λ turns. AreTurnsOf config.now script.now turns.items) }
 {
-    let metas = script.metas.as_slice();
-    let mut course = Course::new(alloc, metas.len())?;
+    let metas = config.dataset.as_slice();
+    let mut course = Course::new(alloc, metas)?;
     for line in script.lines.as_slice() {
         course.follow(alloc, metas, &line.act)?;
     }
@@ -41,21 +47,27 @@ pub(crate) fn turns_of(alloc: Global, script: &Script) -> Result<Vec<TurnIn>, No
 }
 
 impl Course {
-    /// Before the first line, with so many data sets.
-    fn new(alloc: Global, sets: usize) -> Result<Course, NoMemory> {
+    /// Before the first line.
+    fn new(alloc: Global, metas: &[Meta]) -> Result<Course, NoMemory>
+        ensures { IfOk result (IsCourse metas.now []) }
+    {
         let opening = Sampled {
             row: Row::opening(),
             version: 0,
         };
         Ok(Course {
             now: 0,
-            rows: vec![in alloc; opening; sets]?,
+            rows: vec![in alloc; opening; metas.len()]?,
             turns: Vec::new(alloc),
         })
     }
 
     /// What a line does.
-    fn follow(&mut self, alloc: Global, metas: &[Meta], act: &Act) -> Result<(), NoMemory> {
+    fn follow(&mut self, alloc: Global, metas: &[Meta], act: &Act) -> Result<(), NoMemory>
+        requires may { MayFollow metas.now act.now self.old }
+        ensures { OnOk result ((lines : List LineValue) (line : LineValue) → line.act ≡ act.now
+            → IsCourse metas.now lines self.old → IsCourse metas.now (line ∷ lines) self.new) }
+    {
         match act {
             Act::Write { set, patch, .. } => {
                 self.write(metas, usize::from(*set), patch);
@@ -67,14 +79,20 @@ impl Course {
     }
 
     /// A data set has a version more.
-    fn write(&mut self, metas: &[Meta], set: usize, patch: &Patch) {
+    fn write(&mut self, metas: &[Meta], set: usize, patch: &Patch)
+        requires may { MayWrite metas.now set patch.now self.old }
+        ensures { IsWritten metas.now set patch.now self.old self.new }
+    {
         let sampled = &mut self.rows[set];
         patch.lay(&metas[set], &mut sampled.row);
         sampled.version += 1;
     }
 
     /// So many milliseconds pass, and a turn follows.
-    fn tick(&mut self, alloc: Global, ms: u64, closing: bool) -> Result<(), NoMemory> {
+    fn tick(&mut self, alloc: Global, ms: u64, closing: bool) -> Result<(), NoMemory>
+        requires may { MayTick ms self.old }
+        ensures { OnOk result (IsTicked ms closing self.old self.new) }
+    {
         self.now += ms;
         let rows = self.rows.as_slice().to_vec(alloc)?;
         self.turns.push(TurnIn {
