@@ -1,5 +1,5 @@
 -- The turns of lanes are ticks of a session.
-use Rattle.std.proofs.Common.{◌≡◌, refl, sym, ap, ◌∙◌, ℕ, ◌+◌, Bool, List, [], ◌∷◌, ◌++◌, map}
+use Rattle.std.proofs.Common.{◌≡◌, refl, sym, ap, ◌∙◌, ℕ, ◌+◌, Bool, true, List, [], ◌∷◌, ◌++◌, map}
 use Rattle.std.specs.Prelude.{fold, ◌&&◌, ◌||◌}
 use Rattle.std.proofs.lemmas.List.Sums.{fold_push}
 use Rattle.dataset_meta.specs.Metas.{MetaData}
@@ -34,12 +34,12 @@ module _ (p : Plan) (switches : List Change) (metas : List MetaData) (now : ℕ)
   turned-by earlier g =
       cons_if (works-by earlier (Group g) && (closing || is_due (group_at p.config g) (group_past p.config g earlier) now))
       (TookTurn g
-          (turned p.config (group_at p.config g) (group_past p.config g earlier)
-          (record {
-              told = told_of now closing metas (rows_cut metas p.full samples);
-              on = map (λ w. works-by earlier (Writer g w)) (writer_indexes (group_at p.config g));
-              sender = sender_of p.config g earlier;
-          }))) earlier
+      (turned p.config (group_at p.config g) (group_past p.config g earlier)
+      (record {
+        told = told_of now closing metas (rows_cut metas p.full samples);
+        on = map (λ w. works-by earlier (Writer g w)) (writer_indexes (group_at p.config g));
+        sender = sender_of p.config g earlier;
+      }))) earlier
 
   tick-by : List Deed → List Deed
   tick-by earlier = fold turned-by (rekeyed p.config now earlier) (group_indexes p.config)

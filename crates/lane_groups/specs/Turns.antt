@@ -1,5 +1,5 @@
 -- Turns of lanes as ticks of a session.
-use Rattle.std.specs.Prelude.{◌≡◌, ⊥, ℕ, ◌+◌, List, [], ◌∷◌, ◌++◌, Bool}
+use Rattle.std.specs.Prelude.{◌≡◌, ℕ, ◌+◌, List, [], ◌∷◌, ◌++◌, Bool}
 use Rattle.writer_group.specs.declared.sampled.Sampled.{Sampled}
 use Rattle.session_model.specs.Steps.{Step, Enable, Disable, Append, Tick, Pump, moment_of}
 use Rattle.lane_groups.specs.declared.turn.TurnIn.{TurnIn}

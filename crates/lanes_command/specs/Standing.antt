@@ -1,5 +1,5 @@
 -- Lanes that have had their turns, and the logs of their writers.
-use Rattle.std.specs.Prelude.{◌≡◌, ℕ, ◌<◌, List, true, length, sum, slice_index_or}
+use Rattle.std.specs.Prelude.{◌≡◌, ℕ, ◌+◌, ◌<◌, List, true, length, slice_index, slice_index_or}
 use Rattle.pubsub_model.specs.Cadence.{log_of}
 use Rattle.dataset_writer.specs.Turns.{model_settings}
 use Rattle.ps_config.specs.declared.parts.Config.{Config}
@@ -45,6 +45,9 @@ log_in part past w = log_of (model_settings (settings_of (writer_at part w))) (w
 abbrev pub logs_by : Config → List Deed → ℕ → ℕ → List (ℕ × ℕ)
 logs_by config deeds g = log_in (group_at config g) (group_past config g deeds)
 
--- how many datagrams of all groups were sent, where so many of each were
+-- the sum over all groups, of which there are four at most
+abbrev pub all_of : List ℕ → ℕ
+all_of sent = slice_index sent 0 + slice_index sent 1 + slice_index sent 2 + slice_index sent 3
+
 abbrev pub counts_of : Ran → Counts
-counts_of ran = record { sent = ran.sent; all = counted (sum ran.sent); failed = ran.failed }
+counts_of ran = record { sent = ran.sent; all = counted (all_of ran.sent); failed = ran.failed }

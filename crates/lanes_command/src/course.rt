@@ -1,10 +1,9 @@
 //! The turns of a script, one for each tick.
-ghost use Rattle.std.specs.Prelude.{◌≡◌, ◌≤◌, ◌+◌, ◌<◌, [], ◌∷◌, List, IfOk, None, OnOk, length, reverse, true, false};
-ghost use Rattle.dataset_meta.specs.Metas.{IsMeta, MetaData};
+ghost use Rattle.std.specs.Prelude.{◌≡◌, [], ◌∷◌, List, IfOk, None, OnOk};
 ghost use Rattle.ps_config.specs.Sound.{IsSound};
 ghost use Rattle.ps_script.specs.declared.script.Line.{Line as LineValue};
 ghost use Rattle.ps_script.specs.Sound.{IsScript};
-ghost use Rattle.lanes_command.specs.Courses.{AreTurnsOf, Follows, IsCourse, IsTicked, IsWritten, MayFollow, MayTick, MayWrite, is_opening};
+ghost use Rattle.lanes_command.specs.Courses.{AreTurnsOf, IsCourse, IsTicked, IsWritten, MayFollow, MayTick, MayWrite};
 ghost use Rattle.lanes_command.specs.Scripts.{refusal};
 
 use dataset_meta::Meta;

@@ -1,5 +1,5 @@
 //! The text of what lanes sent.
-ghost use Rattle.std.specs.Prelude.{◌≡◌, ◌<◌, ◌≤◌, ◌++◌, ℕ, List, IfOk, OnOk, length, sum};
+ghost use Rattle.std.specs.Prelude.{◌≡◌, ◌<◌, ◌≤◌, ◌++◌, ℕ, List, IfOk, OnOk, length};
 ghost use Rattle.std.specs.List.{flat_map};
 ghost use Rattle.dataset_meta.specs.Metas.{MetaData};
 ghost use Rattle.ps_config.specs.Sound.{IsSound};
@@ -7,7 +7,7 @@ ghost use Rattle.writer_group.specs.Standing.{IsGroup, writer_count};
 ghost use Rattle.writer_group.specs.Turns.{GroupDeed};
 ghost use Rattle.session_model.specs.Answers.{counted};
 ghost use Rattle.session_model.specs.Deeds.{Deed, group_indexes};
-ghost use Rattle.lanes_command.specs.Standing.{HaveGroups, IsGroupOf, IsHad, StandAll, counts_of, log_in, logs_by};
+ghost use Rattle.lanes_command.specs.Standing.{HaveGroups, IsGroupOf, IsHad, StandAll, all_of, counts_of, log_in, logs_by};
 ghost use Rattle.lanes_command.specs.Texts.{group_lines, lanes_text, writer_lines};
 
 use crate::put::{put_end, put_lane, put_totals, put_writer};
@@ -80,7 +80,7 @@ fn group_in(lanes: &[Lane], g: u8) -> &Group
 
 /// How many there are of all groups.
 fn total(sent: &[u64; 4]) -> u64
-    ensures { result ≡ counted (sum sent.now) }
+    ensures { result ≡ counted (all_of sent.now) }
 {
     let mut total = 0u64;
     for count in sent {
