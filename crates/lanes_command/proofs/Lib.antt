@@ -4,3 +4,4 @@ pub mod Taken
 pub mod Bounds
 pub mod Sending
 pub mod Played
+pub mod Texts

@@ -57,37 +57,45 @@ module _ (metas : List MetaData) where
         ∙ ap (λ (words : List ℕ). record { row = record { words = words }; version = length (log ++ entry thread row ∷ []) }) (last_words-push opening_words log (entry thread row))
         ∙ ap (λ (n : ℕ). record { row = record { words = row }; version = n }) (length_push log (entry thread row))
 
-    pub samples-written : (d : Sampled) → index < length metas
-        → set (samples_after metas lines) index (written (meta_in metas index) patch (get_or (samples_after metas lines) index d)) ≡ samples_after metas (write_line at thread index patch ∷ lines)
-    samples-written d low =
-        same_lists (set before index now) (samples_after metas (write_line at thread index patch ∷ lines))
-        (length-set before index now ∙ count-samples lines ∙ sym (count-samples (write_line at thread index patch ∷ lines)))
-        (λ k e within. at-each k e (omega (arith, within, length-set before index now, count-samples lines)))
-      where
-        before : List Sampled
-        before = samples_after metas lines
-        now : Sampled
-        now = written (meta_in metas index) patch (get_or before index d)
-        there : index < length before
-        unfolding before
-        there = omega (arith, low, count-samples lines)
-        at-each : (k : ℕ) (e : Sampled) → k < length metas → get_or (set before index now) k e ≡ get_or (samples_after metas (write_line at thread index patch ∷ lines)) k e
-        unfolding before now
-        at-each k e here = by_case (eqb_tells k index)
-          where
-            by_case : ((k == index) ≡ true) × (k ≡ index) ⊎ ((k == index) ≡ false) × (k ≢ index)
-                → get_or (set before index now) k e ≡ get_or (samples_after metas (write_line at thread index patch ∷ lines)) k e
-            by_case (inl same) =
-                subst (λ (j : ℕ). get_or (set before index now) j e ≡ get_or (samples_after metas (write_line at thread index patch ∷ lines)) j e) (sym same.1)
-                (get_or-set_same before index now e there
-                ∙ ap (written (meta_in metas index) patch) (sample-at lines index d low)
-                ∙ sym sample-written
-                ∙ sym (sample-at (write_line at thread index patch ∷ lines) index e low))
-            by_case (inr other) =
-                get_or-set_other before index k now e other.1
-                ∙ sample-at lines k e here
-                ∙ sym (ap sample_of (log_after-write_other (meta_in metas k) k index at thread patch lines (λ same. other.1 (sym same))))
-                ∙ sym (sample-at (write_line at thread index patch ∷ lines) k e here)
+    abbrev before : List Sampled
+    before = samples_after metas lines
+
+    abbrev behind : List Sampled
+    behind = samples_after metas (write_line at thread index patch ∷ lines)
+
+    module _ (d : Sampled) (low : index < length metas) where
+      abbrev now : Sampled
+      now = written (meta_in metas index) patch (get_or before index d)
+
+      there : index < length before
+      there = omega (arith, low, count-samples lines)
+
+      here-written : (e : Sampled) → get_or (set before index now) index e ≡ get_or behind index e
+      here-written e =
+          get_or-set_same before index now e there
+          ∙ ap (written (meta_in metas index) patch) (sample-at lines index d low)
+          ∙ sym sample-written
+          ∙ sym (sample-at (write_line at thread index patch ∷ lines) index e low)
+
+      elsewhere : (k : ℕ) (e : Sampled) → k ≢ index → k < length metas → get_or (set before index now) k e ≡ get_or behind k e
+      elsewhere k e other within =
+          get_or-set_other before index k now e other
+          ∙ sample-at lines k e within
+          ∙ sym (ap sample_of (log_after-write_other (meta_in metas k) k index at thread patch lines (λ same. other (sym same))))
+          ∙ sym (sample-at (write_line at thread index patch ∷ lines) k e within)
+
+      each-written : (k : ℕ) (e : Sampled) → k < length metas → get_or (set before index now) k e ≡ get_or behind k e
+      each-written k e within = by_case (eqb_tells k index)
+        where
+          by_case : ((k == index) ≡ true) × (k ≡ index) ⊎ ((k == index) ≡ false) × (k ≢ index) → get_or (set before index now) k e ≡ get_or behind k e
+          by_case (inl same) = subst (λ (j : ℕ). get_or (set before index now) j e ≡ get_or behind j e) (sym same.1) (here-written e)
+          by_case (inr other) = elsewhere k e other.1 within
+
+      pub samples-written : set before index now ≡ behind
+      samples-written =
+          same_lists (set before index now) behind
+          (length-set before index now ∙ count-samples lines ∙ sym (count-samples (write_line at thread index patch ∷ lines)))
+          (λ k e within. each-written k e (omega (arith, within, length-set before index now, count-samples lines)))
 
 -- the opening row is one of each data set
 pub rows-opening : (metas : List MetaData) → All (λ (meta : MetaData). IsMeta meta.fields) metas → ((meta : MetaData) → IsMeta meta.fields → Belongs meta (replicate 125 0))

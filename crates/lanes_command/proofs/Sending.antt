@@ -24,18 +24,15 @@ send_of p = record { group = p.group; datagram = p.bytes }
 
 -- ---- the datagrams of a group
 
+first-same : (g : ℕ) (p : Parcel) (ps : List Parcel) (b : Bool) → datagrams_to g (map send_of ps) ≡ datagrams_in_group g ps
+    → map (λ (send : Send). send.datagram) (cond b (send_of p ∷ filter (λ (send : Send). send.group == g) (map send_of ps)) (filter (λ (send : Send). send.group == g) (map send_of ps)))
+    ≡ map (λ (pair : Pair). pair.datagram) (if b then pair_of p ∷ of_group g (map pair_of ps) else of_group g (map pair_of ps))
+first-same g p ps true later = ap (λ (l : List (List ℕ)). p.bytes ∷ l) later
+first-same g p ps false later = later
+
 pub datagrams-same : (g : ℕ) (ps : List Parcel) → datagrams_to g (map send_of ps) ≡ datagrams_in_group g ps
 datagrams-same g [] = refl
-datagrams-same g (p ∷ ps) = go (p.group == g)
-  where
-    rest : List Send
-    rest = filter (λ (send : Send). send.group == g) (map send_of ps)
-    go : (b : Bool)
-        → map (λ (send : Send). send.datagram) (cond b (send_of p ∷ rest) rest)
-        ≡ map (λ (pair : Pair). pair.datagram) (if b then pair_of p ∷ of_group g (map pair_of ps) else of_group g (map pair_of ps))
-    unfolding rest
-    go true = ap (λ (l : List (List ℕ)). p.bytes ∷ l) (datagrams-same g ps)
-    go false = datagrams-same g ps
+datagrams-same g (p ∷ ps) = first-same g p ps (p.group == g) (datagrams-same g ps)
 
 pub none-to : (g : ℕ) (ps : List Parcel) → of_group g (map pair_of ps) ≡ [] → datagrams_to g (map send_of ps) ≡ []
 none-to g ps none = datagrams-same g ps ∙ ap (map (λ (pair : Pair). pair.datagram)) none
@@ -101,20 +98,21 @@ abbrev AreOf : ℕ → List Parcel → Type 0
 AreOf n [] = Unit {0}
 AreOf n (p ∷ ps) = (p.group < n) × AreOf n ps
 
+some-pair : (x : Pair) (xs : List Pair) → x ∷ xs ≡ [] → ⊥
+some-pair x xs e = cc
+
+low-group : (n : ℕ) (p : Parcel) (ps : List Parcel) → ((g : ℕ) → n ≤ g → of_group g (map pair_of (p ∷ ps)) ≡ []) → n ≤ p.group → ⊥
+low-group n p ps none high =
+    some-pair (pair_of p) (of_group p.group (map pair_of ps))
+    (ap (λ (b : Bool). if b then pair_of p ∷ of_group p.group (map pair_of ps) else of_group p.group (map pair_of ps)) (sym (eq-eqb p.group p.group refl)) ∙ none p.group high)
+
+none-left : (g : ℕ) (p : Parcel) (ps : List Parcel) (b : Bool) → (if b then pair_of p ∷ of_group g (map pair_of ps) else of_group g (map pair_of ps)) ≡ [] → of_group g (map pair_of ps) ≡ []
+none-left g p ps true e = absurd (some-pair (pair_of p) (of_group g (map pair_of ps)) e)
+none-left g p ps false e = e
+
 are-of : (n : ℕ) (ps : List Parcel) → ((g : ℕ) → n ≤ g → of_group g (map pair_of ps) ≡ []) → AreOf n ps
 are-of n [] none = tt
-are-of n (p ∷ ps) none = (omega (arith, low), are-of n ps (λ g high. rest g (p.group == g) (none g high)))
-  where
-    low : n ≤ p.group → ⊥
-    low high =
-        let own : (if p.group == p.group then pair_of p ∷ of_group p.group (map pair_of ps) else of_group p.group (map pair_of ps)) ≡ [] = none p.group high in
-        some (ap (λ (b : Bool). if b then pair_of p ∷ of_group p.group (map pair_of ps) else of_group p.group (map pair_of ps)) (sym (eq-eqb p.group p.group refl)) ∙ own)
-      where
-        some : {x : Pair} {xs : List Pair} → x ∷ xs ≡ [] → ⊥
-        some e = cc
-    rest : (g : ℕ) (b : Bool) → (if b then pair_of p ∷ of_group g (map pair_of ps) else of_group g (map pair_of ps)) ≡ [] → of_group g (map pair_of ps) ≡ []
-    rest g true e = cc
-    rest g false e = e
+are-of n (p ∷ ps) none = (omega (arith, low-group n p ps none), are-of n ps (λ g high. none-left g p ps (p.group == g) (none g high)))
 
 -- a parcel is of one of four groups
 one-of : (g : ℕ) → g < 4 → one_if g 0 + one_if g 1 + one_if g 2 + one_if g 3 ≡ 1

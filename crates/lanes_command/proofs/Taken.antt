@@ -20,17 +20,19 @@ abbrev pub AreTaken : List Line → Type 0
 AreTaken [] = Unit {0}
 AreTaken (line ∷ lines) = (is_taken line.act ≡ true) × AreTaken lines
 
+found : (n : ℕ) → Some n ≡ None → ⊥
+found n e = cc
+
 -- where the search for one that isn't finds none
 pub taken-all : (lines : List Line) → option_map (λ (line : Line). line.at) (find (λ (line : Line). not (is_taken line.act)) lines) ≡ None → AreTaken lines
 taken-all [] none = tt
-taken-all (line ∷ lines) none = by_case (is_taken line.act) refl
+taken-all (line ∷ lines) none = by_case (is_taken line.act) refl (taken-all lines)
   where
-    by_case : (b : Bool) → is_taken line.act ≡ b → AreTaken (line ∷ lines)
-    by_case true e = (e, taken-all lines (ap (λ (b : Bool). option_map (λ (l : Line). l.at) (cond (not b) (Some line) (find (λ (l : Line). not (is_taken l.act)) lines))) (sym e) ∙ none))
-    by_case false e = absurd (found (ap (λ (b : Bool). option_map (λ (l : Line). l.at) (cond (not b) (Some line) (find (λ (l : Line). not (is_taken l.act)) lines))) (sym e) ∙ none))
-      where
-        found : Some line.at ≡ None → ⊥
-        found e = cc
+    by_case : (b : Bool) → is_taken line.act ≡ b
+        → (option_map (λ (line : Line). line.at) (find (λ (line : Line). not (is_taken line.act)) lines) ≡ None → AreTaken lines) → AreTaken (line ∷ lines)
+    by_case true e later =
+        (e, later (ap (λ (b : Bool). option_map (λ (l : Line). l.at) (cond (not b) (Some line) (find (λ (l : Line). not (is_taken l.act)) lines))) (sym e) ∙ none))
+    by_case false e later = absurd (found line.at (ap (λ (b : Bool). option_map (λ (l : Line). l.at) (cond (not b) (Some line) (find (λ (l : Line). not (is_taken l.act)) lines))) (sym e) ∙ none))
 
 pub taken-at : (lines : List Line) (k : ℕ) (d : Line) → AreTaken lines → k < length lines → is_taken (get_or lines k d).act ≡ true
 taken-at [] k d are low = absurd (omega (arith, low))

@@ -9,7 +9,7 @@ ghost use Rattle.lanes_command.specs.Scripts.{refusal};
 
 use crate::course::turns_of;
 use crate::text::lanes_text;
-use lane_groups::{lanes_of, run_lanes};
+use lane_groups::{lanes_of, run_lanes, turns_are_ticks_of_a_session};
 use ps_config::Config;
 use ps_script::Script;
 use script_player::PlayEnd;
@@ -43,6 +43,7 @@ pub fn play_lanes<R: Threads + Wait + Sync, L: Link, G: Gate>(
         → (L.told link.new ≡ L.told link.old) × (L.opened_with link.new ≡ L.opened_with link.old) }
     ensures faults { L.faults link.old ≤ L.faults link.new }
 {
+    turns_are_ticks_of_a_session();
     let turns = turns_of(alloc, config, script)?;
     let lanes = lanes_of(alloc, config, turns.len() as u32)?;
     match link.open(config.publisher.port, &script.fates(alloc)?) {

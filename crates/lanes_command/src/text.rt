@@ -2,8 +2,7 @@
 ghost use Rattle.std.specs.Prelude.{◌≡◌, ◌<◌, ◌≤◌, ◌++◌, ℕ, List, IfOk, OnOk, length};
 ghost use Rattle.std.specs.List.{flat_map};
 ghost use Rattle.dataset_meta.specs.Metas.{MetaData};
-ghost use Rattle.ps_config.specs.Sound.{IsSound};
-ghost use Rattle.writer_group.specs.Standing.{IsGroup, writer_count};
+ghost use Rattle.writer_group.specs.Standing.{IsGood, IsGroup, writer_count};
 ghost use Rattle.writer_group.specs.Turns.{GroupDeed};
 ghost use Rattle.session_model.specs.Answers.{counted};
 ghost use Rattle.session_model.specs.Deeds.{Deed, group_indexes};
@@ -20,7 +19,7 @@ use writer_group::Group;
 /// For each group how many datagrams were sent and its writers' lines, then the counts of all, and the end.
 #[tactic(auto, unfolding(crate::specs::Texts::lanes_text))]
 pub(crate) fn lanes_text(alloc: Global, config: &Config, ran: &Ran) -> Result<Vec<u8>, NoMemory>
-    requires sound { IsSound config.now }
+    requires good { IsGood config.now }
     requires lanes { HaveGroups config.now ran.now.lanes.items }
     ensures { (deeds : List Deed) → StandAll config.now deeds ran.now.lanes.items
         → IfOk result (λ text. text.items
@@ -35,7 +34,7 @@ pub(crate) fn lanes_text(alloc: Global, config: &Config, ran: &Ran) -> Result<Ve
 
 /// The lines of the groups, each followed by those of its writers.
 fn put_groups(out: &mut Vec<u8>, config: &Config, ran: &Ran) -> Result<(), NoMemory>
-    requires sound { IsSound config.now }
+    requires good { IsGood config.now }
     requires lanes { HaveGroups config.now ran.now.lanes.items }
     ensures { (deeds : List Deed) → StandAll config.now deeds ran.now.lanes.items
         → OnOk result (out.new.items ≡ out.old.items
