@@ -126,7 +126,7 @@ module _ (config : Config) (script : Script) (k : ℕ) (d : Line) (is : IsScript
         taken-here : is_taken line_at.act ≡ true
         taken-here = taken-at script.lines k d (taken-all script.lines taken) low
         untaken : (what : Act) → line_at.act ≡ what → is_taken what ≡ false → ⊥
-        untaken what e no = let wrong : false ≡ true = sym no ∙ ap is_taken (sym e) ∙ taken-here in cc
+        untaken what e not = let wrong : false ≡ true = sym not ∙ ap is_taken (sym e) ∙ taken-here in cc
         go : (what : Act) → line_at.act ≡ what → MayFollow config.dataset what course
         go (act.Write thread index patch) e = may-write thread index patch e
         go (act.Tick ms) e = may-tick ms (subst (λ (what : Act). IsAct config config.dataset (take k script.lines) what) e act-at).1

@@ -56,11 +56,11 @@ entries-are (p ∷ ps) (e ∷ es) are =
 
 -- ---- the counts
 
-none-done : (b : Bool) → 0 ≡ cond (b && false) 1 0
+none-done : (b : Bool) → ◌≡◌ {A = ℕ} 0 (cond (b && false) 1 0)
 none-done true = refl
 none-done false = refl
 
-some-done : (b : Bool) → (if b then 1 else 0) ≡ cond (b && true) 1 0
+some-done : (b : Bool) → ◌≡◌ {A = ℕ} (if b then 1 else 0) (cond (b && true) 1 0)
 some-done true = refl
 some-done false = refl
 

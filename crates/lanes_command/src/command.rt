@@ -8,7 +8,7 @@ ghost use Rattle.lanes_command.specs.Runs.{LanesEnds};
 use crate::playing::play_lanes;
 use crate::refusal::refused;
 use command_parts::{Status, write_text};
-use session_command::{accepted, status_of};
+use session_command::{accept, status_of};
 use std::alloc::Global;
 use std::sync::Wait;
 use std::thread::Threads;
@@ -62,7 +62,7 @@ pub fn lanes_by<'w, R: Threads + Wait + Sync, F: Folder, A: Link, G: Gate, K: Si
     ensures unlinked { IsBeforeLink result → lab.new ≡ lab.old }
     ensures silent { ¬ IsDone result → ¬ IsUnwritten result → out.new ≡ out.old }
 {
-    let accepted = match accepted(alloc, script, config, true, folder) {
+    let accepted = match accept(alloc, script, config, true, folder) {
         Ok(accepted) => accepted,
         Err(status) => return status,
     };
