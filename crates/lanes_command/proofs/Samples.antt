@@ -1,12 +1,11 @@
 -- The samples of one line more.
 use Rattle.std.proofs.Common.{◌≡◌, ◌≢◌, ◌⊎◌, inl, inr, ℕ, zero, suc, ◌+◌, ◌<◌, ◌≤◌, Bool, true, false, List, [], ◌∷◌, ◌++◌, length, get_or, set, replicate, refl, sym, ap, ◌∙◌, subst, arith}
-use Rattle.std.specs.Prelude.{◌==◌, All}
+use Rattle.std.specs.Prelude.{◌==◌}
 use Rattle.std.specs.List.{AllZip, range_with_len}
 use Rattle.std.proofs.lemmas.Bool.Decides.{eqb_tells}
 use Rattle.std.proofs.lemmas.List.{get_or-replicate, get_or-set_other, get_or-set_same, length-replicate, length-set, length_push, same_lists}
-use Rattle.std.proofs.lemmas.List.Elements.{All-head, All-tail}
 use Rattle.std.proofs.lemmas.List.FromFn.{get_or-map-range_with_len, length-map-range_with_len}
-use Rattle.dataset_meta.specs.Metas.{IsMeta, MetaData}
+use Rattle.dataset_meta.specs.Metas.{MetaData}
 use Rattle.row_words.specs.Belonging.{Belongs}
 use Rattle.row_words.specs.declared.patch.Patch.{Patch}
 use Rattle.row_words.specs.Patches.{patched_words}
@@ -96,15 +95,6 @@ module _ (metas : List MetaData) where
           same_lists (set before index now) behind
           (length-set before index now ∙ count-samples lines ∙ sym (count-samples (write_line at thread index patch ∷ lines)))
           (λ k e within. each-written k e (omega (arith, within, length-set before index now, count-samples lines)))
-
--- the opening row is one of each data set
-pub rows-opening : (metas : List MetaData) → All (λ (meta : MetaData). IsMeta meta.fields) metas → ((meta : MetaData) → IsMeta meta.fields → Belongs meta (replicate 125 0))
-    → AreRowsOf metas (replicate (length metas) opening)
-rows-opening [] are belongs = tt
-rows-opening (meta ∷ metas) are belongs = (
-  belongs meta (All-head (λ (m : MetaData). IsMeta m.fields) meta metas are),
-  rows-opening metas (All-tail (λ (m : MetaData). IsMeta m.fields) meta metas are) belongs,
-)
 
 -- another row of the data set
 pub rows-set : (metas : List MetaData) (rows : List Sampled) (k : ℕ) (sampled : Sampled) → AreRowsOf metas rows → k < length metas

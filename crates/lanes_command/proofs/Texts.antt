@@ -1,11 +1,16 @@
 -- The lines of one group or writer more.
 use Rattle.std.proofs.Common.{◌≡◌, ◌≢◌, ◌⊎◌, inl, inr, ℕ, zero, suc, ◌+◌, ◌<◌, ◌≤◌, Bool, true, false, List, [], ◌∷◌, ◌++◌, length, get_or, refl, sym, ap, ◌∙◌, subst, arith}
-use Rattle.std.specs.Prelude.{min, slice_index, sum}
 use Rattle.std.specs.List.{flat_map, range_with_len}
 use Rattle.std.proofs.lemmas.List.{flat_map_more}
-use Rattle.session_model.specs.Answers.{counted}
+use Rattle.std.proofs.lemmas.Option.{slice_get_cases}
+use Rattle.ps_config.specs.declared.parts.Config.{Config}
+use Rattle.writer_group.specs.declared.group.Group.{Group}
+use Rattle.writer_group.specs.Parts.{group_at}
+use Rattle.writer_group.specs.Standing.{IsGroup, IsMadeFor, metas_for}
+use Rattle.session_model.specs.Deeds.{Deed, group_past}
 use Rattle.session_parts.proofs.Counting.{range-more}
-use Rattle.lanes_command.specs.Standing.{all_of}
+use Rattle.lane_groups.specs.declared.lane.Lane.{Lane}
+use Rattle.lanes_command.specs.Standing.{HaveGroups, IsGroupOf, StandAll}
 
 pub lines-more : (f : ℕ → List ℕ) (n : ℕ) (first so_far new line : List ℕ) → so_far ≡ first ++ flat_map f (range_with_len 0 n) → new ≡ so_far ++ line → line ≡ f n
     → new ≡ first ++ flat_map f (range_with_len 0 (n + 1))
@@ -14,12 +19,20 @@ lines-more f n first so_far new line was now is =
     ∙ flat_map_more f first (range_with_len 0 n) n
     ∙ ap (λ (l : List ℕ). first ++ flat_map f l) (sym (range-more n))
 
--- ---- the counts of four groups
+-- ---- a group in its lane
 
-pub sum-four : (xs : List ℕ) → length xs ≡ 4 → sum xs ≡ all_of xs
-sum-four [] four = absurd (omega (arith, four))
-sum-four (a ∷ []) four = absurd (omega (arith, four))
-sum-four (a ∷ b ∷ []) four = absurd (omega (arith, four))
-sum-four (a ∷ b ∷ c ∷ []) four = absurd (omega (arith, four))
-sum-four (a ∷ b ∷ c ∷ d ∷ []) four = omega arith
-sum-four (a ∷ b ∷ c ∷ d ∷ e ∷ xs) four = absurd (omega (arith, four))
+pub group-made : (config : Config) (lanes : List Lane) (g : ℕ) (group : Group) → HaveGroups config lanes → g < length config.group → IsGroupOf lanes g group
+    → IsMadeFor config (group_at config g) group
+group-made config lanes g group have low is =
+    elim ((slice_get_cases lanes is.lane).1) [
+      | inl at ↦ is.made at.0 config low (have.each is.lane at.0 is.within)
+      | inr past ↦ absurd (omega (arith, is.within, past.0))
+    ]
+
+pub group-stands : (config : Config) (deeds : List Deed) (lanes : List Lane) (g : ℕ) (group : Group) → StandAll config deeds lanes → g < length config.group → IsGroupOf lanes g group
+    → IsGroup (metas_for (group_at config g) config.dataset) (group_at config g) (group_past config g deeds) group
+group-stands config deeds lanes g group stand low is =
+    elim ((slice_get_cases lanes is.lane).1) [
+      | inl at ↦ is.stands at.0 config deeds low (stand is.lane at.0 is.within)
+      | inr past ↦ absurd (omega (arith, is.within, past.0))
+    ]

@@ -1,5 +1,6 @@
 //! The turns of a script, one for each tick.
-ghost use Rattle.std.specs.Prelude.{◌≡◌, [], ◌∷◌, List, IfOk, None, OnOk};
+ghost use Rattle.std.specs.Prelude.{◌≡◌, [], ◌∷◌, List, All, IfOk, None, OnOk};
+ghost use Rattle.dataset_meta.specs.Metas.{IsMeta};
 ghost use Rattle.ps_config.specs.Sound.{IsSound};
 ghost use Rattle.ps_script.specs.declared.script.Line.{Line as LineValue};
 ghost use Rattle.ps_script.specs.Sound.{IsScript};
@@ -48,6 +49,7 @@ pub(crate) fn turns_of(
 impl Course {
     /// Before the first line.
     fn new(alloc: Global, metas: &[Meta]) -> Result<Course, NoMemory>
+        requires { All (λ meta. IsMeta meta.fields) metas.now }
         ensures { IfOk result (IsCourse metas.now []) }
     {
         let opening = Sampled {

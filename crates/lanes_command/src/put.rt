@@ -2,7 +2,7 @@
 ghost use Rattle.std.specs.Prelude.{◌≡◌, ◌++◌, OnOk, length};
 ghost use Rattle.std.specs.Fmt.{decimal};
 ghost use Rattle.ps_report.specs.Lines.{log_text};
-ghost use Rattle.lanes_command.specs.Texts.{lane_line, totals_line, writer_line};
+ghost use Rattle.lanes_command.specs.Texts.{end_line, lane_line, totals_line, writer_line};
 
 use dataset_meta::Name32;
 use itoa::Buffer;
