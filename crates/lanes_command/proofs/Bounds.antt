@@ -1,20 +1,20 @@
 -- What a script's lines can be counted on to do.
-use Rattle.std.proofs.Common.{◌≡◌, ℕ, ◌+◌, ◌*◌, ◌-◌, ◌<◌, ◌≤◌, ◌^◌, Bool, true, false, cond, List, [], ◌∷◌, ◌++◌, length, take, get_or, reverse, refl, sym, ap, ◌∙◌, subst, arith, Option, Some, None}
-use Rattle.std.specs.Prelude.{count_by, sum_by, ◌==◌}
-use Rattle.std.proofs.lemmas.List.{length_push, take_all, take_more}
+use Rattle.std.proofs.Common.{◌≡◌, ℕ, ◌+◌, ◌*◌, ◌<◌, ◌≤◌, Bool, true, false, cond, List, [], ◌∷◌, ◌++◌, length, take, get_or, reverse, refl, sym, ap, ◌∙◌, subst, arith, None}
+use Rattle.std.specs.Prelude.{count_by, ◌==◌}
+use Rattle.std.proofs.lemmas.List.{length_push, take_all}
 use Rattle.std.proofs.lemmas.List.Sums.{sum_by-take-le}
 use Rattle.std.proofs.lemmas.Option.{slice_get-get_or}
 use Rattle.dataset_meta.specs.Metas.{MetaData}
 use Rattle.version_cell.specs.declared.rule.Entry.{Entry}
 use Rattle.version_cell.specs.Histories.{entry, row_after}
 use Rattle.row_words.specs.declared.patch.Patch.{Patch}
-use Rattle.row_words.specs.Patches.{IsPatchOf, patched_words}
+use Rattle.row_words.specs.Patches.{patched_words}
 use Rattle.ps_config.specs.declared.parts.Config.{Config}
 use Rattle.ps_script.specs.declared.script.Act.{Act}
 use Rattle.ps_script.specs.declared.script.Act.TheVariants as act
 use Rattle.ps_script.specs.declared.script.Line.{Line}
 use Rattle.ps_script.specs.declared.script.Script.{Script}
-use Rattle.ps_script.specs.Sessions.{is_tick, ticks_in}
+use Rattle.ps_script.specs.Sessions.{is_tick}
 use Rattle.ps_script.specs.Sound.{IsAct, IsScript, is_some_write}
 use Rattle.session_model.specs.Sets.{meta_in}
 use Rattle.session_model.specs.Steps.{Tick, moment_of}
@@ -125,8 +125,10 @@ module _ (config : Config) (script : Script) (k : ℕ) (d : Line) (is : IsScript
       where
         taken-here : is_taken line_at.act ≡ true
         taken-here = taken-at script.lines k d (taken-all script.lines taken) low
+
         untaken : (what : Act) → line_at.act ≡ what → is_taken what ≡ false → ⊥
         untaken what e not = let wrong : false ≡ true = sym not ∙ ap is_taken (sym e) ∙ taken-here in cc
+
         go : (what : Act) → line_at.act ≡ what → MayFollow config.dataset what course
         go (act.Write thread index patch) e = may-write thread index patch e
         go (act.Tick ms) e = may-tick ms (subst (λ (what : Act). IsAct config config.dataset (take k script.lines) what) e act-at).1
@@ -165,9 +167,13 @@ module _ (config : Config) (script : Script) (k : ℕ) (course : Course) (is : I
 
   pub turns-are : (new : Course) → IsTicked 0 true course new → AreTurnsOf config script new.turns.items
   turns-are new ticked = record {
-    are = subst (λ (metas : List MetaData). AreTurns (Tick 0 true (samples_after metas (reverse script.lines)) [] ∷ ticks_by metas (reverse script.lines)) new.turns.items) (sym (same-metas config script is taken))
-        (course.turns.items, ticked.turn, whole.turns,
-        record { now_is = ticked.now_is ∙ ap (λ (n : ℕ). n + 0) whole.moment; closing_is = ticked.closing_is; rows_are = ticked.rows_are ∙ whole.rows }, ticked.turns);
+    are = subst (λ (metas : List MetaData). AreTurns (Tick 0 true (samples_after metas (reverse script.lines)) [] ∷ ticks_by metas (reverse script.lines)) new.turns.items) (sym (same-metas config script is taken)) (
+      course.turns.items,
+      ticked.turn,
+      whole.turns,
+      record { now_is = ticked.now_is ∙ ap (λ (n : ℕ). n + 0) whole.moment; closing_is = ticked.closing_is; rows_are = ticked.rows_are ∙ whole.rows },
+      ticked.turns,
+    );
     have = ticked-have config.dataset course new 0 true ticked whole.belong whole.have;
     few = let all = is.few.ticks in
         let e = ap length ticked.turns in

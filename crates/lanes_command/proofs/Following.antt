@@ -1,19 +1,16 @@
 -- A course follows a line.
-use Rattle.std.proofs.Common.{◌≡◌, ℕ, ◌+◌, ◌*◌, ◌<◌, ◌≤◌, ◌^◌, Bool, true, false, cond, List, [], ◌∷◌, ◌++◌, length, get_or, set, refl, sym, ap, ◌∙◌, subst, arith}
-use Rattle.std.specs.Prelude.{All, count_by}
+use Rattle.std.proofs.Common.{◌≡◌, ℕ, ◌+◌, ◌<◌, Bool, false, List, ◌∷◌, length, get_or, set, sym, ap, ◌∙◌, subst, arith}
 use Rattle.std.proofs.lemmas.List.{length_push}
 use Rattle.std.proofs.lemmas.List.Elements.{All-push}
 use Rattle.dataset_meta.specs.Metas.{MetaData}
 use Rattle.row_words.specs.declared.patch.Patch.{Patch}
 use Rattle.ps_script.specs.declared.script.Act.TheVariants as act
 use Rattle.ps_script.specs.declared.script.Line.{Line}
-use Rattle.ps_script.specs.Sessions.{is_tick, ticks_in}
+use Rattle.ps_script.specs.Sessions.{is_tick}
 use Rattle.ua_base.specs.declared.link.Fate.{Fate}
 use Rattle.writer_group.specs.declared.sampled.Sampled.{Sampled}
 use Rattle.writer_group.specs.Turns.{no_sample}
 use Rattle.session_model.specs.Sets.{AreRowsOf, meta_in}
-use Rattle.session_model.specs.Steps.{moment_of}
-use Rattle.script_player.specs.Playing.{samples_after}
 use Rattle.script_player.proofs.Lines.{count_by-cons, write_line}
 use Rattle.lane_groups.specs.declared.turn.TurnIn.{TurnIn}
 use Rattle.lane_groups.specs.Turns.{AreTurns}
@@ -51,8 +48,13 @@ module _ (metas : List MetaData) (lines : List Line) (at : ℕ) (old new : Cours
     moment = is.moment ∙ ap (λ (n : ℕ). n + ms) was.moment;
     rows = ap (λ rows. rows.items) is.rows ∙ was.rows;
     belong = subst (λ rows. AreRowsOf metas rows.items) (sym is.rows) was.belong;
-    turns = (old.turns.items, is.turn, was.turns,
-    record { now_is = is.now_is ∙ ap (λ (n : ℕ). n + ms) was.moment; closing_is = is.closing_is; rows_are = is.rows_are ∙ was.rows }, is.turns);
+    turns = (
+      old.turns.items,
+      is.turn,
+      was.turns,
+      record { now_is = is.now_is ∙ ap (λ (n : ℕ). n + ms) was.moment; closing_is = is.closing_is; rows_are = is.rows_are ∙ was.rows },
+      is.turns,
+    );
     have = ticked-have metas old new ms false is was.belong was.have;
     count = let e = ap length is.turns in
         omega (arith, e, was.count, length_push old.turns.items is.turn, count_by-cons (λ (l : Line). is_tick l.act) (record { at = at; act = act.Tick ms }) lines);
@@ -63,10 +65,10 @@ module _ (metas : List MetaData) (lines : List Line) (at : ℕ) (old new : Cours
   follows-fate number fate same =
       subst (IsCourse metas (record { at = at; act = act.Fated number fate } ∷ lines)) (sym same)
       (record {
-          moment = was.moment;
-          rows = was.rows;
-          belong = was.belong;
-          turns = was.turns;
-          have = was.have;
-          count = omega (arith, was.count, count_by-cons (λ (l : Line). is_tick l.act) (record { at = at; act = act.Fated number fate }) lines);
+        moment = was.moment;
+        rows = was.rows;
+        belong = was.belong;
+        turns = was.turns;
+        have = was.have;
+        count = omega (arith, was.count, count_by-cons (λ (l : Line). is_tick l.act) (record { at = at; act = act.Fated number fate }) lines);
       })

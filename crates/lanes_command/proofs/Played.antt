@@ -1,6 +1,5 @@
 -- What lanes of a script leave.
-use Rattle.std.proofs.Common.{◌≡◌, ◌≢◌, ℕ, ◌+◌, ◌<◌, ◌≤◌, Bool, true, false, List, [], ◌∷◌, length, map, get_or, refl, sym, ap, ◌∙◌, subst, arith, Option, Some, None}
-use Rattle.std.specs.Prelude.{All}
+use Rattle.std.proofs.Common.{◌≡◌, ℕ, false, List, [], length, map, sym, ap, ◌∙◌, subst, arith, Option, Some, None}
 use Rattle.ua_base.specs.Journal.{LinkState, Tells}
 use Rattle.ua_base.specs.Net.{Opens}
 use Rattle.ua_base.specs.declared.link.Opened.TheVariants as opened
@@ -17,13 +16,13 @@ use Rattle.lane_groups.specs.declared.lane.Lane.{Lane}
 use Rattle.lane_groups.specs.declared.running.Ran.{Ran}
 use Rattle.lane_groups.specs.declared.turn.TurnIn.{TurnIn}
 use Rattle.lane_groups.specs.Deeds.{datagrams_by, plan_of, turns_deeds}
-use Rattle.lane_groups.specs.Lanes.{IsWork, has_group}
+use Rattle.lane_groups.specs.Lanes.{IsWork}
 use Rattle.lane_groups.specs.Running.{AreBehind, AreLanes, HasRunLanes}
 use Rattle.lane_groups.specs.Turns.{AreTurns}
 use Rattle.lanes_command.specs.Courses.{AreTurnsOf}
 use Rattle.lanes_command.specs.Runs.{IsLanesOf}
 use Rattle.lanes_command.specs.Scripts.{refusal, ticks_of}
-use Rattle.lanes_command.specs.Sends.{AreSent, Counts}
+use Rattle.lanes_command.specs.Sends.{AreSent}
 use Rattle.lanes_command.specs.Standing.{HaveGroups, StandAll, counts_of, logs_by}
 use Rattle.lanes_command.specs.Texts.{lanes_text}
 use Rattle.lanes_command.proofs.Sending.{are-sent, datagrams-same, none-to, send_of}

@@ -1,7 +1,6 @@
 -- The samples of one line more.
-use Rattle.std.proofs.Common.{◌≡◌, ◌≢◌, ◌⊎◌, inl, inr, ℕ, zero, suc, ◌+◌, ◌<◌, ◌≤◌, Bool, true, false, List, [], ◌∷◌, ◌++◌, length, get_or, set, replicate, refl, sym, ap, ◌∙◌, subst, arith}
+use Rattle.std.proofs.Common.{◌≡◌, ◌≢◌, ◌⊎◌, inl, inr, ℕ, zero, suc, ◌<◌, true, false, List, [], ◌∷◌, ◌++◌, length, get_or, set, replicate, sym, ap, ◌∙◌, subst, arith}
 use Rattle.std.specs.Prelude.{◌==◌}
-use Rattle.std.specs.List.{AllZip, range_with_len}
 use Rattle.std.proofs.lemmas.Bool.Decides.{eqb_tells}
 use Rattle.std.proofs.lemmas.List.{get_or-replicate, get_or-set_other, get_or-set_same, length-replicate, length-set, length_push, same_lists}
 use Rattle.std.proofs.lemmas.List.FromFn.{get_or-map-range_with_len, length-map-range_with_len}
@@ -12,7 +11,6 @@ use Rattle.row_words.specs.Patches.{patched_words}
 use Rattle.version_cell.specs.declared.rule.Entry.{Entry}
 use Rattle.version_cell.specs.Histories.{entry, opening_words, row_after}
 use Rattle.version_cell.proofs.Logs.{last_words-push}
-use Rattle.ps_script.specs.declared.script.Act.TheVariants as act
 use Rattle.ps_script.specs.declared.script.Line.{Line}
 use Rattle.writer_group.specs.declared.sampled.Sampled.{Sampled}
 use Rattle.session_model.specs.Sets.{AreRowsOf, meta_in}

@@ -1,6 +1,6 @@
 -- The datagrams of parcels with their entries, as sends with whether each was done.
-use Rattle.std.proofs.Common.{◌≡◌, ◌≢◌, ◌⊎◌, inl, inr, ℕ, zero, suc, ◌+◌, ◌<◌, ◌≤◌, ◌^◌, ◌-◌, Bool, true, false, cond, ◌&&◌, List, [], ◌∷◌, ◌++◌, length, map, refl, sym, ap, ◌∙◌, subst, arith, Option, Some, None}
-use Rattle.std.specs.Prelude.{◌==◌, count_by, filter, min, slice_index, zip, if◌then◌else◌}
+use Rattle.std.proofs.Common.{◌≡◌, ℕ, zero, suc, ◌+◌, ◌<◌, ◌≤◌, Bool, true, false, cond, ◌&&◌, List, [], ◌∷◌, ◌++◌, map, refl, sym, ap, ◌∙◌, arith}
+use Rattle.std.specs.Prelude.{◌==◌, count_by, filter, slice_index, zip, if◌then◌else◌}
 use Rattle.std.specs.List.{AllZip}
 use Rattle.std.proofs.lemmas.Bool.{eq-eqb}
 use Rattle.std.proofs.lemmas.List.{length-map}
@@ -16,8 +16,8 @@ use Rattle.group_threads.specs.Sending.{Conveyed, IsEntryOf, failed_of, failed_o
 use Rattle.lane_groups.specs.declared.running.Ran.{Ran}
 use Rattle.lane_groups.specs.Running.{datagrams_in_group}
 use Rattle.script_player.proofs.Lines.{count_by-cons}
-use Rattle.lanes_command.specs.Sends.{AreSent, Counts, datagrams_to}
-use Rattle.lanes_command.specs.Standing.{all_of, counts_of}
+use Rattle.lanes_command.specs.Sends.{AreSent, datagrams_to}
+use Rattle.lanes_command.specs.Standing.{counts_of}
 
 abbrev pub send_of : Parcel → Send
 send_of p = record { group = p.group; datagram = p.bytes }

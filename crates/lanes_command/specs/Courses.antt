@@ -2,7 +2,6 @@
 use Rattle.std.specs.Prelude.{◌≡◌, ⊤, ℕ, ◌+◌, ◌-◌, ◌<◌, ◌≤◌, ◌^◌, List, [], ◌∷◌, ◌++◌, length, All, Bool, slice_set}
 use Rattle.std.specs.List.{HoldsAt}
 use Rattle.dataset_meta.specs.Metas.{MetaData}
-use Rattle.row_words.specs.Belonging.{Belongs}
 use Rattle.row_words.specs.declared.patch.Patch.{Patch}
 use Rattle.row_words.specs.Patches.{IsPatchOf, patched_words}
 use Rattle.ps_config.specs.declared.parts.Config.{Config}

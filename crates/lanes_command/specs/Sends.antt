@@ -1,5 +1,5 @@
 -- What lanes leave in the journal of their link, and the counts of it.
-use Rattle.std.specs.Prelude.{◌≡◌, ℕ, ◌<◌, ◌==◌, List, [], ◌∷◌, length, map, zip, count_by, filter, slice_index, Bool}
+use Rattle.std.specs.Prelude.{◌≡◌, ℕ, ◌<◌, ◌==◌, List, length, map, zip, count_by, filter, slice_index, Bool}
 use Rattle.ua_base.specs.Journal.{LinkState}
 use Rattle.session_model.specs.Answers.{counted}
 use Rattle.session_model.specs.Closing.{is_send_failed, is_sent}

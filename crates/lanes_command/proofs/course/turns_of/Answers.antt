@@ -1,8 +1,7 @@
-use Rattle.std.proofs.Common.{◌≡◌, ℕ, ◌<◌, ◌≤◌, [], ◌∷◌, List, length, get_or, sym, ap, ◌∙◌, subst, arith}
+use Rattle.std.proofs.Common.{◌<◌, ◌≤◌, [], ◌∷◌, List, length, get_or, sym, ap, ◌∙◌, subst, arith}
 use Rattle.dataset_meta.specs.Metas.{MetaData}
 use Rattle.ps_script.specs.declared.script.Line.{Line}
 use Rattle.script_player.proofs.Next.{no_line}
-use Rattle.lanes_command.specs.declared.course.Course.{Course}
 use Rattle.lanes_command.specs.Courses.{IsCourse, MayFollow}
 use Rattle.lanes_command.proofs.Bounds.{may-close, may-follow, turns-are, underway-more, underway-none}
 use Rattle.lanes_command.proofs.course.turns_of.Goals as goal

@@ -1,4 +1,4 @@
-use Rattle.std.proofs.Common.{◌≡◌, List, sym, subst}
+use Rattle.std.proofs.Common.{List, sym, subst}
 use Rattle.lane_groups.specs.declared.turn.TurnIn.{TurnIn}
 use Rattle.lane_groups.specs.Deeds.{turns_deeds}
 use Rattle.lanes_command.specs.Courses.{AreTurnsOf}

@@ -1,13 +1,12 @@
-use Rattle.std.proofs.Common.{◌≡◌, ℕ, ◌+◌, ◌<◌, ◌≤◌, List, ◌++◌, length, get_or, sym, ap, ◌∙◌, subst, arith, append_assoc}
+use Rattle.std.proofs.Common.{◌≡◌, ℕ, ◌<◌, List, ◌++◌, length, get_or, sym, ap, ◌∙◌, subst, arith, append_assoc}
 use Rattle.std.proofs.lemmas.List.{get_or_read}
 use Rattle.ps_config.specs.declared.parts.GroupPart.{GroupPart}
-use Rattle.writer_group.specs.declared.group.Group.{Group}
 use Rattle.writer_group.specs.Parts.{group_at, no_group}
 use Rattle.writer_group.specs.Standing.{IsGroup, metas_for}
 use Rattle.session_parts.proofs.Few.{few-writers}
 use Rattle.session_model.specs.Deeds.{group_past}
 use Rattle.lane_groups.specs.declared.lane.Lane.{Lane}
-use Rattle.lanes_command.specs.Standing.{IsGroupOf, StandAll, counts_of, log_in, logs_by}
+use Rattle.lanes_command.specs.Standing.{IsGroupOf, counts_of, log_in, logs_by}
 use Rattle.lanes_command.specs.Texts.{group_lines, lane_line, writer_lines}
 use Rattle.lanes_command.proofs.Texts.{group-made, group-stands, lines-more}
 use Rattle.lanes_command.proofs.text.put_groups.Goals as goal

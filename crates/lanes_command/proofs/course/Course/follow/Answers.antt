@@ -1,8 +1,6 @@
-use Rattle.std.proofs.Common.{◌≡◌, ℕ, false, List, ◌∷◌, refl, sym, ap, ◌∙◌, subst}
+use Rattle.std.proofs.Common.{ℕ, false, ◌∷◌, sym, ◌∙◌, subst}
 use Rattle.std.specs.Prelude.{OnOk, Result, Ok, Err}
 use Rattle.ps_script.specs.declared.script.Act.{Act}
-use Rattle.ps_script.specs.declared.script.Act.TheVariants as act
-use Rattle.ps_script.specs.declared.script.Line.{Line}
 use Rattle.lanes_command.specs.Courses.{IsCourse, IsTicked, IsWritten, MayFollow}
 use Rattle.lanes_command.proofs.Following.{follows-tick, follows-write}
 use Rattle.lanes_command.proofs.course.Course.follow.Goals as goal

@@ -1,6 +1,5 @@
-use Rattle.std.proofs.Common.{◌≡◌, ℕ, List, length, replicate, refl, sym, ap, ◌∙◌, subst}
+use Rattle.std.proofs.Common.{ℕ, List, length, replicate, refl, sym, ap, ◌∙◌, subst}
 use Rattle.std.proofs.lemmas.List.Elements.{All-nil}
-use Rattle.writer_group.specs.declared.sampled.Sampled.{Sampled}
 use Rattle.session_model.specs.Sets.{AreRowsOf}
 use Rattle.pubsub_engine.proofs.OpenRows.{rows-alike}
 use Rattle.lane_groups.specs.declared.turn.TurnIn.{TurnIn}

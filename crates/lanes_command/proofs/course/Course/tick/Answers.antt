@@ -1,4 +1,4 @@
-use Rattle.std.proofs.Common.{◌≡◌, ◌+◌, List, refl, ◌∙◌}
+use Rattle.std.proofs.Common.{◌+◌, refl, ◌∙◌}
 use Rattle.lanes_command.proofs.course.Course.tick.Goals as goal
 
 pub returns : goal.returns
