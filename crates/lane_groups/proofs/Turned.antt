@@ -222,7 +222,7 @@ is-begun work number turn old mid low at may keygroup begun = record {
 
 module _ (work : Work) (number : ℕ) (old new : Lane) (low : number < length work.turns.now) (may : MayTurn work number old) (done : IsDone work.config.now work.turns.now number old new) where
   pub done-turn : HasTurn work number old new
-  done-turn = record { stands = done.stands; groups = done.groups; made = done.made; others = done.others }
+  done-turn = record { lane_is = done.lane_is; stands = done.stands; groups = done.groups; made = done.made; others = done.others }
 
   pub done-next : MayTurn work (number + 1) new
   done-next = record {
