@@ -7,6 +7,7 @@ use Rattle.ps_config.specs.declared.parts.ReaderPart.{ReaderPart}
 use Rattle.ps_script.specs.declared.script.Script.{Script}
 use Rattle.json_frames.specs.Parts.{Part}
 use Rattle.json_text.specs.Matching.{json_readers}
+use Rattle.json_text.specs.Reading.{ReadsLines}
 use Rattle.json_text.specs.Readers.{HasRecords}
 use Rattle.json_text.specs.Texts.{TellsLines}
 use Rattle.json_command.specs.Playing.{IsTapped}
@@ -14,7 +15,7 @@ use Rattle.json_command.specs.Jsons.{IsJsonOf}
 
 pub is-json : (config : Config) (script : Script) (told : Option LinkState) (lines read : List (List ℕ)) (skipped : ℕ) (text : List ℕ) → read ≡ lines
     → IsTapped config script told lines skipped → TellsLines config read skipped text
-    → ((config : Config) (parts : List Part) (reader : ReaderPart) → HasRecords config parts reader) → IsJsonOf config script told text
+    → ((config : Config) (lines : List (List ℕ)) (parts : List Part) (reader : ReaderPart) → ReadsLines config lines parts → HasRecords config parts reader) → IsJsonOf config script told text
 is-json config script told lines read skipped text same tapped tells records =
     let so = subst (λ (l : List (List ℕ)). TellsLines config l skipped text) same tells in
     record {
@@ -25,6 +26,6 @@ is-json config script told lines read skipped text same tapped tells records =
       played = tapped.played;
       of_sent = tapped.of_sent;
       read = so.read;
-      records = λ k d below. records config so.parts (slice_index_or (json_readers config) k d);
+      records = λ k d below. records config lines so.parts (slice_index_or (json_readers config) k d) so.read;
       text_is = so.text_is;
     }

@@ -1,1 +1,2 @@
 pub mod Jsoned
+pub mod Matching

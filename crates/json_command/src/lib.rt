@@ -3,6 +3,8 @@
 #![tactic(auto)]
 
 mod command;
+mod laws;
 mod playing;
 
 pub use command::json;
+pub use laws::matched_readers_are_told;

@@ -1,3 +1,5 @@
+pub mod NearPlaces
+pub mod ShortNumbers
 pub mod Recorded
 pub mod KeptOn
 pub mod Read

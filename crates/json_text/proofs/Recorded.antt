@@ -6,12 +6,15 @@ use Rattle.frame_codec.specs.Frames.{Frame}
 use Rattle.pubsub_model.specs.Records.{Arrival, Item, Came, Cut, since_cut}
 use Rattle.dataset_reader.specs.declared.took.Numbering.{Numbering}
 use Rattle.dataset_reader.specs.declared.took.Numbering.TheVariants as numberings
-use Rattle.dataset_reader.specs.Keeping.{Event, Framed, CutBy, AreArrivals, AreNearInEach, Keeps, KeepsUnnumbered, came_on, jumps, kept_after, with_jumps}
+use Rattle.dataset_reader.specs.Keeping.{Event, Framed, CutBy, AreArrivals, AreNearInEach, AreShort, Keeps, KeepsUnnumbered, came_on, jumps, kept_after, with_jumps}
 use Rattle.ps_config.specs.declared.parts.Config.{Config}
 use Rattle.ps_config.specs.declared.parts.ReaderPart.{ReaderPart}
 use Rattle.reader_group.specs.Members.{numbering_of}
 use Rattle.json_frames.specs.Parts.{Part, meta_at}
+use Rattle.json_text.specs.Reading.{ReadsLines}
 use Rattle.json_text.specs.Readers.{HasRecords, KeepsRecords, brought, came, is_for}
+use Rattle.json_text.proofs.NearPlaces.{near-arrivals}
+use Rattle.json_text.proofs.ShortNumbers.{came-short}
 
 -- no event has a nonce's number
 abbrev AreBare : List Event → Type 0
@@ -49,13 +52,29 @@ abbrev Unnumbered : Type 0
 Unnumbered = (major : ℕ) (events : List Event) (arrivals : List Arrival) → AreArrivals numberings.Unnumbered major events arrivals
     → KeepsUnnumbered arrivals (kept_after numberings.Unnumbered major events)
 
-keeps_by : Numbered → Unnumbered → (numbering : Numbering) (major : ℕ) (events : List Event) → AreBare events → KeepsRecords numbering major events
-keeps_by numbered unnumbered numberings.Message major events bare = λ arrivals is near.
-    let same = no_jumps numberings.Message major events arrivals bare is in
-    subst (λ (l : List Arrival). Keeps l (kept_after numberings.Message major events)) same
-    (numbered major events arrivals is (subst AreNearInEach (sym same) near))
-keeps_by numbered unnumbered numberings.Unnumbered major events bare = λ arrivals is near. unnumbered major events arrivals is
+-- each list has arrivals
+abbrev Arrives : Type 0
+Arrives = (numbering : Numbering) (major : ℕ) (events : List Event) → AreShort events → (arrivals : List Arrival) × AreArrivals numbering major events arrivals
 
-pub keeps-records : Numbered → Unnumbered → (config : Config) (parts : List Part) (reader : ReaderPart) → HasRecords config parts reader
-keeps-records numbered unnumbered config parts reader =
-    keeps_by numbered unnumbered (numbering_of reader.numbering) (meta_at config.dataset reader.dataset).major (came reader parts) (bare reader (reverse parts))
+keeps_by : Arrives → Numbered → Unnumbered → (numbering : Numbering) (major : ℕ) (events : List Event) → AreShort events → AreBare events
+    → KeepsRecords numbering major events
+keeps_by arrives numbered unnumbered numberings.Message major events short bare =
+    let some = near-arrivals major events short in
+    record {
+      arrivals = some.arrivals;
+      are = some.are;
+      near = some.near;
+      keeps = λ others is near.
+          let same = no_jumps numberings.Message major events others bare is in
+          subst (λ (l : List Arrival). Keeps l (kept_after numberings.Message major events)) same
+          (numbered major events others is (subst AreNearInEach (sym same) near));
+    }
+keeps_by arrives numbered unnumbered numberings.Unnumbered major events short bare =
+    let some = arrives numberings.Unnumbered major events short in
+    record { arrivals = some.0; are = some.1; near = tt; keeps = λ others is near. unnumbered major events others is }
+
+pub keeps-records : Arrives → Numbered → Unnumbered → (config : Config) (lines : List (List ℕ)) (parts : List Part) (reader : ReaderPart) → ReadsLines config lines parts
+    → HasRecords config parts reader
+keeps-records arrives numbered unnumbered config lines parts reader read =
+    keeps_by arrives numbered unnumbered (numbering_of reader.numbering) (meta_at config.dataset reader.dataset).major (came reader parts)
+    (came-short config lines parts reader read) (bare reader (reverse parts))

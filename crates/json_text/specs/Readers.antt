@@ -38,11 +38,14 @@ abbrev pub AreNearBy : Numbering → List Arrival → Type 0
 AreNearBy numberings.Message arrivals = AreNearInEach arrivals
 AreNearBy numberings.Unnumbered arrivals = ⊤
 
--- what is kept after these events is what *Records* says of all arrivals that they can be, where their places are near
-abbrev pub KeepsRecords : Numbering → ℕ → List Event → Type 0
-KeepsRecords numbering major events =
-    (arrivals : List Arrival) → AreArrivals numbering major events arrivals → AreNearBy numbering arrivals
-    → KeepsBy numbering arrivals (kept_after numbering major events)
+-- The events can be arrivals such as these, and what is kept after them is what *Records* says of all that they can be. A number of 16 bits names a place up to
+-- a multiple of 65,536; near places go by what was before.
+pub record KeepsRecords (numbering : Numbering) (major : ℕ) (events : List Event) : Type 0 where
+  pub arrivals : List Arrival
+  pub are : AreArrivals numbering major events arrivals
+  pub near : AreNearBy numbering arrivals
+  pub keeps : (others : List Arrival) → AreArrivals numbering major events others → AreNearBy numbering others
+      → KeepsBy numbering others (kept_after numbering major events)
 
 -- the same of a reader
 abbrev pub HasRecords : Config → List Part → ReaderPart → Type 0
