@@ -1,5 +1,5 @@
 -- A new lane.
-use Rattle.std.proofs.Common.{◌≡◌, refl, sym, ap, ◌∙◌, subst, arith, ℕ, ◌+◌, ◌<◌, ◌≤◌, ◌≢◌, ◌⊎◌, inl, inr, Bool, true, false, List, [], ◌∷◌, ◌++◌, length, length-append, get_or}
+use Rattle.std.proofs.Common.{◌≡◌, refl, sym, ap, ◌∙◌, subst, arith, ℕ, ◌+◌, ◌<◌, ◌≢◌, ◌⊎◌, inl, inr, Bool, true, false, List, [], ◌∷◌, ◌++◌, length, length-append, get_or}
 use Rattle.std.specs.Prelude.{◌==◌, Option, Some, None, IfSome, is_some, option_map, Vec}
 use Rattle.std.specs.declared.alloc.Global.{Global}
 use Rattle.std.specs.Option.{option_map_or}
@@ -13,12 +13,12 @@ use Rattle.ps_config.specs.declared.parts.Config.{Config}
 use Rattle.writer_group.specs.Parts.{group_at, no_group}
 use Rattle.writer_group.specs.Standing.{IsGood}
 use Rattle.ps_config.specs.Sound.{IsGroup as IsSoundGroup}
-use Rattle.session_model.specs.Deeds.{opening_sender, sender_after, shares}
+use Rattle.session_model.specs.Deeds.{opening_sender, sender_after}
 use Rattle.reader_group.specs.Settings.{keygroup_at}
 use Rattle.lane_groups.specs.declared.making.Members.{Members}
 use Rattle.lane_groups.specs.declared.making.Members.TheVariants as members
 use Rattle.lane_groups.specs.declared.place.Place.{Place}
-use Rattle.lane_groups.specs.Places.{HasPast, IsApart, IsNewPlace, IsPlaced, MayGo}
+use Rattle.lane_groups.specs.Places.{HasPast, IsApart, IsPlaced, MayGo}
 use Rattle.lane_groups.specs.Lanes.{has_group, AreOfLane, IsSenderOf, MayAllGo, StandAt, is_in}
 use Rattle.lane_groups.specs.declared.lane.Lane.{Lane}
 use Rattle.lane_groups.specs.Running.{AreLanes, IsNewLane, StandsIn}

@@ -1,28 +1,27 @@
 -- What all lanes made, group by group.
 use Rattle.std.proofs.Common.{◌≡◌, refl, sym, ap, ◌∙◌, subst, arith, ℕ, zero, suc, ◌+◌, ◌-◌, ◌<◌, ◌≤◌, ◌≢◌, Bool, true, false, List, [], ◌∷◌, ◌++◌, length, map, take, drop, get_or, append_assoc}
-use Rattle.std.specs.Prelude.{Option, Some, None, is_some, fold, nat_lt}
+use Rattle.std.specs.Prelude.{Option, None, is_some, fold, nat_lt}
 use Rattle.std.proofs.lemmas.Bool.Decides.{nat_tests}
-use Rattle.std.proofs.lemmas.List.{append-nil, map-append, take_all, take-append-drop}
+use Rattle.std.proofs.lemmas.List.{map-append, take_all, take-append-drop}
 use Rattle.std.proofs.lemmas.List.Sums.{fold-append}
 use Rattle.ua_base.specs.Journal.{LinkState, Tells}
 use Rattle.group_threads.specs.Sending.{Conveyed}
 use Rattle.ps_config.specs.declared.parts.Config.{Config}
-use Rattle.session_model.specs.Deeds.{Deed, group_past}
+use Rattle.session_model.specs.Deeds.{Deed}
 use Rattle.group_threads.specs.declared.parcel.Parcel.{Parcel}
 use Rattle.group_threads.specs.declared.running.Ran.{Ran as RanMakers}
 use Rattle.group_threads.specs.Closing.{HasRunAll, HasRunPart, HasSentPart}
 use Rattle.group_threads.specs.Groups.{of_group, pair_of}
-use Rattle.group_threads.specs.Pairs.{Pair, Makes, numbered}
+use Rattle.group_threads.specs.Pairs.{Pair, Makes}
 use Rattle.group_threads.specs.Parcels.{of_lane}
 use Rattle.group_threads.proofs.Grouping.{group_of_its_lane, numbered-pairs}
 use Rattle.lane_groups.specs.declared.lane.Lane.{Lane}
 use Rattle.lane_groups.specs.declared.place.Place.{Place}
 use Rattle.lane_groups.specs.declared.running.Ran.{Ran}
-use Rattle.lane_groups.specs.declared.turn.TurnIn.{TurnIn}
 use Rattle.lane_groups.specs.declared.turn.Work.{Work}
-use Rattle.lane_groups.specs.Deeds.{datagrams_by, datagrams_of, deeds_behind, ticked, turns_deeds}
+use Rattle.lane_groups.specs.Deeds.{datagrams_by, deeds_behind, ticked, turns_deeds}
 use Rattle.lane_groups.specs.Lanes.{HasTurn, IsLane, IsWork, MayAllGo, MayTurn, Stands, has_group, made_by}
-use Rattle.lane_groups.specs.Running.{AreBehind, AreLanes, HasRunLanes, HasStopped, IsNewLane, StandsIn, datagrams_in_group}
+use Rattle.lane_groups.specs.Running.{AreBehind, AreLanes, HasRunLanes, HasStopped, StandsIn, datagrams_in_group}
 use Rattle.lane_groups.proofs.Made.{of_group-append}
 use Rattle.lane_groups.proofs.Past.{Begins, turns-begin}
 

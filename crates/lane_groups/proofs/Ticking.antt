@@ -1,5 +1,5 @@
 -- The turns of lanes are ticks of a session.
-use Rattle.std.proofs.Common.{◌≡◌, refl, sym, ap, ◌∙◌, ℕ, ◌+◌, Bool, true, List, [], ◌∷◌, ◌++◌, map}
+use Rattle.std.proofs.Common.{◌≡◌, refl, sym, ap, ◌∙◌, ℕ, ◌+◌, Bool, true, List, [], ◌∷◌, map}
 use Rattle.std.specs.Prelude.{fold, ◌&&◌, ◌||◌}
 use Rattle.std.proofs.lemmas.List.Sums.{fold_push}
 use Rattle.dataset_meta.specs.Metas.{MetaData}
@@ -19,7 +19,7 @@ use Rattle.session_model.specs.Sets.{metas_at, rows_cut}
 use Rattle.session_model.specs.Steps.{Plan, Step, Enable, Disable, Append, Tick, Pump, moment_of, switches_in}
 use Rattle.lane_groups.specs.declared.turn.TurnIn.{TurnIn}
 use Rattle.lane_groups.specs.Deeds.{plan_of, ticked, turns_deeds}
-use Rattle.lane_groups.specs.Turns.{AreTurns, IsTurnOf}
+use Rattle.lane_groups.specs.Turns.{AreTurns}
 
 -- ---- a tick by the switches and the data sets before it
 
@@ -44,6 +44,15 @@ module _ (p : Plan) (switches : List Change) (metas : List MetaData) (now : ℕ)
   tick-by : List Deed → List Deed
   tick-by earlier = fold turned-by (rekeyed p.config now earlier) (group_indexes p.config)
 
+-- behind steps with the same switches and the same data sets a tick is the same
+pub tick-same : (p : Plan) (one two : List Step) (now : ℕ) (closing : Bool) (samples : List Sampled) (earlier : List Deed)
+    → switches_in one ≡ switches_in two → metas_at p.config one ≡ metas_at p.config two
+    → tick_deeds p one now closing samples earlier ≡ tick_deeds p two now closing samples earlier
+unfolding flags-by works-by turned-by tick-by
+tick-same p one two now closing samples earlier switches metas =
+    ap (λ (s : List Change). tick-by p s (metas_at p.config one) now closing samples earlier) switches
+    ∙ ap (λ (m : List MetaData). tick-by p (switches_in two) m now closing samples earlier) metas
+
 -- ---- steps that only tick and pump
 
 module _ (config : Config) where
@@ -63,14 +72,6 @@ module _ (config : Config) where
   same-metas (Tick ms closing samples done ∷ before) turns are = same-metas before are.0 are.2
   same-metas (Pump entries ∷ before) turns are = same-metas before turns are
 
-  -- a tick behind them is one behind nothing
-  same-tick : (before : List Step) (turns : List TurnIn) (now : ℕ) (closing : Bool) (samples : List Sampled) (earlier : List Deed) → AreTurns before turns
-      → tick_deeds (plan_of config) before now closing samples earlier ≡ tick_deeds (plan_of config) [] now closing samples earlier
-  unfolding flags-by works-by turned-by tick-by
-  same-tick before turns now closing samples earlier are =
-      ap (λ (switches : List Change). tick-by (plan_of config) switches (metas_at config before) now closing samples earlier) (no-switches before turns are)
-      ∙ ap (λ (metas : List MetaData). tick-by (plan_of config) [] metas now closing samples earlier) (same-metas before turns are)
-
   pub same-deeds : (steps : List Step) (turns : List TurnIn) → AreTurns steps turns → deeds (plan_of config) steps ≡ turns_deeds config turns
   same-deeds [] turns are = sym (ap (turns_deeds config) are)
   same-deeds (Enable id ∷ before) turns are = absurd are
@@ -80,7 +81,7 @@ module _ (config : Config) where
   same-deeds (Tick ms closing samples done ∷ before) turns are =
       let now = moment_of before + ms in
       let of = are.3 in
-      same-tick before are.0 now closing samples (deeds (plan_of config) before) are.2
+      tick-same (plan_of config) before [] now closing samples (deeds (plan_of config) before) (no-switches before are.0 are.2) (same-metas before are.0 are.2)
       ∙ ap (tick_deeds (plan_of config) [] now closing samples) (same-deeds before are.0 are.2)
       ∙ sym (ap (λ (n : ℕ). tick_deeds (plan_of config) [] n are.1.closing are.1.rows.items (turns_deeds config are.0)) of.now_is
       ∙ ap (λ (b : Bool). tick_deeds (plan_of config) [] now b are.1.rows.items (turns_deeds config are.0)) of.closing_is

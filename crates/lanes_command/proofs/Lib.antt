@@ -5,3 +5,4 @@ pub mod Bounds
 pub mod Sending
 pub mod Played
 pub mod Texts
+pub mod Beside

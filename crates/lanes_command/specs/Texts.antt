@@ -3,7 +3,8 @@ use Rattle.std.specs.Prelude.{ℕ, List, ◌++◌, length, codes, flat_map, slic
 use Rattle.std.specs.Fmt.{decimal}
 use Rattle.ps_config.specs.declared.parts.Config.{Config}
 use Rattle.ps_config.specs.declared.parts.GroupPart.{GroupPart}
-use Rattle.ps_report.specs.Lines.{feed, log_text}
+use Rattle.ps_report.specs.Lines.{count_text, feed, log_text}
+use Rattle.ps_report.specs.Reports.{end_line}
 use Rattle.writer_group.specs.Parts.{group_at}
 use Rattle.writer_group.specs.Payloads.{writer_at}
 use Rattle.session_model.specs.Deeds.{group_indexes, writer_indexes}
@@ -15,14 +16,11 @@ lane_line name sent = codes "lane " ++ name ++ codes " sent " ++ decimal sent ++
 
 -- `writer NAME N: P=V ..`: place and version of each data frame
 unfoldable pub writer_line : List ℕ → List (ℕ × ℕ) → List ℕ
-writer_line name log = codes "writer " ++ name ++ codes " " ++ decimal (length log) ++ codes ":" ++ log_text log ++ feed
+writer_line name log = codes "writer " ++ name ++ count_text (length log) ++ log_text log ++ feed
 
 -- `lanes sent A failed B`
 unfoldable pub totals_line : ℕ → ℕ → List ℕ
 totals_line sent failed = codes "lanes sent " ++ decimal sent ++ codes " failed " ++ decimal failed ++ feed
-
-unfoldable pub end_line : List ℕ
-end_line = codes "end" ++ feed
 
 -- the log of a writer by its group and its index in this
 abbrev pub Logs : Type 0

@@ -1,8 +1,9 @@
 //! Pieces of text, each appended to what was written before.
 ghost use Rattle.std.specs.Prelude.{◌≡◌, ◌++◌, OnOk, length};
 ghost use Rattle.std.specs.Fmt.{decimal};
-ghost use Rattle.ps_report.specs.Lines.{log_text};
-ghost use Rattle.lanes_command.specs.Texts.{end_line, lane_line, totals_line, writer_line};
+ghost use Rattle.ps_report.specs.Lines.{count_text, log_text};
+ghost use Rattle.ps_report.specs.Reports.{end_line};
+ghost use Rattle.lanes_command.specs.Texts.{lane_line, totals_line, writer_line};
 
 use dataset_meta::Name32;
 use itoa::Buffer;
@@ -40,10 +41,18 @@ pub fn put_writer(out: &mut Vec<u8>, name: &Name32, log: &[(u64, u64)]) -> Resul
 {
     put(out, b"writer ")?;
     put(out, name.as_bytes())?;
-    put_named(out, b" ", log.len() as u64)?;
-    put(out, b":")?;
+    put_count(out, log.len() as u64)?;
     put_log(out, log)?;
     put(out, b"\n")
+}
+
+/// A space, the count and a colon.
+#[tactic(auto, unfolding(ps_report::specs::Lines::count_text))]
+fn put_count(out: &mut Vec<u8>, count: u64) -> Result<(), NoMemory>
+    ensures { OnOk result (out.new.items ≡ out.old.items ++ count_text count) }
+{
+    put_named(out, b" ", count)?;
+    put(out, b":")
 }
 
 /// Place and version of each data frame.
@@ -66,7 +75,7 @@ pub fn put_totals(out: &mut Vec<u8>, sent: u64, failed: u64) -> Result<(), NoMem
     put(out, b"\n")
 }
 
-#[tactic(auto, unfolding(crate::specs::Texts::end_line))]
+#[tactic(auto, unfolding(ps_report::specs::Reports::end_line))]
 pub fn put_end(out: &mut Vec<u8>) -> Result<(), NoMemory>
     ensures { OnOk result (out.new.items ≡ out.old.items ++ end_line) }
 {
