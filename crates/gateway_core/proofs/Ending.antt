@@ -25,45 +25,7 @@ use Rattle.gateway_core.specs.Holding.{MayTick, plan_of, sampled_by, ticks_neede
 use Rattle.gateway_core.specs.Standing.{StandsAsSession}
 use Rattle.session_parts.specs.Ticking.{TickData, Holds, IsAt, TellsSoFar, deeds_to, flags_in_tick}
 use Rattle.gateway_core.specs.Beginning.{HasBegun, tick_of}
-
--- ---- sends are no receives
-
-no-got : (sends : List (Send × Bool)) → count_by is_got (map send_entry sends) ≡ 0
-no-got [] = refl
-no-got ((send, true) ∷ sends) = omega (arith, count-cons is_got (Sent send.datagram) (map send_entry sends), no-got sends)
-no-got ((send, false) ∷ sends) = omega (arith, count-cons is_got SendFailed (map send_entry sends), no-got sends)
-
-no-broken : (sends : List (Send × Bool)) → count_by is_broken (map send_entry sends) ≡ 0
-no-broken [] = refl
-no-broken ((send, true) ∷ sends) = omega (arith, count-cons is_broken (Sent send.datagram) (map send_entry sends), no-broken sends)
-no-broken ((send, false) ∷ sends) = omega (arith, count-cons is_broken SendFailed (map send_entry sends), no-broken sends)
-
-no-long : (sends : List (Send × Bool)) → count_by is_long (map send_entry sends) ≡ 0
-no-long [] = refl
-no-long ((send, true) ∷ sends) = omega (arith, count-cons is_long (Sent send.datagram) (map send_entry sends), no-long sends)
-no-long ((send, false) ∷ sends) = omega (arith, count-cons is_long SendFailed (map send_entry sends), no-long sends)
-
-receives-stay : (p : Plan) (before : List Step) (ms : ℕ) (closing : Bool) (samples : List Sampled) (done : List Bool) (receiving : Receiving)
-    → AreReceivesIn (journal p before) before receiving → AreReceivesIn (journal p (Tick ms closing samples done ∷ before)) (Tick ms closing samples done ∷ before) receiving
-receives-stay p before ms closing samples done receiving are =
-    let sends = zip (sends_of p (Tick ms closing samples done ∷ before)) done in record {
-      received = are.received ∙ ap counted (omega (arith, count-append is_got (journal p before) (map send_entry sends), no-got sends));
-      broken = are.broken ∙ ap counted (omega (arith, count-append is_broken (journal p before) (map send_entry sends), no-broken sends));
-      long = are.long ∙ ap counted (omega (arith, count-append is_long (journal p before) (map send_entry sends), no-long sends));
-      limit = are.limit;
-    }
-
--- ---- the flags
-
-flags-end : (t : TickData) (done : List Bool) (tree : TreeValue)
-    → HasFlags (flags_in_tick t (deeds t.plan (Tick t.ms t.closing t.samples done ∷ t.before)) done) tree
-    → HasFlags (flags_at t.plan (Tick t.ms t.closing t.samples done ∷ t.before)) tree
-flags-end t done tree flags Root among = flags Root among
-flags-end t done tree flags Connection among = flags Connection among
-flags-end t done tree flags (Group g) among = flags (Group g) among
-flags-end t done tree flags (Writer g w) among = flags (Writer g w) among
-flags-end t done tree flags (ReadGroup r) among = flags (ReadGroup r) among
-flags-end t done tree flags (Reader r i) among = flags (Reader r i) among
+use Rattle.session_parts.proofs.Ended.{flags-end, or-none, receives-stay}
 
 -- ---- the gateway
 
@@ -84,10 +46,6 @@ may-come p before ms closing old may stands = record {
   left = ticks-left closing (ticks_in before) most_ticks old.left.ticks stands.ticks may.left;
   still = may.still;
 }
-
-or-none : (b : Bool) → (b || false) ≡ b
-or-none true = refl
-or-none false = refl
 
 -- where one step more of a session leads, and what the link tells
 pub record LeadsAsSession (p : Plan) (before : List Step) (step : Step) (told after : Option LinkState) (s : Gateway) : Type 0 where
