@@ -1,29 +1,22 @@
 -- The end of a tick: where it leaves the gateway, as a session.
-use Rattle.std.proofs.Common.{◌≡◌, refl, sym, ap, ◌∙◌, subst, arith, ℕ, ◌+◌, ◌<◌, ◌≤◌, Bool, true, false, List, [], ◌∷◌, length, map, Option}
-use Rattle.std.specs.Prelude.{◌||◌, zip, count_by, Vec}
+use Rattle.std.proofs.Common.{◌≡◌, sym, ap, ◌∙◌, subst, arith, ℕ, ◌+◌, ◌<◌, ◌≤◌, Bool, true, false, List, ◌∷◌, length, Option}
+use Rattle.std.specs.Prelude.{◌||◌, Vec}
 use Rattle.std.specs.declared.alloc.Global.{Global}
-use Rattle.ua_base.specs.Journal.{LinkState, Sent, SendFailed}
-use Rattle.pubsub_states.specs.declared.component.Component.TheVariants.{Root, Connection, Group, Writer, ReadGroup, Reader}
+use Rattle.ua_base.specs.Journal.{LinkState}
 use Rattle.pubsub_states.specs.Changes.{TreeValue}
 use Rattle.session_model.specs.Steps.{Plan, Step, Tick}
 use Rattle.session_model.specs.Sets.{AreRowsOf}
 use Rattle.session_model.specs.Deeds.{deeds}
 use Rattle.session_model.specs.Counts.{is_closed, most_ticks, ticks_in}
 use Rattle.session_model.specs.Keeping.{MayCome}
-use Rattle.session_model.specs.Sends.{Send, send_entry, sends_of, journal, TellsRun}
-use Rattle.session_model.specs.States.{flags_at}
-use Rattle.writer_group.specs.declared.sampled.Sampled.{Sampled}
-use Rattle.session_model.specs.Answers.{counted}
-use Rattle.session_model.specs.Closing.{is_got, is_broken, is_long}
-use Rattle.session_model.proofs.Sending.{count-append, count-cons}
-use Rattle.session_parts.specs.declared.receiving.Receiving.{Receiving}
+use Rattle.session_model.specs.Sends.{journal, TellsRun}
 use Rattle.session_parts.specs.declared.tally.Tally.{Tally}
 use Rattle.gateway_core.specs.declared.gateway.Gateway.{Gateway}
 use Rattle.session_parts.specs.declared.publisher.Publisher.{Publisher}
-use Rattle.session_parts.specs.Standing.{HasFlags, HaveTallied, AreReceivesIn}
+use Rattle.session_parts.specs.Standing.{HaveTallied, AreReceivesIn}
 use Rattle.gateway_core.specs.Holding.{MayTick, plan_of, sampled_by, ticks_needed}
 use Rattle.gateway_core.specs.Standing.{StandsAsSession}
-use Rattle.session_parts.specs.Ticking.{TickData, Holds, IsAt, TellsSoFar, deeds_to, flags_in_tick}
+use Rattle.session_parts.specs.Ticking.{Holds, IsAt, TellsSoFar, deeds_to}
 use Rattle.gateway_core.specs.Beginning.{HasBegun, tick_of}
 use Rattle.session_parts.proofs.Ended.{flags-end, or-none, receives-stay}
 

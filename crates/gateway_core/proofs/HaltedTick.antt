@@ -9,7 +9,7 @@ use Rattle.session_parts.specs.Ticking as parts
 use Rattle.session_parts.proofs.HaltedTick.{halts-tick as halts-session}
 use Rattle.gateway_core.specs.declared.gateway.Gateway.{Gateway}
 use Rattle.gateway_core.specs.Standing.{HaltsTick, Stands}
-use Rattle.gateway_core.specs.Holding.{sampled_by, sources_of}
+use Rattle.gateway_core.specs.Holding.{sources_of}
 use Rattle.gateway_core.specs.Lived.{GatewayStep, plan_again, session_steps}
 use Rattle.gateway_core.specs.Beginning.{tick_of}
 

@@ -1,5 +1,5 @@
 -- Where a gateway stands after what it lived through. Lists of steps and of deeds have the latest first.
-use Rattle.std.specs.Prelude.{◌≡◌, ℕ, ◌+◌, ◌<◌, ◌≤◌, List, ◌∷◌, ◌++◌, length, reverse, Bool, Option, Some, slice_index_or}
+use Rattle.std.specs.Prelude.{◌≡◌, ℕ, ◌+◌, ◌<◌, ◌≤◌, List, ◌∷◌, length, reverse, Bool, Option, slice_index_or}
 use Rattle.std.specs.List.{HoldsAt}
 use Rattle.ua_base.specs.Journal.{LinkState}
 use Rattle.ps_config.specs.declared.parts.Config.{Config}

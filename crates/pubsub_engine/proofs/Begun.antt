@@ -1,32 +1,20 @@
 -- The begin of a tick, put together.
-use Rattle.std.proofs.Common.{◌≡◌, sym, ap, ◌∙◌, subst, arith, ℕ, ◌+◌, Bool, List, [], ◌∷◌}
-use Rattle.std.specs.Prelude.{Vec}
-use Rattle.std.specs.declared.alloc.Global.{Global}
-use Rattle.dataset_meta.specs.Metas.{MetaData}
+use Rattle.std.proofs.Common.{ap, subst, ℕ, ◌+◌, Bool, List, [], ◌∷◌}
 use Rattle.pubsub_states.specs.Changes.{TreeValue}
-use Rattle.ps_config.specs.declared.parts.Config.{Config}
 use Rattle.reader_group.specs.Plain.{Expired}
-use Rattle.writer_group.specs.declared.group.Group.{Group}
-use Rattle.session_model.specs.Steps.{Plan, Step, Tick, moment_of}
-use Rattle.session_model.specs.Sets.{metas_at}
-use Rattle.session_model.specs.Deeds.{Deed, deeds, rekeyed}
+use Rattle.session_model.specs.Steps.{Plan, Step, Tick}
 use Rattle.session_model.specs.Events.{events}
 use Rattle.session_parts.specs.declared.publisher.Publisher.{Publisher}
-use Rattle.session_parts.specs.declared.sends.GroupSends.{GroupSends}
 use Rattle.pubsub_engine.specs.declared.session.Session.{Session}
 use Rattle.session_parts.specs.declared.subscriber.Subscriber.{Subscriber}
-use Rattle.session_parts.specs.Holding.{HoldPublisher, HoldSubscriber}
+use Rattle.session_parts.specs.Holding.{HoldSubscriber}
 use Rattle.pubsub_engine.specs.Holding.{IsSession, plan_of}
-use Rattle.session_parts.specs.Standing.{HavePast, HaveRead, HaveReadAll, HaveSent}
+use Rattle.session_parts.specs.Standing.{HaveRead, HaveReadAll}
 use Rattle.pubsub_engine.specs.Standing.{Stands}
-use Rattle.session_parts.specs.Ticking.{ClearsSends, IsAt, TellsFaults, begun}
+use Rattle.session_parts.specs.Ticking.{IsAt, begun}
 use Rattle.pubsub_engine.specs.Ticking.{tick_of}
-use Rattle.session_parts.specs.Pumping.{TellsReaders}
 use Rattle.session_parts.proofs.Begun.{Begins, begun-at as parts-begun}
 use Rattle.session_parts.specs.Befalling.{HaveExpired}
-use Rattle.session_parts.specs.Refreshed.{AllGoOn}
-use Rattle.session_parts.proofs.Few.{keyed}
-use Rattle.session_parts.proofs.Passed.{no_sends}
 
 pub begun-at : (ms : ℕ) (closing : Bool) (old : Session) (come cleared : Publisher) (subscriber : Subscriber) (tree new : TreeValue) → IsSession old
     → Begins old.config.now (old.moment + ms) old.publisher come cleared old.subscriber subscriber old.tree tree new

@@ -1,30 +1,22 @@
 -- A pump: where its receives, what the tree is told of readers and the stores leave the session.
-use Rattle.std.proofs.Common.{◌≡◌, refl, sym, ap, ◌∙◌, subst, arith, ℕ, ◌+◌, ◌*◌, ◌<◌, Bool, List, ◌∷◌, ◌++◌, length, Option, Some}
-use Rattle.std.specs.Prelude.{count_by}
-use Rattle.std.proofs.lemmas.List.{length-map}
-use Rattle.ua_base.specs.Journal.{LinkState, Entry, Tells}
-use Rattle.pubsub_states.specs.declared.component.Component.{Component}
-use Rattle.pubsub_states.specs.declared.component.Component.TheVariants.{Root, Connection, Group, Writer, ReadGroup, Reader}
-use Rattle.pubsub_states.specs.Components.{Counts, IsAmong, counts_of}
-use Rattle.pubsub_states.specs.Changes.{TreeValue, flags_in}
+use Rattle.std.proofs.Common.{◌≡◌, sym, ap, ◌∙◌, subst, arith, ℕ, ◌+◌, ◌*◌, List, ◌∷◌, ◌++◌, Option}
+use Rattle.ua_base.specs.Journal.{LinkState, Entry}
+use Rattle.pubsub_states.specs.Components.{counts_of}
+use Rattle.pubsub_states.specs.Changes.{TreeValue}
 use Rattle.reader_group.specs.Plain.{Event}
 use Rattle.session_model.specs.Steps.{Plan, Step, Pump}
 use Rattle.session_model.specs.Counts.{most_ms, most_taken}
 use Rattle.session_model.specs.Sets.{metas_at}
 use Rattle.session_model.specs.Deeds.{deeds}
-use Rattle.session_model.specs.Sends.{TellsRun, journal}
+use Rattle.session_model.specs.Sends.{journal}
 use Rattle.session_model.specs.Events.{events}
-use Rattle.session_model.specs.States.{flags_at}
 use Rattle.session_model.specs.Stores.{Store, stores}
-use Rattle.session_model.specs.Answers.{counted}
-use Rattle.session_model.specs.Closing.{MemberPlace, is_sent, is_send_failed, is_got, is_broken, is_long, limits}
-use Rattle.session_model.proofs.Sending.{count-append}
+use Rattle.session_model.specs.Closing.{MemberPlace}
 use Rattle.session_parts.specs.declared.receiving.Receiving.{Receiving}
-use Rattle.session_parts.specs.declared.sends.LinkSends.{LinkSends}
 use Rattle.session_parts.specs.declared.subscriber.Subscriber.{Subscriber}
 use Rattle.session_parts.specs.Holding.{HasBuffers, HoldSubscriber, MayAllGoOn}
-use Rattle.session_parts.specs.Standing.{AreReceivesIn, AreSendsIn, HasFlags, HaveOutcomes, HavePast, HaveReadAll, HaveSent}
-use Rattle.session_parts.specs.Pumping.{HasSwitches, HaveGot, Pumps, PumpsTo, TellsReaders, late_at, ready_at}
+use Rattle.session_parts.specs.Standing.{AreSendsIn, HaveOutcomes, HavePast, HaveReadAll, HaveSent}
+use Rattle.session_parts.specs.Pumping.{HaveGot, Pumps, PumpsTo, TellsReaders}
 use Rattle.session_parts.proofs.Entries.{pump_sends}
 use Rattle.pubsub_engine.specs.declared.session.Left.{Left}
 use Rattle.pubsub_engine.specs.declared.session.Session.{Session}

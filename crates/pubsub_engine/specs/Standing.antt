@@ -1,5 +1,5 @@
 -- Where a session stands after what it lived through. Lists of steps and of deeds have the latest first.
-use Rattle.std.specs.Prelude.{◌≡◌, ◌≢◌, ℕ, ◌+◌, ◌<◌, ◌≤◌, ◌==◌, List, [], ◌∷◌, ◌++◌, length, map, zip, find, Bool, Option, Some, None, option_and_then}
+use Rattle.std.specs.Prelude.{◌≡◌, ◌≢◌, ℕ, ◌+◌, ◌≤◌, ◌==◌, List, [], ◌∷◌, length, map, zip, find, Option, Some, None, option_and_then}
 use Rattle.std.specs.Option.{option_map_or}
 use Rattle.ua_base.specs.Journal.{LinkState}
 use Rattle.pubsub_model.specs.Answers.{version_of}
