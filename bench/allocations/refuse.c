@@ -17,7 +17,7 @@ static int refuses(void) {
     const char *at = getenv("FAIL_AT");
     refused = at ? atol(at) : 0;
   }
-  if (++made != refused) return 0;
+  if (__atomic_add_fetch(&made, 1, __ATOMIC_SEQ_CST) != refused) return 0;
   errno = ENOMEM;
   return 1;
 }

@@ -2,7 +2,6 @@
 use Rattle.std.proofs.Common.{◌≡◌, refl, sym, ap, ◌∙◌, subst, arith, ℕ, ◌<◌, ◌≤◌, ◌≢◌, ◌⊎◌, inl, inr, Bool, true, false, List, length, get_or}
 use Rattle.std.specs.Prelude.{◌==◌, not, Option, Some, None, IfSome, is_some, option_map, nat_lt, IsTrue, ◌↔◌, if◌then◌else◌}
 use Rattle.std.specs.Option.{option_map_or}
-use Rattle.std.specs.List.{range_with_len}
 use Rattle.std.proofs.lemmas.Bool.Decides.{eqb_tells, nat_tests}
 use Rattle.std.proofs.lemmas.Bool.{ne_eqb}
 use Rattle.group_keys.specs.KeySets.{current}
@@ -10,15 +9,14 @@ use Rattle.group_keys.specs.declared.key_set.KeySet.{KeySet}
 use Rattle.message_guard.specs.Protection.{keys_in}
 use Rattle.message_guard.specs.Senders.{SenderState, IsSender, turned, turned_by}
 use Rattle.ps_config.specs.declared.parts.Config.{Config}
-use Rattle.writer_group.specs.declared.group.Group.{Group}
 use Rattle.writer_group.specs.Parts.{group_at}
-use Rattle.writer_group.specs.Standing.{IsGroup, IsReserved, MayGoOn, index_of, metas_for}
+use Rattle.writer_group.specs.Standing.{IsGroup, IsReserved, metas_for}
 use Rattle.writer_group.specs.Turns.{GroupDeed}
-use Rattle.session_model.specs.Deeds.{Deed, group_past, is_rekeyed, rekeyed, sender_after, sender_of}
+use Rattle.session_model.specs.Deeds.{Deed, group_past, rekeyed, sender_after}
 use Rattle.lane_groups.specs.declared.lane.Lane.{Lane}
 use Rattle.lane_groups.specs.declared.place.Place.{Place}
-use Rattle.lane_groups.specs.Places.{HasPast, HasWriters, IsPlaced, IsPlaceOf, IsRefreshed, IsRefreshedIf, MayGo}
-use Rattle.lane_groups.specs.Lanes.{AreOfLane, HasSent, IsLane, IsSenderOf, MayAllGo, StandAt, is_in}
+use Rattle.lane_groups.specs.Places.{HasPast, HasWriters, IsPlaced, IsRefreshedIf, MayGo}
+use Rattle.lane_groups.specs.Lanes.{AreOfLane, HasSent, IsLane, is_in}
 use Rattle.lane_groups.specs.Passing.{AreRefreshable, AreRefreshed, HasCome, HaveBegun}
 use Rattle.lane_groups.proofs.Past.{past-rekeyed, refreshed_if, sender-rekeyed}
 

@@ -1,8 +1,7 @@
 -- The datagrams of a lane are counted, and one is found.
-use Rattle.std.proofs.Common.{◌≡◌, refl, sym, ap, ◌∙◌, subst, arith, ℕ, ◌+◌, ◌-◌, ◌*◌, ◌<◌, ◌≤◌, List, [], ◌∷◌, ◌++◌, length, map, drop, get_or, length-append}
+use Rattle.std.proofs.Common.{◌≡◌, refl, sym, ap, ◌∙◌, subst, arith, ℕ, ◌+◌, ◌-◌, ◌<◌, ◌≤◌, List, [], ◌∷◌, ◌++◌, length, drop, get_or, length-append}
 use Rattle.std.specs.Prelude.{All, Option, Some, None, IfSome}
 use Rattle.std.proofs.lemmas.List.{drop_all, drop_more, get_or-append-add, get_or_append_left, get_or-map, length-map}
-use Rattle.std.proofs.lemmas.List.Elements.{All-get_or}
 use Rattle.writer_group.specs.Standing.{datagrams_in}
 use Rattle.group_threads.specs.Pairs.{Pair, no_pair}
 use Rattle.lane_groups.specs.declared.place.Place.{Place}

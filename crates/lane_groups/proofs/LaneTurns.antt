@@ -1,5 +1,5 @@
 -- The groups of a lane have their parts one after another.
-use Rattle.std.proofs.Common.{◌≡◌, refl, sym, ap, ◌∙◌, subst, arith, ℕ, zero, suc, ◌+◌, ◌<◌, ◌≤◌, ◌≢◌, ◌⊎◌, inl, inr, Bool, true, false, List, [], ◌∷◌, ◌++◌, length, get_or}
+use Rattle.std.proofs.Common.{◌≡◌, refl, sym, ap, ◌∙◌, subst, arith, ℕ, zero, suc, ◌+◌, ◌<◌, ◌≤◌, ◌≢◌, ◌⊎◌, inl, inr, true, false, List, [], ◌++◌, length, get_or}
 use Rattle.std.specs.Prelude.{◌==◌, Option, Some, None, IfSome, is_some, option_map, slice_set}
 use Rattle.std.specs.List.{HoldsAt}
 use Rattle.std.proofs.lemmas.Bool.Decides.{eqb_tells}
@@ -9,14 +9,14 @@ use Rattle.ps_config.specs.declared.parts.Config.{Config}
 use Rattle.writer_group.specs.Parts.{group_at}
 use Rattle.writer_group.specs.Standing.{IsGroup, datagrams_in, metas_for}
 use Rattle.writer_group.specs.Turns.{GroupDeed}
-use Rattle.session_model.specs.Deeds.{Deed, group_past, has_turn, sender_after, sender_of, turn_of}
+use Rattle.session_model.specs.Deeds.{Deed, group_past, has_turn, sender_after, turn_of}
 use Rattle.session_parts.specs.declared.publisher.Told.{Told}
 use Rattle.session_parts.proofs.Counting.{fold-more}
 use Rattle.lane_groups.specs.declared.place.Place.{Place}
-use Rattle.lane_groups.specs.Deeds.{datagrams_by, datagrams_of, plan_of}
-use Rattle.lane_groups.specs.Places.{HasPast, IsApart, IsPlaced, IsShown, MayGo}
-use Rattle.lane_groups.specs.Lanes.{AreOfLane, HasSent, IsSenderOf, MayAllGo, StandAt, is_in}
-use Rattle.lane_groups.specs.Passing.{HasAdded, HavePassed, IsTold, MayPass, MayPassAll, MayPassIf, Passes, PassesFrom, PassesIf, passed_to, turned_by}
+use Rattle.lane_groups.specs.Deeds.{datagrams_of, plan_of}
+use Rattle.lane_groups.specs.Places.{HasPast, IsPlaced, IsShown, MayGo}
+use Rattle.lane_groups.specs.Lanes.{AreOfLane, HasSent, IsSenderOf, StandAt, is_in}
+use Rattle.lane_groups.specs.Passing.{HasAdded, HavePassed, MayPassAll, MayPassIf, PassesFrom, PassesIf, passed_to, turned_by}
 use Rattle.lane_groups.proofs.Past.{past-other, sender-apart}
 
 -- the parts of the groups before it leave a group's past

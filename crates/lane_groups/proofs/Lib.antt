@@ -10,3 +10,4 @@ pub mod Sharing
 pub mod Refreshing
 pub mod Finding
 pub mod NewLanes
+pub mod Ticking

@@ -1,5 +1,5 @@
 -- A new lane.
-use Rattle.std.proofs.Common.{◌≡◌, refl, sym, ap, ◌∙◌, subst, arith, ℕ, ◌+◌, ◌<◌, ◌≤◌, ◌≢◌, ◌⊎◌, inl, inr, Bool, true, false, List, [], ◌∷◌, ◌++◌, length, length-append, get_or}
+use Rattle.std.proofs.Common.{◌≡◌, refl, sym, ap, ◌∙◌, subst, arith, ℕ, ◌+◌, ◌<◌, ◌≢◌, ◌⊎◌, inl, inr, Bool, true, false, List, [], ◌∷◌, ◌++◌, length, length-append, get_or}
 use Rattle.std.specs.Prelude.{◌==◌, Option, Some, None, IfSome, is_some, option_map, Vec}
 use Rattle.std.specs.declared.alloc.Global.{Global}
 use Rattle.std.specs.Option.{option_map_or}
@@ -13,12 +13,12 @@ use Rattle.ps_config.specs.declared.parts.Config.{Config}
 use Rattle.writer_group.specs.Parts.{group_at, no_group}
 use Rattle.writer_group.specs.Standing.{IsGood}
 use Rattle.ps_config.specs.Sound.{IsGroup as IsSoundGroup}
-use Rattle.session_model.specs.Deeds.{opening_sender, sender_after, shares}
+use Rattle.session_model.specs.Deeds.{opening_sender, sender_after}
 use Rattle.reader_group.specs.Settings.{keygroup_at}
 use Rattle.lane_groups.specs.declared.making.Members.{Members}
 use Rattle.lane_groups.specs.declared.making.Members.TheVariants as members
 use Rattle.lane_groups.specs.declared.place.Place.{Place}
-use Rattle.lane_groups.specs.Places.{HasPast, IsApart, IsNewPlace, IsPlaced, MayGo}
+use Rattle.lane_groups.specs.Places.{HasPast, IsApart, IsPlaced, MayGo}
 use Rattle.lane_groups.specs.Lanes.{has_group, AreOfLane, IsSenderOf, MayAllGo, StandAt, is_in}
 use Rattle.lane_groups.specs.declared.lane.Lane.{Lane}
 use Rattle.lane_groups.specs.Running.{AreLanes, IsNewLane, StandsIn}
@@ -120,6 +120,9 @@ lanes-none config turns lanes good are = record {
   open_ones = λ g low unsecured below. absurd (omega (arith, below));
   none_yet = λ g low unsecured above lane none within.
       (are.each lane (omega (arith, within, are.count)) none).has g low ∙ ap (λ (o : Option ℕ). option_map_or (λ other. other == lane) o false) unsecured;
+  alone = λ lane g h none within g_low h_low unsecured g_in h_in.
+      let out = (are.each lane (omega (arith, within, are.count)) none).has g g_low ∙ ap (λ (o : Option ℕ). option_map_or (λ other. other == lane) o false) unsecured in
+      absurd (never (sym out ∙ g_in));
 }
   where
     there : (g : ℕ) → g < length config.group → IfSome (group_at config g).keygroup (λ k. k < length config.keygroup)
@@ -148,6 +151,7 @@ module _ (config : Config) (turns n : ℕ) (lanes : List Lane) (is : LanesTo con
     keyed = is.keyed;
     open_ones = λ g within unsecured below. is.open_ones g within unsecured (before g unsecured below);
     none_yet = λ g within unsecured above. is.none_yet g within unsecured (omega (arith, above));
+    alone = is.alone;
   }
     where
       before : (g : ℕ) → (group_at config g).keygroup ≡ None → g < n + 1 → g < n
@@ -194,6 +198,9 @@ module _ (config : Config) (turns n : ℕ) (lanes : List Lane) (is : LanesTo con
       open_ones = λ g within unsecured below. by_case g within unsecured below (eqb_tells g n);
       none_yet = λ g within unsecured above.
           each-lane (λ lane l. has_group l g ≡ false) (is.none_yet g within unsecured (omega (arith, above))) (made.has g within ∙ ne_eqb g n (λ same. omega (arith, same, above)));
+      alone = λ lane g h none within g_low h_low unsecured.
+          each-lane (λ j l. has_group l g ≡ true → has_group l h ≡ true → g ≡ h) (λ j none low. is.alone j g h none low g_low h_low unsecured)
+          (λ g_in h_in. same-of g n (sym (made.has g g_low) ∙ g_in) ∙ sym (same-of h n (sym (made.has h h_low) ∙ h_in))) lane none within;
     }
       where
         by_case : (g : ℕ) → g < length config.group → (group_at config g).keygroup ≡ None → g < n + 1 → ((g == n) ≡ true) × (g ≡ n) ⊎ ((g == n) ≡ false) × (g ≢ n) → (lane : ℕ) × StandsIn more g lane
@@ -213,6 +220,7 @@ all-lanes config turns lanes good is = record {
   few = let c = is.count in let k = good.sound.few.keygroups in let g = good.sound.few.groups in omega (arith, c, k, g);
   each = is.each;
   one = λ g low. of g low (group_at config g).keygroup refl;
+  alone = is.alone;
 }
   where
     of : (g : ℕ) → g < length config.group → (o : Option ℕ) → (group_at config g).keygroup ≡ o → (lane : ℕ) × StandsIn lanes g lane

@@ -23,14 +23,14 @@ use Rattle.writer_group.specs.Standing.{HasTicked, IsGroup, IsMadeFor, MayGoOn, 
 use Rattle.writer_group.specs.Limits.{most_datagrams}
 use Rattle.writer_group.specs.Payloads.{meta_at}
 use Rattle.writer_group.specs.Turning.{MakesBytes, OfEachTurn}
-use Rattle.writer_group.specs.Turns.{GroupDeed, GroupTurn, HadGroupTurn, TurnInput, is_due}
+use Rattle.writer_group.specs.Turns.{GroupDeed, GroupTurn, TurnInput, is_due}
 use Rattle.session_model.specs.Sets.{AreRowsOf, rows_cut}
-use Rattle.session_model.specs.Deeds.{Deed, TookTurn, advanced_if, group_past, has_turn, is_spent, sender_after, sender_of, shares, turn_input, turn_of, writers_on}
+use Rattle.session_model.specs.Deeds.{Deed, TookTurn, advanced_if, group_past, has_turn, is_spent, sender_after, sender_of, turn_input, turn_of, writers_on}
 use Rattle.session_parts.specs.declared.publisher.Told.{Told}
 use Rattle.session_parts.specs.Ticking.{MayTurn, TakesTurn}
 use Rattle.lane_groups.specs.declared.place.Place.{Place}
 use Rattle.lane_groups.specs.Deeds.{datagrams_by, datagrams_of, plan_of}
-use Rattle.lane_groups.specs.Places.{HasPast, IsForgotten, IsPlaceOf, IsShown, MayGo}
+use Rattle.lane_groups.specs.Places.{HasPast, IsForgotten, IsPlaceOf, MayGo}
 use Rattle.lane_groups.specs.Passing.{HasAdvanced, IsTold, IsWhole, MayPass, Passes, PassesFrom, Turns, all_on, spent_in, turned_by}
 use Rattle.lane_groups.proofs.Past.{past-own}
 use Rattle.lane_groups.proofs.Rows.{rows-whole}

@@ -1,15 +1,13 @@
 -- What deeds make of a group's past, of its sender, and of its datagrams.
-use Rattle.std.proofs.Common.{◌≡◌, refl, sym, ap, ◌∙◌, subst, arith, ℕ, zero, suc, ◌+◌, ◌<◌, ◌≤◌, ◌≢◌, ◌⊎◌, inl, inr, Bool, true, false, List, [], ◌∷◌, ◌++◌, length, append_assoc}
-use Rattle.std.specs.Prelude.{◌==◌, ◌||◌, fold, not, Option, Some, None, option_map}
+use Rattle.std.proofs.Common.{◌≡◌, refl, sym, ap, ◌∙◌, arith, ℕ, zero, suc, ◌+◌, ◌<◌, ◌≤◌, ◌≢◌, ◌⊎◌, inl, inr, Bool, true, false, List, [], ◌∷◌, ◌++◌, length, append_assoc}
+use Rattle.std.specs.Prelude.{◌==◌, ◌||◌, fold, Option, Some, None, option_map}
 use Rattle.std.specs.List.{range_with_len}
-use Rattle.std.specs.Option.{option_map_or}
 use Rattle.std.proofs.lemmas.Bool.Decides.{eqb_tells}
 use Rattle.std.proofs.lemmas.Bool.{eq-eqb, ne_eqb}
 use Rattle.std.proofs.lemmas.List.{append-nil}
 use Rattle.dataset_meta.specs.Rows.{cons_if}
-use Rattle.message_guard.specs.Senders.{SenderState, turned}
+use Rattle.message_guard.specs.Senders.{turned}
 use Rattle.ps_config.specs.declared.parts.Config.{Config}
-use Rattle.ps_config.specs.declared.parts.GroupPart.{GroupPart}
 use Rattle.ps_config.specs.Headers.{mode_of}
 use Rattle.pubsub_states.specs.declared.component.Component.TheVariants.{Group}
 use Rattle.writer_group.specs.declared.sampled.Sampled.{Sampled}

@@ -1,13 +1,12 @@
 -- The writers of a group are refreshed one after another.
-use Rattle.std.proofs.Common.{◌≡◌, refl, sym, ap, ◌∙◌, subst, arith, ℕ, ◌+◌, ◌<◌, ◌≤◌, length, true, List, [], ◌∷◌}
+use Rattle.std.proofs.Common.{◌≡◌, refl, sym, ◌∙◌, subst, arith, ℕ, ◌+◌, ◌<◌, ◌≤◌, length, true, List}
 use Rattle.std.specs.List.{range_with_len}
 use Rattle.std.proofs.lemmas.List.Folds.{length-flat_map-take}
 use Rattle.writer_group.specs.Parts.{group_at, no_group}
-use Rattle.dataset_meta.specs.Metas.{MetaData}
 use Rattle.ps_config.specs.declared.parts.Config.{Config}
 use Rattle.ps_config.specs.declared.parts.GroupPart.{GroupPart}
 use Rattle.writer_group.specs.declared.group.Group.{Group}
-use Rattle.writer_group.specs.Standing.{GoesOnRefreshed, IsGood, IsGroup, IsMadeFor, IsRefreshed as IsWriterRefreshed, IsStillMade, MayGoOn, index_of}
+use Rattle.writer_group.specs.Standing.{GoesOnRefreshed, IsGood, IsGroup, IsRefreshed as IsWriterRefreshed, IsStillMade, index_of}
 use Rattle.writer_group.specs.Turns.{GroupDeed, RefreshedWriter}
 use Rattle.session_model.specs.Deeds.{refreshed_where}
 use Rattle.session_parts.proofs.Counting.{fold-more}

@@ -1,28 +1,27 @@
 -- What all lanes made, group by group.
 use Rattle.std.proofs.Common.{◌≡◌, refl, sym, ap, ◌∙◌, subst, arith, ℕ, zero, suc, ◌+◌, ◌-◌, ◌<◌, ◌≤◌, ◌≢◌, Bool, true, false, List, [], ◌∷◌, ◌++◌, length, map, take, drop, get_or, append_assoc}
-use Rattle.std.specs.Prelude.{Option, Some, None, is_some, fold, nat_lt}
+use Rattle.std.specs.Prelude.{Option, None, is_some, fold, nat_lt}
 use Rattle.std.proofs.lemmas.Bool.Decides.{nat_tests}
-use Rattle.std.proofs.lemmas.List.{append-nil, map-append, take_all, take-append-drop}
+use Rattle.std.proofs.lemmas.List.{map-append, take_all, take-append-drop}
 use Rattle.std.proofs.lemmas.List.Sums.{fold-append}
 use Rattle.ua_base.specs.Journal.{LinkState, Tells}
 use Rattle.group_threads.specs.Sending.{Conveyed}
 use Rattle.ps_config.specs.declared.parts.Config.{Config}
-use Rattle.session_model.specs.Deeds.{Deed, group_past}
+use Rattle.session_model.specs.Deeds.{Deed}
 use Rattle.group_threads.specs.declared.parcel.Parcel.{Parcel}
 use Rattle.group_threads.specs.declared.running.Ran.{Ran as RanMakers}
 use Rattle.group_threads.specs.Closing.{HasRunAll, HasRunPart, HasSentPart}
 use Rattle.group_threads.specs.Groups.{of_group, pair_of}
-use Rattle.group_threads.specs.Pairs.{Pair, Makes, numbered}
+use Rattle.group_threads.specs.Pairs.{Pair, Makes}
 use Rattle.group_threads.specs.Parcels.{of_lane}
 use Rattle.group_threads.proofs.Grouping.{group_of_its_lane, numbered-pairs}
 use Rattle.lane_groups.specs.declared.lane.Lane.{Lane}
 use Rattle.lane_groups.specs.declared.place.Place.{Place}
 use Rattle.lane_groups.specs.declared.running.Ran.{Ran}
-use Rattle.lane_groups.specs.declared.turn.TurnIn.{TurnIn}
 use Rattle.lane_groups.specs.declared.turn.Work.{Work}
-use Rattle.lane_groups.specs.Deeds.{datagrams_by, datagrams_of, deeds_behind, ticked, turns_deeds}
-use Rattle.lane_groups.specs.Lanes.{HasTurn, IsWork, MayAllGo, MayTurn, Stands, has_group, made_by}
-use Rattle.lane_groups.specs.Running.{AreBehind, AreLanes, HasRunLanes, HasStopped, IsNewLane, StandsIn, datagrams_in_group}
+use Rattle.lane_groups.specs.Deeds.{datagrams_by, deeds_behind, ticked, turns_deeds}
+use Rattle.lane_groups.specs.Lanes.{HasTurn, IsLane, IsWork, MayAllGo, MayTurn, Stands, has_group, made_by}
+use Rattle.lane_groups.specs.Running.{AreBehind, AreLanes, HasRunLanes, HasStopped, StandsIn, datagrams_in_group}
 use Rattle.lane_groups.proofs.Made.{of_group-append}
 use Rattle.lane_groups.proofs.Past.{Begins, turns-begin}
 
@@ -31,26 +30,29 @@ datagrams pairs = map (λ (pair : Pair). pair.datagram) pairs
 
 -- what one lane made in its first turns
 record LaneMade (work : Work) (n : ℕ) (old new : Lane) (pairs : List Pair) : Type 0 where
+  lane_is : IsLane work.config.now new
   stands : Stands work.config.now (deeds_behind work.config.now work.turns.now n) new
   groups : (g : ℕ) → has_group new g ≡ has_group old g
   made : (g : ℕ) → has_group old g ≡ true → datagrams_by work.config.now g (deeds_behind work.config.now work.turns.now n) ≡ datagrams (of_group g pairs)
   others : (g : ℕ) → has_group old g ≡ false → of_group g pairs ≡ []
 
 module _ (work : Work) where
-  lane-made : (n : ℕ) (old new : Lane) (pairs : List Pair) → Stands work.config.now [] old → Makes made_by HasTurn work n old pairs new → LaneMade work n old new pairs
-  lane-made zero old new pairs stands makes = record {
+  lane-made : (n : ℕ) (old new : Lane) (pairs : List Pair) → IsLane work.config.now old → Stands work.config.now [] old → Makes made_by HasTurn work n old pairs new → LaneMade work n old new pairs
+  lane-made zero old new pairs is stands makes = record {
+    lane_is = subst (IsLane work.config.now) (sym makes.0) is;
     stands = subst (Stands work.config.now []) (sym makes.0) stands;
     groups = λ g. ap (λ (l : Lane). has_group l g) makes.0;
     made = λ g has. sym (ap (λ (l : List Pair). datagrams (of_group g l)) makes.1);
     others = λ g not. ap (of_group g) makes.1;
   }
-  lane-made (suc n) old new pairs stands makes =
+  lane-made (suc n) old new pairs is stands makes =
       let mid = makes.0 in
       let before = makes.1 in
-      let so_far = lane-made n old mid before stands makes.2 in
+      let so_far = lane-made n old mid before is stands makes.2 in
       let turn = makes.3 in
       let e : suc n ≡ n + 1 = omega arith in
       record {
+        lane_is = turn.lane_is;
         stands = subst (λ (k : ℕ). Stands work.config.now (deeds_behind work.config.now work.turns.now k) new) (sym e) turn.stands;
         groups = λ g. turn.groups g ∙ so_far.groups g;
         made = λ g has.
@@ -115,7 +117,7 @@ module _ (work : Work) (lanes : List Lane) (are : AreLanes work.config.now (leng
 
   module _ (ran : RanMakers Lane) (all : HasRunAll made_by HasTurn work (length work.turns.now) first last lanes ran) where
     of-one : (lane : ℕ) (none : Lane) (low : lane < length lanes) → LaneMade work (length work.turns.now) (get_or lanes lane none) (get_or ran.makers.items lane none) (all.lanes lane none low).0
-    of-one lane none low = lane-made work (length work.turns.now) (get_or lanes lane none) (get_or ran.makers.items lane none) (all.lanes lane none low).0 (are.each lane none low).stands (all.lanes lane none low).2
+    of-one lane none low = lane-made work (length work.turns.now) (get_or lanes lane none) (get_or ran.makers.items lane none) (all.lanes lane none low).0 (are.each lane none low).lane_is (are.each lane none low).stands (all.lanes lane none low).2
 
     pairs-are : (lane : ℕ) (none : Lane) (low : lane < length lanes) (g : ℕ) → of_group g (map pair_of (of_lane lane all.parcels)) ≡ of_group g (all.lanes lane none low).0
     pairs-are lane none low g = ap (λ (l : List Parcel). of_group g (map pair_of l)) (all.lanes lane none low).1 ∙ ap (of_group g) (numbered-pairs lane 0 (all.lanes lane none low).0)
@@ -140,6 +142,7 @@ module _ (work : Work) (lanes : List Lane) (are : AreLanes work.config.now (leng
     pub are-behind : AreBehind work.config.now work.turns.now lanes ran.makers.items
     are-behind = record {
       count = all.count;
+      lanes = λ lane none low. (of-one lane none low).lane_is;
       stand = λ lane none low. subst (λ (d : List Deed). Stands work.config.now d (get_or ran.makers.items lane none)) all-turns (of-one lane none low).stands;
       groups = λ lane none low g. (of-one lane none low).groups g;
     }
@@ -149,7 +152,7 @@ module _ (work : Work) (lanes : List Lane) (are : AreLanes work.config.now (leng
     sent-part lane none low = part.lanes lane none low
 
     of-part : (lane : ℕ) (none : Lane) (low : lane < length lanes) → LaneMade work (sent-part lane none low).count (get_or lanes lane none) (sent-part lane none low).after (sent-part lane none low).all
-    of-part lane none low = let p = sent-part lane none low in lane-made work p.count (get_or lanes lane none) p.after p.all (are.each lane none low).stands p.makes
+    of-part lane none low = let p = sent-part lane none low in lane-made work p.count (get_or lanes lane none) p.after p.all (are.each lane none low).lane_is (are.each lane none low).stands p.makes
 
     split : (lane : ℕ) (none : Lane) (low : lane < length lanes) (g : ℕ)
         → of_group g (sent-part lane none low).all ≡ of_group g (map pair_of (of_lane lane part.parcels)) ++ of_group g (map pair_of (sent-part lane none low).rest)

@@ -1,7 +1,7 @@
 -- A turn of a lane, behind the turns before it.
-use Rattle.std.proofs.Common.{◌≡◌, refl, sym, ap, ◌∙◌, subst, arith, ℕ, zero, suc, ◌+◌, ◌-◌, ◌*◌, ◌<◌, ◌≤◌, Bool, true, false, List, [], ◌∷◌, ◌++◌, length, map, take, get_or}
+use Rattle.std.proofs.Common.{◌≡◌, refl, sym, ap, ◌∙◌, subst, arith, ℕ, zero, suc, ◌+◌, ◌-◌, ◌<◌, ◌≤◌, Bool, true, false, List, [], ◌∷◌, ◌++◌, length, map, take, get_or}
 use Rattle.std.specs.Prelude.{All, Option, Some, None, IfSome, is_some, fold}
-use Rattle.std.specs.List.{HoldsAt, range_with_len}
+use Rattle.std.specs.List.{range_with_len}
 use Rattle.std.proofs.lemmas.List.{take_more}
 use Rattle.std.proofs.lemmas.List.Elements.{All-from_get_or, All-get_or}
 use Rattle.std.proofs.lemmas.List.Sums.{fold_push}
@@ -21,9 +21,9 @@ use Rattle.lane_groups.specs.declared.turn.Work.{Work}
 use Rattle.lane_groups.specs.Deeds.{datagrams_by, datagrams_of, deeds_behind, plan_of, ticked, turns_deeds}
 use Rattle.lane_groups.specs.Places.{IsShown, MayGo, pairs_from, pairs_in}
 use Rattle.lane_groups.specs.Lanes.{AreOfLane, HasMade, HasTurn, MayAllGo, MayTurn, StandAt, is_in}
-use Rattle.lane_groups.specs.Passing.{HasAdded, HaveBegun, HavePassed, IsTold, IsToldBy, IsWhole, MayPassAll, passed_to, turned_by}
+use Rattle.lane_groups.specs.Passing.{HasAdded, HaveBegun, HavePassed, IsToldBy, IsWhole, MayPassAll, passed_to}
 use Rattle.lane_groups.proofs.Made.{datagrams-are, from-few, from-whole, group-found}
-use Rattle.lane_groups.proofs.Past.{past-rekeyed, refreshed_if, rekeyed-adds-none}
+use Rattle.lane_groups.proofs.Past.{past-rekeyed, rekeyed-adds-none}
 use Rattle.session_model.specs.Deeds.{is_rekeyed}
 
 pub deeds-more : (config : Config) (turns : List TurnIn) (n : ℕ) (turn : TurnIn) → n < length turns → turn ≡ get_or turns n turn
@@ -222,7 +222,7 @@ is-begun work number turn old mid low at may keygroup begun = record {
 
 module _ (work : Work) (number : ℕ) (old new : Lane) (low : number < length work.turns.now) (may : MayTurn work number old) (done : IsDone work.config.now work.turns.now number old new) where
   pub done-turn : HasTurn work number old new
-  done-turn = record { stands = done.stands; groups = done.groups; made = done.made; others = done.others }
+  done-turn = record { lane_is = done.lane_is; stands = done.stands; groups = done.groups; made = done.made; others = done.others }
 
   pub done-next : MayTurn work (number + 1) new
   done-next = record {

@@ -5,7 +5,7 @@ use Rattle.message_guard.specs.Senders.{SenderState, IsSender}
 use Rattle.ps_config.specs.declared.parts.Config.{Config}
 use Rattle.writer_group.specs.declared.group.Group.{Group}
 use Rattle.writer_group.specs.Parts.{group_at}
-use Rattle.writer_group.specs.Standing.{IsGood, IsGroup, metas_for}
+use Rattle.writer_group.specs.Standing.{IsGood, IsGroup, IsMadeFor, metas_for}
 use Rattle.session_model.specs.Sets.{AreRowsOf}
 use Rattle.session_model.specs.Deeds.{Deed, group_past, sender_after}
 use Rattle.group_threads.specs.Pairs.{Pair}
@@ -61,6 +61,10 @@ IsGroupIn lane g group =
     (config : Config) (deeds : List Deed) → g < length config.group → Stands config deeds lane
     → IsGroup (metas_for (group_at config g) config.dataset) (group_at config g) (group_past config g deeds) group
 
+-- it was made for that group of the configuration whose lane it is
+abbrev pub IsMadeIn : Lane → ℕ → Group → Type 0
+IsMadeIn lane g group = (config : Config) → g < length config.group → IsLane config lane → IsMadeFor config (group_at config g) group
+
 -- the datagrams of its last turn
 abbrev pub made_by : Lane → List Pair
 made_by lane = pairs_from 0 lane.places.items
@@ -84,6 +88,7 @@ pub record MayTurn (work : Work) (number : ℕ) (lane : Lane) : Type 0 where
 
 -- with the turn of this number each of its groups makes the datagrams that the plain loop of its turns makes then, and it makes no others
 pub record HasTurn (work : Work) (number : ℕ) (old new : Lane) : Type 0 where
+  pub lane_is : IsLane work.config.now new
   pub stands : Stands work.config.now (deeds_behind work.config.now work.turns.now (number + 1)) new
   pub groups : (g : ℕ) → has_group new g ≡ has_group old g
   pub made : (g : ℕ) → has_group old g ≡ true

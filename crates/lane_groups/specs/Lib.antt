@@ -5,3 +5,4 @@ pub mod Passing
 pub mod Finding
 pub mod Running
 pub mod Making
+pub mod Turns

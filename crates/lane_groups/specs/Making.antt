@@ -10,7 +10,7 @@ use Rattle.lane_groups.specs.declared.making.Members.TheVariants as members
 use Rattle.lane_groups.specs.declared.place.Place.{Place}
 use Rattle.lane_groups.specs.Lanes.{has_group}
 use Rattle.lane_groups.specs.Places.{IsNewPlace}
-use Rattle.lane_groups.specs.Running.{IsNewLane, StandsIn}
+use Rattle.lane_groups.specs.Running.{IsNewLane, StandAlone, StandsIn}
 
 -- whether the group with this index is among them
 abbrev pub is_member : Config → Members → ℕ → Bool
@@ -50,3 +50,4 @@ pub record LanesTo (config : Config) (turns n : ℕ) (lanes : List Lane) : Type 
   pub keyed : (g : ℕ) → g < length config.group → is_some (group_at config g).keygroup ≡ true → (lane : ℕ) × StandsIn lanes g lane
   pub open_ones : (g : ℕ) → g < length config.group → (group_at config g).keygroup ≡ None → g < n → (lane : ℕ) × StandsIn lanes g lane
   pub none_yet : (g : ℕ) → g < length config.group → (group_at config g).keygroup ≡ None → n ≤ g → (lane : ℕ) (none : Lane) → lane < length lanes → has_group (slice_index_or lanes lane none) g ≡ false
+  pub alone : StandAlone config lanes

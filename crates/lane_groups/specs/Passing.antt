@@ -1,5 +1,5 @@
 -- The part of one group in a turn of its lane.
-use Rattle.std.specs.Prelude.{◌≡◌, ⊤, ℕ, ◌+◌, ◌<◌, ◌≤◌, ◌^◌, Bool, List, [], ◌++◌, length, fold, All, Option, Some, None, IfSome, slice_index_or, replicate, false, true, nat_lt, not, ◌==◌, option_map}
+use Rattle.std.specs.Prelude.{◌≡◌, ℕ, ◌+◌, ◌<◌, ◌≤◌, ◌^◌, Bool, List, [], ◌++◌, length, fold, All, Option, Some, None, IfSome, slice_index_or, replicate, false, true, nat_lt, not, ◌==◌, option_map}
 use Rattle.std.specs.List.{HoldsAt, range_with_len}
 use Rattle.std.specs.Option.{option_map_or}
 use Rattle.message_guard.specs.Senders.{SenderState, IsSender, numbers_left, turned}

@@ -1,7 +1,8 @@
 -- Lanes at work, in the words of Session run.
-use Rattle.std.specs.Prelude.{◌≡◌, ◌≢◌, ℕ, ◌+◌, ◌<◌, ◌≤◌, Bool, true, false, List, [], ◌++◌, length, map, slice_index_or, Option}
+use Rattle.std.specs.Prelude.{◌≡◌, ◌≢◌, ℕ, ◌<◌, ◌≤◌, true, false, List, [], ◌++◌, length, map, slice_index_or, Option, None}
 use Rattle.ua_base.specs.Journal.{LinkState, Tells}
 use Rattle.ps_config.specs.declared.parts.Config.{Config}
+use Rattle.writer_group.specs.Parts.{group_at}
 use Rattle.group_threads.specs.declared.parcel.Parcel.{Parcel}
 use Rattle.group_threads.specs.Closing.{Follows}
 use Rattle.group_threads.specs.Groups.{of_group, pair_of}
@@ -24,11 +25,18 @@ pub record StandsIn (lanes : List Lane) (g lane : ℕ) : Type 0 where
   pub there : (none : Lane) → has_group (slice_index_or lanes lane none) g ≡ true
   pub alone : (other : ℕ) (none : Lane) → other < length lanes → other ≢ lane → has_group (slice_index_or lanes other none) g ≡ false
 
--- lanes before the first of so many turns, such that each group of the configuration stands in one
+-- a group that isn't secured stands alone in its lane
+abbrev pub StandAlone : Config → List Lane → Type 0
+StandAlone config lanes =
+    (lane g h : ℕ) (none : Lane) → lane < length lanes → g < length config.group → h < length config.group → (group_at config g).keygroup ≡ None
+    → has_group (slice_index_or lanes lane none) g ≡ true → has_group (slice_index_or lanes lane none) h ≡ true → g ≡ h
+
+-- lanes before the first of so many turns, such that each group of the configuration stands in one, and alone where it isn't secured
 pub record AreLanes (config : Config) (turns : ℕ) (lanes : List Lane) : Type 0 where
   pub few : length lanes ≤ 256
   pub each : (lane : ℕ) (none : Lane) → lane < length lanes → IsNewLane config turns (slice_index_or lanes lane none)
   pub one : (g : ℕ) → g < length config.group → (lane : ℕ) × StandsIn lanes g lane
+  pub alone : StandAlone config lanes
 
 -- the datagrams of this group among these parcels, in order
 abbrev pub datagrams_in_group : ℕ → List Parcel → List (List ℕ)
@@ -52,9 +60,10 @@ pub record HasStopped (config : Config) (turns : List TurnIn) (first last : Opti
       → (rest : List (List ℕ)) × (datagrams_in_group g parcels ++ rest ≡ datagrams_by config g (turns_deeds config turns))
   pub others : (g : ℕ) → length config.group ≤ g → of_group g (map pair_of parcels) ≡ []
 
--- the lanes stand where these turns leave their groups and senders, and have the groups that they had
+-- the lanes are those of the configuration, stand where these turns leave their groups and senders, and have the groups that they had
 pub record AreBehind (config : Config) (turns : List TurnIn) (old new : List Lane) : Type 0 where
   pub count : length new ≡ length old
+  pub lanes : (lane : ℕ) (none : Lane) → lane < length old → IsLane config (slice_index_or new lane none)
   pub stand : (lane : ℕ) (none : Lane) → lane < length old → Stands config (turns_deeds config turns) (slice_index_or new lane none)
   pub groups : (lane : ℕ) (none : Lane) → lane < length old → (g : ℕ)
       → has_group (slice_index_or new lane none) g ≡ has_group (slice_index_or old lane none) g

@@ -3,12 +3,14 @@
 #![tactic(auto)]
 
 mod lane;
+mod laws;
 mod making;
 mod place;
 mod running;
 mod turn;
 
 pub use lane::Lane;
+pub use laws::turns_are_ticks_of_a_session;
 pub use making::lanes_of;
 pub use running::{Ran, run_lanes};
 pub use turn::TurnIn;

@@ -1,4 +1,4 @@
-use Rattle.std.proofs.Common.{◌≡◌, ◌+◌, List, sym, subst}
+use Rattle.std.proofs.Common.{◌+◌, List, sym, subst}
 use Rattle.lane_groups.specs.declared.lane.Lane.{Lane}
 use Rattle.lane_groups.specs.Making.{LanesTo}
 use Rattle.lane_groups.proofs.NewLanes.{lanes-keyed, lanes-open}

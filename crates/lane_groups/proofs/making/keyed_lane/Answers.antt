@@ -1,4 +1,4 @@
-use Rattle.std.proofs.Common.{◌≡◌, sym, subst, ap, ◌∙◌}
+use Rattle.std.proofs.Common.{sym, subst, ap, ◌∙◌}
 use Rattle.std.proofs.lemmas.List.Elements.{All-get_or}
 use Rattle.ps_config.specs.Sound.{IsKeyGroup}
 use Rattle.reader_group.specs.Settings.{keygroup_at, no_keygroup}

@@ -1,4 +1,4 @@
-use Rattle.std.proofs.Common.{◌≡◌, ℕ, List, length, ◌+◌, ap, sym, subst, arith, ◌∙◌}
+use Rattle.std.proofs.Common.{List, ◌+◌, sym, subst}
 use Rattle.session_parts.proofs.MadeTo.{MadeTo, made-more, made-none}
 use Rattle.lane_groups.specs.declared.lane.Lane.{Lane}
 use Rattle.lane_groups.specs.Making.{IsKeyedLane}

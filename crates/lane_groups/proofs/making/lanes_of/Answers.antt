@@ -1,4 +1,4 @@
-use Rattle.std.proofs.Common.{◌≡◌, ℕ, List, length, ◌+◌, ◌<◌, ap, sym, subst, arith, ◌∙◌}
+use Rattle.std.proofs.Common.{◌≡◌, ℕ, length, ap, subst, arith}
 use Rattle.lane_groups.specs.Making.{LanesTo}
 use Rattle.lane_groups.proofs.NewLanes.{all-lanes, lanes-none}
 use Rattle.lane_groups.proofs.making.lanes_of.Goals as goal

@@ -1,4 +1,4 @@
-use Rattle.std.proofs.Common.{◌≡◌, ℕ, Option, Some, None, refl, sym, ap, subst}
+use Rattle.std.proofs.Common.{Option, Some, refl, sym, ap, subst}
 use Rattle.message_guard.specs.Senders.{SenderState}
 use Rattle.session_parts.specs.Ticking.{MayTurn, TakesTurn}
 use Rattle.lane_groups.specs.Passing.{HasAdvanced}

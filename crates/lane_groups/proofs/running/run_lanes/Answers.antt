@@ -1,4 +1,4 @@
-use Rattle.std.proofs.Common.{◌≡◌, refl}
+use Rattle.std.proofs.Common.{refl}
 use Rattle.std.specs.Prelude.{Result, Ok, Err, IfErr}
 use Rattle.lane_groups.proofs.Sharing.{are-behind, has-run, has-stopped, may-run}
 use Rattle.lane_groups.proofs.running.run_lanes.Goals as goal

@@ -1,4 +1,4 @@
-use Rattle.std.proofs.Common.{◌≡◌, ap, ◌∙◌}
+use Rattle.std.proofs.Common.{ap, ◌∙◌}
 use Rattle.lane_groups.specs.declared.lane.Lane.{Lane}
 use Rattle.lane_groups.proofs.Beginning.{begun-refreshed, begun-same, mid-count, mid-refreshable}
 use Rattle.lane_groups.proofs.lane.Lane.begin.Goals as goal

@@ -1,4 +1,4 @@
-use Rattle.std.proofs.Common.{◌≡◌, Option, Some, sym, subst}
+use Rattle.std.proofs.Common.{Option, Some, sym, subst}
 use Rattle.std.specs.Prelude.{IfSome}
 use Rattle.message_guard.specs.Senders.{IsSender, SenderState}
 use Rattle.lane_groups.specs.Passing.{HasCome}

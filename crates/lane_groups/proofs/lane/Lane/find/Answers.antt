@@ -1,6 +1,5 @@
-use Rattle.std.proofs.Common.{◌≡◌, ◌<◌, ◌≤◌, ◌+◌, ◌-◌, length, sym, subst, ℕ, arith}
+use Rattle.std.proofs.Common.{◌<◌, ◌+◌, ◌-◌, length, sym, subst, ℕ, arith}
 use Rattle.std.proofs.lemmas.List.{get_or_read}
-use Rattle.lane_groups.specs.Finding.{count_of}
 use Rattle.lane_groups.proofs.Finding.{IsLeft, left-all, left-here, left-more, left-none}
 use Rattle.lane_groups.proofs.lane.Lane.find.Goals as goal
 

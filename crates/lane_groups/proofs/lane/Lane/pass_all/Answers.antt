@@ -1,8 +1,5 @@
-use Rattle.std.proofs.Common.{◌≡◌, ◌<◌, ℕ, length, refl, ap, sym, subst, arith, ◌∙◌, get_or}
-use Rattle.std.specs.Prelude.{Option}
+use Rattle.std.proofs.Common.{◌≡◌, ◌<◌, ℕ, length, refl, subst, arith}
 use Rattle.std.proofs.lemmas.List.{get_or_read}
-use Rattle.message_guard.specs.Senders.{SenderState}
-use Rattle.lane_groups.specs.declared.place.Place.{Place}
 use Rattle.lane_groups.specs.Passing.{HavePassed}
 use Rattle.lane_groups.proofs.LaneTurns.{may-pass, passed-none, passed-one}
 use Rattle.lane_groups.proofs.lane.Lane.pass_all.Goals as goal

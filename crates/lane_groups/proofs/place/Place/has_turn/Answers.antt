@@ -1,4 +1,4 @@
-use Rattle.std.proofs.Common.{◌≡◌, true, false, sym, ◌∙◌}
+use Rattle.std.proofs.Common.{sym, ◌∙◌}
 use Rattle.lane_groups.proofs.Passing.{has-closing, has-due, has-spent, unspent-some}
 use Rattle.lane_groups.proofs.place.Place.has_turn.Goals as goal
 

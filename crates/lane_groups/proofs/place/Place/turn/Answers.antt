@@ -1,7 +1,6 @@
-use Rattle.std.proofs.Common.{◌≡◌, ◌≤◌, ℕ, Bool, List, true, length, refl, sym, ap, ◌∙◌, arith, take}
+use Rattle.std.proofs.Common.{◌≡◌, ◌≤◌, ℕ, Bool, List, true, length, ap, ◌∙◌, arith, take}
 use Rattle.std.specs.Prelude.{replicate}
 use Rattle.std.proofs.lemmas.List.{length-replicate, take-replicate}
-use Rattle.writer_group.specs.Parts.{group_at}
 use Rattle.lane_groups.proofs.Passing.{few-writers, may-turn, turns-are}
 use Rattle.lane_groups.proofs.place.Place.turn.Goals as goal
 
