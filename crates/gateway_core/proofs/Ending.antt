@@ -1,69 +1,24 @@
 -- The end of a tick: where it leaves the gateway, as a session.
-use Rattle.std.proofs.Common.{◌≡◌, refl, sym, ap, ◌∙◌, subst, arith, ℕ, ◌+◌, ◌<◌, ◌≤◌, Bool, true, false, List, [], ◌∷◌, length, map, Option}
-use Rattle.std.specs.Prelude.{◌||◌, zip, count_by, Vec}
+use Rattle.std.proofs.Common.{◌≡◌, sym, ap, ◌∙◌, subst, arith, ℕ, ◌+◌, ◌<◌, ◌≤◌, Bool, true, false, List, ◌∷◌, length, Option}
+use Rattle.std.specs.Prelude.{◌||◌, Vec}
 use Rattle.std.specs.declared.alloc.Global.{Global}
-use Rattle.ua_base.specs.Journal.{LinkState, Sent, SendFailed}
-use Rattle.pubsub_states.specs.declared.component.Component.TheVariants.{Root, Connection, Group, Writer, ReadGroup, Reader}
+use Rattle.ua_base.specs.Journal.{LinkState}
 use Rattle.pubsub_states.specs.Changes.{TreeValue}
 use Rattle.session_model.specs.Steps.{Plan, Step, Tick}
 use Rattle.session_model.specs.Sets.{AreRowsOf}
 use Rattle.session_model.specs.Deeds.{deeds}
 use Rattle.session_model.specs.Counts.{is_closed, most_ticks, ticks_in}
 use Rattle.session_model.specs.Keeping.{MayCome}
-use Rattle.session_model.specs.Sends.{Send, send_entry, sends_of, journal, TellsRun}
-use Rattle.session_model.specs.States.{flags_at}
-use Rattle.writer_group.specs.declared.sampled.Sampled.{Sampled}
-use Rattle.session_model.specs.Answers.{counted}
-use Rattle.session_model.specs.Closing.{is_got, is_broken, is_long}
-use Rattle.session_model.proofs.Sending.{count-append, count-cons}
-use Rattle.session_parts.specs.declared.receiving.Receiving.{Receiving}
+use Rattle.session_model.specs.Sends.{journal, TellsRun}
 use Rattle.session_parts.specs.declared.tally.Tally.{Tally}
 use Rattle.gateway_core.specs.declared.gateway.Gateway.{Gateway}
 use Rattle.session_parts.specs.declared.publisher.Publisher.{Publisher}
-use Rattle.session_parts.specs.Standing.{HasFlags, HaveTallied, AreReceivesIn}
+use Rattle.session_parts.specs.Standing.{HaveTallied, AreReceivesIn}
 use Rattle.gateway_core.specs.Holding.{MayTick, plan_of, sampled_by, ticks_needed}
 use Rattle.gateway_core.specs.Standing.{StandsAsSession}
-use Rattle.session_parts.specs.Ticking.{TickData, Holds, IsAt, TellsSoFar, deeds_to, flags_in_tick}
+use Rattle.session_parts.specs.Ticking.{Holds, IsAt, TellsSoFar, deeds_to}
 use Rattle.gateway_core.specs.Beginning.{HasBegun, tick_of}
-
--- ---- sends are no receives
-
-no-got : (sends : List (Send × Bool)) → count_by is_got (map send_entry sends) ≡ 0
-no-got [] = refl
-no-got ((send, true) ∷ sends) = omega (arith, count-cons is_got (Sent send.datagram) (map send_entry sends), no-got sends)
-no-got ((send, false) ∷ sends) = omega (arith, count-cons is_got SendFailed (map send_entry sends), no-got sends)
-
-no-broken : (sends : List (Send × Bool)) → count_by is_broken (map send_entry sends) ≡ 0
-no-broken [] = refl
-no-broken ((send, true) ∷ sends) = omega (arith, count-cons is_broken (Sent send.datagram) (map send_entry sends), no-broken sends)
-no-broken ((send, false) ∷ sends) = omega (arith, count-cons is_broken SendFailed (map send_entry sends), no-broken sends)
-
-no-long : (sends : List (Send × Bool)) → count_by is_long (map send_entry sends) ≡ 0
-no-long [] = refl
-no-long ((send, true) ∷ sends) = omega (arith, count-cons is_long (Sent send.datagram) (map send_entry sends), no-long sends)
-no-long ((send, false) ∷ sends) = omega (arith, count-cons is_long SendFailed (map send_entry sends), no-long sends)
-
-receives-stay : (p : Plan) (before : List Step) (ms : ℕ) (closing : Bool) (samples : List Sampled) (done : List Bool) (receiving : Receiving)
-    → AreReceivesIn (journal p before) before receiving → AreReceivesIn (journal p (Tick ms closing samples done ∷ before)) (Tick ms closing samples done ∷ before) receiving
-receives-stay p before ms closing samples done receiving are =
-    let sends = zip (sends_of p (Tick ms closing samples done ∷ before)) done in record {
-      received = are.received ∙ ap counted (omega (arith, count-append is_got (journal p before) (map send_entry sends), no-got sends));
-      broken = are.broken ∙ ap counted (omega (arith, count-append is_broken (journal p before) (map send_entry sends), no-broken sends));
-      long = are.long ∙ ap counted (omega (arith, count-append is_long (journal p before) (map send_entry sends), no-long sends));
-      limit = are.limit;
-    }
-
--- ---- the flags
-
-flags-end : (t : TickData) (done : List Bool) (tree : TreeValue)
-    → HasFlags (flags_in_tick t (deeds t.plan (Tick t.ms t.closing t.samples done ∷ t.before)) done) tree
-    → HasFlags (flags_at t.plan (Tick t.ms t.closing t.samples done ∷ t.before)) tree
-flags-end t done tree flags Root among = flags Root among
-flags-end t done tree flags Connection among = flags Connection among
-flags-end t done tree flags (Group g) among = flags (Group g) among
-flags-end t done tree flags (Writer g w) among = flags (Writer g w) among
-flags-end t done tree flags (ReadGroup r) among = flags (ReadGroup r) among
-flags-end t done tree flags (Reader r i) among = flags (Reader r i) among
+use Rattle.session_parts.proofs.Ended.{flags-end, or-none, receives-stay}
 
 -- ---- the gateway
 
@@ -84,10 +39,6 @@ may-come p before ms closing old may stands = record {
   left = ticks-left closing (ticks_in before) most_ticks old.left.ticks stands.ticks may.left;
   still = may.still;
 }
-
-or-none : (b : Bool) → (b || false) ≡ b
-or-none true = refl
-or-none false = refl
 
 -- where one step more of a session leads, and what the link tells
 pub record LeadsAsSession (p : Plan) (before : List Step) (step : Step) (told after : Option LinkState) (s : Gateway) : Type 0 where

@@ -1,5 +1,5 @@
 -- Where a gateway stands after what it lived through. Lists of steps and of deeds have the latest first.
-use Rattle.std.specs.Prelude.{◌≡◌, ℕ, ◌+◌, ◌<◌, ◌≤◌, List, ◌∷◌, ◌++◌, length, reverse, Bool, Option, Some, slice_index_or}
+use Rattle.std.specs.Prelude.{◌≡◌, ℕ, ◌+◌, ◌<◌, ◌≤◌, List, ◌∷◌, length, reverse, Bool, Option, slice_index_or}
 use Rattle.std.specs.List.{HoldsAt}
 use Rattle.ua_base.specs.Journal.{LinkState}
 use Rattle.ps_config.specs.declared.parts.Config.{Config}
@@ -8,14 +8,15 @@ use Rattle.session_model.specs.Steps.{Plan, Step, moment_of}
 use Rattle.session_model.specs.Sets.{metas_at}
 use Rattle.session_model.specs.Deeds.{deeds}
 use Rattle.session_model.specs.Turns.{TurnsHold}
-use Rattle.session_model.specs.Sends.{IsRun, TellsRun, journal, send_entries, sends_of}
+use Rattle.session_model.specs.Sends.{IsRun, TellsRun, journal}
 use Rattle.session_model.specs.States.{flags_at}
 use Rattle.session_model.specs.Keeping.{AreSteps}
 use Rattle.session_parts.specs.Standing.{AreReceivesIn, AreSendsIn, HasFlags, HaveOutcomes, HavePast, HaveRead, HaveSent, HaveTallied}
+use Rattle.session_parts.specs.Ticking as parts
 use Rattle.gateway_core.specs.declared.collected.StoreVersion.{StoreVersion}
 use Rattle.gateway_core.specs.declared.collected.Versions.{Versions}
 use Rattle.gateway_core.specs.declared.gateway.Gateway.{Gateway}
-use Rattle.gateway_core.specs.Lived.{GatewayStep, Tick, plan_again, samples_after, session_steps, versions_kept}
+use Rattle.gateway_core.specs.Lived.{GatewayStep, plan_again, samples_after, session_steps, versions_kept}
 use Rattle.gateway_core.specs.Holding.{plan_of, sampled_by, sources_of}
 
 -- ---- as a session
@@ -65,10 +66,7 @@ pub record Leads (second : Config) (before : List GatewayStep) (step : GatewaySt
   pub tells : TellsRun (plan_again second) (session_steps (sources_of s) before) told
       → TellsRun (plan_again second) (session_steps (sources_of s) (step ∷ before)) after
 
--- memory ran out at a send of the tick: the first datagrams of the tick were sent, each once, in order, and no further one
-pub record HaltsTick (second : Config) (sources : List ℕ) (before : List GatewayStep) (ms : ℕ) (closing : Bool) (told after : Option LinkState) : Type 0 where
-  pub done : List Bool
-  pub fewer : length done < length (sends_of (plan_again second) (session_steps sources (Tick ms closing done ∷ before)))
-  pub tells : TellsRun (plan_again second) (session_steps sources before) told → (link : LinkState) → after ≡ Some link
-      → link.journal ≡ journal (plan_again second) (session_steps sources before)
-      ++ send_entries (sends_of (plan_again second) (session_steps sources (Tick ms closing done ∷ before))) done
+-- memory ran out at a send of the tick, as of a session's
+abbrev pub HaltsTick : Config → List ℕ → List GatewayStep → ℕ → Bool → Option LinkState → Option LinkState → Type 0
+HaltsTick second sources before ms closing told after =
+    parts.HaltsTick (plan_again second) (session_steps sources before) ms closing (samples_after sources before) told after

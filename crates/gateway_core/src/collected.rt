@@ -18,7 +18,8 @@ use writer_group::Sampled;
 /// The last sample of each data set of the gateway, and the versions of its source's stores.
 #[derive(Drop)]
 pub(crate) struct Collected {
-    /// The reader of the first configuration that each data set comes from, by its index over all read groups.
+    /// The reader of the first configuration that each data set comes from, by its index over all
+    /// read groups.
     sources: Vec<u8>,
     /// One sampled row for each data set.
     pub(crate) samples: Vec<Sampled>,
@@ -26,7 +27,8 @@ pub(crate) struct Collected {
 }
 
 impl Collected {
-    /// Before anything was collected: the opening rows. There is room for so many versions of each source's stores.
+    /// Before anything was collected: the opening rows. There is room for so many versions of each
+    /// source's stores.
     pub(crate) fn new(alloc: Global, sources: Vec<u8>, turns: u32) -> Result<Collected, NoMemory>
         ensures sources { IfOk result (λ made. made.sources.items ≡ sources.items) }
         ensures samples { IfOk result (λ made. made.samples.items
@@ -48,8 +50,8 @@ impl Collected {
         })
     }
 
-    /// Takes the row of each source's target that the passes have seen, with its count of stores, and keeps the version of this
-    /// store.
+    /// Takes the row of each source's target that the passes have seen, with its count of stores,
+    /// and keeps the version of this store.
     pub(crate) fn take(&mut self, passes: &Passes, origins: &[Origin])
         requires few { vec_len self.old.sources ≤ 8 }
         requires samples { length self.old.samples.items ≡ length self.old.sources.items }
@@ -64,7 +66,8 @@ impl Collected {
         ensures count { length self.new.versions.items ≡ length self.old.versions.items }
         ensures kept { (lived : List GatewayStep)
             → HaveKept self.old.sources.items lived self.old.versions.items
-            → HaveKept self.old.sources.items (Collect passes.now origins.now ∷ lived) self.new.versions.items }
+            → HaveKept self.old.sources.items (Collect passes.now origins.now ∷ lived)
+            self.new.versions.items }
         ensures room { (collects : ℕ) → ((set : ℕ) → set < length self.old.sources.items
             → HoldsAt (HasRoom (collects + 1)) self.old.versions.items set)
             → (set : ℕ) → set < length self.old.sources.items
@@ -145,8 +148,10 @@ impl Versions {
     /// Keeps the version of a store, where it is another than the last.
     fn note(&mut self, origin: &Origin)
         requires room { HasRoom 1 self.old }
-        ensures kept { versions_in self.new ≡ kept_on (versions_in self.old) (version_by origin.now) }
-        ensures room { (collects : ℕ) → HasRoom (collects + 1) self.old → HasRoom collects self.new }
+        ensures kept { versions_in self.new
+            ≡ kept_on (versions_in self.old) (version_by origin.now) }
+        ensures room { (collects : ℕ) → HasRoom (collects + 1) self.old
+            → HasRoom collects self.new }
     {
         if origin.store == self.last_store() {
             return;

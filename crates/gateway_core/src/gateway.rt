@@ -58,8 +58,9 @@ pub struct Gateway<'c> {
 }
 
 impl<'c> Gateway<'c> {
-    /// The samples of the next tick are what the passes have seen of the sources' targets, each with its count of stores as
-    /// version. The version of each store is kept, as far as its origin tells it.
+    /// The samples of the next tick are what the passes have seen of the sources' targets, each with
+    /// its count of stores as version. The version of each store is kept, as far as its origin
+    /// tells it.
     pub fn collect(&mut self, passes: &Passes, origins: &[Origin])
         requires may { MayTake self.old passes.now origins.now }
         ensures gateway { IsGateway self.new }
@@ -73,10 +74,11 @@ impl<'c> Gateway<'c> {
         self.collected.take(passes, origins);
     }
 
-    /// A tick with what was collected last, as a session's in which all components are enabled: time goes on by so many
-    /// milliseconds, an hour at most; each sender turns to the moment, and a new token refreshes its groups' writers; timers
-    /// expire; and each group that is due (at the closing tick each one) and whose sender isn't spent has its turn, and its
-    /// datagrams are sent once each, in order. Want of memory comes from a send of the link alone; what was done before it
+    /// A tick with what was collected last, as a session's in which all components are enabled: time
+    /// goes on by so many milliseconds, an hour at most; each sender turns to the moment, and a new
+    /// token refreshes its groups' writers; timers expire; and each group that is due (at the closing
+    /// tick each one) and whose sender isn't spent has its turn, and its datagrams are sent once
+    /// each, in order. Want of memory comes from a send of the link alone; what was done before it
     /// stands.
     pub fn tick<L: Link>(&mut self, ms: u64, closing: bool, link: &mut L) -> Ticked
         requires open { IsSome (L.opened_with link.old) }
@@ -106,7 +108,8 @@ impl<'c> Gateway<'c> {
         self.publisher.pass_all(&told, &mut self.tree, link)
     }
 
-    /// What a tick does before the groups' turns: time goes on, senders turn, timers expire, faults of sends are cleared.
+    /// What a tick does before the groups' turns: time goes on, senders turn, timers expire, faults
+    /// of sends are cleared.
     fn begin(&mut self, ms: u64, closing: bool)
         requires may { MayTick ms closing self.old }
         ensures begun { HasBegun ms closing self.old self.new }
@@ -122,8 +125,9 @@ impl<'c> Gateway<'c> {
         self.publisher.tell(self.config, &mut self.tree);
     }
 
-    /// Receives what came, until nothing waits, a receive fails or 65,536 datagrams were taken; each goes to each read group
-    /// in order. The answer is how many were taken, and whether the pump ended for that.
+    /// Receives what came, until nothing waits, a receive fails or 65,536 datagrams were taken; each
+    /// goes to each read group in order. The answer is how many were taken, and whether the pump
+    /// ended for that.
     pub fn pump<L: Link>(&mut self, link: &mut L) -> Pumped
         requires open { IsSome (L.opened_with link.old) }
         requires may { MayPump self.old }
@@ -159,7 +163,8 @@ impl<'c> Gateway<'c> {
             → Stands second lived self.now
             → IsWriter (meta_at (group_at second group) second.dataset index)
             (settings_of (writer_at (group_at second group) index))
-            (writer_deeds (plan_again second) group index (session_steps (sources_of self.now) lived)) result.now }
+            (writer_deeds (plan_again second) group index
+            (session_steps (sources_of self.now) lived)) result.now }
     {
         self.publisher.groups[usize::from(group)].writer(index)
     }
@@ -179,7 +184,8 @@ impl<'c> Gateway<'c> {
         self.subscriber.groups[usize::from(group)].reader(index)
     }
 
-    /// How many sends were done, how many failed, and how many datagrams came. A count stops at 2^64 - 1.
+    /// How many sends were done, how many failed, and how many datagrams came. A count stops at
+    /// 2^64 - 1.
     pub fn counts(&self) -> [u64; 3]
         ensures counts { (second : ConfigValue) (lived : List GatewayStep)
             → Stands second lived self.now
@@ -194,8 +200,8 @@ impl<'c> Gateway<'c> {
         ]
     }
 
-    /// The version that a store of a data set's source came with, that of store 0 being 0: none exactly where no such store was
-    /// collected, or its version isn't known.
+    /// The version that a store of a data set's source came with, that of store 0 being 0: none
+    /// exactly where no such store was collected, or its version isn't known.
     pub fn version_of(&self, set: u8, store: u64) -> Option<u64>
         requires gateway { IsGateway self.now }
         requires set { set < length self.now.config.now.dataset }

@@ -1,5 +1,5 @@
-//! A gateway: what the readers of one configuration hold is published again by another (OPC 10000-14 6.2.3,
-//! PubSubConfiguration).
+//! A gateway: what the readers of one configuration hold is published again by another
+//! (OPC 10000-14 6.2.3, PubSubConfiguration).
 #![tactic(auto)]
 
 mod collected;

@@ -19,8 +19,9 @@ use std::alloc::Global;
 use ua_base::NoMemory;
 
 impl<'c> Gateway<'c> {
-    /// A gateway of the second configuration, each of whose data sets has a source in the first, for so many ticks, the closing
-    /// one included, and for as many collects: all memory is taken here. An error says that it ran out.
+    /// A gateway of the second configuration, each of whose data sets has a source in the first, for
+    /// so many ticks, the closing one included, and for as many collects: all memory is taken here.
+    /// An error says that it ran out.
     pub fn open(
         alloc: Global,
         first: &Config,
@@ -61,7 +62,8 @@ impl<'c> Gateway<'c> {
         requires good { IsGood self.old.config.now }
         requires holds { HoldPublisher self.old.config.now self.old.publisher }
         requires tree { self.old.tree.counts ≡ counts_of self.old.config.now }
-        ensures faults { TellsFaults self.old.config.now self.old.publisher self.old.tree self.new.tree }
+        ensures faults { TellsFaults self.old.config.now self.old.publisher
+            self.old.tree self.new.tree }
         ensures counts { self.new.tree.counts ≡ self.old.tree.counts }
         ensures rest { self.new ≡ record self.old { tree = self.new.tree } }
     {

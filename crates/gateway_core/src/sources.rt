@@ -9,8 +9,8 @@ use ps_config::{Config, ReaderPart};
 use std::alloc::Global;
 use ua_base::NoMemory;
 
-/// For each data set of the second configuration the reader of the first one that has its name, by the index over all read
-/// groups.
+/// For each data set of the second configuration the reader of the first one that has its name, by
+/// the index over all read groups.
 pub(crate) fn sources_in(
     alloc: Global,
     first: &Config,
@@ -44,7 +44,8 @@ fn place_of(names: &[Name32], name: &Name32) -> u8
 
 /// The names of the readers, over all read groups in order.
 fn reader_names(alloc: Global, config: &Config) -> Result<Vec<Name32>, NoMemory>
-    ensures { IfOk result (λ names. names.items ≡ map (λ reader. reader.name) (readers config.now)) }
+    ensures { IfOk result
+        (λ names. names.items ≡ map (λ reader. reader.name) (readers config.now)) }
 {
     let mut names = Vec::new(alloc);
     for group in config.readgroup.as_slice() {

@@ -1,20 +1,16 @@
 //! The lanes of a configuration.
 ghost use Rattle.std.specs.Prelude.{◌≡◌, ◌+◌, ◌<◌, ◌==◌, true, false, None, IfOk, is_some, length};
 ghost use Rattle.std.specs.Option.{option_map_or};
-ghost use Rattle.ps_config.specs.Sound.{IsKeyGroup};
-ghost use Rattle.message_guard.specs.Senders.{IsSender};
 ghost use Rattle.writer_group.specs.Parts.{group_at};
 ghost use Rattle.writer_group.specs.Standing.{IsGood};
 ghost use Rattle.reader_group.specs.Settings.{keygroup_at};
-ghost use Rattle.session_model.specs.Deeds.{opening_sender};
 ghost use Rattle.lane_groups.specs.Making.{AreKeyedLanes, AreNewPlaces, IsKeyedLane, IsNewPlaceIf, IsOpenLane, LanesTo, is_member};
 ghost use Rattle.lane_groups.specs.Running.{AreLanes};
 
 use crate::lane::Lane;
 use crate::place::Place;
-use message_guard::Sender;
-use ps_config::{Config, KeyGroupPart, ring_of};
-use session_parts::group_part;
+use ps_config::{Config, KeyGroupPart};
+use session_parts::{group_part, sender_of};
 use std::alloc::Global;
 use ua_base::NoMemory;
 
@@ -169,18 +165,4 @@ fn is_of(keygroup: Option<u8>, k: u8) -> bool
         Some(other) => other == k,
         None => false,
     }
-}
-
-/// The sender that begins with the first key of a key group.
-fn sender_of(keygroup: &KeyGroupPart) -> Sender
-    requires { IsKeyGroup keygroup.now }
-    ensures opening { result ≡ opening_sender keygroup.now }
-    ensures sender { IsSender result }
-{
-    Sender::new(
-        ring_of(keygroup),
-        keygroup.random,
-        keygroup.first_block,
-        keygroup.used,
-    )
 }

@@ -1,8 +1,8 @@
 //! A group in its lane.
 ghost use Rattle.std.specs.Prelude.{◌≡◌, ◌<◌, ◌≤◌, [], ℕ, List, true, None, Some, IfOk, IfSome, length, replicate};
-ghost use Rattle.message_guard.specs.Senders.{IsSender, numbers_left};
+ghost use Rattle.message_guard.specs.Senders.{numbers_left};
 ghost use Rattle.session_model.specs.Deeds.{Deed, has_turn, sender_of};
-ghost use Rattle.session_parts.specs.Ticking.{IsAdvancedBy, MayTurn, TakesTurn};
+ghost use Rattle.session_parts.specs.Ticking.{MayTurn, TakesTurn};
 ghost use Rattle.writer_group.specs.Limits.{most_datagrams};
 ghost use Rattle.writer_group.specs.Parts.{group_at};
 ghost use Rattle.writer_group.specs.Standing.{IsGood, IsReserved};
@@ -12,7 +12,7 @@ ghost use Rattle.lane_groups.specs.Passing.{HasAdvanced, MayPass, MayPassIf, Pas
 
 use message_guard::Sender;
 use ps_config::Config;
-use session_parts::{Told, group_part};
+use session_parts::{Told, group_part, turn_open, turn_secured};
 use std::alloc::Global;
 use ua_base::NoMemory;
 use writer_group::{Datagrams, Group, a_datagram_is_not_empty};
@@ -175,52 +175,4 @@ fn turn_with(
         None => turn_open(group, told, g, on, out),
         Some(sender) => turn_secured(group, told, g, on, sender, out),
     }
-}
-
-/// A turn of a group that isn't secured.
-fn turn_open(group: &mut Group, told: &Told<'_>, g: usize, on: &[bool], out: &mut Datagrams) -> u32
-    requires may { MayTurn told.now g on.now None group.old }
-    requires reserved { IsReserved out.old }
-    ensures turned { TakesTurn told.now g on.now None result group.old group.new out.new }
-    ensures few { result ≤ most_datagrams }
-{
-    group.tick(
-        told.config,
-        told.metas,
-        told.moment,
-        told.rows,
-        on,
-        None,
-        told.closing,
-        out,
-    )
-}
-
-/// A turn of a secured group.
-fn turn_secured(
-    group: &mut Group,
-    told: &Told<'_>,
-    g: usize,
-    on: &[bool],
-    sender: &mut Sender,
-    out: &mut Datagrams,
-) -> u32
-    requires may { MayTurn told.now g on.now (Some sender.old) group.old }
-    requires reserved { IsReserved out.old }
-    ensures turned { TakesTurn told.now g on.now (Some sender.old) result
-        group.old group.new out.new }
-    ensures few { result ≤ most_datagrams }
-    ensures sender { IsAdvancedBy told.now g result sender.old sender.new }
-    ensures sender_is { IsSender sender.new }
-{
-    group.tick(
-        told.config,
-        told.metas,
-        told.moment,
-        told.rows,
-        on,
-        Some(sender),
-        told.closing,
-        out,
-    )
 }

@@ -1,84 +1,32 @@
 -- The begin of a tick, put together.
-use Rattle.std.proofs.Common.{◌≡◌, sym, ap, ◌∙◌, subst, arith, ℕ, ◌+◌, Bool, List, [], ◌∷◌}
-use Rattle.std.specs.Prelude.{Vec}
-use Rattle.std.specs.declared.alloc.Global.{Global}
-use Rattle.dataset_meta.specs.Metas.{MetaData}
+use Rattle.std.proofs.Common.{ap, subst, ℕ, ◌+◌, Bool, List, [], ◌∷◌}
 use Rattle.pubsub_states.specs.Changes.{TreeValue}
-use Rattle.ps_config.specs.declared.parts.Config.{Config}
 use Rattle.reader_group.specs.Plain.{Expired}
-use Rattle.writer_group.specs.declared.group.Group.{Group}
-use Rattle.session_model.specs.Steps.{Plan, Step, Tick, moment_of}
-use Rattle.session_model.specs.Sets.{metas_at}
-use Rattle.session_model.specs.Deeds.{Deed, deeds, rekeyed}
+use Rattle.session_model.specs.Steps.{Plan, Step, Tick}
 use Rattle.session_model.specs.Events.{events}
 use Rattle.session_parts.specs.declared.publisher.Publisher.{Publisher}
-use Rattle.session_parts.specs.declared.sends.GroupSends.{GroupSends}
 use Rattle.pubsub_engine.specs.declared.session.Session.{Session}
 use Rattle.session_parts.specs.declared.subscriber.Subscriber.{Subscriber}
-use Rattle.session_parts.specs.Holding.{HoldPublisher, HoldSubscriber}
+use Rattle.session_parts.specs.Holding.{HoldSubscriber}
 use Rattle.pubsub_engine.specs.Holding.{IsSession, plan_of}
-use Rattle.session_parts.specs.Standing.{HavePast, HaveRead, HaveReadAll, HaveSent}
+use Rattle.session_parts.specs.Standing.{HaveRead, HaveReadAll}
 use Rattle.pubsub_engine.specs.Standing.{Stands}
-use Rattle.session_parts.specs.Ticking.{ClearsSends, IsAt, TellsFaults, begun}
+use Rattle.session_parts.specs.Ticking.{IsAt, begun}
 use Rattle.pubsub_engine.specs.Ticking.{tick_of}
-use Rattle.session_parts.specs.Pumping.{TellsReaders}
-use Rattle.pubsub_engine.proofs.Beginning.{begins}
+use Rattle.session_parts.proofs.Begun.{Begins, begun-at as parts-begun}
 use Rattle.session_parts.specs.Befalling.{HaveExpired}
-use Rattle.session_parts.specs.Refreshed.{AllGoOn}
-use Rattle.session_parts.proofs.Few.{keyed}
-use Rattle.session_parts.proofs.Passed.{no_sends}
 
--- what the calls of a begin ensure
-pub record Begins (ms : ℕ) (old : Session) (come cleared : Publisher) (subscriber : Subscriber) (tree new : TreeValue) : Type 0 where
-  pub holds : HoldPublisher old.config.now come
-  pub past : (metas : List MetaData) (deeds : List Deed) → HaveSent old.config.now deeds old.publisher.senders.items
-      → HavePast old.config.now metas deeds old.publisher.groups.items → HavePast old.config.now metas (rekeyed old.config.now (old.moment + ms) deeds) come.groups.items
-  pub senders : (deeds : List Deed) → HaveSent old.config.now deeds old.publisher.senders.items → HaveSent old.config.now (rekeyed old.config.now (old.moment + ms) deeds) come.senders.items
-  pub goes_on : AllGoOn old.config.now old.publisher.groups.items come.groups.items
-  pub come_rest : come ≡ record old.publisher { groups = come.groups; senders = come.senders }
-  pub clears : ClearsSends come.sends.items cleared.sends.items
-  pub clear_rest : cleared ≡ record come { sends = cleared.sends }
-  pub read : HaveExpired (old.moment + ms) old.subscriber subscriber
-  pub tree_counts : tree.counts ≡ old.tree.counts
-  pub told : TellsReaders old.config.now subscriber old.tree tree
-  pub new_counts : new.counts ≡ tree.counts
-  pub faults : TellsFaults old.config.now cleared tree new
-
-pub hold-cleared : (config : Config) (come cleared : Publisher) → HoldPublisher config come → ClearsSends come.sends.items cleared.sends.items → cleared ≡ record come { sends = cleared.sends }
-    → HoldPublisher config cleared
-hold-cleared config come cleared holds clears rest = subst (HoldPublisher config) (sym rest) (record {
-  groups = holds.groups;
-  senders = holds.senders;
-  reserved = holds.reserved;
-  sends = omega (arith, clears.count, cleared.sends.ok.0, come.sends.ok.0, holds.sends);
-})
-
-pub begun-at : (ms : ℕ) (closing : Bool) (old : Session) (come cleared : Publisher) (subscriber : Subscriber) (tree new : TreeValue) → IsSession old → Begins ms old come cleared subscriber tree new
+pub begun-at : (ms : ℕ) (closing : Bool) (old : Session) (come cleared : Publisher) (subscriber : Subscriber) (tree new : TreeValue) → IsSession old
+    → Begins old.config.now (old.moment + ms) old.publisher come cleared old.subscriber subscriber old.tree tree new
     → (p : Plan) (before : List Step) → Stands p before old → IsAt (tick_of p before ms closing old) (begun (tick_of p before ms closing old)) [] cleared new
-begun-at ms closing old come cleared subscriber tree new session does p before stands =
+begun-at ms closing old come cleared subscriber tree new holds does p before stands =
     subst (λ (q : Plan). Stands q before old → IsAt (tick_of q before ms closing old) (begun (tick_of q before ms closing old)) [] cleared new) stands.plan own stands
   where
-    now : old.moment + ms ≡ moment_of before + ms
-    now = ap (λ (m : ℕ). m + ms) stands.moment
-
-    same_sends : come.sends ≡ old.publisher.sends
-    same_sends = ap (λ (x : Publisher). x.sends) does.come_rest
-
     own : Stands (plan_of old) before old → IsAt (tick_of (plan_of old) before ms closing old) (begun (tick_of (plan_of old) before ms closing old)) [] cleared new
     own at =
-        begins (plan_of old) before ms closing old cleared subscriber tree new no_sends at session.tree does.tree_counts does.new_counts (keyed old.config.now session.good)
-        (omega (arith, session.publisher.sends, old.publisher.sends.ok.0))
-        (subst (λ (v : Vec Group Global). HavePast old.config.now (metas_at old.config.now before) (rekeyed old.config.now (moment_of before + ms) (deeds (plan_of old) before)) v.items)
-        (sym (ap (λ (x : Publisher). x.groups) does.clear_rest))
-        (subst (λ (m : ℕ). HavePast old.config.now (metas_at old.config.now before) (rekeyed old.config.now m (deeds (plan_of old) before)) come.groups.items) now
-        (does.past (metas_at old.config.now before) (deeds (plan_of old) before) at.senders at.groups)))
-        (subst (λ (x : Publisher). HaveSent old.config.now (rekeyed old.config.now (moment_of before + ms) (deeds (plan_of old) before)) x.senders.items) (sym does.clear_rest)
-        (subst (λ (m : ℕ). HaveSent old.config.now (rekeyed old.config.now m (deeds (plan_of old) before)) come.senders.items) now (does.senders (deeds (plan_of old) before) at.senders)))
-        (subst (λ (v : Vec GroupSends Global). ClearsSends v.items cleared.sends.items) same_sends does.clears)
-        (ap (λ (x : Publisher). x.link) does.clear_rest ∙ ap (λ (x : Publisher). x.link) does.come_rest)
-        (subst (λ (m : ℕ). HaveReadAll old.config.now (λ r. Expired m ∷ events old.config.now r before) subscriber.groups.items) now
-        (does.read old.config.now (λ r. events old.config.now r before) session.subscriber at.readings))
-        does.told does.faults
+        parts-begun (tick_of (plan_of old) before ms closing old) old.publisher come cleared old.subscriber subscriber old.tree tree new holds.good holds.publisher holds.subscriber holds.tree
+        (record { past = at.groups; sent = at.senders; outcomes = at.outcomes; link = at.sends; read = at.readings; flags = at.flags })
+        (subst (λ (m : ℕ). Begins old.config.now m old.publisher come cleared old.subscriber subscriber old.tree tree new) (ap (λ (m : ℕ). m + ms) at.moment) does)
 
 pub begun-read : (ms : ℕ) (closing : Bool) (old : Session) (subscriber : Subscriber) → IsSession old → HaveExpired (old.moment + ms) old.subscriber subscriber
     → (p : Plan) (before : List Step) (done : List Bool) → Stands p before old

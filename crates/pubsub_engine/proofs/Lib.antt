@@ -1,11 +1,9 @@
 pub mod Cutting
 pub mod NowSets
 pub mod TicksLeft
-pub mod Beginning
 pub mod Begun
 pub mod Ending
 pub mod TickEnd
-pub mod HaltedTick
 pub mod Growths
 pub mod Seen
 pub mod Places

@@ -1,5 +1,5 @@
 -- Where a session stands after what it lived through. Lists of steps and of deeds have the latest first.
-use Rattle.std.specs.Prelude.{◌≡◌, ◌≢◌, ℕ, ◌+◌, ◌<◌, ◌≤◌, ◌==◌, List, [], ◌∷◌, ◌++◌, length, map, zip, find, Bool, Option, Some, None, option_and_then}
+use Rattle.std.specs.Prelude.{◌≡◌, ◌≢◌, ℕ, ◌+◌, ◌≤◌, ◌==◌, List, [], ◌∷◌, length, map, zip, find, Option, Some, None, option_and_then}
 use Rattle.std.specs.Option.{option_map_or}
 use Rattle.ua_base.specs.Journal.{LinkState}
 use Rattle.pubsub_model.specs.Answers.{version_of}
@@ -12,11 +12,11 @@ use Rattle.reader_group.specs.Members.{seat_at}
 use Rattle.reader_group.specs.Settings.{setting_of}
 use Rattle.writer_group.specs.declared.sampled.Sampled.{Sampled}
 use Rattle.session_model.specs.Counts.{most_ticks, ticks_in, pumps_in, is_closed}
-use Rattle.session_model.specs.Steps.{Plan, Step, Tick, moment_of}
+use Rattle.session_model.specs.Steps.{Plan, Step, moment_of}
 use Rattle.session_model.specs.Sets.{metas_at}
 use Rattle.session_model.specs.Deeds.{deeds, log_at}
 use Rattle.session_model.specs.Turns.{TurnsHold}
-use Rattle.session_model.specs.Sends.{IsRun, TellsRun, journal, send_entries, sends_of}
+use Rattle.session_model.specs.Sends.{IsRun, TellsRun, journal}
 use Rattle.session_model.specs.Stores.{Store, stores}
 use Rattle.session_model.specs.States.{flags_at}
 use Rattle.session_model.specs.Closing.{MemberPlace, writer_places}
@@ -73,13 +73,6 @@ pub record Leads (p : Plan) (before : List Step) (step : Step) (told after : Opt
 -- wherever it stood, it still stands
 abbrev pub KeepsStands : Session → Session → Type 0
 KeepsStands old new = (p : Plan) (steps : List Step) → Stands p steps old → Stands p steps new
-
--- memory ran out at a send of the tick: the first datagrams of the tick were sent, each once, in order, and no further one
-pub record HaltsTick (p : Plan) (before : List Step) (ms : ℕ) (closing : Bool) (samples : List Sampled) (told after : Option LinkState) : Type 0 where
-  pub done : List Bool
-  pub fewer : length done < length (sends_of p (Tick ms closing samples done ∷ before))
-  pub tells : TellsRun p before told → (link : LinkState) → after ≡ Some link
-      → link.journal ≡ journal p before ++ send_entries (sends_of p (Tick ms closing samples done ∷ before)) done
 
 -- ---- where a store comes from
 

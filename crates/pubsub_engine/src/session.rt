@@ -11,11 +11,11 @@ ghost use Rattle.session_model.specs.Steps.{Plan, Step, Append as AppendStep, Ti
 ghost use Rattle.session_model.specs.Counts.{most_taken};
 ghost use Rattle.session_model.specs.Closing.{MemberPlace, is_datagram, reader_places};
 ghost use Rattle.pubsub_engine.specs.Holding.{AddsOneAtMost, AreTargetsOf, ChangesSamples, ChangesStores, CountsPump, CountsTick, IsBankOf, IsRunning, IsSession, KeepsPasses, MayAppendNext, MayPump, MayTick, appends_left, keeper_of, left_of, passes_of, plan_of};
-ghost use Rattle.pubsub_engine.specs.Standing.{HaltsTick, IsOriginOf, KeepsStands, Leads, Stands, sampled_by, samples_of};
+ghost use Rattle.pubsub_engine.specs.Standing.{IsOriginOf, KeepsStands, Leads, Stands, sampled_by, samples_of};
 ghost use Rattle.pubsub_engine.specs.Ticking.{HasBegun};
 ghost use Rattle.pubsub_states.specs.Components.{counts_of};
 ghost use Rattle.session_parts.specs.Holding.{HoldPublisher};
-ghost use Rattle.session_parts.specs.Ticking.{TellsFaults};
+ghost use Rattle.session_parts.specs.Ticking.{HaltsTick, TellsFaults};
 ghost use Rattle.writer_group.specs.Standing.{IsGood};
 
 use crate::sampling::Samples;

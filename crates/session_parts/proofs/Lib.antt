@@ -26,3 +26,7 @@ pub mod Opened
 pub mod Giving
 pub mod Causes
 pub mod Halting
+pub mod HaltedTick
+pub mod Pumped
+pub mod Ended
+pub mod Begun

@@ -27,7 +27,7 @@ use Rattle.session_model.specs.Sets.{metas_at, rows_at}
 use Rattle.session_model.specs.Deeds.{Deed, TookTurn, deeds, group_past, opening_sender, turn_input, turn_of, rekeyed, turned_on, is_spent, has_turn}
 use Rattle.writer_group.specs.Parts.{group_at}
 use Rattle.session_model.specs.Turns.{HoldsIfTurned, deeds_before}
-use Rattle.session_model.specs.Sends.{Send, TellsRun, last_sends, sends_by, send_entries, is_done_by, failing_after, last_failed, journal, sent_by}
+use Rattle.session_model.specs.Sends.{Send, TellsRun, last_sends, sends_by, sends_of, send_entries, is_done_by, failing_after, last_failed, journal, sent_by}
 use Rattle.session_model.specs.Events.{reader_at}
 use Rattle.session_model.specs.States.{is_ready}
 use Rattle.session_model.specs.Answers.{counted}
@@ -350,3 +350,10 @@ pub record TickHalts (t : TickData) (new : Publisher) (told after : Option LinkS
 abbrev pub HaveHalted : Told → Publisher → Publisher → TreeValue → Option LinkState → Option LinkState → Type 0
 HaveHalted told old new tree link after =
     (t : TickData) → IsToldOf t told → IsAt t (begun t) [] old tree → TickHalts t new link after
+
+-- memory ran out at a send of the tick: the first datagrams of the tick were sent, each once, in order, and no further one
+pub record HaltsTick (p : Plan) (before : List Step) (ms : ℕ) (closing : Bool) (samples : List Sampled) (told after : Option LinkState) : Type 0 where
+  pub done : List Bool
+  pub fewer : length done < length (sends_of p (Tick ms closing samples done ∷ before))
+  pub tells : TellsRun p before told → (link : LinkState) → after ≡ Some link
+      → link.journal ≡ journal p before ++ send_entries (sends_of p (Tick ms closing samples done ∷ before)) done

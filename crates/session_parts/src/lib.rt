@@ -9,8 +9,8 @@ mod sends;
 mod subscriber;
 mod tally;
 
-pub use making::{publisher_of, subscriber_of};
-pub use publisher::{Publisher, Told, group_part};
+pub use making::{publisher_of, sender_of, subscriber_of};
+pub use publisher::{Publisher, Told, group_part, turn_open, turn_secured};
 pub use receiving::Receiving;
 pub use sends::{GroupSends, LinkSends};
 pub use subscriber::{Subscriber, read_group_part};

@@ -74,7 +74,7 @@ fn senders_of(alloc: Global, keygroups: &[KeyGroupPart]) -> Result<Vec<Sender>, 
 }
 
 /// The sender that begins with the first key of a key group.
-fn sender_of(keygroup: &KeyGroupPart) -> Sender
+pub fn sender_of(keygroup: &KeyGroupPart) -> Sender
     requires { IsKeyGroup keygroup.now }
     ensures opening { result ≡ opening_sender keygroup.now }
     ensures sender { IsSender result }

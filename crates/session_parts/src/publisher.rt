@@ -368,7 +368,13 @@ impl Publisher {
 }
 
 /// A turn of a group that isn't secured.
-fn turn_open(group: &mut Group, told: &Told<'_>, g: usize, on: &[bool], out: &mut Datagrams) -> u32
+pub fn turn_open(
+    group: &mut Group,
+    told: &Told<'_>,
+    g: usize,
+    on: &[bool],
+    out: &mut Datagrams,
+) -> u32
     requires may { MayTurn told.now g on.now None group.old }
     requires reserved { IsReserved out.old }
     ensures turned { TakesTurn told.now g on.now None result group.old group.new out.new }
@@ -387,7 +393,7 @@ fn turn_open(group: &mut Group, told: &Told<'_>, g: usize, on: &[bool], out: &mu
 }
 
 /// A turn of a secured group.
-fn turn_secured(
+pub fn turn_secured(
     group: &mut Group,
     told: &Told<'_>,
     g: usize,

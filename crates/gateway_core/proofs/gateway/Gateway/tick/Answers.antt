@@ -6,7 +6,7 @@ use Rattle.gateway_core.specs.declared.gateway.Gateway.{Gateway}
 use Rattle.gateway_core.specs.Lived.{plan_again, session_steps}
 use Rattle.gateway_core.specs.Holding.{sources_of}
 use Rattle.gateway_core.specs.Beginning.{tick_of}
-use Rattle.gateway_core.proofs.HaltedTick.{halts-session, halts-tick}
+use Rattle.gateway_core.proofs.HaltedTick.{halts-tick}
 use Rattle.gateway_core.proofs.Lives.{lives-ticked}
 use Rattle.gateway_core.proofs.TickEnd.{goes-back, goes-told, may-pass-all, tells-of, ticked-gateway, ticked-keeps, ticked-leads, told-of}
 use Rattle.gateway_core.proofs.gateway.Gateway.tick.Goals as goal
@@ -63,10 +63,9 @@ returns-clause-halted g c =
     let tells = tells-of c.args.ms c.args.closing old mid told begun refl c.as_slice.ensures c.deref.ensures.value refl refl in
     let p = plan_again second in
     let before = session_steps (sources_of old) lived in
-    halts-tick second lived c.args.ms c.args.closing old (g.L.Link.told c.args.link.now) (g.L.Link.told c.pass_all.new.link) stands
-    (halts-session p before c.args.ms c.args.closing old c.pass_all.new.self (g.L.Link.told c.args.link.now) (g.L.Link.told c.pass_all.new.link)
+    halts-tick second lived c.args.ms c.args.closing old c.pass_all.new.self (g.L.Link.told c.args.link.now) (g.L.Link.told c.pass_all.new.link) stands
     (c.pass_all.ensures.halted no_memory (tick_of p before c.args.ms c.args.closing old)
-    (told-of c.args.ms c.args.closing old told c.requires.may tells p before stands.session) (begun.sent p before stands.session)))
+    (told-of c.args.ms c.args.closing old told c.requires.may tells p before stands.session) (begun.sent p before stands.session))
 
 pub returns-clause-left : goal.returns-clause-left
 returns-clause-left g c = c.begin.ensures.begun.counts_tick

@@ -1,8 +1,9 @@
-use Rattle.std.proofs.Common.{◌≤◌, refl, ap, sym, ◌∙◌, subst, arith}
+use Rattle.std.proofs.Common.{◌+◌, ◌≤◌, refl, ap, sym, ◌∙◌, subst, arith}
 use Rattle.session_parts.specs.declared.publisher.Publisher.{Publisher}
 use Rattle.session_parts.specs.declared.subscriber.Subscriber.{Subscriber}
 use Rattle.session_parts.specs.Holding.{MayAllGoOn}
-use Rattle.pubsub_engine.proofs.Begun.{Begins, hold-cleared, begun-at, begun-read}
+use Rattle.session_parts.proofs.Begun.{Begins, hold-cleared}
+use Rattle.pubsub_engine.proofs.Begun.{begun-at, begun-read}
 use Rattle.session_parts.proofs.Passed.{knows-told}
 use Rattle.pubsub_engine.specs.Holding.{MayTick}
 use Rattle.pubsub_engine.proofs.TicksLeft.{moment-fits, one-left}
@@ -46,11 +47,9 @@ returns c =
     let come = c.come_to.new.self in
     let cleared = c.clear.new.self in
     let subscriber = c.expire.new.self in
-    let does : Begins ms old come cleared subscriber c.tell.new.tree c.tell-2.new.tree = record {
-      holds = c.come_to.ensures.holds;
+    let does : Begins old.config.now (old.moment + ms) old.publisher come cleared old.subscriber subscriber old.tree c.tell.new.tree c.tell-2.new.tree = record {
       past = c.come_to.ensures.past;
       senders = c.come_to.ensures.senders;
-      goes_on = c.come_to.ensures.goes_on;
       come_rest = c.come_to.ensures.rest;
       clears = c.clear.ensures.sends;
       clear_rest = c.clear.ensures.rest;

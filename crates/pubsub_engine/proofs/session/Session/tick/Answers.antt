@@ -4,7 +4,7 @@ use Rattle.session_parts.specs.declared.publisher.Told.{Told}
 use Rattle.pubsub_engine.specs.declared.session.Session.{Session}
 use Rattle.session_parts.specs.Holding.{HoldPublisher}
 use Rattle.pubsub_engine.specs.Ticking.{tick_of}
-use Rattle.pubsub_engine.proofs.HaltedTick.{halts-tick}
+use Rattle.session_parts.proofs.HaltedTick.{halts-tick}
 use Rattle.pubsub_engine.proofs.TickEnd.{goes-back, goes-told, may-pass-all, tells-of, ticked-keeps, ticked-leads, ticked-session, told-of}
 use Rattle.pubsub_engine.proofs.session.Session.tick.Goals as goal
 
@@ -50,7 +50,7 @@ returns-clause-halted g c =
     let begun = c.begin.ensures.begun in
     let told : Told = record { config = mid.config; metas = c.deref.result; rows = c.deref-2.result; moment = mid.moment; closing = c.args.closing } in
     let tells = tells-of c.args.ms c.args.closing old mid told begun refl c.deref.ensures.value c.deref-2.ensures.value refl refl in
-    halts-tick p before c.args.ms c.args.closing old c.pass_all.new.self (g.L.Link.told c.args.link.now) (g.L.Link.told c.pass_all.new.link)
+    halts-tick (tick_of p before c.args.ms c.args.closing old) c.pass_all.new.self (g.L.Link.told c.args.link.now) (g.L.Link.told c.pass_all.new.link)
     (c.pass_all.ensures.halted no_memory (tick_of p before c.args.ms c.args.closing old) (told-of c.args.ms c.args.closing old mid told begun tells p before stands) (begun.sent p before stands))
 
 pub returns-clause-left : goal.returns-clause-left

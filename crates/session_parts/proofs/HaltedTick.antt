@@ -4,17 +4,13 @@ use Rattle.std.specs.Prelude.{◌-◌, zip}
 use Rattle.std.proofs.lemmas.List.{length-map, length-take-le, map-append, append-nil, take-append-drop}
 use Rattle.dataset_meta.specs.Rows.{cons_if}
 use Rattle.ua_base.specs.Journal.{LinkState, Tells}
-use Rattle.session_model.specs.Steps.{Plan, Step}
 use Rattle.session_model.specs.Deeds.{Deed, TookTurn, deeds, has_turn, rekeyed, turned_on}
 use Rattle.session_model.specs.Sends.{Send, journal, last_sends, send_entry, send_entries, sends_by}
 use Rattle.session_model.proofs.Sending.{entries-append}
 use Rattle.session_parts.specs.declared.publisher.Publisher.{Publisher}
-use Rattle.session_parts.specs.Ticking.{TickData, SendsHalt, TickHalts, deeds_to, now_of, turn_in}
+use Rattle.session_parts.specs.Ticking.{TickData, HaltsTick, SendsHalt, TickHalts, deeds_to, now_of, turn_in}
 use Rattle.session_parts.proofs.Counting.{fold-more}
 use Rattle.session_parts.proofs.Passing.{has, turned-so}
-use Rattle.pubsub_engine.specs.declared.session.Session.{Session}
-use Rattle.pubsub_engine.specs.Standing.{HaltsTick}
-use Rattle.pubsub_engine.specs.Ticking.{tick_of}
 
 -- ---- a tick's sends only become more
 
@@ -113,13 +109,12 @@ begin-turn t g within so =
     subst (λ (l : List Deed). BeginWith (last_sends l) (last_sends (deeds_to t (length t.plan.config.group)))) (more-deeds t g ∙ turned-so t (deeds_to t g) g so)
     (begin-all t (g + 1) (length t.plan.config.group - (g + 1)) (length t.plan.config.group) (omega (arith, within)))
 
-pub halts-tick : (p : Plan) (before : List Step) (ms : ℕ) (closing : Bool) (old : Session) (new : Publisher) (told after : Option LinkState)
-    → TickHalts (tick_of p before ms closing old) new told after → HaltsTick p before ms closing old.samples.taken.items told after
-halts-tick p before ms closing old new told after h =
-    let t : TickData = tick_of p before ms closing old in
+pub halts-tick : (t : TickData) (new : Publisher) (told after : Option LinkState) → TickHalts t new told after
+    → HaltsTick t.plan t.before t.ms t.closing t.samples told after
+halts-tick t new told after h =
     let g : ℕ = h.group in
     let xs : List Send = last_sends (deeds_to t g) in
-    let all : List Send = last_sends (deeds_to t (length p.config.group)) in
+    let all : List Send = last_sends (deeds_to t (length t.plan.config.group)) in
     let made : List (List ℕ) = (turn_in t (deeds_to t g) g).made in
     let halt : SendsHalt g made h.publisher new h.between after = h.halts.sends in
     let begins : BeginWith (xs ++ sends_by g made) all = begin-turn t g h.within h.halts.has in
@@ -131,6 +126,6 @@ halts-tick p before ms closing old new told after h =
           = subst (λ (o : Option LinkState). Tells h.between o (λ x y. y.journal ≡ x.journal ++ send_entries (sends_by g (take halt.count made)) halt.done)) is halt.sent.tells in
           at.2
           ∙ ap (λ l. l ++ send_entries (sends_by g (take halt.count made)) halt.done) (h.passed.tells run at.0 at.1)
-          ∙ append_assoc (journal p before) (send_entries xs h.passed.done) (send_entries (sends_by g (take halt.count made)) halt.done)
-          ∙ ap (λ l. journal p before ++ l) (sym (cut-entries all xs g halt.count made h.passed.done halt.done begins h.passed.at.sent halt.sent.each));
+          ∙ append_assoc (journal t.plan t.before) (send_entries xs h.passed.done) (send_entries (sends_by g (take halt.count made)) halt.done)
+          ∙ ap (λ l. journal t.plan t.before ++ l) (sym (cut-entries all xs g halt.count made h.passed.done halt.done begins h.passed.at.sent halt.sent.each));
     }
