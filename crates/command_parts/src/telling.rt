@@ -58,7 +58,12 @@ fn put_source<E: Sink>(err: &mut E, set: u32) -> bool
     ensures faults { E.faults err.old ≤ E.faults err.new }
 {
     let mut digits = Buffer::new();
-    put_three(err, "config: C26 NoSource dataset[", digits.format(set), "]\n")
+    put_three(
+        err,
+        "config: C26 NoSource dataset[",
+        digits.format(set),
+        "]\n",
+    )
 }
 
 // A script that lanes don't take: its first line that they don't.
@@ -68,7 +73,12 @@ fn put_lanes<E: Sink>(err: &mut E, line: u32) -> bool
     ensures faults { E.faults err.old ≤ E.faults err.new }
 {
     let mut digits = Buffer::new();
-    put_three(err, "script: line ", digits.format(line), " S13 NotInLanes\n")
+    put_three(
+        err,
+        "script: line ",
+        digits.format(line),
+        " S13 NotInLanes\n",
+    )
 }
 
 // A script that is refused: the line, and the number and the name of its fault.

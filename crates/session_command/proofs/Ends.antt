@@ -103,7 +103,7 @@ module _ (IsText : Text) (refusal : Refusal) (fates : Bool) where
       let late = written_late status old.written new.written text written in
       session_ends status script_name config_name old new before after
       (says_written IsText refusal fates status script_name config_name old new after text
-          (record { config = config; script = script; accepts = accepts; taken = taken; opened = opened; is_text = is_text }) written)
+      (record { config = config; script = script; accepts = accepts; taken = taken; opened = opened; is_text = is_text }) written)
       (record {
         opens = λ differs. record { config = config; script = script; accepts = accepts; taken = taken; opened_is = opened };
         unused = λ is. absurd (late.opened is);

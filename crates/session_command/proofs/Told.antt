@@ -153,9 +153,11 @@ module _ (IsText : Text) (refusal : Refusal) (fates : Bool) where
       taken_is_not_refused fates refusal reader old.file script_name config_name config h.1.config h.1.script bytes 6 known told h.1.accepts h.1.taken (λ e. omega arith)
   script_refused Unopened script_name config_name old new after reader config bytes h known told a b =
       taken_is_not_refused fates refusal reader old.file script_name config_name config h.config h.script bytes 8 known told h.accepts h.taken (λ e. omega arith)
-  script_refused (NotInLanes line) script_name config_name old new after reader config bytes h known told a b =
-      ((λ four. line_refused refusal (script_in reader config bytes fates) h.script line
-          (script_is fates reader old.file script_name config_name config h.config bytes (Ok h.script) known h.accepts.configured told.told h.accepts.scripted) h.refused), (λ refused. refl))
+  script_refused (NotInLanes line) script_name config_name old new after reader config bytes h known told a b = (
+    (λ four. line_refused refusal (script_in reader config bytes fates) h.script line
+        (script_is fates reader old.file script_name config_name config h.config bytes (Ok h.script) known h.accepts.configured told.told h.accepts.scripted) h.refused),
+    (λ refused. refl),
+  )
   script_refused (NoSource set) script_name config_name old new after reader config bytes h known told a b = absurd h
   script_refused (ScriptRefused line fault) script_name config_name old new after reader config bytes h known told a b =
       ((λ four. err_refused refusal (script_in reader config bytes fates) (line, fault) (script_is fates reader old.file script_name config_name config h.0 bytes (Err (line, fault)) known h.1 told.told h.2)), (λ refused. refl))

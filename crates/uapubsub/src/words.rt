@@ -98,12 +98,7 @@ fn check_of<'w>(command: &str, option: &str, config: &'w str) -> Option<Command<
     }
 }
 
-fn long<'w>(
-    command: &str,
-    script: &'w str,
-    other: &'w str,
-    last: &'w str,
-) -> Option<Command<'w>>
+fn long<'w>(command: &str, script: &'w str, other: &'w str, last: &'w str) -> Option<Command<'w>>
     ensures shape { long_shape command.now script.now other.now last.now ≡ option_map shape_by result }
     ensures bounded { IfSome result IsBounded }
 {
