@@ -1,8 +1,7 @@
 -- What the command `relay` does, and what each status says of it.
-use Rattle.std.specs.Prelude.{◌≡◌, ◌≢◌, ◌≤◌, ◌↔◌, ◌⊎◌, ⊤, ⊥, ℕ, List, [], Option, Some, Ok, Err, IsErr, true}
-use Rattle.ua_base.specs.Cause.{HasCause, Rose}
+use Rattle.std.specs.Prelude.{◌≡◌, ◌≢◌, ◌≤◌, ◌↔◌, ◌⊎◌, ⊤, ℕ, List, Some, Ok, Err, IsErr, true}
+use Rattle.ua_base.specs.Cause.{HasCause}
 use Rattle.ua_base.specs.Files.{ToldFile, TellsFile}
-use Rattle.ua_base.specs.Links.{Opening}
 use Rattle.ua_base.specs.Output.{appended, AppendsPrefix}
 use Rattle.ps_config.specs.declared.parts.Config.{Config}
 use Rattle.ps_config.specs.Reading.{configuration}
@@ -18,6 +17,7 @@ use Rattle.command_parts.specs.Outside.{Outside, Wire, IsQuiet}
 use Rattle.command_parts.specs.Scripts.{IsJudgedScript}
 use Rattle.command_parts.specs.Statuses.{IsDone, IsConfigRefused, IsScriptRefused, IsUnread, IsUnwritten, IsOutOfMemory, IsUnopened}
 use Rattle.relay_command.specs.declared.command.Accepted.{Accepted}
+use Rattle.relay_command.specs.Links.{LeavesUnopened, opening_again}
 use Rattle.relay_command.specs.Relaying.{IsRelayOf}
 use Rattle.relay_command.specs.Sources.{AreSourced, IsUnsourced}
 
@@ -46,10 +46,6 @@ pub record AreConfigured (tells : List ℕ → ToldFile) (names : Names) (first 
 pub record Accepts (tells : List ℕ → ToldFile) (names : Names) (accepted : Accepted) : Type 0 where
   pub configured : AreConfigured tells names accepted.first accepted.second
   pub scripted : IsJudgedScript (tells names.script) accepted.first true (Ok accepted.script)
-
--- the second configuration's port, and no fates
-abbrev pub opening_again : Config → Opening
-opening_again second = record { port = second.publisher.port; fates = [] }
 
 -- the text is that of what was accepted, and both links were opened for it: `lab` with the first port and the script's fates, `wire` with the second port and none
 pub record Writes (tells : List ℕ → ToldFile) (names : Names) (lab wire : Wire) (text : List ℕ) : Type 0 where
@@ -99,21 +95,6 @@ Says Unwritten names old new lab wire = (text : List ℕ) × Writes old.file nam
 Says status names old new lab wire = EndsBefore old.file names status
 
 -- ---- the links
-
--- a link is opened so or not at all
-abbrev pub OpensSo : Option Opening → Wire → Wire → Type 0
-OpensSo opening before after = after.opened_with ≢ before.opened_with → after.opened_with ≡ opening
-
--- one that can't be opened stays as it was, its count of faults aside, which rose
-pub record StaysClosed (before after : Wire) : Type 0 where
-  pub told : after.told ≡ before.told
-  pub opened_with : after.opened_with ≡ before.opened_with
-  pub rose : Rose before.faults after.faults
-
--- `lab` was opened before `wire`; where it can't be opened, `wire` is left alone
-abbrev pub LeavesUnopened : Wire → Wire → Wire → Wire → Type 0
-LeavesUnopened lab lab_after wire wire_after =
-    (StaysClosed lab lab_after × (wire_after ≡ wire)) ⊎ StaysClosed wire wire_after
 
 -- what the command does to the links, for what was accepted
 pub record UsesLinks (tells : List ℕ → ToldFile) (names : Names) (status : Status) (lab lab_after wire wire_after : Wire) : Type 0 where

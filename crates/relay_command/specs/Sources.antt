@@ -1,5 +1,5 @@
 -- Which data sets of a second configuration have a source: what C26 asks.
-use Rattle.std.specs.Prelude.{◌≡◌, ◌⊎◌, ⊥, ℕ, ◌<◌, List, length, None, true}
+use Rattle.std.specs.Prelude.{◌≡◌, ◌⊎◌, ℕ, ◌<◌, List, length, None, true}
 use Rattle.dataset_meta.specs.Metas.{MetaData}
 use Rattle.config_tables.specs.declared.words.Layout.{Layout}
 use Rattle.config_tables.specs.declared.words.Layout.TheVariants as layouts
