@@ -62,6 +62,9 @@ pub record ShowsOrigins (player : Player) (origins : List Origin) : Type 0 where
 -- the gateway of this configuration has its sources among the readers of the session, and as many ticks left as the session and so many more
 pub record HoldsRelay (second : Config) (more : ℕ) (relay : Relay) : Type 0 where
   pub player : IsPlayer relay.player
+  pub plan : Plan
+  pub steps : List Step
+  pub stood : SessionStands plan steps relay.player.session
   pub gateway : IsGateway relay.gateway
   pub lived : List GatewayStep
   pub stands : Stands second lived relay.gateway

@@ -53,10 +53,13 @@ relayed_as fields kept store version = held_as fields kept store version kept.ro
 unfoldable pub relayed_line : List ℕ → List Field → Kept → Option ℕ → Option ℕ → List ℕ
 relayed_line name fields kept store version = codes "relayed " ++ name ++ relayed_as fields kept store version ++ feed
 
+-- `link sent A failed B received C`
+unfoldable pub counts_text : ℕ → ℕ → ℕ → List ℕ
+counts_text sent failed received = codes "link sent " ++ decimal sent ++ codes " failed " ++ decimal failed ++ codes " received " ++ decimal received
+
 -- `gateway link sent A failed B received C`
 unfoldable pub link_line : ℕ → ℕ → ℕ → List ℕ
-link_line sent failed received =
-    codes "gateway link sent " ++ decimal sent ++ codes " failed " ++ decimal failed ++ codes " received " ++ decimal received ++ feed
+link_line sent failed received = codes "gateway " ++ counts_text sent failed received ++ feed
 
 -- ---- one text for each place, in order
 
@@ -84,9 +87,9 @@ abbrev pub config_of : Gateway → Config
 config_of gateway = (plan_of gateway).config
 
 -- the gateway is one of this configuration
-pub record IsGatewayOf (second : Config) (gateway : Gateway) : Type 0 where
-  pub gateway : IsGateway gateway
-  pub config : config_of gateway ≡ second
+pub record IsGatewayOf (second : Config) (g : Gateway) : Type 0 where
+  pub gateway : IsGateway g
+  pub config : config_of g ≡ second
   pub good : IsGood second
 
 -- those of the gateway of gateway_core, whose sources are named by their indexes

@@ -3,7 +3,7 @@ ghost use Rattle.std.specs.Prelude.{◌≡◌, ◌++◌, OnOk};
 ghost use Rattle.dataset_reader.specs.Reader.{IsReaderOf, kept_by};
 ghost use Rattle.relay_command.specs.Texts.{relayed_as, relayed_line};
 
-use crate::put::{put, put_row, put_stored, why_word};
+use crate::put::{put, put_row, put_stored, put_waits};
 use dataset_meta::{Meta, Name32};
 use dataset_reader::Reader;
 use ua_base::NoMemory;
@@ -48,14 +48,20 @@ fn put_held(
         stored.now.store stored.now.version) }
 {
     match reader.row() {
-        None => {
-            put(out, b" waits ")?;
-            put(out, why_word(reader.why()).as_bytes())
-        }
+        None => put_waits(out, reader.why()),
         Some(row) => {
-            let number = reader.number().map(u64::from);
+            let number = wide(reader.number());
             put_stored(out, number, stored.store, stored.version)?;
             put_row(out, meta, row)
         }
+    }
+}
+
+fn wide(number: Option<u16>) -> Option<u64>
+    ensures { result ≡ number }
+{
+    match number {
+        Some(number) => Some(u64::from(number)),
+        None => None,
     }
 }

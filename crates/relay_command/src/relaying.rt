@@ -19,13 +19,16 @@ ghost use Rattle.relay_command.specs.Sources.{AreSourced};
 use crate::command::Accepted;
 use crate::text::text_of;
 use gateway_core::{Gateway, Ticked};
+use gateway_laws::passes_show_what_is_collected;
 use ps_config::Config;
 use ps_script::{Act, Line, Script};
 use script_player::{PlayEnd, Player, size_of};
+use session_laws::a_closed_session_tells_the_headline;
 use std::alloc::Global;
 use std::sync::Wait;
 use target_cells::Origin;
 use ua_base::{Fate, Link, NoMemory, Opened};
+use version_cell::histories_are_the_models;
 
 /// What is written of the first session and of the gateway. All memory of both is taken before a link is opened.
 pub(crate) fn relayed_text<R: Wait, A: Link, B: Link>(
@@ -59,6 +62,9 @@ pub(crate) fn relayed_text<R: Wait, A: Link, B: Link>(
     ensures lab_counts { A.faults lab.old ≤ A.faults lab.new }
     ensures wire_counts { B.faults wire.old ≤ B.faults wire.new }
 {
+    histories_are_the_models();
+    a_closed_session_tells_the_headline();
+    passes_show_what_is_collected();
     let Accepted {
         first,
         second,
@@ -70,7 +76,9 @@ pub(crate) fn relayed_text<R: Wait, A: Link, B: Link>(
     relay.play(rt, alloc, script, lab, wire)?;
     relay.end(rt, lab, wire)?;
     let Relay {
-        player, gateway, ..
+        player,
+        gateway,
+        ..
     } = relay;
     let closed = player.close(alloc)?;
     Ok(text_of(alloc, first, &closed, second, &gateway)?)
@@ -145,6 +153,7 @@ impl<'c> Relay<'c> {
         ensures lab { KeepsLink A.opened_with A.faults lab.old lab.new }
         ensures wire { KeepsLink B.opened_with B.faults wire.old wire.new }
     {
+        passes_show_what_is_collected();
         for line in script.lines.as_slice() {
             self.play_line(rt, alloc, line, lab, wire)?;
         }
@@ -212,6 +221,7 @@ impl<'c> Relay<'c> {
             → Follows second ms closing self.old self.new (B.told wire.old) (B.told wire.new)) }
         ensures link { KeepsLink B.opened_with B.faults wire.old wire.new }
     {
+        passes_show_what_is_collected();
         self.player.level(rt);
         show_origins(&self.player, &mut self.origins);
         self.gateway.collect(self.player.watches(), &self.origins);

@@ -88,9 +88,14 @@ fn put_group(
         → Wrote (IsWriterText second.now (session_steps (sources_of gateway.now) lived))
         (places ++ places_in_group second.now g) front out.new.items) }
 {
-    let writers = second.group.as_slice()[g].writer.as_slice();
+    let groups = second.group.as_slice();
+    let writers = groups[g].writer.as_slice();
     for w in 0..writers.len() {
-        put_gateway(out, &writers[w].name, gateway.writer(g as u8, w as u8).log())?;
+        put_gateway(
+            out,
+            &writers[w].name,
+            gateway.writer(g as u8, w as u8).log(),
+        )?;
     }
     Ok(())
 }
@@ -124,7 +129,9 @@ fn put_read_group(
         → Wrote (IsReaderText second.now (session_steps (sources_of gateway.now) lived)
         (kept_by_index (sources_of gateway.now) lived)) (places ++ places_in_read_group second.now r) front out.new.items) }
 {
-    for i in 0..second.readgroup.as_slice()[r].reader.as_slice().len() {
+    let groups = second.readgroup.as_slice();
+    let readers = groups[r].reader.as_slice();
+    for i in 0..readers.len() {
         put_reader(out, second, gateway, r, i)?;
     }
     Ok(())
@@ -145,8 +152,8 @@ fn put_reader(
         → (text : List ℕ) × IsReaderText second.now (session_steps (sources_of gateway.now) lived)
         (kept_by_index (sources_of gateway.now) lived) (r, i) text × (out.new.items ≡ out.old.items ++ text)) }
 {
-    let group = &second.readgroup.as_slice()[r];
-    match matched_writer(second, group, i) {
+    let groups = second.readgroup.as_slice();
+    match matched_writer(second, &groups[r], i) {
         Some((g, w)) => put_matched(out, second, gateway, r, i, g, w),
         None => Ok(()),
     }
@@ -171,10 +178,13 @@ fn put_matched(
         → out.new.items ≡ out.old.items ++ reader_line second.now (session_steps (sources_of gateway.now) lived)
         (kept_by_index (sources_of gateway.now) lived) r i g w) }
 {
-    let part = &second.readgroup.as_slice()[r].reader.as_slice()[i];
+    let groups = second.readgroup.as_slice();
+    let readers = groups[r].reader.as_slice();
+    let part = &readers[i];
     let reader = gateway.reader(r as u8, i as u8);
     let stored = stored_at(gateway, g, w, part.dataset, reader.number());
-    let meta = &second.dataset.as_slice()[usize::from(part.dataset)];
+    let sets = second.dataset.as_slice();
+    let meta = &sets[usize::from(part.dataset)];
     put_relayed(out, &part.name, meta, reader, &stored)
 }
 
