@@ -39,7 +39,7 @@ ok_not_err result a e err = false≢true (sym (ap is_err e) ∙ err)
 err_is : {A B : Type 0} (result : Result A B) (b : B) → result ≡ Err b → IsErr result
 err_is result b e = ap is_err e
 
-ok_or : {A B : Type 0} → A → Result A B → A
+abbrev ok_or : {A B : Type 0} → A → Result A B → A
 ok_or a (Ok b) = b
 ok_or a (Err e) = a
 

@@ -66,10 +66,10 @@ pub behind-tick : (second : Config) (what : Act) (ms : ℕ) (mid new : Relay) (t
 behind-tick second what ms mid new told after is follows = subst (λ (a : Act). IsBehind second a mid new told after) (sym is) follows
 
 pub behind-other : (second : Config) (what : Act) (mid new : Relay) (told after : Option LinkState) → ((ms : ℕ) → what ≡ act.Tick ms → ⊥) → new ≡ mid → after ≡ told → IsBehind second what mid new told after
-behind-other second (act.Tick ms) mid new told after no same kept = absurd (no ms refl)
-behind-other second (act.Write thread set patch) mid new told after no same kept = (same, kept)
-behind-other second (act.Enable id) mid new told after no same kept = (same, kept)
-behind-other second (act.Disable id) mid new told after no same kept = (same, kept)
-behind-other second (act.Fated k fate) mid new told after no same kept = (same, kept)
-behind-other second (act.Watch thread reader times) mid new told after no same kept = (same, kept)
-behind-other second (act.Append set) mid new told after no same kept = (same, kept)
+behind-other second (act.Tick ms) mid new told after other same kept = absurd (other ms refl)
+behind-other second (act.Write thread set patch) mid new told after other same kept = (same, kept)
+behind-other second (act.Enable id) mid new told after other same kept = (same, kept)
+behind-other second (act.Disable id) mid new told after other same kept = (same, kept)
+behind-other second (act.Fated k fate) mid new told after other same kept = (same, kept)
+behind-other second (act.Watch thread reader times) mid new told after other same kept = (same, kept)
+behind-other second (act.Append set) mid new told after other same kept = (same, kept)

@@ -8,11 +8,14 @@ use Rattle.ps_report.specs.Conditions.{IsClosedOf}
 use Rattle.ps_script.specs.declared.script.Line.{Line}
 use Rattle.ps_script.specs.declared.script.Script.{Script}
 use Rattle.ps_script.specs.Sound.{IsScript}
+use Rattle.reader_group.specs.Members.{seat_at}
+use Rattle.reader_group.specs.Settings.{setting_of}
 use Rattle.writer_group.specs.Parts.{group_at}
 use Rattle.writer_group.specs.Payloads.{no_writer, writer_at}
 use Rattle.writer_group.specs.Standing.{IsGood}
 use Rattle.session_parts.proofs.Few.{sound-group}
 use Rattle.session_model.specs.Closing.{MemberPlace, reader_places}
+use Rattle.session_model.specs.Events.{reader_at}
 use Rattle.session_model.specs.Keeping.{AreSteps, IsPlan}
 use Rattle.session_model.specs.Sends.{IsRun, TellsRun}
 use Rattle.session_model.specs.Steps as steps
@@ -37,11 +40,16 @@ use Rattle.script_player.proofs.Headline.{HistoriesHaveRows}
 use Rattle.script_player.proofs.Levelling.{levelled-closed}
 use Rattle.relay_command.specs.declared.relaying.Relay.{Relay}
 use Rattle.relay_command.specs.Relaying.{Follows, HasRelayed, IsRelayOf, RelaysEnd}
-use Rattle.relay_command.specs.Texts.{IsReaderText, IsTextOf, TextsOf, kept_by_index, reader_line, store_held, versions_of}
+use Rattle.relay_command.specs.Texts.{IsReaderText, IsTextOf, TextsOf, kept_by_index, relayed_line, store_held, versions_of}
 use Rattle.relay_command.proofs.Showing.{ShowsCollected}
 use Rattle.relay_command.proofs.Stepping.{collected-now, shows-now}
 
 -- ---- texts by other words for what was kept
+
+abbrev with_version : Config → List Step → ℕ → ℕ → ℕ → ℕ → Option ℕ → List ℕ
+with_version second all r i g w version =
+    let seat = seat_at (setting_of second r).seats i in
+    relayed_line seat.part.name seat.meta.fields (reader_at second r i all).kept (store_held second all r i g w) version
 
 reader-kept : (second : Config) (all : List Step) (one other : ℕ → List StoreVersion) (place : MemberPlace) (text : List ℕ) → IsGood second → ((set : ℕ) → set < length second.dataset → one set ≡ other set)
     → IsReaderText second all one place text → IsReaderText second all other place text
@@ -52,11 +60,6 @@ reader-kept second all one other place text good same is = record {
       is.matched g w low matched ∙ (λ i. with_version second all place.0 place.1 g w (option_and_then (version_in (same set there i)) (store_held second all place.0 place.1 g w)));
   unmatched = is.unmatched;
 }
-  where
-    abbrev with_version : Config → List Step → ℕ → ℕ → ℕ → ℕ → Option ℕ → List ℕ
-    with_version second all r i g w version =
-        let seat = Rattle.reader_group.specs.Members.seat_at (Rattle.reader_group.specs.Settings.setting_of second r).seats i in
-        Rattle.relay_command.specs.Texts.relayed_line seat.part.name seat.meta.fields (Rattle.session_model.specs.Events.reader_at second r i all).kept (store_held second all r i g w) version
 
 texts-kept : (second : Config) (all : List Step) (one other : ℕ → List StoreVersion) (places : List MemberPlace) (text : List ℕ) → IsGood second → ((set : ℕ) → set < length second.dataset → one set ≡ other set)
     → TextsOf (IsReaderText second all one) places text → TextsOf (IsReaderText second all other) places text
@@ -98,9 +101,6 @@ module _ (law : ShowsCollected) (rows : HistoriesHaveRows) (tells-all : RunsTell
       let led = e.ends.by.leads p h.played.steps h.played.stands in
       (is.0, led.0, led.1, is.1, led.2)
 
-  samples : List Rattle.writer_group.specs.declared.sampled.Sampled.Sampled
-  samples = samples_of (passes_of e.mid.session)
-
   module _ (text : List ℕ) (told : (lived : List GatewayStep) → Stands second lived new.gateway
       → IsTextOf first closed second (session_steps (sources_of new.gateway) lived) (kept_by_index (sources_of new.gateway) lived) text) where
     pub relayed : IsRelayOf first second script lab_after wire_after text
@@ -118,7 +118,11 @@ module _ (law : ShowsCollected) (rows : HistoriesHaveRows) (tells-all : RunsTell
         let lived : List GatewayStep = Pump led.1 ∷ Tick 0 true led.0 ∷ Collect new.player.watches new.origins.items ∷ h.lived in
         let relay : List RelayStep = Round 0 true all played.1 played.2 shown led.0 led.1 ∷ h.relay in
         let lives : Lives p places h.sources relay lived = (
-          new.player.watches, new.origins.items, h.lived, refl, refl,
+          new.player.watches,
+          new.origins.items,
+          h.lived,
+          refl,
+          refl,
           shows-now law first second script places h.sources h.indexes h.sources_are h.places e.mid e.player new 0 true (record r { player = e.mid }) refl wire wire_after f h.origins now stands,
           h.lives,
         ) in

@@ -235,11 +235,11 @@ impl<'c> Relay<'c> {
 }
 
 /// Where the last store of each reader comes from.
-fn show_origins(player: &Player<'_>, origins: &mut [Origin])
+fn show_origins(player: &Player<'_>, origins: &mut Vec<Origin>)
     requires player { IsPlayer player.now }
-    requires count { length origins.old ≡ length (readers (config_of player.now)) }
-    ensures count { length origins.new ≡ length origins.old }
-    ensures shows { ShowsOrigins player.now origins.new }
+    requires count { length origins.old.items ≡ length (readers (config_of player.now)) }
+    ensures count { length origins.new.items ≡ length origins.old.items }
+    ensures shows { ShowsOrigins player.now origins.new.items }
 {
     for reader in 0..origins.len() {
         origins[reader] = player.origin(reader as u8);

@@ -9,8 +9,8 @@ use Rattle.relay_command.proofs.relaying.show_origins.Given as goal
 
 abbrev pub invariant-loop-reader : goal.invariant-loop-reader
 invariant-loop-reader l = record {
-  count : length l.origins ≡ length l.fn.origins;
+  count : length l.origins.items ≡ length l.fn.origins.items;
   origins : (k : ℕ) → k < l.reader → (p : Plan) (steps : List Step) (place : MemberPlace) → Stands p steps l.player.session → slice_get (reader_places p.config) k ≡ Some place
-      → IsOriginOf p steps place (slice_index_or l.origins k no_origin);
+      → IsOriginOf p steps place (slice_index_or l.origins.items k no_origin);
   sound : 0 < l.reader → AreSound l.player.targets;
 }

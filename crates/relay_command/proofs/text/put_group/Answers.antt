@@ -18,7 +18,10 @@ overflow_cast-w c =
     let same : group_at second c.args.g ≡ item = group-read second c.args.g item c.requires.within (c.index-groups-g.is ∙ ap (λ (l : List GroupPart). get_or l c.args.g item) c.as_slice-groups.ensures) in
     let few = few-writers second c.args.g c.requires.gateway.good c.requires.within in
     let own = ap (λ (x : GroupPart). length x.writer) same in
-    omega (arith, few, own, ap (λ (l : List WriterPart). length l) c.as_slice-writers.ensures, c.loop-w-test.true)
+    let there = ap (λ (x : GroupPart). length x.writer) c.index-groups-g.is in
+    let n = ap (λ (l : List WriterPart). length l) c.as_slice-writers.ensures in
+    let lt = c.loop-w-test.true in
+    omega (arith, few, own, there, n, lt)
 
 pub loop-w-preserved : goal.loop-w-preserved
 loop-w-preserved c = λ lived places front stands wrote.
@@ -28,7 +31,7 @@ loop-w-preserved c = λ lived places front stands wrote.
     let group = c.index-groups-g.result in
     let item = c.index-writers-w.result in
     let same : group_at second g ≡ group = group-read second g group c.requires.within (c.index-groups-g.is ∙ ap (λ (l : List GroupPart). get_or l g group) c.as_slice-groups.ensures) in
-    let listed = c.as_slice-writers.ensures ∙ ap (λ (x : GroupPart). x.writer) (sym same) in
+    let listed = c.as_slice-writers.ensures ∙ ap (λ (x : GroupPart). x.writer) (sym c.index-groups-g.is) ∙ ap (λ (x : GroupPart). x.writer) (sym same) in
     let low = subst (λ (l : List WriterPart). w < length l) listed c.loop-w-test.true in
     let at : writer_at (group_at second g) w ≡ item = read-at (group_at second g).writer w item no_writer low (c.index-writers-w.is ∙ ap (λ (l : List WriterPart). get_or l w item) listed) in
     let log = c.log.ensures _ _ _ (c.writer.ensures.lived second lived stands) in

@@ -27,7 +27,7 @@ returns c = λ lived places front stands wrote.
     let from = sources_of c.args.gateway.now in
     let group = c.index-groups-r.result in
     let same : group_at second r ≡ group = read-at second.readgroup r group no_group c.requires.within (c.index-groups-r.is ∙ ap (λ (l : List ReadGroupPart). get_or l r group) c.as_slice-groups.ensures) in
-    let count = ap (λ (l : List ReaderPart). length l) (c.as_slice-readers.ensures ∙ ap (λ (x : ReadGroupPart). x.reader) (sym same)) in
+    let count = ap (λ (l : List ReaderPart). length l) (c.as_slice-readers.ensures ∙ ap (λ (x : ReadGroupPart). x.reader) (sym c.index-groups-r.is) ∙ ap (λ (x : ReadGroupPart). x.reader) (sym same)) in
     let all : c.loop-i.i ≡ length (group_at second r).reader = omega (arith, count, c.loop-i-test.false, c.loop-i.auto.i-end) in
     subst (λ (n : ℕ). Wrote (IsReaderText second (session_steps from lived) (kept_by_index from lived)) (places ++ map (λ (x : ℕ). (r, x)) (range_with_len 0 n)) front c.loop-i.out.items) all
     (c.loop-i.invariant lived places front stands wrote)

@@ -1,4 +1,4 @@
-use Rattle.std.proofs.Common.{◌≤◌, ◌∙◌, ◌∷◌, List, length, refl, sym, ap, subst, arith}
+use Rattle.std.proofs.Common.{◌≤◌, ◌∙◌, ◌∷◌, List, refl, sym, ap, subst, arith}
 use Rattle.target_cells.specs.declared.origin.Origin.{Origin}
 use Rattle.version_cell.specs.Known.{Known}
 use Rattle.gateway_core.specs.Lived.{Collect}
@@ -10,8 +10,8 @@ use Rattle.relay_command.proofs.relaying.Relay.follow.Goals as goal
 pub collect-requires : goal.collect-requires
 collect-requires g c =
     let h = c.requires.may.holds in
-    let origins = c.show_origins.new.origins in
-    let count = c.show_origins.ensures.count ∙ ap (λ (l : List Origin). length l) c.deref_mut.ensures.value in
+    let origins = c.show_origins.new.origins.items in
+    let count = c.show_origins.ensures.count in
     let may = may-take c.passes_show_what_is_collected.ensures h.0 c.args.self.now c.level.new.self origins h.1 c.level.ensures.levels c.level.ensures.player c.show_origins.ensures.shows count
     (some c.args.closing _ c.requires.may.left) in
     record {
@@ -21,7 +21,7 @@ collect-requires g c =
 
 pub returns-clause-follows : goal.returns-clause-follows
 returns-clause-follows g c = λ second holds.
-    let count = c.show_origins.ensures.count ∙ ap (λ (l : List Origin). length l) c.deref_mut.ensures.value in
+    let count = c.show_origins.ensures.count in
     follows-on c.args.ms c.args.closing c.args.self.now _ c.collect.new.self c.tick.new.self _ _ _
     (record {
       levels = c.level.ensures.levels;
@@ -30,7 +30,7 @@ returns-clause-follows g c = λ second holds.
       counts_taken = c.collect.ensures.left;
       sources_taken = c.collect.ensures.sources;
       stands_taken = λ config lived stands.
-          subst (λ (l : List Known). Stands config (Collect l c.show_origins.new.origins ∷ lived) c.collect.new.self) c.watches.ensures.watches
+          subst (λ (l : List Known). Stands config (Collect l c.show_origins.new.origins.items ∷ lived) c.collect.new.self) c.watches.ensures.watches
           (subst (λ (l : List Origin). Stands config (Collect c.watches.result.now l ∷ lived) c.collect.new.self) c.deref.ensures.value (c.collect.ensures.stands config lived stands));
       counts_ticked = c.tick.ensures.left;
       leads_ticked = c.in-Done.ensures.leads refl;

@@ -56,7 +56,7 @@ pub returns-clause-relayed : goal.returns-clause-relayed
 returns-clause-relayed g c = λ first second scripts h.
     let end : length c.args.script.now.lines ≤ c.loop-line.line-index =
     omega (arith, c.loop-line-test.false, ap (λ (l : List Line). length l) c.as_slice-line-items.ensures) in
-    subst (λ (l : List Line). HasRelayed first second c.args.script.now (reverse l) _ _ c.loop-line.self) (take_all c.loop-line.line-index c.args.script.now.lines end)
+    subst (λ (l : List Line). HasRelayed first second c.args.script.now (reverse l) (g.A.Link.told c.loop-line.lab) (g.B.Link.told c.loop-line.wire) c.loop-line.self) (take_all c.loop-line.line-index c.args.script.now.lines end)
     (c.loop-line.invariant.relayed first second scripts h)
 
 pub returns-clause-lab : goal.returns-clause-lab

@@ -1,5 +1,6 @@
-use Rattle.std.proofs.Common.{◌∙◌, ℕ, refl, sym, subst}
+use Rattle.std.proofs.Common.{ℕ, false, refl, sym, subst}
 use Rattle.std.proofs.lemmas.Result.{on_ok_weaker}
+use Rattle.ua_base.proofs.Links.{KeepsLink-refl}
 use Rattle.relay_command.specs.Relaying.{Follows, MayFollow}
 use Rattle.relay_command.proofs.Passed.{behind-other, behind-tick, may-follow, passed-holds, tick-may, tick-passes}
 use Rattle.relay_command.proofs.relaying.Relay.play_line.Goals as goal
@@ -9,7 +10,7 @@ follow-requires-clause-may g c =
     let what = c.args.line.now.act in
     let ms = c.in-Tick.ms in
     let passes = tick-passes what ms c.args.self.now.player c.play_line.new.self _ _ c.in-Tick.is c.in_ok-play_line.ensures.does in
-    subst (λ (n : ℕ). MayFollow n _ _) (sym c.from.ensures)
+    subst (λ (n : ℕ). MayFollow n false (record c.args.self.now { player = c.play_line.new.self })) (sym c.from.ensures)
     (may-follow c.requires.holds.0 ms _ c.args.self.now c.play_line.new.self _ _ c.requires.holds.1 c.in_ok-play_line.ensures.player passes (tick-may what ms c.args.self.now.player c.in-Tick.is c.requires.may))
 
 pub returns-in-Tick-clause-relays : goal.returns-in-Tick-clause-relays
@@ -22,8 +23,8 @@ returns-in-Tick-clause-relays g c =
       mid = c.play_line.new.self;
       player = c.in_ok-play_line.ensures.player;
       does = c.in_ok-play_line.ensures.does;
-      behind = behind-tick second what ms _ c.follow.new.self _ _ c.in-Tick.is
-          (subst (λ (n : ℕ). Follows second n _ _ c.follow.new.self _ _) c.from.ensures
+      behind = behind-tick second what ms (record c.args.self.now { player = c.play_line.new.self }) c.follow.new.self (g.B.Link.told c.args.wire.now) (g.B.Link.told c.follow.new.wire) c.in-Tick.is
+          (subst (λ (n : ℕ). Follows second n false (record c.args.self.now { player = c.play_line.new.self }) c.follow.new.self (g.B.Link.told c.args.wire.now) (g.B.Link.told c.follow.new.wire)) c.from.ensures
           (follows second (passed-holds second ms _ c.args.self.now c.play_line.new.self _ _ holds c.in_ok-play_line.ensures.player passes)));
     }) c.follow.ensures.follows
 
@@ -33,8 +34,8 @@ returns-in_default g c = record {
     mid = c.play_line.new.self;
     player = c.in_ok-play_line.ensures.player;
     does = c.in_ok-play_line.ensures.does;
-    behind = behind-other second c.args.line.now.act _ _ _ _ (λ ms is. c.in_default.not-Tick ms is) refl refl;
+    behind = behind-other second c.args.line.now.act (record c.args.self.now { player = c.play_line.new.self }) (record c.args.self.now { player = c.play_line.new.self }) (g.B.Link.told c.args.wire.now) (g.B.Link.told c.args.wire.now) (λ ms is. c.in_default.not-Tick ms is) refl refl;
   };
   lab = c.in_ok-play_line.ensures.link;
-  wire = _;
+  wire = KeepsLink-refl g.B.Link.opened_with g.B.Link.faults c.args.wire.now;
 }
