@@ -300,7 +300,7 @@ module _ (names : Names) (old new : Outside) (lab lab_after wire wire_after : Wi
   }
 
   -- memory ran out, or a link could not be opened
-  pub ends_unplayed : (end : PlayEnd) → OpensSo (Some (opening_of accepted.first accepted.script)) lab lab_after → OpensSo (Some (opening_again accepted.second)) wire wire_after
+  ends_unplayed : (end : PlayEnd) → OpensSo (Some (opening_of accepted.first accepted.script)) lab lab_after → OpensSo (Some (opening_again accepted.second)) wire wire_after
       → (end ≡ ends.Unopened → LeavesUnopened lab lab_after wire wire_after) → lab.faults ≤ lab_after.faults → wire.faults ≤ wire_after.faults → KeepsFiles old new
       → old.write_faults ≡ new.write_faults → RelayEnds (status_of end) names old new lab lab_after wire wire_after
   ends_unplayed ends.Memory lab_opens wire_opens unopened lab_counts wire_counts keeps same =
@@ -311,6 +311,12 @@ module _ (names : Names) (old new : Outside) (lab lab_after wire wire_after : Wi
       relay_ends (status_of ends.Unopened) names old new lab lab_after wire wire_after (accepted, accepts)
       (uses (status_of ends.Unopened) lab_opens wire_opens (λ is. unopened refl) lab_counts wire_counts)
       (record { later = keeps.1; rose = λ is. absurd (omega (arith, is)) }) (record { later = omega (arith, same); rose = λ is. absurd (omega (arith, is)) }) keeps.0
+
+  pub ends_so : (status : Status) (end : PlayEnd) → status ≡ status_of end → OpensSo (Some (opening_of accepted.first accepted.script)) lab lab_after
+      → OpensSo (Some (opening_again accepted.second)) wire wire_after → (end ≡ ends.Unopened → LeavesUnopened lab lab_after wire wire_after) → lab.faults ≤ lab_after.faults → wire.faults ≤ wire_after.faults
+      → KeepsFiles old new → old.write_faults ≡ new.write_faults → RelayEnds status names old new lab lab_after wire wire_after
+  ends_so status end is lab_opens wire_opens unopened lab_counts wire_counts keeps same =
+      subst (λ (s : Status). RelayEnds s names old new lab lab_after wire wire_after) (sym is) (ends_unplayed end lab_opens wire_opens unopened lab_counts wire_counts keeps same)
 
   -- the text was made, and the last write ends the command
   pub ends_written : (status : Status) (text : List ℕ) → Writes old.file names lab_after wire_after text → OpensSo (Some (opening_of accepted.first accepted.script)) lab lab_after

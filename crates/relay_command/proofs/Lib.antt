@@ -10,3 +10,4 @@ pub mod Passed
 pub mod Ending
 pub mod Beginning
 pub mod Whole
+pub mod TextOf

@@ -104,19 +104,3 @@ sources-for first (meta ∷ metas) each =
 
 pub sourced : (first second : Config) → ((k : ℕ) → k < length second.dataset → HasSource first (meta_in second.dataset k)) → AreSourced first second
 sourced first second each = let made = sources-for first second.dataset each in (made.0, record { count = made.1; each = made.2 })
-
--- ---- a reader by its place, as it was read
-
-pub read-seat : (config : Config) (r i from : ℕ) (groups : List ReadGroupPart) (group : ReadGroupPart) (all : List ReaderPart) (part : ReaderPart) (sets : List MetaData) (own : MetaData) → IsGood config
-    → r < length config.readgroup → i < length (read_group_at config r).reader → groups ≡ config.readgroup → group ≡ get_or groups r group → all ≡ group.reader → part ≡ get_or all i part
-    → from ≡ part.dataset → sets ≡ config.dataset → own ≡ get_or sets from own
-    → (seat_at (setting_of config r).seats i ≡ seat_of part own) × (reader_at (read_group_at config r) i ≡ part)
-read-seat config r i from groups group all part sets own good there within groups_are at all_are is from_is sets_are own_is =
-    let at_config = at ∙ ap (λ (l : List ReadGroupPart). get_or l r group) groups_are in
-    let same : read_group_at config r ≡ group = read-at config.readgroup r group no_group there at_config in
-    let within_group : i < length group.reader = subst (λ (x : ReadGroupPart). i < length x.reader) same within in
-    let is_group = is ∙ ap (λ (l : List ReaderPart). get_or l i part) all_are in
-    let part_is : reader_at (read_group_at config r) i ≡ part = ap (λ (x : ReadGroupPart). reader_at x i) same ∙ read-at group.reader i part no_seat.part within_group is_group in
-    let low : part.dataset < length config.dataset = subst (λ (x : ReaderPart). x.dataset < length config.dataset) part_is ((good.sound.readgroups r no_group there).readers i no_seat.part within).dataset in
-    let own_config = own_is ∙ ap (λ (l : List MetaData). get_or l from own) sets_are ∙ ap (λ (n : ℕ). get_or config.dataset n own) from_is in
-    (seat-read config r i group part own there at_config within_group is_group low own_config, part_is)

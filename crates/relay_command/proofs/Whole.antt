@@ -34,7 +34,6 @@ use Rattle.gateway_laws.proofs.Living.{lived-seconds, lived-versions}
 use Rattle.script_player.specs.declared.player.Player.{Player}
 use Rattle.script_player.specs.Player.{Closes, IsClosedBy, IsPlayer}
 use Rattle.script_player.specs.Plays.{IsPlayOf, plan_by}
-use Rattle.script_player.proofs.Closing.{closes}
 use Rattle.script_player.proofs.Finished.{RunsTellTheHeadline, is-closed-of, is-play-by}
 use Rattle.script_player.proofs.Headline.{HistoriesHaveRows}
 use Rattle.script_player.proofs.Levelling.{levelled-closed}
@@ -88,7 +87,7 @@ module _ (law : ShowsCollected) (rows : HistoriesHaveRows) (tells-all : RunsTell
   p = plan_by first script
 
   abbrev closing : Closes r.player lab lab_after closed
-  closing = closes r.player e.mid lab lab_after closed e.player e.ends (levelled-closed e.mid new.player closed e.behind.levels by)
+  closing = record { new = e.mid; player = e.player; ends = e.ends; by = levelled-closed e.mid new.player closed e.behind.levels by }
 
   pub closed-of : IsClosedOf first closed
   closed-of = is-closed-of first script scripts plan lab lab_after r.player h.player h.played closed closing rows tells-all

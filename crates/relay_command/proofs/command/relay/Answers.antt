@@ -1,9 +1,7 @@
-use Rattle.std.proofs.Common.{List, ℕ, Err, refl, sym, ap, subst}
-use Rattle.command_parts.specs.declared.status.Status.{Status}
+use Rattle.std.proofs.Common.{List, ℕ, Err, refl, ap, subst}
 use Rattle.command_parts.specs.Outputs.{EndsWriting}
 use Rattle.session_command.proofs.Ended.{written_late}
-use Rattle.relay_command.specs.Ends.{RelayEnds}
-use Rattle.relay_command.proofs.Ending.{ends_unaccepted, ends_unplayed, ends_written}
+use Rattle.relay_command.proofs.Ending.{ends_unaccepted, ends_so, ends_written}
 use Rattle.relay_command.proofs.command.relay.Goals as goal
 
 pub returns-in-Ok-relayed_text-clause-ends : goal.returns-in-Ok-relayed_text-clause-ends
@@ -28,6 +26,5 @@ returns-in-Err-clause-ends g c =
 pub returns-clause-ends : goal.returns-clause-ends
 returns-clause-ends g c =
     let e = c.in-Err-relayed_text.ensures in
-    subst (λ (s : Status). RelayEnds s _ _ _ _ _ _ _) (sym c.status_of.ensures)
-    (ends_unplayed _ _ _ _ _ _ _ c.in-Ok.accepted c.in-Ok.ensures.accepts c.in-Err-relayed_text.end e.lab_opens e.wire_opens (λ is. e.unopened (ap Err is)) e.lab_counts e.wire_counts
-    (c.in-Ok.ensures.folder.files, c.in-Ok.ensures.folder.counted) refl)
+    ends_so _ _ _ _ _ _ _ c.in-Ok.accepted c.in-Ok.ensures.accepts c.status_of.result c.in-Err-relayed_text.end c.status_of.ensures e.lab_opens e.wire_opens (λ is. e.unopened (ap Err is))
+    e.lab_counts e.wire_counts (c.in-Ok.ensures.folder.files, c.in-Ok.ensures.folder.counted) refl

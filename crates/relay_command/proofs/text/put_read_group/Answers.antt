@@ -3,7 +3,6 @@ use Rattle.std.specs.List.{range_with_len}
 use Rattle.ps_config.specs.declared.parts.ReadGroupPart.{ReadGroupPart}
 use Rattle.ps_config.specs.declared.parts.ReaderPart.{ReaderPart}
 use Rattle.reader_group.specs.Settings.{group_at, no_group}
-use Rattle.session_model.specs.Closing.{MemberPlace}
 use Rattle.gateway_core.specs.Lived.{session_steps}
 use Rattle.gateway_core.specs.Holding.{sources_of}
 use Rattle.relay_command.specs.Texts.{IsReaderText, Wrote, kept_by_index}
@@ -27,7 +26,7 @@ returns c = λ lived places front stands wrote.
     let from = sources_of c.args.gateway.now in
     let group = c.index-groups-r.result in
     let same : group_at second r ≡ group = read-at second.readgroup r group no_group c.requires.within (c.index-groups-r.is ∙ ap (λ (l : List ReadGroupPart). get_or l r group) c.as_slice-groups.ensures) in
-    let count = ap (λ (l : List ReaderPart). length l) (c.as_slice-readers.ensures ∙ ap (λ (x : ReadGroupPart). x.reader) (sym c.index-groups-r.is) ∙ ap (λ (x : ReadGroupPart). x.reader) (sym same)) in
+    let count = ap (λ (l : List ReaderPart). length l) (c.as_slice-readers.ensures ∙ ap (λ (x : ReadGroupPart). x.reader) (sym c.index-groups-r.is ∙ sym same)) in
     let all : c.loop-i.i ≡ length (group_at second r).reader = omega (arith, count, c.loop-i-test.false, c.loop-i.auto.i-end) in
     subst (λ (n : ℕ). Wrote (IsReaderText second (session_steps from lived) (kept_by_index from lived)) (places ++ map (λ (x : ℕ). (r, x)) (range_with_len 0 n)) front c.loop-i.out.items) all
     (c.loop-i.invariant lived places front stands wrote)
