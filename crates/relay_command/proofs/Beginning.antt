@@ -1,7 +1,5 @@
 -- Before the first line of the script.
-use Rattle.std.proofs.Common.{◌≡◌, refl, sym, ap, ◌∙◌, subst, arith, ℕ, ◌+◌, List, [], length, map, Option}
-use Rattle.ua_base.specs.Journal.{LinkState}
-use Rattle.dataset_meta.specs.Metas.{MetaData}
+use Rattle.std.proofs.Common.{◌≡◌, refl, sym, ap, ◌∙◌, arith, ℕ, ◌+◌, [], length, map}
 use Rattle.ps_config.specs.declared.parts.Config.{Config}
 use Rattle.ps_config.specs.Sound.{readers}
 use Rattle.ps_script.specs.declared.script.Script.{Script}
@@ -14,13 +12,12 @@ use Rattle.gateway_core.specs.Holding.{IsGateway, left_of, opening_left, sources
 use Rattle.gateway_core.specs.Sources.{HaveSources as HaveIndexes}
 use Rattle.gateway_core.specs.Standing.{Stands}
 use Rattle.gateway_laws.proofs.Living.{sources-are}
-use Rattle.script_player.specs.declared.player.Player.{Player}
 use Rattle.script_player.specs.Player.{IsNew, IsPlayer}
 use Rattle.script_player.specs.Plays.{plan_by}
 use Rattle.script_player.specs.Sizes.{appended_sets, quotas_by}
 use Rattle.script_player.proofs.Newly.{begins-by}
 use Rattle.relay_command.specs.declared.relaying.Relay.{Relay}
-use Rattle.relay_command.specs.Relaying.{HasRelayed, IsNewRelay, IsUntold}
+use Rattle.relay_command.specs.Relaying.{IsNewRelay}
 
 pub new-relay : (first second : Config) (script : Script) (r : Relay) (turns : ℕ) → IsPlayer r.player → IsNew r.player → session_plan r.player.session ≡ plan_by first script
     → session_left r.player.session ≡ session_opening (ticks_in script.lines) → appends_left r.player.session ≡ appended_sets script.lines

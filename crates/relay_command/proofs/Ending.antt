@@ -1,6 +1,6 @@
 -- How the command ends, from what its status says and from the counts.
-use Rattle.std.proofs.Common.{◌≡◌, ◌≤◌, ◌↔◌, ◌⊎◌, inl, inr, ℕ, List, Option, Some, Result, Ok, Err, true, refl, sym, ap, ◌∙◌, subst, arith}
-use Rattle.std.specs.Prelude.{◌≢◌, IsErr, is_err, slice_index_or}
+use Rattle.std.proofs.Common.{◌≡◌, ◌≤◌, ◌↔◌, ◌⊎◌, inl, inr, ℕ, List, Some, Result, Ok, Err, true, refl, sym, ap, ◌∙◌, subst, arith}
+use Rattle.std.specs.Prelude.{IsErr, is_err, slice_index_or}
 use Rattle.std.proofs.lemmas.Bool.{false≢true}
 use Rattle.ua_base.specs.Cause.{HasCause, Rose}
 use Rattle.ua_base.specs.Files.{ToldFile, TellsFile}
@@ -23,11 +23,9 @@ use Rattle.command_parts.specs.Scripts.{EndsScript, IsJudgedScript}
 use Rattle.command_parts.specs.Statuses.{IsDone, IsConfigRefused, IsOutOfMemory, IsScriptRefused, IsUnopened, IsUnread, IsUnwritten}
 use Rattle.command_parts.proofs.Told.{judged_told, script_told, long_short}
 use Rattle.session_command.specs.Endings.{status_of}
-use Rattle.session_command.specs.Links.{IsBeforeLink}
 use Rattle.session_command.proofs.Ended.{written_late}
-use Rattle.gateway_core.specs.Sources.{HaveSources}
 use Rattle.relay_command.specs.declared.command.Accepted.{Accepted}
-use Rattle.relay_command.specs.Ends.{Accepts, AreConfigured, AreRefused, AreTold, AreToldConfigs, EndsAccepting, EndsBefore, EndsSecond, IsSecond, Names, Reads, RelayEnds, Says, UsesLinks, Writes}
+use Rattle.relay_command.specs.Ends.{Accepts, AreConfigured, AreRefused, AreTold, AreToldConfigs, EndsAccepting, EndsSecond, Names, Reads, RelayEnds, Says, UsesLinks, Writes}
 use Rattle.relay_command.specs.Links.{LeavesUnopened, OpensSo, opening_again}
 use Rattle.relay_command.specs.Sources.{AreSourced, IsUnsourced}
 

@@ -1,5 +1,5 @@
 -- A gateway that follows the player: the conditions of its calls, and what they make of it.
-use Rattle.std.proofs.Common.{◌≡◌, refl, sym, ap, ◌∙◌, subst, arith, ℕ, ◌+◌, ◌<◌, ◌≤◌, Bool, true, false, List, ◌∷◌, length, Option, Some}
+use Rattle.std.proofs.Common.{◌≡◌, sym, ap, ◌∙◌, subst, arith, ℕ, ◌+◌, ◌<◌, ◌≤◌, Bool, true, false, List, ◌∷◌, length, Option, Some}
 use Rattle.std.specs.Prelude.{slice_get, slice_index_or, slice_set}
 use Rattle.std.proofs.lemmas.List.{get_or-set_other, get_or-set_same}
 use native.Mathlib.Decide.{ℕ_discrete}
@@ -7,7 +7,6 @@ use Rattle.ua_base.specs.Journal.{Entry, LinkState}
 use Rattle.ps_config.specs.declared.parts.Config.{Config}
 use Rattle.ps_config.specs.Sound.{readers}
 use Rattle.target_cells.specs.declared.origin.Origin.{Origin}
-use Rattle.target_cells.specs.Keeping.{AreSound}
 use Rattle.version_cell.specs.Sets.{pass_at}
 use Rattle.session_model.specs.Closing.{MemberPlace, reader_places}
 use Rattle.session_model.specs.Counts.{most_ms}
@@ -19,12 +18,12 @@ use Rattle.pubsub_engine.specs.Standing.{IsOriginOf, Stands as SessionStands}
 use Rattle.gateway_core.specs.declared.gateway.Gateway.{Gateway}
 use Rattle.gateway_core.specs.declared.gateway.Left.{Left}
 use Rattle.gateway_core.specs.Lived.{Collect, GatewayStep, Pump, Tick, no_origin, plan_again, session_steps}
-use Rattle.gateway_core.specs.Holding.{CountsCollect, CountsPump, CountsTick, IsGateway, KeepsCollected, MayPump, MayTake, MayTick, left_of, plan_of, sources_of, ticks_needed}
+use Rattle.gateway_core.specs.Holding.{CountsCollect, CountsPump, CountsTick, IsGateway, KeepsCollected, MayPump, MayTake, MayTick, left_of, sources_of, ticks_needed}
 use Rattle.gateway_core.specs.Standing.{Leads, Stands}
 use Rattle.script_player.specs.declared.player.Player.{Player}
 use Rattle.script_player.specs.Player.{IsPlayer, Levels, config_of}
 use Rattle.relay_command.specs.declared.relaying.Relay.{Relay}
-use Rattle.relay_command.specs.Relaying.{Follows, HoldsRelay, MayFollow, ShowsOrigins}
+use Rattle.relay_command.specs.Relaying.{Follows, HoldsRelay, ShowsOrigins}
 use Rattle.relay_command.proofs.Showing.{ShowsCollected, may-collect}
 
 -- ---- a levelled player

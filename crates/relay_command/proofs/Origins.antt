@@ -1,5 +1,5 @@
 -- The origins that a session tells of its readers are those of the sources.
-use Rattle.std.proofs.Common.{◌≡◌, ◌≢◌, refl, sym, ap, ◌∙◌, subst, arith, ℕ, zero, suc, ◌+◌, ◌<◌, Bool, true, false, List, [], ◌∷◌, length, map, get_or, AllPairs, Option, Some, None, option_and_then}
+use Rattle.std.proofs.Common.{◌≡◌, ◌≢◌, refl, sym, ap, ◌∙◌, arith, ℕ, zero, suc, ◌+◌, ◌<◌, Bool, true, false, List, [], ◌∷◌, length, map, get_or, AllPairs, Option, Some, option_and_then}
 use Rattle.std.specs.Prelude.{◌==◌, find, slice_get, zip, if◌then◌else◌}
 use Rattle.std.specs.Option.{option_map_or}
 use Rattle.std.proofs.lemmas.Bool.Decides.{nat_tests}
@@ -10,7 +10,6 @@ use Rattle.ps_config.specs.declared.parts.Config.{Config}
 use Rattle.ps_config.specs.declared.parts.WriterPart.{WriterPart}
 use Rattle.ps_config.specs.Sound.{IsSound}
 use Rattle.ps_report.specs.Conditions.{writers_of}
-use Rattle.group_laws.specs.Matching.{reader_at}
 use Rattle.reader_group.specs.Members.{seat_at}
 use Rattle.reader_group.specs.Settings.{group_at as read_group_at, setting_of}
 use Rattle.target_cells.specs.declared.origin.Origin.{Origin}

@@ -1,9 +1,9 @@
 -- What a levelled player shows a gateway: the rows, the counts and the origins of the stores of its session's readers.
-use Rattle.std.proofs.Common.{◌≡◌, refl, sym, ap, ◌∙◌, subst, arith, ℕ, zero, suc, ◌+◌, ◌<◌, List, [], ◌∷◌, length, map, reverse, get_or, Some, All}
+use Rattle.std.proofs.Common.{◌≡◌, sym, ap, ◌∙◌, subst, arith, ℕ, zero, suc, ◌<◌, List, [], ◌∷◌, length, map, reverse, get_or, Some, All}
 use Rattle.std.specs.Prelude.{slice_get, slice_index_or}
 use Rattle.std.specs.List.{AllZip}
 use Rattle.std.proofs.lemmas.List.{get_or-map, length-map}
-use Rattle.std.proofs.lemmas.Option.{get_or_from_slice_get, same_Some, slice_get_within}
+use Rattle.std.proofs.lemmas.Option.{get_or_from_slice_get, slice_get_within}
 use lib.ListN.{get_or-map as get_or-mapped}
 use Rattle.dataset_meta.specs.Metas.{MetaData, no_meta}
 use Rattle.row_words.specs.Belonging.{Belongs, row_in}
@@ -16,27 +16,27 @@ use Rattle.target_cells.specs.declared.origin.Origin.{Origin}
 use Rattle.target_cells.specs.Keeping.{AreSound, metas_of}
 use Rattle.version_cell.specs.declared.rule.Entry.{Entry}
 use Rattle.version_cell.specs.Cells.{CellData, IsCell}
-use Rattle.version_cell.specs.Known.{Known, nothing}
+use Rattle.version_cell.specs.Known.{Known}
 use Rattle.version_cell.specs.Passes.{IsPassOf, SeesLawful}
 use Rattle.version_cell.specs.Sets.{EachSeesLawful, cell_at, no_cell, pass_at}
 use Rattle.writer_group.specs.declared.sampled.Sampled.{Sampled}
 use Rattle.writer_group.specs.Turns.{no_sample}
 use Rattle.session_model.specs.Closing.{MemberPlace, reader_places}
-use Rattle.session_model.specs.Sets.{AreRowsOf, meta_in}
+use Rattle.session_model.specs.Sets.{meta_in}
 use Rattle.session_model.specs.Steps.{Plan, Step}
 use Rattle.session_model.specs.Stores.{Store, stores}
-use Rattle.pubsub_engine.specs.Holding.{keeper_of, plan_of}
+use Rattle.pubsub_engine.specs.Holding.{keeper_of}
 use Rattle.pubsub_engine.specs.Standing.{Stands}
 use Rattle.pubsub_engine.specs.Storing.{meta_at_place}
 use Rattle.pubsub_engine.proofs.ByPlace.{IsPlace, are-places}
 use Rattle.pubsub_engine.proofs.Places.{within-all}
 use Rattle.pubsub_engine.proofs.Stored.{cells-count}
 use Rattle.gateway_core.specs.Lived.{collected, sample_of}
-use Rattle.gateway_core.specs.Sources.{HaveSources as HaveIndexes, IsSourceOf as IsIndexOf, MayCollect}
+use Rattle.gateway_core.specs.Sources.{HaveSources as HaveIndexes, MayCollect}
 use Rattle.gateway_core.proofs.Places.{part-there}
 use Rattle.gateway_laws.specs.Relays.{AreCollected, IsCollected, stores_of}
 use Rattle.gateway_laws.specs.Lives.{ArePlaces}
-use Rattle.gateway_laws.specs.Sources.{HaveSources, IsSourceOf, Source, source_at}
+use Rattle.gateway_laws.specs.Sources.{HaveSources, Source, source_at}
 use Rattle.gateway_laws.specs.Versions.{HasStored}
 use Rattle.script_player.specs.declared.player.Player.{Player}
 use Rattle.script_player.specs.Player.{IsPlayer, config_of}

@@ -1,25 +1,23 @@
 -- Sources by the places of their readers.
-use Rattle.std.proofs.Common.{◌≡◌, refl, sym, ap, ◌∙◌, subst, arith, ℕ, zero, suc, ◌+◌, ◌<◌, List, [], ◌∷◌, length, map, get_or, Some, All}
-use Rattle.std.specs.Prelude.{slice_get, slice_index_or}
-use Rattle.std.specs.List.{range_with_len}
+use Rattle.std.proofs.Common.{◌≡◌, refl, sym, ap, ◌∙◌, subst, arith, ℕ, zero, suc, ◌+◌, ◌<◌, List, [], ◌∷◌, length, map, get_or}
+use Rattle.std.specs.Prelude.{slice_index_or}
 use Rattle.std.proofs.lemmas.List.{get_or-map}
 use Rattle.std.proofs.lemmas.Option.{slice_get_within, get_or_from_slice_get}
 use Rattle.dataset_meta.specs.Metas.{MetaData, no_meta}
 use Rattle.ps_config.specs.declared.parts.Config.{Config}
 use Rattle.ps_config.specs.declared.parts.ReadGroupPart.{ReadGroupPart}
 use Rattle.ps_config.specs.declared.parts.ReaderPart.{ReaderPart}
-use Rattle.group_laws.specs.Matching.{IsMatchedTo, reader_at}
-use Rattle.reader_group.specs.Members.{Seat, no_seat, seat_at, seat_of}
+use Rattle.group_laws.specs.Matching.{IsMatchedTo}
+use Rattle.reader_group.specs.Members.{no_seat, seat_at, seat_of}
 use Rattle.reader_group.specs.Settings.{group_at as read_group_at, no_group, seat_in, setting_of}
 use Rattle.writer_group.specs.Parts.{group_at}
-use Rattle.writer_group.specs.Standing.{IsGood}
-use Rattle.session_model.specs.Closing.{MemberPlace, reader_places}
+use Rattle.session_model.specs.Closing.{reader_places}
 use Rattle.session_model.specs.Sets.{meta_in}
 use Rattle.pubsub_engine.specs.Storing.{first_reader}
 use Rattle.pubsub_engine.proofs.ByPlace.{IsPlace, are-places}
-use Rattle.pubsub_engine.proofs.Places.{place-at, seat-part}
-use Rattle.gateway_core.specs.Sources.{HaveSources, IsSourceOf}
-use Rattle.relay_command.specs.Sources.{AreAlike, AreSourced, HasSource, HasSourceIn, IsMatchedSomewhere, IsNamed, IsSourceAt}
+use Rattle.pubsub_engine.proofs.Places.{place-at}
+use Rattle.gateway_core.specs.Sources.{IsSourceOf}
+use Rattle.relay_command.specs.Sources.{AreSourced, HasSource, HasSourceIn, IsMatchedSomewhere}
 use Rattle.relay_command.proofs.Matched.{read-at}
 
 -- ---- one source

@@ -1,6 +1,6 @@
 -- One line more was relayed.
-use Rattle.std.proofs.Common.{◌≡◌, refl, sym, ap, ◌∙◌, subst, arith, ℕ, ◌+◌, ◌<◌, Bool, true, false, List, [], ◌∷◌, length, reverse, take, get_or, Option, Some}
-use Rattle.std.specs.Prelude.{slice_get, slice_index_or}
+use Rattle.std.proofs.Common.{◌≡◌, refl, sym, ap, ◌∙◌, subst, arith, ℕ, ◌+◌, ◌<◌, Bool, true, false, List, ◌∷◌, length, reverse, take, get_or, Option}
+use Rattle.std.specs.Prelude.{slice_index_or}
 use Rattle.ua_base.specs.Journal.{Entry, LinkState}
 use Rattle.ps_config.specs.declared.parts.Config.{Config}
 use Rattle.ps_config.specs.Sound.{IsSound, readers}
@@ -8,23 +8,20 @@ use Rattle.ps_script.specs.declared.script.Act.{Act}
 use Rattle.ps_script.specs.declared.script.Act.TheVariants as act
 use Rattle.ps_script.specs.declared.script.Line.{Line}
 use Rattle.ps_script.specs.declared.script.Script.{Script}
-use Rattle.ps_script.specs.Sessions.{is_tick, ticks_in}
-use Rattle.target_cells.specs.declared.origin.Origin.{Origin}
+use Rattle.ps_script.specs.Sessions.{is_tick}
 use Rattle.writer_group.specs.declared.sampled.Sampled.{Sampled}
 use Rattle.session_model.specs.Sends.{TellsRun}
 use Rattle.session_model.specs.Steps as steps
 use Rattle.session_model.specs.Steps.{Plan, Step}
-use Rattle.pubsub_engine.specs.Holding.{left_of as session_left}
 use Rattle.pubsub_engine.specs.Standing.{Stands as SessionStands}
-use Rattle.gateway_core.specs.declared.gateway.Left.{Left}
 use Rattle.gateway_core.specs.Lived.{Collect, GatewayStep, Pump, Tick, collected, no_origin, plan_again, session_steps}
-use Rattle.gateway_core.specs.Holding.{left_of, sources_of}
+use Rattle.gateway_core.specs.Holding.{sources_of}
 use Rattle.gateway_core.specs.Sources.{HaveSources as HaveIndexes}
 use Rattle.gateway_laws.specs.Lives.{ArePlaces, Lives, ShowsOrigins as ShowsSources}
 use Rattle.gateway_laws.specs.Relays.{Append, AreCollected, Collects, Disable, Enable, RelayStep, Round, firsts}
 use Rattle.gateway_laws.specs.Sources.{HaveSources, Source, source_at}
 use Rattle.script_player.specs.declared.player.Player.{Player}
-use Rattle.script_player.specs.Player.{Does, GrowsBy, HasPlayed, IsPlayer, Levels, MayDo, config_of}
+use Rattle.script_player.specs.Player.{GrowsBy, HasPlayed, IsPlayer, MayDo, config_of}
 use Rattle.script_player.specs.Plays.{plan_by}
 use Rattle.script_player.proofs.Exact.{hits, skips}
 use Rattle.script_player.proofs.Levelling.{levelled-played}

@@ -1,11 +1,9 @@
 -- The whole of what was relayed.
-use Rattle.std.proofs.Common.{◌≡◌, refl, sym, ap, ◌∙◌, subst, arith, ℕ, ◌+◌, ◌<◌, Bool, true, false, List, [], ◌∷◌, ◌++◌, length, reverse, Option, option_and_then}
-use Rattle.std.specs.Prelude.{slice_index_or}
+use Rattle.std.proofs.Common.{◌≡◌, refl, sym, ap, ◌∙◌, subst, arith, ℕ, ◌<◌, Bool, true, List, [], ◌∷◌, length, reverse, Option, option_and_then}
 use Rattle.ua_base.specs.Journal.{Entry, LinkState}
 use Rattle.ps_config.specs.declared.parts.Config.{Config}
 use Rattle.ps_report.specs.declared.closed.Closed.{Closed}
 use Rattle.ps_report.specs.Conditions.{IsClosedOf}
-use Rattle.ps_script.specs.declared.script.Line.{Line}
 use Rattle.ps_script.specs.declared.script.Script.{Script}
 use Rattle.ps_script.specs.Sound.{IsScript}
 use Rattle.reader_group.specs.Members.{seat_at}
@@ -27,18 +25,16 @@ use Rattle.gateway_core.specs.declared.collected.StoreVersion.{StoreVersion}
 use Rattle.gateway_core.specs.Lived.{Collect, GatewayStep, Pump, Tick, collected, plan_again, session_steps, version_in}
 use Rattle.gateway_core.specs.Holding.{sources_of}
 use Rattle.gateway_core.specs.Standing.{Stands}
-use Rattle.gateway_laws.specs.Gateways.{IsRelay}
 use Rattle.gateway_laws.specs.Lives.{Lives}
 use Rattle.gateway_laws.specs.Relays.{Collects, RelayStep, Round, firsts, seconds}
 use Rattle.gateway_laws.proofs.Living.{lived-seconds, lived-versions}
-use Rattle.script_player.specs.declared.player.Player.{Player}
-use Rattle.script_player.specs.Player.{Closes, IsClosedBy, IsPlayer}
+use Rattle.script_player.specs.Player.{Closes, IsClosedBy}
 use Rattle.script_player.specs.Plays.{IsPlayOf, plan_by}
 use Rattle.script_player.proofs.Finished.{RunsTellTheHeadline, is-closed-of, is-play-by}
 use Rattle.script_player.proofs.Headline.{HistoriesHaveRows}
 use Rattle.script_player.proofs.Levelling.{levelled-closed}
 use Rattle.relay_command.specs.declared.relaying.Relay.{Relay}
-use Rattle.relay_command.specs.Relaying.{Follows, HasRelayed, IsRelayOf, RelaysEnd}
+use Rattle.relay_command.specs.Relaying.{HasRelayed, IsRelayOf, RelaysEnd}
 use Rattle.relay_command.specs.Texts.{IsReaderText, IsTextOf, TextsOf, kept_by_index, relayed_line, store_held, versions_of}
 use Rattle.relay_command.proofs.Showing.{ShowsCollected}
 use Rattle.relay_command.proofs.Stepping.{collected-now, shows-now}

@@ -1,4 +1,4 @@
-use Rattle.relay_command.proofs.Ending.{accepting_first, accepting_script, accepting_second}
+use Rattle.relay_command.proofs.Ending.{accepting_second}
 use Rattle.relay_command.proofs.command.accept.Goals as goal
 
 pub returns-in-Err-second_of-clause-ends : goal.returns-in-Err-second_of-clause-ends

@@ -1,4 +1,4 @@
-use Rattle.std.proofs.Common.{◌≡◌, ◌<◌, ◌∙◌, ℕ, List, length, get_or, refl, sym, ap, subst, arith}
+use Rattle.std.proofs.Common.{◌<◌, ◌∙◌, ℕ, List, length, get_or, refl, sym, ap, subst, arith}
 use Rattle.dataset_meta.specs.Metas.{MetaData, no_meta}
 use Rattle.session_model.specs.Sets.{meta_in}
 use Rattle.relay_command.specs.Sources.{HasSource}

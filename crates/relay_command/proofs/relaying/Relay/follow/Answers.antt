@@ -1,4 +1,4 @@
-use Rattle.std.proofs.Common.{◌≤◌, ◌∙◌, ◌∷◌, List, refl, sym, ap, subst, arith}
+use Rattle.std.proofs.Common.{◌∷◌, List, refl, sym, subst}
 use Rattle.target_cells.specs.declared.origin.Origin.{Origin}
 use Rattle.version_cell.specs.Known.{Known}
 use Rattle.gateway_core.specs.Lived.{Collect}

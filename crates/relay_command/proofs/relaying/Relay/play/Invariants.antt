@@ -1,4 +1,4 @@
-use Rattle.std.proofs.Common.{List, [], reverse, take}
+use Rattle.std.proofs.Common.{[], reverse, take}
 use Rattle.ua_base.specs.Links.{KeepsLink}
 use Rattle.ps_config.specs.declared.parts.Config.{Config}
 use Rattle.ps_script.specs.Sound.{IsScript}
