@@ -1,5 +1,5 @@
 -- A gateway that lives through a relay is the relay's second session, and keeps its versions.
-use Rattle.std.proofs.Common.{◌≡◌, refl, sym, ap, ◌∙◌, subst, arith, ℕ, zero, suc, ◌+◌, ◌<◌, List, [], ◌∷◌, length, Some}
+use Rattle.std.proofs.Common.{◌≡◌, refl, sym, ap, ◌∙◌, arith, ℕ, zero, suc, ◌<◌, List, [], ◌∷◌, length, Some}
 use Rattle.std.specs.Prelude.{slice_get, slice_index_or}
 use Rattle.dataset_meta.specs.Metas.{MetaData}
 use Rattle.ps_config.specs.declared.parts.Config.{Config}
@@ -14,8 +14,7 @@ use Rattle.gateway_core.specs.Lived.{GatewayStep, kept_on, no_origin, session_st
 use Rattle.gateway_core.specs.declared.collected.StoreVersion.{StoreVersion}
 use Rattle.gateway_core.specs.Sources as core_sources
 use Rattle.gateway_laws.specs.Lives.{ArePlaces, Lives}
-use Rattle.gateway_laws.specs.Origins.{origin_at}
-use Rattle.gateway_laws.specs.Relays.{Append, Disable, Enable, RelayStep, Round, firsts, seconds}
+use Rattle.gateway_laws.specs.Relays.{Append, Disable, Enable, RelayStep, Round, seconds}
 use Rattle.gateway_laws.specs.Sources.{HaveSources, IsSourceOf, Source, source_at}
 use Rattle.gateway_laws.specs.Versions.{versions_kept}
 
@@ -70,7 +69,7 @@ sources-from first (meta ∷ metas) (place ∷ places) count each =
     let all : (set : ℕ) → set < length (meta ∷ metas) → IsSourceOf first (meta_in (meta ∷ metas) set) (source_at (source ∷ rest.0) set) = λ set.
     each-one (λ (k : ℕ). IsSourceOf first (meta_in (meta ∷ metas) k) (source_at (source ∷ rest.0) k)) (length metas) here rest.1.1 set in
     let placed : (set : ℕ) → set < length (meta ∷ metas)
-        → slice_get (reader_places first) (slice_index_or (place ∷ places) set 0) ≡ Some ((source_at (source ∷ rest.0) set).read_group, (source_at (source ∷ rest.0) set).reader) = λ set.
+    → slice_get (reader_places first) (slice_index_or (place ∷ places) set 0) ≡ Some ((source_at (source ∷ rest.0) set).read_group, (source_at (source ∷ rest.0) set).reader) = λ set.
     each-one (λ (k : ℕ). slice_get (reader_places first) (slice_index_or (place ∷ places) k 0) ≡ Some ((source_at (source ∷ rest.0) k).read_group, (source_at (source ∷ rest.0) k).reader))
     (length metas) is.place_is rest.1.2 set in
     (source ∷ rest.0, (ap (λ (n : ℕ). suc n) rest.1.0, all, placed))
@@ -82,6 +81,8 @@ sources-from first (meta ∷ metas) (place ∷ places) count each =
 -- the readers by their indexes are sources of the data sets
 pub sources-are : (first second : Config) (places : List ℕ) → core_sources.HaveSources first second places → (sources : List Source) × HaveSources first second sources × ArePlaces first places sources
 sources-are first second places have =
-    let made = sources-from first second.dataset places have.count have.each in
-    (made.0, (record { count = made.1.0; each = made.1.1 },
-    record { count = made.1.0 ∙ sym have.count; each = λ set lt. made.1.2 set (let c = have.count in omega (arith, lt, c)) }))
+    let made = sources-from first second.dataset places have.count have.each in (
+      made.0,
+      record { count = made.1.0; each = made.1.1 },
+      record { count = made.1.0 ∙ sym have.count; each = λ set lt. made.1.2 set (let c = have.count in omega (arith, lt, c)) },
+    )

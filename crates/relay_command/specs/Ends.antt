@@ -1,8 +1,7 @@
 -- What the command `relay` does, and what each status says of it.
-use Rattle.std.specs.Prelude.{◌≡◌, ◌≢◌, ◌≤◌, ◌↔◌, ◌⊎◌, ⊤, ⊥, ℕ, List, [], Option, Some, Ok, Err, IsErr, true}
-use Rattle.ua_base.specs.Cause.{HasCause, Rose}
+use Rattle.std.specs.Prelude.{◌≡◌, ◌≢◌, ◌≤◌, ◌↔◌, ◌⊎◌, ⊤, ℕ, List, Some, Ok, Err, IsErr, true}
+use Rattle.ua_base.specs.Cause.{HasCause}
 use Rattle.ua_base.specs.Files.{ToldFile, TellsFile}
-use Rattle.ua_base.specs.Links.{Opening}
 use Rattle.ua_base.specs.Output.{appended, AppendsPrefix}
 use Rattle.ps_config.specs.declared.parts.Config.{Config}
 use Rattle.ps_config.specs.Reading.{configuration}
@@ -18,6 +17,7 @@ use Rattle.command_parts.specs.Outside.{Outside, Wire, IsQuiet}
 use Rattle.command_parts.specs.Scripts.{IsJudgedScript}
 use Rattle.command_parts.specs.Statuses.{IsDone, IsConfigRefused, IsScriptRefused, IsUnread, IsUnwritten, IsOutOfMemory, IsUnopened}
 use Rattle.relay_command.specs.declared.command.Accepted.{Accepted}
+use Rattle.relay_command.specs.Links.{LeavesUnopened, opening_again}
 use Rattle.relay_command.specs.Relaying.{IsRelayOf}
 use Rattle.relay_command.specs.Sources.{AreSourced, IsUnsourced}
 
@@ -46,10 +46,6 @@ pub record AreConfigured (tells : List ℕ → ToldFile) (names : Names) (first 
 pub record Accepts (tells : List ℕ → ToldFile) (names : Names) (accepted : Accepted) : Type 0 where
   pub configured : AreConfigured tells names accepted.first accepted.second
   pub scripted : IsJudgedScript (tells names.script) accepted.first true (Ok accepted.script)
-
--- the second configuration's port, and no fates
-abbrev pub opening_again : Config → Opening
-opening_again second = record { port = second.publisher.port; fates = [] }
 
 -- the text is that of what was accepted, and both links were opened for it: `lab` with the first port and the script's fates, `wire` with the second port and none
 pub record Writes (tells : List ℕ → ToldFile) (names : Names) (lab wire : Wire) (text : List ℕ) : Type 0 where
@@ -100,21 +96,6 @@ Says status names old new lab wire = EndsBefore old.file names status
 
 -- ---- the links
 
--- a link is opened so or not at all
-abbrev pub OpensSo : Option Opening → Wire → Wire → Type 0
-OpensSo opening before after = after.opened_with ≢ before.opened_with → after.opened_with ≡ opening
-
--- one that can't be opened stays as it was, its count of faults aside, which rose
-pub record StaysClosed (before after : Wire) : Type 0 where
-  pub told : after.told ≡ before.told
-  pub opened_with : after.opened_with ≡ before.opened_with
-  pub rose : Rose before.faults after.faults
-
--- `lab` was opened before `wire`; where it can't be opened, `wire` is left alone
-abbrev pub LeavesUnopened : Wire → Wire → Wire → Wire → Type 0
-LeavesUnopened lab lab_after wire wire_after =
-    (StaysClosed lab lab_after × (wire_after ≡ wire)) ⊎ StaysClosed wire wire_after
-
 -- what the command does to the links, for what was accepted
 pub record UsesLinks (tells : List ℕ → ToldFile) (names : Names) (status : Status) (lab lab_after wire wire_after : Wire) : Type 0 where
   pub lab_opens : lab_after.opened_with ≢ lab.opened_with
@@ -127,32 +108,32 @@ pub record UsesLinks (tells : List ℕ → ToldFile) (names : Names) (status : S
 
 -- ---- how the command ends
 
--- the folder tells two accepted configurations, the second with a source for each data set, and an accepted script
-pub record AreTold (tells : List ℕ → ToldFile) (names : Names) : Type 0 where
+-- the folder tells two accepted configurations, the second with a source for each data set
+pub record AreToldConfigs (tells : List ℕ → ToldFile) (names : Names) (first second : Config) : Type 0 where
   pub first_bytes : List ℕ
   pub second_bytes : List ℕ
-  pub script_bytes : List ℕ
   pub first_told : IsTold (tells names.first) first_bytes
   pub second_told : IsTold (tells names.second) second_bytes
-  pub script_told : IsTold (tells names.script) script_bytes
-  pub first : Config
-  pub second : Config
-  pub script : Script
-  pub reader : ValueReader
   pub first_is : configuration first_bytes ≡ Ok first
   pub second_is : configuration second_bytes ≡ Ok second
   pub sourced : AreSourced first second
-  pub script_is : script_in reader first script_bytes true ≡ Ok script
+
+-- and an accepted script
+pub record AreTold (tells : List ℕ → ToldFile) (names : Names) : Type 0 where
+  pub first : Config
+  pub second : Config
+  pub configs : AreToldConfigs tells names first second
+  pub bytes : List ℕ
+  pub told : IsTold (tells names.script) bytes
+  pub reader : ValueReader
+  pub script : Script
+  pub script_is : script_in reader first bytes true ≡ Ok script
 
 -- of these bytes one configuration is refused, or a data set of the second has no source
 abbrev pub AreRefused : List ℕ → List ℕ → Type 0
 AreRefused first_bytes second_bytes =
     IsErr (configuration first_bytes) ⊎ IsErr (configuration second_bytes)
     ⊎ ((first second : Config) × (configuration first_bytes ≡ Ok first) × (configuration second_bytes ≡ Ok second) × (AreSourced first second → ⊥))
-
-abbrev pub NamesLong : Status → List ℕ → Type 0
-NamesLong (Long file) name = file.now ≡ name
-NamesLong _ name = ⊥
 
 -- How the command ends on the files of these names. old, new: what the folder and the output tell before and behind; lab, wire: what the links tell before, and behind
 pub record RelayEnds (status : Status) (names : Names) (old new : Outside) (lab lab_after wire wire_after : Wire) : Type 0 where
@@ -161,7 +142,8 @@ pub record RelayEnds (status : Status) (names : Names) (old new : Outside) (lab 
   -- what the definitions refuse is refused, and nothing else
   pub config_refused : (first_bytes second_bytes : List ℕ) → IsTold (old.file names.first) first_bytes → IsTold (old.file names.second) second_bytes
       → ¬ IsUnread status → ¬ IsOutOfMemory status → IsConfigRefused status ↔ AreRefused first_bytes second_bytes
-  pub script_refused : (told : AreTold old.file names) → ¬ IsScriptRefused status
+  pub script_refused : (reader : ValueReader) (first second : Config) (bytes : List ℕ) → AreToldConfigs old.file names first second → IsTold (old.file names.script) bytes
+      → ¬ IsUnread status → ¬ IsOutOfMemory status → IsScriptRefused status ↔ IsErr (script_in reader first bytes true)
   -- what is accepted is relayed, where no call fails
   pub complete : AreTold old.file names → IsQuiet old.read_faults new.read_faults → IsQuiet old.write_faults new.write_faults
       → IsQuiet lab.faults lab_after.faults → IsQuiet wire.faults wire_after.faults → IsDone status ⊎ IsOutOfMemory status

@@ -1,4 +1,5 @@
 pub mod Sources
 pub mod Texts
+pub mod Links
 pub mod Relaying
 pub mod Ends

@@ -1,5 +1,5 @@
 -- Which data sets of a second configuration have a source: what C26 asks.
-use Rattle.std.specs.Prelude.{◌≡◌, ◌⊎◌, ⊥, ℕ, ◌<◌, List, length, None, true}
+use Rattle.std.specs.Prelude.{◌≡◌, ◌⊎◌, ℕ, ◌<◌, List, length, None, true}
 use Rattle.dataset_meta.specs.Metas.{MetaData}
 use Rattle.config_tables.specs.declared.words.Layout.{Layout}
 use Rattle.config_tables.specs.declared.words.Layout.TheVariants as layouts
@@ -54,6 +54,11 @@ pub record AreAlike (own meta : MetaData) : Type 0 where
   pub major : own.major ≡ meta.major
   pub quality : own.quality ≡ meta.quality
 
+-- the reader has the data set's name, and goes by the numbers of messages
+pub record IsNamed (reader : ReaderPart) (meta : MetaData) : Type 0 where
+  pub name : reader.name ≡ meta.name
+  pub numbering : reader.numbering ≡ words.Message
+
 -- the reader is matched to some writer
 pub record IsMatchedSomewhere (config : Config) (r i : ℕ) : Type 0 where
   pub group : ℕ
@@ -63,8 +68,7 @@ pub record IsMatchedSomewhere (config : Config) (r i : ℕ) : Type 0 where
 
 -- the reader with index i of the read group r is the data set's source
 pub record IsSourceAt (first : Config) (r i : ℕ) (meta : MetaData) : Type 0 where
-  pub name : (seat_at (setting_of first r).seats i).part.name ≡ meta.name
-  pub numbering : (seat_at (setting_of first r).seats i).part.numbering ≡ words.Message
+  pub named : IsNamed (seat_at (setting_of first r).seats i).part meta
   pub alike : AreAlike (seat_at (setting_of first r).seats i).meta meta
   pub matched : IsMatchedSomewhere first r i
 

@@ -1,10 +1,10 @@
 //! What a reader of the gateway holds, or why it waits.
 ghost use Rattle.std.specs.Prelude.{◌≡◌, ◌++◌, OnOk};
 ghost use Rattle.dataset_reader.specs.Reader.{IsReaderOf, kept_by};
-ghost use Rattle.relay_command.specs.Texts.{relayed_as};
+ghost use Rattle.relay_command.specs.Texts.{relayed_as, relayed_line};
 
-use crate::put::{put, put_row, put_stored, why_word};
-use dataset_meta::Meta;
+use crate::put::{put, put_row, put_stored, put_waits};
+use dataset_meta::{Meta, Name32};
 use dataset_reader::Reader;
 use ua_base::NoMemory;
 
@@ -15,8 +15,28 @@ pub(crate) struct Stored {
     pub(crate) version: Option<u64>,
 }
 
+/// The line of a reader.
+#[tactic(auto, unfolding(crate::specs::Texts::relayed_line))]
+pub(crate) fn put_relayed(
+    out: &mut Vec<u8>,
+    name: &Name32,
+    meta: &Meta,
+    reader: &Reader,
+    stored: &Stored,
+) -> Result<(), NoMemory>
+    requires { IsReaderOf meta.now reader.now }
+    ensures { OnOk result (out.new.items ≡ out.old.items
+        ++ relayed_line name.now meta.now.fields (kept_by meta.now.fields reader.now)
+        stored.now.store stored.now.version) }
+{
+    put(out, b"relayed ")?;
+    put(out, name.as_bytes())?;
+    put_held(out, meta, reader, stored)?;
+    put(out, b"\n")
+}
+
 /// What the reader holds, or why it waits.
-pub(crate) fn put_held(
+fn put_held(
     out: &mut Vec<u8>,
     meta: &Meta,
     reader: &Reader,
@@ -28,14 +48,20 @@ pub(crate) fn put_held(
         stored.now.store stored.now.version) }
 {
     match reader.row() {
-        None => {
-            put(out, b" waits ")?;
-            put(out, why_word(reader.why()).as_bytes())
-        }
+        None => put_waits(out, reader.why()),
         Some(row) => {
-            let number = reader.number().map(u64::from);
+            let number = wide(reader.number());
             put_stored(out, number, stored.store, stored.version)?;
             put_row(out, meta, row)
         }
+    }
+}
+
+fn wide(number: Option<u16>) -> Option<u64>
+    ensures { result ≡ number }
+{
+    match number {
+        Some(number) => Some(u64::from(number)),
+        None => None,
     }
 }

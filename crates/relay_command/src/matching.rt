@@ -1,8 +1,9 @@
 //! Which writer of a configuration a reader of it is matched to (OPC 10000-14 6.2.8, 6.2.9: the filter of a ReaderGroup and of a
 //! DataSetReader).
-ghost use Rattle.std.specs.Prelude.{◌≡◌, ◌<◌, ℕ, IfSome, None, true, length};
+ghost use Rattle.std.specs.Prelude.{◌≡◌, ◌<◌, ◌≤◌, ℕ, IfSome, None, true, length};
 ghost use Rattle.group_laws.specs.Matching.{IsMatched, IsMatchedTo, ReadsWriter};
 ghost use Rattle.writer_group.specs.Parts.{group_at};
+ghost use Rattle.writer_group.specs.Standing.{IsGood};
 ghost use Rattle.pubsub_engine.specs.Logs.{is_same_publisher};
 ghost use Rattle.relay_command.specs.Sources.{AsksFor, IsRead};
 
@@ -11,7 +12,7 @@ use ps_config::{Config, GroupPart, ReadGroupPart, ReaderPart, WriterPart};
 
 /// The group and the index in it of the writer that the reader with this index in the read group is matched to.
 pub fn matched_writer(config: &Config, readers: &ReadGroupPart, index: usize) -> Option<(u8, u8)>
-    requires few { length config.now.group ≤ 4 }
+    requires good { IsGood config.now }
     requires within { index < length readers.now.reader }
     ensures matched { IfSome result (λ at. at.0 < length config.now.group) }
     ensures reads { IfSome result

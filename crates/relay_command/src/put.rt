@@ -2,9 +2,9 @@
 ghost use Rattle.std.specs.Prelude.{◌≡◌, ◌++◌, OnOk};
 ghost use Rattle.std.specs.Fmt.{decimal};
 ghost use Rattle.row_words.specs.Belonging.{Belongs, row_in};
-ghost use Rattle.ps_report.specs.Lines.{field_text, fields_text, log_text, number_or_dash, status_mark};
+ghost use Rattle.ps_report.specs.Lines.{field_text, fields_text, log_text, number_or_dash, status_mark, waits_text};
 ghost use Rattle.ps_report.specs.Words.{why_word};
-ghost use Rattle.relay_command.specs.Texts.{gateway_line, link_line, stored_text};
+ghost use Rattle.relay_command.specs.Texts.{counts_text, gateway_line, link_line, stored_text};
 
 use dataset_meta::{Meta, Name32};
 use itoa::Buffer;
@@ -126,9 +126,18 @@ fn put_status(out: &mut Vec<u8>, status: u32) -> Result<(), NoMemory>
     status_text(status, out)
 }
 
+/// Why a reader waits.
+#[tactic(auto, unfolding(ps_report::specs::Lines::waits_text))]
+pub(crate) fn put_waits(out: &mut Vec<u8>, why: Why) -> Result<(), NoMemory>
+    ensures { OnOk result (out.new.items ≡ out.old.items ++ waits_text why) }
+{
+    put(out, b" waits ")?;
+    put(out, why_word(why).as_bytes())
+}
+
 /// The word of a reason.
 #[tactic(auto, unfolding(ps_report::specs::Words::why_word))]
-pub(crate) fn why_word(why: Why) -> &'static str
+fn why_word(why: Why) -> &'static str
     ensures { result.now ≡ why_word why }
 {
     match why {
@@ -151,8 +160,16 @@ pub(crate) fn put_link(
 ) -> Result<(), NoMemory>
     ensures { OnOk result (out.new.items ≡ out.old.items ++ link_line sent failed received) }
 {
-    put_named(out, b"gateway link sent ", sent)?;
-    put_named(out, b" failed ", failed)?;
-    put_named(out, b" received ", received)?;
+    put(out, b"gateway ")?;
+    put_counts(out, sent, failed, received)?;
     put(out, b"\n")
+}
+
+#[tactic(auto, unfolding(crate::specs::Texts::counts_text))]
+fn put_counts(out: &mut Vec<u8>, sent: u64, failed: u64, received: u64) -> Result<(), NoMemory>
+    ensures { OnOk result (out.new.items ≡ out.old.items ++ counts_text sent failed received) }
+{
+    put_named(out, b"link sent ", sent)?;
+    put_named(out, b" failed ", failed)?;
+    put_named(out, b" received ", received)
 }

@@ -2,12 +2,12 @@
 ghost use Rattle.std.specs.Prelude.{◌≡◌, ◌<◌, IfSome, None, true, length};
 ghost use Rattle.reader_group.specs.Settings.{group_at as read_group_at};
 ghost use Rattle.writer_group.specs.Standing.{IsGood};
-ghost use Rattle.relay_command.specs.Sources.{AreAlike, AreSourced, HasSource, HasSourceIn, IsSourceAt, IsUnsourced};
+ghost use Rattle.relay_command.specs.Sources.{AreAlike, AreSourced, HasSource, HasSourceIn, IsNamed, IsSourceAt, IsUnsourced};
 
 use crate::matching::matched_writer;
 use config_tables::NumberingWord;
-use dataset_meta::Meta;
-use ps_config::Config;
+use dataset_meta::{Field, Meta};
+use ps_config::{Config, ReaderPart};
 
 /// The first data set of the second configuration that has no source in the first (C26).
 pub fn unsourced(first: &Config, second: &Config) -> Option<u32>
@@ -64,10 +64,16 @@ fn is_source(first: &Config, r: usize, i: usize, meta: &Meta) -> bool
 {
     let group = &first.readgroup.as_slice()[r];
     let reader = &group.reader.as_slice()[i];
-    reader.name == *meta.name()
-        && reader.numbering == NumberingWord::Message
-        && is_alike(&first.dataset.as_slice()[usize::from(reader.dataset)], meta)
-        && matched_writer(first, group, i).is_some()
+    let own = &first.dataset.as_slice()[usize::from(reader.dataset)];
+    is_named(reader, meta) && is_alike(own, meta) && matched_writer(first, group, i).is_some()
+}
+
+/// Whether the reader has the data set's name, and goes by the numbers of messages.
+fn is_named(reader: &ReaderPart, meta: &Meta) -> bool
+    ensures yes { result ≡ true → IsNamed reader.now meta.now }
+    ensures no { IsNamed reader.now meta.now → result ≡ true }
+{
+    reader.name == *meta.name() && reader.numbering == NumberingWord::Message
 }
 
 /// Whether both have the same fields, major version and quality.
@@ -75,5 +81,41 @@ fn is_alike(own: &Meta, meta: &Meta) -> bool
     ensures yes { result ≡ true → AreAlike own.now meta.now }
     ensures no { AreAlike own.now meta.now → result ≡ true }
 {
-    own.fields() == meta.fields() && own.major() == meta.major() && own.quality() == meta.quality()
+    has_fields(own, meta.fields())
+        && own.major() == meta.major()
+        && has_quality(own, meta.quality())
+}
+
+fn has_fields(own: &Meta, fields: &[Field]) -> bool
+    ensures yes { result ≡ true → own.now.fields ≡ fields.now }
+    ensures no { own.now.fields ≡ fields.now → result ≡ true }
+{
+    let mine = own.fields();
+    if mine.len() != fields.len() {
+        return false;
+    }
+    for k in 0..mine.len() {
+        if !is_same_field(&mine[k], &fields[k]) {
+            return false;
+        }
+    }
+    true
+}
+
+fn is_same_field(one: &Field, other: &Field) -> bool
+    ensures yes { result ≡ true → one.now ≡ other.now }
+    ensures no { one.now ≡ other.now → result ≡ true }
+{
+    one.name == other.name && one.kind == other.kind && one.cap == other.cap
+}
+
+fn has_quality(own: &Meta, quality: bool) -> bool
+    ensures yes { result ≡ true → own.now.quality ≡ quality }
+    ensures no { own.now.quality ≡ quality → result ≡ true }
+{
+    if quality {
+        own.quality()
+    } else {
+        !own.quality()
+    }
 }

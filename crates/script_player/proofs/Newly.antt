@@ -55,29 +55,36 @@ module _ (config : Config) (script : Script) (told : Option LinkState) (player :
   cells : length player.bank ≡ length script.metas
   cells = count_cells config script [] player is stands
 
+  -- no step came
+  pub begins-by : (played : HasPlayed config script [] told player) × (played.steps ≡ [])
+  begins-by = (
+    record {
+      steps = [];
+      looks = [];
+      stands = stands;
+      tells = empty;
+      switches = refl;
+      ticks = (let e = ap (λ (l : Left). l.ticks) left in omega (arith, e));
+      pumps = ap (λ (l : Left). l.pumps) left;
+      running = ap (λ (l : Left). l.is_closed) left;
+      appends = appends;
+      quotas = quotas;
+      made = λ t set lt there.
+          passes-at (λ (passes : List Known). length (own t (pass_at passes set).seen) ≡ 0) player.hands.items t (let e = is.eight in omega (arith, e, lt))
+          (λ d. ap (λ l. length (own t l)) (new.hands t set lt there d));
+      looked = λ t lt. ap (λ l. map (watch_of t) l) (none-at (λ (hand : Hand). hand.looks.items) player.hands.items t new.looks);
+      looks_there = λ k d lt. let no : ⊥ = omega (arith, lt) in absurd no;
+      exact = λ flush. record {
+        played = (refl, refl);
+        seen = λ set lt. new.seen set (let e = cells in omega (arith, e, lt));
+        versions = λ t set lt there. ap (versions_in set) (none-at (λ (hand : Hand). hand.versions.items) player.hands.items t new.versions);
+      };
+    },
+    refl,
+  )
+
   pub begins : HasPlayed config script [] told player
-  begins = record {
-    steps = [];
-    looks = [];
-    stands = stands;
-    tells = empty;
-    switches = refl;
-    ticks = (let e = ap (λ (l : Left). l.ticks) left in omega (arith, e));
-    pumps = ap (λ (l : Left). l.pumps) left;
-    running = ap (λ (l : Left). l.is_closed) left;
-    appends = appends;
-    quotas = quotas;
-    made = λ t set lt there.
-        passes-at (λ (passes : List Known). length (own t (pass_at passes set).seen) ≡ 0) player.hands.items t (let e = is.eight in omega (arith, e, lt))
-        (λ d. ap (λ l. length (own t l)) (new.hands t set lt there d));
-    looked = λ t lt. ap (λ l. map (watch_of t) l) (none-at (λ (hand : Hand). hand.looks.items) player.hands.items t new.looks);
-    looks_there = λ k d lt. let no : ⊥ = omega (arith, lt) in absurd no;
-    exact = λ flush. record {
-      played = (refl, refl);
-      seen = λ set lt. new.seen set (let e = cells in omega (arith, e, lt));
-      versions = λ t set lt there. ap (versions_in set) (none-at (λ (hand : Hand). hand.versions.items) player.hands.items t new.versions);
-    };
-  }
+  begins = begins-by.0
 
 -- once all lines were played the closing tick is left
 pub may-close : (config : Config) (script : Script) (told : Option LinkState) (player : Player) → HasPlayed config script (reverse script.lines) told player → MayPass 0 true player.session

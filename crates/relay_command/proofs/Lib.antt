@@ -1,0 +1,13 @@
+pub mod Matched
+pub mod Sourcing
+pub mod Reporting
+pub mod Origins
+pub mod Showing
+pub mod Following
+pub mod Stepping
+pub mod Lining
+pub mod Passed
+pub mod Ending
+pub mod Beginning
+pub mod Whole
+pub mod TextOf

@@ -1,0 +1,65 @@
+use Rattle.std.proofs.Common.{[]}
+use Rattle.pubsub_engine.proofs.OpenSets.{is-plan}
+use Rattle.script_player.proofs.Newly.{may-close}
+use Rattle.relay_command.proofs.Following.{config-of-gateway}
+use Rattle.relay_command.proofs.Stepping.{holds-relay}
+use Rattle.relay_command.proofs.Whole.{closed-of, relayed}
+use Rattle.relay_command.proofs.relaying.relayed_text.Goals as goal
+
+pub play-requires-clause-relayed : goal.play-requires-clause-relayed
+play-requires-clause-relayed g c =
+    let a = c.args.accepted.now in
+    (a.first, a.second, c.requires.script, c.in_ok-relay.ensures.new.relayed _ _ c.in_ok-open_link.ensures.empty c.in_ok-open_link-2.ensures.empty)
+
+pub end-requires-clause-holds : goal.end-requires-clause-holds
+end-requires-clause-holds g c =
+    let a = c.args.accepted.now in
+    let begun = c.in_ok-relay.ensures.new.relayed _ _ c.in_ok-open_link.ensures.empty c.in_ok-open_link-2.ensures.empty in
+    let h = c.in_ok-play.ensures.relayed a.first a.second c.requires.script begun in
+    (a.second, holds-relay a.first a.second a.script _ _ _ c.play.new.self h)
+
+pub end-requires-clause-may : goal.end-requires-clause-may
+end-requires-clause-may g c =
+    let a = c.args.accepted.now in
+    let begun = c.in_ok-relay.ensures.new.relayed _ _ c.in_ok-open_link.ensures.empty c.in_ok-open_link-2.ensures.empty in
+    let h = c.in_ok-play.ensures.relayed a.first a.second c.requires.script begun in
+    may-close a.first a.script _ c.play.new.self.player h.played
+
+pub close-requires : goal.close-requires
+close-requires g c =
+    let a = c.args.accepted.now in
+    let begun = c.in_ok-relay.ensures.new.relayed _ _ c.in_ok-open_link.ensures.empty c.in_ok-open_link-2.ensures.empty in
+    let h = c.in_ok-play.ensures.relayed a.first a.second c.requires.script begun in
+    let e = c.in_ok-end.ensures.relays a.second (holds-relay a.first a.second a.script _ _ _ c.play.new.self h) in
+    record { player = e.behind.player }
+
+pub text_of-requires-clause-closed : goal.text_of-requires-clause-closed
+text_of-requires-clause-closed g c =
+    let a = c.args.accepted.now in
+    let begun = c.in_ok-relay.ensures.new.relayed _ _ c.in_ok-open_link.ensures.empty c.in_ok-open_link-2.ensures.empty in
+    let h = c.in_ok-play.ensures.relayed a.first a.second c.requires.script begun in
+    let e = c.in_ok-end.ensures.relays a.second (holds-relay a.first a.second a.script _ _ _ c.play.new.self h) in
+    closed-of c.passes_show_what_is_collected.ensures c.histories_are_the_models.ensures.rows c.a_closed_session_tells_the_headline.ensures a.first a.second a.script c.requires.script
+    c.in_ok-relay.ensures.new.plan (is-plan a.second [] c.requires.second.0 c.requires.second.1 tt) _ _ _ _ c.play.new.self c.end.new.self h e c.in_ok-closed.closed c.in_ok-closed.ensures.closes
+
+pub text_of-requires-clause-second : goal.text_of-requires-clause-second
+text_of-requires-clause-second g c =
+    let a = c.args.accepted.now in
+    let begun = c.in_ok-relay.ensures.new.relayed _ _ c.in_ok-open_link.ensures.empty c.in_ok-open_link-2.ensures.empty in
+    let h = c.in_ok-play.ensures.relayed a.first a.second c.requires.script begun in
+    let e = c.in_ok-end.ensures.relays a.second (holds-relay a.first a.second a.script _ _ _ c.play.new.self h) in
+    record {
+      gateway = e.behind.gateway;
+      config = config-of-gateway a.second _ c.end.new.self.gateway (e.behind.lives h.lived h.stands).2;
+      good = c.requires.second.0;
+    }
+
+pub returns-clause-text : goal.returns-clause-text
+returns-clause-text g c =
+    let a = c.args.accepted.now in
+    let begun = c.in_ok-relay.ensures.new.relayed _ _ c.in_ok-open_link.ensures.empty c.in_ok-open_link-2.ensures.empty in
+    let h = c.in_ok-play.ensures.relayed a.first a.second c.requires.script begun in
+    let e = c.in_ok-end.ensures.relays a.second (holds-relay a.first a.second a.script _ _ _ c.play.new.self h) in
+    relayed c.passes_show_what_is_collected.ensures c.histories_are_the_models.ensures.rows c.a_closed_session_tells_the_headline.ensures a.first a.second a.script c.requires.script
+    c.in_ok-relay.ensures.new.plan (is-plan a.second [] c.requires.second.0 c.requires.second.1 tt) _ _ _ _ c.play.new.self c.end.new.self h e c.in_ok-closed.closed c.in_ok-closed.ensures.closes
+    c.in_ok-text_of.field-0.items c.in_ok-text_of.ensures

@@ -1,0 +1,25 @@
+-- What the command does to its links.
+use Rattle.std.specs.Prelude.{◌≡◌, ◌≢◌, ◌⊎◌, [], Option}
+use Rattle.ua_base.specs.Cause.{Rose}
+use Rattle.ua_base.specs.Links.{Opening}
+use Rattle.ps_config.specs.declared.parts.Config.{Config}
+use Rattle.command_parts.specs.Outside.{Wire}
+
+-- the second configuration's port, and no fates
+abbrev pub opening_again : Config → Opening
+opening_again second = record { port = second.publisher.port; fates = [] }
+
+-- a link is opened so or not at all
+abbrev pub OpensSo : Option Opening → Wire → Wire → Type 0
+OpensSo opening before after = after.opened_with ≢ before.opened_with → after.opened_with ≡ opening
+
+-- one that can't be opened stays as it was, its count of faults aside, which rose
+pub record StaysClosed (before after : Wire) : Type 0 where
+  pub told : after.told ≡ before.told
+  pub opened_with : after.opened_with ≡ before.opened_with
+  pub rose : Rose before.faults after.faults
+
+-- `lab` was opened before `wire`; where it can't be opened, `wire` is left alone
+abbrev pub LeavesUnopened : Wire → Wire → Wire → Wire → Type 0
+LeavesUnopened lab lab_after wire wire_after =
+    (StaysClosed lab lab_after × (wire_after ≡ wire)) ⊎ StaysClosed wire wire_after
