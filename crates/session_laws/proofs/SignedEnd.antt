@@ -44,7 +44,7 @@ use Rattle.group_laws.specs.TurnItems.{IsUncut}
 use Rattle.reader_group.specs.Members.{seat_at}
 use Rattle.session_model.specs.Events.{events, receives}
 use Rattle.session_model.specs.Turns.{TurnsHold}
-use Rattle.session_laws.specs.Newest.{CameIn, ClosingCame, ClosingGotSigned, HasPartFor, HoldsRowOf, closing_deeds, closing_turn}
+use Rattle.session_laws.specs.Newest.{CameIn, ClosingCame, ClosingGotSigned, HasPartFor, HoldsRowOf, closing_deeds, closing_opened, closing_turn}
 use Rattle.session_laws.specs.Reading.{arrivals_at, first_number_of}
 use Rattle.session_laws.specs.Sessions.{AreVersions, pasts_at}
 use Rattle.session_laws.proofs.ClosingGot as ClosingGot
@@ -289,7 +289,7 @@ module _ (laws : Laws) (p : Plan) (r i g w ms : ℕ) (samples : List Sampled) (d
           on (inl acceptable) = opens [] acceptable
           on (inr none) = absurd none
 
-      abbrev has-part : (piece : Piece) → Contains (pieces way.seat.part one.payload) piece → HasPartFor setting i its_datagram
+      has-part : (piece : Piece) → Contains (pieces way.seat.part one.payload) piece → HasPartFor setting i its_datagram
       has-part piece there = record { opened = one; opens = opens-first; part = not-empty (pieces way.seat.part one.payload) piece there }
 
     module _ (part : OnePart laws.turns laws.passed play is_play numbered own closing le last took) where
@@ -360,11 +360,10 @@ module _ (laws : Laws) (p : Plan) (r i g w ms : ℕ) (samples : List Sampled) (d
               came = record { item = item.0; came = item.1; stands = item.2 };
             }
 
-    uncut : ((datagram : List ℕ) → Contains turn.made datagram → (part : HasPartFor setting i datagram) → All IsUncut (pieces way.seat.part part.opened.payload)) → (o : Opened) (x : Piece) → Contains all o → Contains (pieces way.seat.part o.payload) x → IsUncut x
-    uncut whole o x has there = All-contains IsUncut (pieces way.seat.part o.payload) x (whole (its_datagram o has) (made-one o has) (has-part o has x there)) there
+    uncut : ((opened : Opened) → Contains (closing_opened p start ms samples g) opened → All IsUncut (pieces way.seat.part opened.payload)) → (o : Opened) (x : Piece) → Contains all o → Contains (pieces way.seat.part o.payload) x → IsUncut x
+    uncut whole o x has there = All-contains IsUncut (pieces way.seat.part o.payload) x (whole o has) there
 
-    pub closing-signed : receives config start r ≡ true → is_on config start (Reader r i) ≡ true
-        → ((datagram : List ℕ) → Contains turn.made datagram → (part : HasPartFor setting i datagram) → All IsUncut (pieces way.seat.part part.opened.payload))
+    pub closing-signed : receives config start r ≡ true → is_on config start (Reader r i) ≡ true → ((opened : Opened) → Contains (closing_opened p start ms samples g) opened → All IsUncut (pieces way.seat.part opened.payload))
         → ((datagram : List ℕ) → Contains turn.made datagram → HasPartFor setting i datagram → CameIn pumps datagram) → ClosingCame p r i g w steps (writer_past w before) own
     closing-signed operational enabled whole came =
         signed-came (one-part laws.turns laws.passed play is_play numbered own closing le last took (uncut whole) group.layout refl) operational enabled came

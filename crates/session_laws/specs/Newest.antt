@@ -18,7 +18,8 @@ use Rattle.writer_group.specs.Payloads.{writer_at}
 use Rattle.pubsub_model.specs.Cadence.{HadTurn, WriterDeed, WriterTurn, cadence, next_place}
 use Rattle.pubsub_model.specs.Records.{Item, place_in, since_cut}
 use Rattle.group_laws.specs.TurnItems.{IsUncut}
-use Rattle.session_model.specs.Deeds.{Deed, deeds, group_past, has_turn, log_at, turn_of, writer_deeds}
+use Rattle.group_laws.specs.TurnOpened.{turn_opened}
+use Rattle.session_model.specs.Deeds.{Deed, deeds, group_past, has_turn, log_at, turn_input, turn_of, writer_deeds}
 use Rattle.session_model.specs.Turns.{deeds_before}
 use Rattle.writer_group.specs.declared.sampled.Sampled.{Sampled}
 use Rattle.session_model.specs.Events.{plain_at, reader_at, readers_on, receives}
@@ -98,8 +99,14 @@ closing_deeds p start ms samples g = deeds_before p start (moment_of start + ms)
 abbrev pub closing_turn : Plan → List Step → ℕ → List Sampled → ℕ → GroupTurn
 closing_turn p start ms samples g = turn_of p start (moment_of start + ms) true samples (closing_deeds p start ms samples g) g
 
--- The steps end with a closing tick and its pumps, the writer has a turn there, and each datagram of it with a part for the reader came in the pumps, with the frame
--- whole: to a secured read group that names the group and is Operational, whose reader is enabled and goes by numbers. Nothing is asked of what it accepts.
+-- what a read group finds of the datagrams of that turn
+abbrev pub closing_opened : Plan → List Step → ℕ → List Sampled → ℕ → List Opened
+closing_opened p start ms samples g =
+    let so_far = closing_deeds p start ms samples g in
+    turn_opened p.config (group_at p.config g) (group_past p.config g so_far) (turn_input p start (moment_of start + ms) true samples so_far g)
+
+-- The steps end with a closing tick and its pumps, the writer has a turn there, with no chunk for the reader, and each datagram of it with a part for the reader came
+-- in the pumps: to a secured read group that names the group and is Operational, whose reader is enabled and goes by numbers. Nothing is asked of what it accepts.
 pub record ClosingGotSigned (p : Plan) (r i g w : ℕ) (steps : List Step) (own : WriterTurn) : Type 0 where
   pub numbered : (seat_at (setting_of p.config r).seats i).part.numbering ≡ words.Message
   pub secured : is_secured (setting_of p.config r).setup.mode ≡ true
@@ -115,8 +122,7 @@ pub record ClosingGotSigned (p : Plan) (r i g w : ℕ) (steps : List Step) (own 
   pub closing : own.closing ≡ true
   pub operational : receives p.config start r ≡ true
   pub enabled : is_on p.config start (Reader r i) ≡ true
-  pub whole : (datagram : List ℕ) → Contains (closing_turn p start ms samples g).made datagram → (part : HasPartFor (setting_of p.config r) i datagram)
-      → All IsUncut (pieces (seat_at (setting_of p.config r).seats i).part part.opened.payload)
+  pub whole : (opened : Opened) → Contains (closing_opened p start ms samples g) opened → All IsUncut (pieces (seat_at (setting_of p.config r).seats i).part opened.payload)
   pub came : (datagram : List ℕ) → Contains (closing_turn p start ms samples g).made datagram → HasPartFor (setting_of p.config r) i datagram → CameIn pumps datagram
 
 -- the reader holds the row of the version, cut to its fields
