@@ -95,11 +95,15 @@ hold-to p before now closing samples P keeps holds (suc g) le h =
     (turn-if P (has_turn p before now closing earlier g) (TookTurn g (turn_of p before now closing samples earlier g)) earlier
     (λ has. keeps.turn g earlier there has (holds g there has) (hold-to p before now closing samples P keeps holds g (omega (arith, le)) h)) (hold-to p before now closing samples P keeps holds g (omega (arith, le)) h))
 
+-- up to the turn of a group
+pub holds-before : (p : Plan) (before : List Step) (now : ℕ) (closing : Bool) (samples : List Sampled) (P : List Deed → Type 0) → TickHolds p before now closing samples P → HoldsTick p before now closing samples
+    → (g : ℕ) → g ≤ length p.config.group → P (deeds p before) → P (deeds_before p before now closing samples g)
+holds-before p before now closing samples P keeps holds g le h =
+    hold-to p before now closing samples P keeps holds g le (fresh-all p.config now (deeds p before) P keeps.fresh (group_indexes p.config) (CameTo now ∷ deeds p before) (keeps.came (deeds p before) h))
+
 pub tick-holds : (p : Plan) (before : List Step) (now : ℕ) (closing : Bool) (samples : List Sampled) (P : List Deed → Type 0) → TickHolds p before now closing samples P → HoldsTick p before now closing samples
     → P (deeds p before) → P (tick_deeds p before now closing samples (deeds p before))
-tick-holds p before now closing samples P keeps holds h =
-    hold-to p before now closing samples P keeps holds (length p.config.group) (omega arith)
-    (fresh-all p.config now (deeds p before) P keeps.fresh (group_indexes p.config) (CameTo now ∷ deeds p before) (keeps.came (deeds p before) h))
+tick-holds p before now closing samples P keeps holds h = holds-before p before now closing samples P keeps holds (length p.config.group) (omega arith) h
 
 -- what a refresh of a writer keeps, one of several keeps
 pub refreshed-keeps : (P : List GroupDeed → Type 0) → ((writer : ℕ) (past : List GroupDeed) → P past → P (RefreshedWriter writer ∷ past)) → (test : ℕ → Bool) (past : List GroupDeed) (writers : List ℕ) → P past

@@ -186,11 +186,11 @@ switches-behind : (pumps : List (List Entry)) (earlier : List Step) → switches
 switches-behind [] earlier = refl
 switches-behind (entries ∷ pumps) earlier = switches-behind pumps earlier
 
-receives-behind : (config : Config) (r : ℕ) (pumps : List (List Entry)) (earlier : List Step) → receives config (map Pump pumps ++ earlier) r ≡ receives config earlier r
+pub receives-behind : (config : Config) (r : ℕ) (pumps : List (List Entry)) (earlier : List Step) → receives config (map Pump pumps ++ earlier) r ≡ receives config earlier r
 receives-behind config r pumps earlier =
     ap (λ (l : List Change). is_operational (state_of (λ component. record { enabled = is_enabled l (id_of (counts_of config) component); fault = false; ready = true }) (ReadGroup r))) (switches-behind pumps earlier)
 
-enabled-behind : (config : Config) (r i : ℕ) (pumps : List (List Entry)) (earlier : List Step) → i < length (read_group_at config r).reader → is_on config earlier (Reader r i) ≡ true
+pub enabled-behind : (config : Config) (r i : ℕ) (pumps : List (List Entry)) (earlier : List Step) → i < length (read_group_at config r).reader → is_on config earlier (Reader r i) ≡ true
     → slice_index_or (readers_on config (map Pump pumps ++ earlier) r) i false ≡ true
 enabled-behind config r i pumps earlier within on =
     get_or-map-range_with_len (λ i. is_on config (map Pump pumps ++ earlier) (Reader r i)) 0 (length (read_group_at config r).reader) i i false within (omega arith)
@@ -205,7 +205,7 @@ module _ (setting : Setting) (config : Config) (pasts : ℕ → List GroupDeed) 
   abbrev Came : List Event → Type 0
   Came befell = CameAsMade setting config pasts befell
 
-  came-one : (now : ℕ) (on : List Bool) (befell : List Event) (entry : Entry) → Came (got_on now on befell entry) → Came befell
+  pub came-one : (now : ℕ) (on : List Bool) (befell : List Event) (entry : Entry) → Came (got_on now on befell entry) → Came befell
   came-one now on befell (entries_of.Sent d) came = came
   came-one now on befell entries_of.SendFailed came = came
   came-one now on befell (entries_of.Got d) came = came.1
@@ -213,7 +213,7 @@ module _ (setting : Setting) (config : Config) (pasts : ℕ → List GroupDeed) 
   came-one now on befell (entries_of.Long len) came = came
   came-one now on befell entries_of.ReceiveFailed came = came
 
-  came-before : (now : ℕ) (on : List Bool) (entries : List Entry) (befell : List Event) → Came (fold (got_on now on) befell entries) → Came befell
+  pub came-before : (now : ℕ) (on : List Bool) (entries : List Entry) (befell : List Event) → Came (fold (got_on now on) befell entries) → Came befell
   came-before now on [] befell came = came
   came-before now on (entry ∷ entries) befell came = came-one now on befell entry (came-before now on entries (got_on now on befell entry) came)
 

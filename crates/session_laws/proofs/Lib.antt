@@ -35,3 +35,8 @@ mod ClosingGot
 mod Delivering
 mod ThreeGroups
 mod Growing
+mod Passing
+mod SignedParts
+mod SignedGot
+mod ClosingSigned
+mod SignedEnd

@@ -5,7 +5,7 @@ use Rattle.std.specs.Option.{option_map_or}
 use Rattle.std.proofs.lemmas.Bool.{eq-eqb}
 use Rattle.std.proofs.lemmas.Bool.Decides.{nat_tests}
 use Rattle.std.proofs.lemmas.List.Elements.{All-nil, All-weaker}
-use Rattle.std.proofs.lemmas.Option.{slice_get-get_or}
+use Rattle.std.proofs.lemmas.Option.{slice_get-get_or, slice_get_within}
 use Rattle.dataset_meta.specs.Metas.{MetaData}
 use Rattle.pubsub_model.specs.Frames.{PlacedFrame, Whole, Change, Alive, place_of, is_silent}
 use Rattle.frame_codec.specs.Frames as frames
@@ -158,12 +158,34 @@ taken-case false one opened answer is e = let no = is.refused refl in absurd (er
     err-ok : (fault : _) → Path (Result Opened Refusal) (Err (refusals.Guard fault)) (Ok opened) → ⊥
     err-ok fault e = cc
 
+taken-test : (b : Bool) (one opened : Opened) (answer : Result Opened Refusal) → IsTakenAs b one answer → answer ≡ Ok opened → b ≡ true
+taken-test true one opened answer is e = refl
+taken-test false one opened answer is e = let no = is.refused refl in absurd (err-ok no.fault (sym no.answer_is ∙ e))
+  where
+    err-ok : (fault : _) → Path (Result Opened Refusal) (Err (refusals.Guard fault)) (Ok opened) → ⊥
+    err-ok fault e = cc
+
 module _ (laws : TurnLaws) (config : Config) (group : GroupPart) (readers : ReadGroupPart) (reader writer : ℕ) (matched : IsMatchedTo config readers reader group writer) where
   abbrev seat : Seat
   seat = seat_at (setting_by config readers).seats reader
 
   abbrev its_verdict : Accepted → List ℕ → Result Opened Refusal
   its_verdict accepted datagram = verdict readers (setup_by config readers readers.keygroup) accepted datagram
+
+  -- what is opened of the datagram with this index, where it is taken
+  pub opened-at : (past : List GroupDeed) (input : TurnInput) (accepted : Accepted) (k : ℕ) (datagram : List ℕ) (opened : Opened) → IsGroupTurn config group past input
+      → slice_get (turn_datagrams config group past input) k ≡ Some datagram → its_verdict accepted datagram ≡ Ok opened
+      → (slice_get (turn_opened config group past input) k ≡ Some opened) × (is_accepted (setup_by config readers readers.keygroup) accepted opened.pass ≡ true)
+  opened-at past input accepted k datagram opened may at e =
+      let sent = turn_datagrams config group past input in
+      let all = turn_opened config group past input in
+      let below : k < length all = subst (λ (n : ℕ). k < n) (sym (laws.many config group past input)) (slice_get_within sent k datagram at) in
+      let one = get_or all k opened in
+      let there : slice_get all k ≡ Some one = slice_get-get_or all k opened below in
+      let is = laws.taken config group readers past input accepted k datagram one may matched.groups at there in
+      let test = is_accepted (setup_by config readers readers.keygroup) accepted one.pass in
+      let same : one ≡ opened = taken-case test one opened (its_verdict accepted datagram) is e in
+      (there ∙ ap (λ (o : Opened). Some o) same, ap (λ (o : Opened). is_accepted (setup_by config readers readers.keygroup) accepted o.pass) (sym same) ∙ taken-test test one opened (its_verdict accepted datagram) is e)
 
   own-opened : (past : List GroupDeed) (input : TurnInput) (accepted : Accepted) (datagram : List ℕ) (opened : Opened) → IsGroupTurn config group past input → Contains (turn_datagrams config group past input) datagram
       → its_verdict accepted datagram ≡ Ok opened → Contains (turn_opened config group past input) opened

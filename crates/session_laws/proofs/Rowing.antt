@@ -151,7 +151,7 @@ took-sampled laws p before now closing samples earlier g writer turn plan are ro
 fixed-is : (layout : Layout) → layout ≡ layouts.Fixed → is_fixed layout ≡ true
 fixed-is layout e = ap is_fixed e
 
-pub turn-is : (laws : WordLaws) (p : Plan) (before : List Step) (now : ℕ) (closing : Bool) (samples : List Sampled) (earlier : List Deed) (g : ℕ) → IsPlan p → AreSteps p before → g < length p.config.group
+abbrev pub turn-is : (laws : WordLaws) (p : Plan) (before : List Step) (now : ℕ) (closing : Bool) (samples : List Sampled) (earlier : List Deed) (g : ℕ) → IsPlan p → AreSteps p before → g < length p.config.group
     → TurnHolds p.config (group_at p.config g) (group_past p.config g earlier) (turn_input p before now closing samples earlier g)
     → IsTurn p.config (group_at p.config g) (group_past p.config g earlier) (turn_of p before now closing samples earlier g)
 turn-is laws p before now closing samples earlier g plan are there holds =

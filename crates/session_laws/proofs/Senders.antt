@@ -37,8 +37,8 @@ use Rattle.session_model.specs.Deeds.{Deed, RefreshedBelow, RefreshedSet, CameTo
 use Rattle.writer_group.specs.Parts.{group_at, no_group}
 use Rattle.session_model.specs.Keeping.{IsPlan}
 use Rattle.ps_config.specs.Types.{HasTypes}
-use Rattle.session_model.specs.Turns.{HoldsTurn, TurnsHold}
-use Rattle.session_laws.proofs.Deeds.{TickHolds, HoldsTick, tick-holds}
+use Rattle.session_model.specs.Turns.{HoldsTurn, TurnsHold, deeds_before}
+use Rattle.session_laws.proofs.Deeds.{TickHolds, HoldsTick, tick-holds, holds-before}
 use Rattle.session_laws.proofs.Distinct.{at-sound}
 
 -- the law of rings and senders, as `group_laws` has it
@@ -211,7 +211,7 @@ pub senders-set : (config : Config) (set : ℕ) (earlier : List Deed) → AllSen
 unfolding AllSenders
 senders-set config set earlier h = h
 
-shared-by : (group : GroupPart) (k : ℕ) → shares group k ≡ true → group.keygroup ≡ Some k
+pub shared-by : (group : GroupPart) (k : ℕ) → shares group k ≡ true → group.keygroup ≡ Some k
 shared-by group k e = on group.keygroup e
   where
     on : (o : Option ℕ) → option_map_or (λ other. other == k) o false ≡ true → o ≡ Some k
@@ -275,3 +275,16 @@ pub send-holds : RingLaw → (p : Plan) (before : List Step) (now : ℕ) (closin
     → TurnsHold p before → P (deeds p before) → P (tick_deeds p before now closing samples (deeds p before))
 send-holds law p before now closing samples P plan keeps holds hold h =
     (tick-holds p before now closing samples (λ l. AllSenders p.config l × P l) (both law p before now closing samples P plan keeps) holds (all-senders law p before plan hold, h)).1
+
+-- up to the turn of a group
+pub send-to : RingLaw → (p : Plan) (before : List Step) (now : ℕ) (closing : Bool) (samples : List Sampled) (P : List Deed → Type 0) (g : ℕ) → g ≤ length p.config.group → IsPlan p → SendHolds p before now closing samples P
+    → HoldsTick p before now closing samples → TurnsHold p before → P (deeds p before) → AllSenders p.config (deeds_before p before now closing samples g) × P (deeds_before p before now closing samples g)
+send-to law p before now closing samples P g le plan keeps holds hold h =
+    holds-before p before now closing samples (λ l. AllSenders p.config l × P l) (both law p before now closing samples P plan keeps) holds g le (all-senders law p before plan hold, h)
+
+-- and what its turn has
+pub turn-at : RingLaw → (p : Plan) (before : List Step) (now : ℕ) (closing : Bool) (samples : List Sampled) (g : ℕ) → g < length p.config.group → IsPlan p → HoldsTick p before now closing samples
+    → has_turn p before now closing (deeds_before p before now closing samples g) g ≡ true → AllSenders p.config (deeds_before p before now closing samples g)
+    → TurnHolds p.config (group_at p.config g) (group_past p.config g (deeds_before p before now closing samples g)) (turn_input p before now closing samples (deeds_before p before now closing samples g) g)
+turn-at law p before now closing samples g there plan holds has all =
+    turn-holds p before now closing samples g (deeds_before p before now closing samples g) plan there has (holds g there has) all

@@ -1,5 +1,5 @@
 -- A reader that holds the newest version: the last datagram that comes brings it the key frame of the last place in its writer's log.
-use Rattle.std.specs.Prelude.{◌≡◌, ◌≢◌, ◌⊎◌, ℕ, List, [], ◌∷◌, ◌++◌, map, Contains, true, false, Option, Some, option_map, Ok}
+use Rattle.std.specs.Prelude.{◌≡◌, ◌≢◌, ◌⊎◌, ℕ, List, [], ◌∷◌, ◌++◌, ◌+◌, map, All, Bool, Contains, true, false, Option, Some, option_map, Ok}
 use Rattle.seq_number.specs.Numbers.{number_of_place}
 use Rattle.dataset_meta.specs.DataValues.{DataValue}
 use Rattle.dataset_meta.specs.Rows.{row_cut}
@@ -17,9 +17,13 @@ use Rattle.writer_group.specs.Parts.{group_at}
 use Rattle.writer_group.specs.Payloads.{writer_at}
 use Rattle.pubsub_model.specs.Cadence.{HadTurn, WriterDeed, WriterTurn, cadence, next_place}
 use Rattle.pubsub_model.specs.Records.{Item, place_in, since_cut}
-use Rattle.session_model.specs.Deeds.{deeds, group_past, log_at, writer_deeds}
+use Rattle.group_laws.specs.TurnItems.{IsUncut}
+use Rattle.group_laws.specs.TurnOpened.{turn_opened}
+use Rattle.session_model.specs.Deeds.{Deed, deeds, group_past, has_turn, log_at, turn_input, turn_of, writer_deeds}
+use Rattle.session_model.specs.Turns.{deeds_before}
+use Rattle.writer_group.specs.declared.sampled.Sampled.{Sampled}
 use Rattle.session_model.specs.Events.{plain_at, reader_at, readers_on, receives}
-use Rattle.session_model.specs.Steps.{Plan, Step, Pump, is_on}
+use Rattle.session_model.specs.Steps.{Plan, Step, Pump, Tick, is_on, moment_of}
 use Rattle.writer_group.specs.Turns.{GroupDeed, GroupTurn, HadGroupTurn, took_by}
 use Rattle.session_laws.specs.Headline.{meta_of}
 use Rattle.session_laws.specs.Pasts.{settings_at}
@@ -87,6 +91,39 @@ pub record ClosingGot (p : Plan) (r i g w : ℕ) (steps : List Step) (before : L
   pub operational : receives p.config earlier r ≡ true
   pub enabled : is_on p.config earlier (Reader r i) ≡ true
   pub came : (datagram : List ℕ) → Contains turn.made datagram → HasPartFor (setting_of p.config r) i datagram → CameIn pumps datagram
+
+-- the turn of a group in a closing tick behind these steps, and what the publisher did before it
+abbrev pub closing_deeds : Plan → List Step → ℕ → List Sampled → ℕ → List Deed
+closing_deeds p start ms samples g = deeds_before p start (moment_of start + ms) true samples g
+
+abbrev pub closing_turn : Plan → List Step → ℕ → List Sampled → ℕ → GroupTurn
+closing_turn p start ms samples g = turn_of p start (moment_of start + ms) true samples (closing_deeds p start ms samples g) g
+
+-- what a read group finds of the datagrams of that turn
+abbrev pub closing_opened : Plan → List Step → ℕ → List Sampled → ℕ → List Opened
+closing_opened p start ms samples g =
+    let so_far = closing_deeds p start ms samples g in
+    turn_opened p.config (group_at p.config g) (group_past p.config g so_far) (turn_input p start (moment_of start + ms) true samples so_far g)
+
+-- The steps end with a closing tick and its pumps, the writer has a turn there, with no chunk for the reader, and each datagram of it with a part for the reader came
+-- in the pumps: to a secured read group that names the group and is Operational, whose reader is enabled and goes by numbers. Nothing is asked of what it accepts.
+pub record ClosingGotSigned (p : Plan) (r i g w : ℕ) (steps : List Step) (own : WriterTurn) : Type 0 where
+  pub numbered : (seat_at (setting_of p.config r).seats i).part.numbering ≡ words.Message
+  pub secured : is_secured (setting_of p.config r).setup.mode ≡ true
+  pub named : (setting_of p.config r).group.group ≢ 0
+  pub start : List Step
+  pub ms : ℕ
+  pub samples : List Sampled
+  pub done : List Bool
+  pub pumps : List (List Entry)
+  pub split : steps ≡ map Pump pumps ++ Tick ms true samples done ∷ start
+  pub had : has_turn p start (moment_of start + ms) true (closing_deeds p start ms samples g) g ≡ true
+  pub took : took_by w (closing_turn p start ms samples g) ≡ Some own
+  pub closing : own.closing ≡ true
+  pub operational : receives p.config start r ≡ true
+  pub enabled : is_on p.config start (Reader r i) ≡ true
+  pub whole : (opened : Opened) → Contains (closing_opened p start ms samples g) opened → All IsUncut (pieces (seat_at (setting_of p.config r).seats i).part opened.payload)
+  pub came : (datagram : List ℕ) → Contains (closing_turn p start ms samples g).made datagram → HasPartFor (setting_of p.config r) i datagram → CameIn pumps datagram
 
 -- the reader holds the row of the version, cut to its fields
 abbrev pub HoldsRowOf : Plan → ℕ → ℕ → ℕ → ℕ → List Step → (ℕ → ℕ → List DataValue) → ℕ → Type 0

@@ -1,5 +1,6 @@
 use Rattle.session_laws.proofs.ClosingGot.{got-held}
 use Rattle.session_laws.proofs.ClosingHeld.{closing-held}
+use Rattle.session_laws.proofs.SignedEnd.{signed-held}
 use Rattle.session_laws.proofs.Published.{Laws}
 use Rattle.session_laws.proofs.laws.a_closing_frame_that_came_is_held.Goals as goal
 
@@ -25,4 +26,4 @@ returns c =
     } in
     let laws = c.matched_readers_hold_published_versions.ensures in
     let held = closing-held c.answers_have_places_of_their_span.ensures.each laws.comes laws.reads laws.holds in
-    record { received = got-held below held; came = held }
+    record { received = got-held below held; signed = signed-held below held; came = held }

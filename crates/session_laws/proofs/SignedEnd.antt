@@ -1,0 +1,383 @@
+-- A session that ends with a closing tick and its pumps: where the closing frame's datagram came to a secured read group, the frame stands in the reader's list.
+use Rattle.std.proofs.Common.{◌≡◌, ◌≢◌, refl, sym, ap, ◌∙◌, subst, arith, ℕ, zero, suc, ◌+◌, ◌<◌, ◌≤◌, ◌⊎◌, inl, inr, Bool, true, not, List, [], ◌∷◌, ◌++◌, map, length, get_or, Option, Some, All, Contains, Ok}
+use Rattle.std.specs.Prelude.{◌||◌, option_map, slice_get, ⊤}
+use Rattle.std.specs.List.{cons_option}
+use Rattle.std.proofs.lemmas.List.{get_or_default}
+use Rattle.std.proofs.lemmas.List.Elements.{All-contains}
+use Rattle.std.proofs.lemmas.Option.{slice_get-get_or}
+use Rattle.ua_base.specs.Journal.{Entry}
+use Rattle.pubsub_model.specs.Cadence.{WriterTurn, HadTurn}
+use Rattle.pubsub_model.specs.Frames.{Whole, placed_cut}
+use Rattle.pubsub_model.specs.Records.{Item, place_in, since_cut}
+use Rattle.message_guard.specs.Acceptance.{Accepted, is_acceptable}
+use Rattle.message_guard.specs.Modes.{is_secured}
+use Rattle.message_guard.specs.Protection.{keys_with}
+use Rattle.message_guard.specs.Senders.{SenderState}
+use Rattle.config_tables.specs.declared.words.Security.{Security}
+use Rattle.ps_config.specs.declared.parts.Config.{Config}
+use Rattle.ps_config.specs.declared.parts.GroupPart.{GroupPart}
+use Rattle.ps_config.specs.declared.parts.ReadGroupPart.{ReadGroupPart}
+use Rattle.ps_config.specs.Headers.{is_secured as is_secured_group, mode_of}
+use Rattle.reader_group.specs.Arrivals.{accepted, Way, marks}
+use Rattle.reader_group.specs.Opening.{Opened, verdict}
+use Rattle.reader_group.specs.Payloads.{Piece, pieces}
+use Rattle.reader_group.specs.Plain.{Event, Got, Setting}
+use Rattle.reader_group.specs.Settings.{group_at as read_group_at, keygroup_at, setting_of}
+use Rattle.writer_group.specs.declared.sampled.Sampled.{Sampled}
+use Rattle.writer_group.specs.Parts.{group_at}
+use Rattle.writer_group.specs.Turns.{GroupDeed, GroupTurn, HadGroupTurn, TurnInput, writer_past, frames_in, took_by}
+use Rattle.group_laws.specs.Matching.{IsSenderOf}
+use Rattle.group_laws.specs.TurnOpened.{turn_opened}
+use Rattle.session_model.specs.Deeds.{Deed, deeds, group_past, has_turn, sender_after}
+use Rattle.session_model.specs.Steps.{Plan, Step, Pump, Tick, moment_of, is_on}
+use Rattle.session_laws.specs.Headline.{InSession}
+use Rattle.session_laws.specs.Pasts.{AreTurns, CameAsMade, WasMade}
+use Rattle.session_laws.specs.Plays.{IsPlay, Play, its_way}
+use Rattle.writer_group.specs.Payloads.{writer_at, payloads_of}
+use Rattle.session_laws.proofs.Distinct.{IsAt, at-sound}
+use Rattle.session_laws.proofs.Pieces.{opened-at}
+use Rattle.dataset_meta.specs.DataValues.{DataValue}
+use Rattle.pubsub_states.specs.declared.component.Component.TheVariants.{Reader}
+use Rattle.config_tables.specs.declared.words.Layout.TheVariants as layouts
+use Rattle.config_tables.specs.declared.words.NumberingWord.TheVariants as words
+use Rattle.group_laws.specs.TurnItems.{IsUncut}
+use Rattle.reader_group.specs.Members.{seat_at}
+use Rattle.session_model.specs.Events.{events, receives}
+use Rattle.session_model.specs.Turns.{TurnsHold}
+use Rattle.session_laws.specs.Newest.{CameIn, ClosingCame, ClosingGotSigned, HasPartFor, HoldsRowOf, closing_deeds, closing_opened, closing_turn}
+use Rattle.session_laws.specs.Reading.{arrivals_at, first_number_of}
+use Rattle.session_laws.specs.Sessions.{AreVersions, pasts_at}
+use Rattle.session_laws.proofs.ClosingGot as ClosingGot
+use Rattle.session_laws.proofs.ClosingGot.{HeldLaw, LastTurn, OnePart, in-flat, not-empty, one-part}
+use Rattle.session_laws.proofs.Deeds.{HoldsTick}
+use Rattle.session_laws.proofs.GotParts.{brought-by-pumps}
+use Rattle.session_laws.proofs.Passing.{AreUnder, IsPassOf, IsUnder, own-pass, turn-pass, under-before, use-under}
+use Rattle.session_laws.proofs.Published.{Laws, is-play, play_of}
+use Rattle.session_laws.proofs.Rowing.{turn-is}
+use Rattle.session_laws.proofs.Senders.{SendHolds, send-to, turn-at}
+use Rattle.session_laws.proofs.SignedGot.{Closes, had-brought, held-by-pumps}
+use Rattle.session_laws.proofs.SignedParts.{HasItemFrom, HasPair, StandsFrom, TakesUpTo, acceptable-or-had, from-new, none-above, upto-all}
+use Rattle.session_laws.proofs.ClosingSigned.{before-pumps, before-tick, deeds-behind, known-by, last-of-tick, made-acceptable, mode-by, mode-group, named-made, sender-by, some-of}
+
+-- ---- the frame's item
+
+item-from : (low place : ℕ) (items : List Item) → HasItemFrom low place items → (item : Item) × Contains items item × (place_in item ≡ place)
+item-from low place [] none = absurd none
+item-from low place (item ∷ items) (inl here) = (item, (0, omega arith, refl), here.0)
+item-from low place (item ∷ items) (inr more) = let rest = item-from low place items more in let at = rest.1 in (rest.0, (suc at.0, let lt = at.1 in omega (arith, lt), at.2), rest.2)
+
+less-by : (a b : ℕ) → a < b → (n : ℕ) × (b ≡ suc a + n)
+less-by a zero lt = absurd (omega (arith, lt))
+less-by zero (suc b) lt = (b, omega arith)
+less-by (suc a) (suc b) lt = let rest = less-by a b (omega (arith, lt)) in let same = rest.1 in (rest.0, omega (arith, same))
+
+-- ---- a session that ends with a closing tick and its pumps
+
+module _ (laws : Laws) (p : Plan) (r i g w ms : ℕ) (samples : List Sampled) (done : List Bool) (start : List Step) (pumps : List (List Entry)) (own : WriterTurn)
+    (is : InSession p r i g w (map Pump pumps ++ Tick ms true samples done ∷ start)) (numbered : (seat_at (setting_of p.config r).seats i).part.numbering ≡ words.Message)
+    (secured : is_secured (setting_of p.config r).setup.mode ≡ true) (named : (setting_of p.config r).group.group ≢ 0)
+    (had : has_turn p start (moment_of start + ms) true (closing_deeds p start ms samples g) g ≡ true) (took : took_by w (closing_turn p start ms samples g) ≡ Some own) (closing : own.closing ≡ true) where
+  abbrev config : Config
+  config = p.config
+
+  abbrev group : GroupPart
+  group = group_at config g
+
+  abbrev readers : ReadGroupPart
+  readers = read_group_at config r
+
+  abbrev setting : Setting
+  setting = setting_of config r
+
+  abbrev at_tick : ℕ
+  at_tick = moment_of start + ms
+
+  abbrev ticked : List Step
+  ticked = Tick ms true samples done ∷ start
+
+  abbrev steps : List Step
+  steps = map Pump pumps ++ ticked
+
+  abbrev earlier : List Deed
+  earlier = closing_deeds p start ms samples g
+
+  abbrev before : List GroupDeed
+  before = group_past config g earlier
+
+  abbrev turn : GroupTurn
+  turn = closing_turn p start ms samples g
+
+  abbrev in-tick : InSession p r i g w ticked
+  in-tick = before-pumps p r i g w pumps ticked is
+
+  abbrev in-start : InSession p r i g w start
+  in-start = before-tick p r i g w ms true samples done start in-tick
+
+  abbrev play : Play
+  play = play_of p r i g w steps
+
+  abbrev is_play : IsPlay 16385 play
+  is_play = is-play laws p r i g w steps is
+
+  -- the last turn of the group is that of the tick
+  past-is : pasts_at p steps g ≡ HadGroupTurn turn ∷ before
+  past-is =
+      let rest = less-by g (length config.group) is.there in
+      ap (group_past config g) (deeds-behind p pumps ticked) ∙ last-of-tick p start at_tick true samples g had (length config.group) rest.0 rest.1
+
+  holds-tick : HoldsTick p start at_tick true samples
+  holds-tick = (laws.hold p ticked is.plan in-tick.steps_are).0
+
+  holds-start : TurnsHold p start
+  holds-start = laws.hold p start is.plan in-start.steps_are
+
+  nothing-asked : SendHolds p start at_tick true samples (λ l. ⊤)
+  nothing-asked = record { came = λ earlier h. tt; fresh = λ other earlier h. tt; turn = λ other earlier there holds h. tt }
+
+  abbrev last : LastTurn config group (pasts_at p steps g)
+  last = record {
+    turn = turn;
+    before = before;
+    past_is = past-is;
+    of = turn-is laws.words p start at_tick true samples earlier g is.plan in-start.steps_are is.there
+        (turn-at laws.ring p start at_tick true samples g is.there is.plan holds-tick had (send-to laws.ring p start at_tick true samples (λ l. ⊤) g (let there = is.there in omega (arith, there)) is.plan nothing-asked holds-tick holds-start tt).0);
+  }
+
+  abbrev input : TurnInput
+  input = last.of.input
+
+  -- ---- its keys
+
+  group-secured : is_secured_group group.security ≡ true
+  group-secured =
+      sym (mode-group group.security) ∙ ap (λ (s : Security). is_secured (mode_of s)) (sym is.matched.groups.security)
+      ∙ ap is_secured (sym (mode-by config readers readers.keygroup)) ∙ secured
+
+  named-group : readers.group ≡ group.id
+  named-group = on is.matched.groups.group_id
+    where
+      on : (readers.group ≡ group.id) ⊎ ((readers.group ≡ 0) × (readers.layout ≡ layouts.Dynamic)) → readers.group ≡ group.id
+      on (inl same) = same
+      on (inr any) = absurd (named any.0)
+
+  module _ (k : ℕ) (keyed : group.keygroup ≡ Some k) where
+    abbrev s : SenderState
+    s = sender_after config k earlier
+
+    abbrev token : ℕ
+    token = s.keys.token
+
+    abbrev used : ℕ
+    used = s.used
+
+    sender-is : IsSenderOf (keygroup_at config k) s
+    sender-is = sender-by config group (length (payloads_of config group (frames_in group before input))) k input.sender s last.of.may.sender (ap (option_map (λ (n : ℕ). sender_after config n earlier)) keyed) keyed
+
+    keys-known : keys_with setting.setup.keys token ≡ Some s.keys
+    keys-known = known-by config readers k s (is.matched.groups.keygroup ∙ keyed) sender-is
+
+    older : List GroupDeed
+    older = group_past config g (deeds p start)
+
+    all-under : AreUnder laws.turns p k g readers i w is.matched keyed (group_past config g (deeds p start)) earlier
+    all-under = under-before laws.turns p k g readers i w is.matched keyed laws.words laws.ring start at_tick true samples is.there is.plan in-start.steps_are holds-start holds-tick
+
+    -- what came was made by the group
+    made-of : (pasts : ℕ → List GroupDeed) → ((h : ℕ) (part : GroupPart) → IsAt config h part → AreTurns config part (pasts h)) → (now : ℕ) (on : List Bool) (other : List ℕ) (befell : List Event) (opened : Opened)
+        → CameAsMade setting config pasts (Got now on other ∷ befell) → verdict setting.group setting.setup (accepted setting befell) other ≡ Ok opened → WasMade (pasts g) other
+    made-of pasts are now on other befell opened came e =
+        named-made laws.turns config readers g group pasts is.plan.good.sound is_play.there are named named-group (accepted setting befell) other opened
+        (came.0 (λ secured. laws.passed setting.group setting.setup (accepted setting befell) other opened e secured)) e
+
+    under-of : (pairs : Accepted) (other : List ℕ) (opened : Opened) → WasMade before other ⊎ WasMade (group_past config g (deeds p start)) other → verdict setting.group setting.setup pairs other ≡ Ok opened → IsUnder s opened.pass
+    under-of pairs other opened was e = use-under laws.turns p k g readers i w is.matched keyed (group_past config g (deeds p start)) earlier other pairs opened all-under was e
+
+    -- before the tick none of it had come
+    start-upto : TakesUpTo setting config (pasts_at p start) secured token used
+    start-upto now on other befell opened came e =
+        under-of (accepted setting befell) other opened
+        (inr (made-of (pasts_at p start) (λ h part at. ((is-play laws p r i g w start in-start).pasts h part at).turns) now on other befell opened came e)) e
+
+    none-before : (number : ℕ) → used < number → HasPair token number (accepted setting (events config r ticked)) → ⊥
+    none-before number above has =
+        none-above token used number (accepted setting (events config r start))
+        (upto-all setting config (pasts_at p start) secured token used start-upto (events config r start) (is-play laws p r i g w start in-start).came) above has
+
+    -- in the pumps
+    abbrev are_turns : (h : ℕ) (part : GroupPart) → IsAt config h part → AreTurns config part (pasts_at p steps h)
+    are_turns = λ h part at. (is_play.pasts h part at).turns
+
+    made-now : (now : ℕ) (on : List Bool) (other : List ℕ) (befell : List Event) (opened : Opened) → CameAsMade setting config (pasts_at p steps) (Got now on other ∷ befell)
+        → verdict setting.group setting.setup (accepted setting befell) other ≡ Ok opened → WasMade (HadGroupTurn turn ∷ before) other
+    made-now now on other befell opened came e = subst (λ (past : List GroupDeed). WasMade past other) past-is (made-of (pasts_at p steps) are_turns now on other befell opened came e)
+
+    pass-of : (pairs : Accepted) (other : List ℕ) (opened : Opened) → (has : Contains turn.made other) → verdict setting.group setting.setup pairs other ≡ Ok opened
+        → IsPassOf s has.0 opened.pass × (slice_get (turn_opened config group before input) has.0 ≡ Some opened)
+    pass-of pairs other opened has e =
+        let at : slice_get turn.made has.0 ≡ Some other = slice_get-get_or turn.made has.0 other has.1 ∙ ap (λ (d : List ℕ). Some d) has.2 in (
+          turn-pass laws.turns p k g readers i w is.matched keyed start at_tick true samples earlier has.0 other pairs opened last.of.may at e,
+          (opened-at laws.turns config group readers i w is.matched before input pairs has.0 other opened last.of.may at e).0,
+        )
+
+    few-made : length turn.made ≤ 1024
+    few-made = (holds-tick g is.there had).few
+
+    now-upto : TakesUpTo setting config (pasts_at p steps) secured token (used + 1024)
+    now-upto now on other befell opened came e = by (made-now now on other befell opened came e)
+      where
+        by : WasMade (HadGroupTurn turn ∷ before) other → (opened.pass.token < token) ⊎ ((opened.pass.token ≡ token) × (opened.pass.number ≤ used + 1024))
+        by (inl has) = let pass = (pass-of (accepted setting befell) other opened has e).0 in let number = pass.number in let below = has.1 in let few = few-made in inr (pass.token, omega (arith, number, below, few))
+        by (inr was) = up (under-of (accepted setting befell) other opened (inl was) e)
+          where
+            up : IsUnder s opened.pass → (opened.pass.token < token) ⊎ ((opened.pass.token ≡ token) × (opened.pass.number ≤ used + 1024))
+            up (inl lower) = inl lower
+            up (inr same) = let le = same.1 in inr (same.0, omega (arith, le))
+
+    now-acceptable : (now : ℕ) (on : List Bool) (other : List ℕ) (befell : List Event) (opened : Opened) → CameAsMade setting config (pasts_at p steps) (Got now on other ∷ befell)
+        → verdict setting.group setting.setup (accepted setting befell) other ≡ Ok opened → is_acceptable setting.setup.keys (accepted setting befell) opened.pass.token opened.pass.number ≡ true
+    now-acceptable now on other befell opened came e =
+        sym (ap (λ (b : Bool). not b || is_acceptable setting.setup.keys (accepted setting befell) opened.pass.token opened.pass.number) secured)
+        ∙ made-acceptable laws.turns config readers group i w is.matched (pasts_at p steps g) (accepted setting befell) other opened (are_turns g group is_play.there) (made-of (pasts_at p steps) are_turns now on other befell opened came e) e
+
+    -- ---- its part
+
+    abbrev way : Way
+    way = its_way play
+
+    le : 16385 ≤ 65536
+    le = omega arith
+
+    abbrev place : ℕ
+    place = ClosingGot.place laws.turns laws.passed play is_play numbered own closing le last took
+
+    abbrev first : ℕ
+    first = (writer_at group w).first_number
+
+    abbrev all : List Opened
+    all = turn_opened config group before input
+
+    module _ (one : Opened) (has : Contains all one) where
+      abbrev index : ℕ
+      index = has.0
+
+      one-at : slice_get all index ≡ Some one
+      one-at = slice_get-get_or all index one has.1 ∙ ap (λ (o : Opened). Some o) has.2
+
+      below-made : index < length turn.made
+      below-made = subst (λ (n : ℕ). index < n) (laws.turns.many config group before input) has.1
+
+      abbrev its_datagram : List ℕ
+      its_datagram = get_or turn.made index []
+
+      one-pass : IsPassOf s index one.pass
+      one-pass = own-pass laws.turns p k g readers i w is.matched keyed start at_tick true samples earlier index one one-at
+
+      opens : (pairs : Accepted) → is_acceptable setting.setup.keys pairs token (used + suc index) ≡ true → verdict setting.group setting.setup pairs its_datagram ≡ Ok one
+      opens pairs acceptable =
+          (laws.turns.taken config group readers before input pairs index its_datagram one last.of.may is.matched.groups (slice_get-get_or turn.made index [] below-made) one-at).taken
+          (ap (λ (b : Bool). not b || is_acceptable setting.setup.keys pairs one.pass.token one.pass.number) secured
+          ∙ ap (λ (t : ℕ). is_acceptable setting.setup.keys pairs t one.pass.number) one-pass.token
+          ∙ ap (λ (n : ℕ). is_acceptable setting.setup.keys pairs token n) one-pass.number ∙ acceptable)
+
+      made-one : Contains turn.made its_datagram
+      made-one = (index, below-made, get_or_default turn.made index its_datagram [] below-made)
+
+      opens-first : verdict setting.group setting.setup [] its_datagram ≡ Ok one
+      opens-first = on (acceptable-or-had setting.setup.keys [] token 0 (used + suc index) s.keys keys-known tt (omega arith))
+        where
+          on : (is_acceptable setting.setup.keys [] token (used + suc index) ≡ true) ⊎ HasPair token (used + suc index) [] → verdict setting.group setting.setup [] its_datagram ≡ Ok one
+          on (inl acceptable) = opens [] acceptable
+          on (inr none) = absurd none
+
+      has-part : (piece : Piece) → Contains (pieces way.seat.part one.payload) piece → HasPartFor setting i its_datagram
+      has-part piece there = record { opened = one; opens = opens-first; part = not-empty (pieces way.seat.part one.payload) piece there }
+
+    module _ (part : OnePart laws.turns laws.passed play is_play numbered own closing le last took) where
+      abbrev piece : Piece
+      piece = part.piece
+
+      abbrev found : (o : Opened) × Contains all o × Contains (pieces way.seat.part o.payload) piece
+      found = in-flat (λ (o : Opened). pieces way.seat.part o.payload) all piece (subst (λ (l : List Piece). Contains l piece) (sym part.same) (0, omega arith, refl))
+
+      abbrev datagram : List ℕ
+      datagram = its_datagram found.0 found.1
+
+      own-part : (now : ℕ) (on : List Bool) (other : List ℕ) (befell : List Event) (opened : Opened) → CameAsMade setting config (pasts_at p steps) (Got now on other ∷ befell)
+          → verdict setting.group setting.setup (accepted setting befell) other ≡ Ok opened → opened.pass.token ≡ token → opened.pass.number ≡ used + suc found.1.0 → Contains (pieces way.seat.part opened.payload) piece
+      own-part now on other befell opened came e its_token its_number = by (made-now now on other befell opened came e)
+        where
+          by : WasMade (HadGroupTurn turn ∷ before) other → Contains (pieces way.seat.part opened.payload) piece
+          by (inl has) =
+              let pass = pass-of (accepted setting befell) other opened has e in
+              let number = pass.0.number in
+              let same : has.0 ≡ found.1.0 = omega (arith, number, its_number) in
+              let here : slice_get all found.1.0 ≡ Some opened = subst (λ (n : ℕ). slice_get all n ≡ Some opened) same pass.1 in
+              let there : slice_get all found.1.0 ≡ Some found.0 = one-at found.0 found.1 in
+              let opened_is : Path (Option Opened) (Some found.0) (Some opened) = sym there ∙ here in
+              let alike : found.0 ≡ opened = cc in
+              subst (λ (o : Opened). Contains (pieces way.seat.part o.payload) piece) alike found.2
+          by (inr was) = up (under-of (accepted setting befell) other opened (inl was) e)
+            where
+              up : IsUnder s opened.pass → Contains (pieces way.seat.part opened.payload) piece
+              up (inl lower) = absurd (omega (arith, lower, its_token))
+              up (inr upto) = let most = upto.1 in absurd (omega (arith, most, its_number))
+
+      closes : Closes setting config (pasts_at p steps) way first place token used found.1.0 datagram piece
+      closes = record {
+        few = let below = below-made found.0 found.1 in let few = few-made in omega (arith, below, few);
+        upto = now-upto;
+        acceptable = now-acceptable;
+        own = own-part;
+        opened = λ pairs acceptable. (found.0, opens found.0 found.1 pairs acceptable, (one-pass found.0 found.1).token, (one-pass found.0 found.1).number);
+        key = s.keys;
+        known = keys-known;
+        reads = λ now n list above.
+            subst (StandsFrom (used + 1) place) (sym (part.reads_as now (Some n) list)) (from-new (used + 1) place way now n list (placed_cut way.seat.meta (Whole place own.row)) refl above);
+        places = λ t n. refl;
+      }
+
+      module _ (operational : receives config start r ≡ true) (enabled : is_on config start (Reader r i) ≡ true)
+          (came : (datagram : List ℕ) → Contains turn.made datagram → HasPartFor setting i datagram → CameIn pumps datagram) where
+        abbrev number : ℕ
+        number = used + suc found.1.0
+
+        stands-signed : StandsFrom (used + 1) place (marks setting way (events config r steps))
+        stands-signed =
+            let came_here = came datagram (made-one found.0 found.1) (has-part found.0 found.1 piece found.2) in
+            let none_yet : HasPair token number (accepted setting (events config r ticked)) → StandsFrom (used + 1) place (marks setting way (events config r ticked)) =
+            λ had. absurd (none-before number (omega arith) had) in
+            held-by-pumps setting config (pasts_at p steps) way first place token used found.1.0 datagram piece closes secured r pumps ticked operational is.matched.within enabled is_play.came none_yet
+            (brought-by-pumps setting config (pasts_at p steps) i datagram (λ befell. HasPair token number (accepted setting befell))
+            (had-brought setting config (pasts_at p steps) way first place token used found.1.0 datagram piece closes secured i) r pumps ticked came_here operational is.matched.within enabled is_play.came)
+
+        signed-came : ClosingCame p r i g w steps (writer_past w before) own
+        signed-came =
+            let item = item-from (used + 1) place (since_cut (arrivals_at config r i (first_number_of config g w) steps)) stands-signed in
+            record {
+              numbered = numbered;
+              last = ap (writer_past w) past-is ∙ ap (λ (o : Option WriterTurn). cons_option (option_map HadTurn o) (writer_past w before)) took;
+              closing = closing;
+              came = record { item = item.0; came = item.1; stands = item.2 };
+            }
+
+    uncut : ((opened : Opened) → Contains (closing_opened p start ms samples g) opened → All IsUncut (pieces way.seat.part opened.payload)) → (o : Opened) (x : Piece) → Contains all o → Contains (pieces way.seat.part o.payload) x → IsUncut x
+    uncut whole o x has there = All-contains IsUncut (pieces way.seat.part o.payload) x (whole o has) there
+
+    pub closing-signed : receives config start r ≡ true → is_on config start (Reader r i) ≡ true → ((opened : Opened) → Contains (closing_opened p start ms samples g) opened → All IsUncut (pieces way.seat.part opened.payload))
+        → ((datagram : List ℕ) → Contains turn.made datagram → HasPartFor setting i datagram → CameIn pumps datagram) → ClosingCame p r i g w steps (writer_past w before) own
+    closing-signed operational enabled whole came =
+        signed-came (one-part laws.turns laws.passed play is_play numbered own closing le last took (uncut whole) group.layout refl) operational enabled came
+
+  pub keyed-is : (k : ℕ) × (group.keygroup ≡ Some k)
+  keyed-is = some-of group.keygroup (sym (at-sound config g group is.plan.good.sound is_play.there).keys.keyed ∙ group-secured)
+
+-- so it is held
+pub signed-held : Laws → HeldLaw → (p : Plan) (r i g w : ℕ) (list : List Step) (rows : ℕ → ℕ → List DataValue) (own : WriterTurn) → InSession p r i g w list → AreVersions p list rows → ClosingGotSigned p r i g w list own
+    → HoldsRowOf p r i g w list rows own.version
+signed-held laws held p r i g w list rows own is versions c =
+    let ended = map Pump c.pumps ++ Tick c.ms true c.samples c.done ∷ c.start in
+    let here : InSession p r i g w ended = subst (InSession p r i g w) c.split is in
+    let keyed = keyed-is laws p r i g w c.ms c.samples c.done c.start c.pumps own here c.numbered c.secured c.named c.had c.took c.closing in
+    subst (λ (l : List Step). HoldsRowOf p r i g w l rows own.version) (sym c.split)
+    (held p r i g w ended rows (writer_past w (group_past p.config g (closing_deeds p c.start c.ms c.samples g))) own here (subst (λ (l : List Step). AreVersions p l rows) c.split versions)
+    (closing-signed laws p r i g w c.ms c.samples c.done c.start c.pumps own here c.numbered c.secured c.named c.had c.took c.closing keyed.0 keyed.1 c.operational c.enabled c.whole c.came))
