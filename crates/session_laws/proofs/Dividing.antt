@@ -9,7 +9,7 @@ use Rattle.session_laws.specs.Courses.{HaveOneCourse}
 
 -- ---- a tick's sends
 
-same-outcome : (send : Send) (a b : Bool) → send_entry (send, a) ≡ send_entry (send, b) → a ≡ b
+pub same-outcome : (send : Send) (a b : Bool) → send_entry (send, a) ≡ send_entry (send, b) → a ≡ b
 same-outcome send true true e = refl
 same-outcome send true false e = absurd (cc)
 same-outcome send false true e = absurd (cc)

@@ -40,3 +40,4 @@ mod SignedParts
 mod SignedGot
 mod ClosingSigned
 mod SignedEnd
+mod Further

@@ -32,7 +32,7 @@ ghost use Rattle.session_laws.specs.Newest.{BringsLast, ClosingCame, ClosingGot,
 ghost use Rattle.session_laws.specs.Pasts.{settings_at};
 ghost use Rattle.session_laws.specs.Plays.{Play, IsPlay, ComesFromWriter, HoldsVersion, its_marks, its_member, its_way};
 ghost use Rattle.session_laws.specs.Sessions.{AreVersions, SamplesRise};
-ghost use Rattle.session_laws.specs.Twins.{TwinStep, AddRefused, AreTwins, HaveFurther, firsts, seconds, with_counts_of};
+ghost use Rattle.session_laws.specs.Twins.{TwinStep, AddRefused, AreTwins, HasFurther, HasTwins, HaveFurther, firsts, seconds, with_counts_of};
 
 use crate::turning::each_turn_of_a_session_holds;
 use group_laws::{
@@ -199,7 +199,8 @@ pub fn a_new_token_begins_with_key_frames()
 /// further ones: the groups do the same and have as many sends done, each reader is the same and has the same stores, each read
 /// group takes the same datagrams with the same answers, and each component has the same state. So what a closed session tells
 /// of groups, writers and readers is the same; of read groups the counts of causes alone may differ, and of the link, where the
-/// second course has further datagrams alone and no pump ends at its limit, the count of received datagrams.
+/// second course has further datagrams alone and no pump ends at its limit, the count of received datagrams. Where a journal is
+/// another one with further receives, and no pump of either ends at its limit, both are divided into the same sends and pumps.
 pub fn refused_datagrams_leave_no_trace_in_a_session()
     ensures groups { (p : Plan) (twins : List TwinStep) → deeds p (firsts twins) ≡ deeds p (seconds twins) }
     ensures further { (p : Plan) (twins : List TwinStep) → AddRefused p twins → AreTwins p twins }
@@ -224,6 +225,8 @@ pub fn refused_datagrams_leave_no_trace_in_a_session()
     ensures received { (p : Plan) (twins : List TwinStep) → HaveFurther twins
         → limits (firsts twins) ≡ 0 → limits (seconds twins) ≡ 0 → let end = link_end p (seconds twins) in
         end ≡ record (link_end p (firsts twins)) { received = end.received } }
+    ensures division { (p : Plan) (first second : List Step) → HaveOneCourse first second → IsRun p first → IsRun p second
+        → limits first ≡ 0 → limits second ≡ 0 → HasFurther (journal p first) (journal p second) → HasTwins first second }
 {
     refused_datagrams_leave_no_trace();
 }
