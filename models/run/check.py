@@ -197,8 +197,8 @@ def search(config, script, report, rows):
         if told == report.rest: return state
     raise Wrong("the model tells\n" + "\n".join(told) + "\nand not\n" + "\n".join(report.rest))
 
-def check(script_text, config, text):
-    """None, or what is wrong; and whether the whole report was compared"""
+def told_by(script_text, config, text):
+    """the model's session that tells the whole report, or None where there were losses; Wrong where the report is"""
     report = Report(text)
     script = Script(script_text, config)
     check_histories(script, report)
@@ -207,13 +207,20 @@ def check(script_text, config, text):
     check_readers(plain, script, report, rows)
     check_watches(script, report)
     link = report.link
-    whole = link["received"] == link["sent"] and not (link["failed"] or link["broken"] or link["long"] or link["limit"])
-    if whole:
-        state = search(config, script, report, rows)
-        for t, name, counts in report.watches:
-            place = next(c.at for c in state.tree if c.name == name and c.kind == "reader")
-            demand(all(k <= len(state.stores.get(place, [])) for k in counts), f"watch {t} {name}: more looks than stores")
-    return whole
+    if link["received"] != link["sent"] or link["failed"] or link["broken"] or link["long"] or link["limit"]: return None
+    state = search(config, script, report, rows)
+    for t, name, counts in report.watches:
+        place = next(c.at for c in state.tree if c.name == name and c.kind == "reader")
+        demand(all(k <= len(state.stores.get(place, [])) for k in counts), f"watch {t} {name}: more looks than stores")
+    return state
+
+def check(script_text, config, text):
+    """whether the whole report was compared; Wrong where it is"""
+    return told_by(script_text, config, text) is not None
+
+def sent_in(state):
+    """the datagrams that the model's session sent, in order"""
+    return [state.link.sent[k] for k in sorted(state.link.sent)]
 
 def main():
     script, config, report = (open(p, encoding="utf-8").read() if p != "-" else BUILT_IN for p in sys.argv[1:4])
