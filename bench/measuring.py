@@ -22,19 +22,18 @@ def instructions(words, more={}, status=0):
     return int(found[1].replace(",", ""))
 
 
-def instructions_within(words, patterns, more={}):
-    """Those within the functions whose names each pattern finds and in what they call, as callgrind counts them; a function that isn't there
-    was laid into its caller, and ends this program."""
+def instructions_within(words, calls, more={}):
+    """Those within each of these functions and in what it calls, as callgrind counts them. A function goes by several names: the first counts that
+    callgrind finds, since one that was laid into its caller has no name of its own."""
     command = ["valgrind", "--tool=callgrind", "--callgrind-out-file=callgrind", *words]
     subprocess.run(command, stdout=subprocess.DEVNULL, stderr=subprocess.DEVNULL, env=dict(os.environ, **more), check=True)
     told = subprocess.run(["callgrind_annotate", "--inclusive=yes", "--threshold=100", "callgrind"], capture_output=True, text=True, check=True).stdout
-    counts = []
-    for pattern in patterns:
-        found = [line for line in told.splitlines() if re.search(r"^ *[\d,]+ .*" + pattern, line)]
-        if not found:
-            sys.exit(f"{words[0]}: callgrind finds no function {pattern}")
-        counts.append(sum(int(line.split()[0].replace(",", "")) for line in found))
-    return counts
+    return [next((count for count in (count_of(told, name) for name in names) if count), 0) or sys.exit(f"{words[0]}: callgrind finds none of {names}") for names in calls]
+
+
+def count_of(told, name):
+    found = re.search(r"^ *([\d,]+) .*:" + re.escape(name) + r"(?:::<\S*)? \[", told, re.M)
+    return int(found[1].replace(",", "")) if found else 0
 
 
 class Times:
