@@ -1,8 +1,13 @@
 // A session as one writes it by hand, over the groups of bench/groups: at each turn rows change, each group makes its datagrams, each
-// goes over a link in memory, which keeps what was sent, and each read group is given each datagram that comes, a copy but for the
-// last one; a reader's row is stored where its number is another one. At the end it prints what each writer sent, as a report does.
-// usage: by_hand built-in|device TURNS
+// goes over the link, which is LINK, by default one in memory, and each read group is given each datagram that comes, a copy but for
+// the last one; a reader's row is stored where its number is another one. At the end it prints what each writer sent, as a report does.
+// usage: by_hand built-in|device TURNS [TURNS_OF_A_KEY_FRAME]     (of the device's first group, by default 10)
 #include "../groups/plain.h"
+#ifdef LINK
+#include LINK
+#else
+#include "memory_link.h"
+#endif
 #include <stdio.h>
 #include <stdlib.h>
 #include <string.h>
@@ -17,34 +22,6 @@ static size_t set_count, group_count, reader_count;
 static uint64_t stores[3];
 static uint16_t stored[3];
 static bool on[MAX_WRITERS];
-
-// ---- the link
-
-static uint8_t *sent;
-static size_t sent_bytes, sent_room, sent_count, ranges_room, received_count;
-static struct range *ranges;
-
-static void make_room(void **at, size_t *room, size_t wanted, size_t size) {
-    if (wanted <= *room) return;
-    *room = wanted > 2 * *room ? wanted : 2 * *room;
-    *at = realloc(*at, *room * size);
-    if (!*at) exit(7);
-}
-
-static void put_on_link(const uint8_t *datagram, size_t length) {
-    make_room((void **)&sent, &sent_room, sent_bytes + length, 1);
-    make_room((void **)&ranges, &ranges_room, sent_count + 1, sizeof *ranges);
-    memcpy(sent + sent_bytes, datagram, length);
-    ranges[sent_count++] = (struct range){(uint32_t)sent_bytes, (uint32_t)(sent_bytes + length)};
-    sent_bytes += length;
-}
-
-static size_t take_off_link(uint8_t *into) {
-    if (received_count == sent_count) return 0;
-    struct range range = ranges[received_count++];
-    memcpy(into, sent + range.start, range.end - range.start);
-    return range.end - range.start;
-}
 
 // ---- turns and pumps
 
@@ -120,8 +97,8 @@ static void open_built_in(size_t turns) {
     add_reader(session, 0, 5, 1);
 }
 
-static void open_device(size_t turns) {
-    struct session slow = {"", 40, 1, 1, 10, 1400, ENCRYPTED, false}, quick = {"", 8, 1, 1, 1, 1400, ENCRYPTED, true};
+static void open_device(size_t turns, uint32_t key_frame_count) {
+    struct session slow = {"", 40, 1, 1, key_frame_count, 1400, ENCRYPTED, false}, quick = {"", 8, 1, 1, 1, 1400, ENCRYPTED, true};
     add_set(38, 2);
     add_set(8, 0);
     add_group(slow, 0, 1, turns);
@@ -156,11 +133,13 @@ static void print_log(const struct writer *writer) {
 }
 
 int main(int argc, char **argv) {
-    size_t turns = argc == 3 ? strtoul(argv[2], 0, 10) : 0;
+    size_t turns = argc > 2 ? strtoul(argv[2], 0, 10) : 0;
+    uint32_t key_frame_count = argc > 3 ? (uint32_t)strtoul(argv[3], 0, 10) : 10;
     uint64_t taken = 0;
     on[0] = true;
+    open_link();
     if (argc > 1 && !strcmp(argv[1], "device"))
-        open_device(turns + 1);
+        open_device(turns + 1, key_frame_count);
     else
         open_built_in(turns + 1);
     size_t changes = 8 / set_count;

@@ -28,7 +28,12 @@ Session, Link, BUILT_IN = session.Session, session.Link, session.BUILT_IN
 default, parse_text, value_text = session.default, session.parse_text, session.value_text
 
 class Wrong(Exception):
-    pass
+    """the report isn't a possible one"""
+
+class Undecided(Exception):
+    """so many sessions may stand behind the report that not all were looked at"""
+
+MOST_SESSIONS = 1024
 
 def demand(holds, what):
     if not holds: raise Wrong(what)
@@ -161,13 +166,18 @@ def candidates(state, report, rows, versions):
             if rest and rest[0][1] >= versions[at]: found[at].add(rest[0][1])
     return itertools.product(*[sorted(vs) for vs in found])
 
-def ticked(state, report, rows, versions, ms, closing):
-    after = copy.deepcopy(state)
+def ticked(after, report, rows, versions, ms, closing):
+    """whether this session may have a tick at these versions; it has had it then"""
     sample(after, rows, versions)
     after.tick(ms, closing)
-    if not is_front(after, report): return None
+    if not is_front(after, report): return False
     after.pump()
-    return after
+    return True
+
+def copies(state, count):
+    """the session so often, itself the last"""
+    for _ in range(count - 1): yield copy.deepcopy(state)
+    yield state
 
 def search(config, script, report, rows):
     """versions for each tick such that the model tells the report; the states of the model that may stand behind each line are kept"""
@@ -181,24 +191,25 @@ def search(config, script, report, rows):
                 following.append((state, versions))
                 continue
             closing = words[0] == "close"
-            for chosen in ([tuple(ends)] if closing else candidates(state, report, rows, versions)):
-                after = ticked(state, report, rows, chosen, 0 if closing else int(words[1]), closing)
-                if after is not None: following.append((after, list(chosen)))
+            chosen = [tuple(ends)] if closing else list(candidates(state, report, rows, versions))
+            for after, at in zip(copies(state, len(chosen)), chosen):
+                if ticked(after, report, rows, at, 0 if closing else int(words[1]), closing): following.append((after, list(at)))
         # of equal states the one with the lowest versions leaves the most to come
         best = {}
         for state, versions in following:
             state.rows = state.threads = [[] for _ in script.names]
             key = pickle.dumps(state)
             if key not in best or versions < best[key][1]: best[key] = (state, versions)
-        states = list(best.values())[:64]
+        states = list(best.values())
         demand(states, f"no version at `{' '.join(words)}` goes with the logs")
+        if len(states) > MOST_SESSIONS: raise Undecided(f"more than {MOST_SESSIONS} sessions at `{' '.join(words)}`")
     for state, _ in states:
         told = [line for line in state.report()[:-1] if line.split(" ")[0] not in ("history", "watch")]
         if told == report.rest: return state
     raise Wrong("the model tells\n" + "\n".join(told) + "\nand not\n" + "\n".join(report.rest))
 
-def check(script_text, config, text):
-    """None, or what is wrong; and whether the whole report was compared"""
+def told_by(script_text, config, text):
+    """the model's session that tells the whole report, or None where there were losses; Wrong where the report is"""
     report = Report(text)
     script = Script(script_text, config)
     check_histories(script, report)
@@ -207,20 +218,27 @@ def check(script_text, config, text):
     check_readers(plain, script, report, rows)
     check_watches(script, report)
     link = report.link
-    whole = link["received"] == link["sent"] and not (link["failed"] or link["broken"] or link["long"] or link["limit"])
-    if whole:
-        state = search(config, script, report, rows)
-        for t, name, counts in report.watches:
-            place = next(c.at for c in state.tree if c.name == name and c.kind == "reader")
-            demand(all(k <= len(state.stores.get(place, [])) for k in counts), f"watch {t} {name}: more looks than stores")
-    return whole
+    if link["received"] != link["sent"] or link["failed"] or link["broken"] or link["long"] or link["limit"]: return None
+    state = search(config, script, report, rows)
+    for t, name, counts in report.watches:
+        place = next(c.at for c in state.tree if c.name == name and c.kind == "reader")
+        demand(all(k <= len(state.stores.get(place, [])) for k in counts), f"watch {t} {name}: more looks than stores")
+    return state
+
+def check(script_text, config, text):
+    """whether the whole report was compared; Wrong where it is"""
+    return told_by(script_text, config, text) is not None
+
+def sent_in(state):
+    """the datagrams that the model's session sent, in order"""
+    return [state.link.sent[k] for k in sorted(state.link.sent)]
 
 def main():
     script, config, report = (open(p, encoding="utf-8").read() if p != "-" else BUILT_IN for p in sys.argv[1:4])
     try:
         whole = check(script, config, report)
-    except Wrong as wrong:
-        sys.exit(f"wrong: {wrong}")
+    except (Wrong, Undecided) as it:
+        sys.exit(f"{type(it).__name__.lower()}: {it}")
     print("right" if whole else "right, as far as a report with losses tells")
 
 if __name__ == "__main__": main()

@@ -19,7 +19,7 @@ def texts(seed):
 def main():
     program, first, count = os.path.abspath(sys.argv[1]), int(sys.argv[2]), int(sys.argv[3])
     out = sys.argv[4] if len(sys.argv) > 4 else None
-    refused = lossy = wrong = 0
+    refused = lossy = undecided = wrong = 0
     for seed in range(first, first + count):
         config, script = texts(seed)
         with tempfile.TemporaryDirectory() as folder:
@@ -32,6 +32,7 @@ def main():
         try:
             if ran.returncode: raise check.Wrong(f"status {ran.returncode}: {ran.stderr}")
             lossy += not check.check(script, config, ran.stdout)
+        except check.Undecided: undecided += 1
         except check.Wrong as it:
             wrong += 1
             print(f"seed {seed}: {it}")
@@ -39,7 +40,7 @@ def main():
                 os.makedirs(out, exist_ok=True)
                 for name, text in (("config", config), ("script", script), ("report", ran.stdout)):
                     with open(os.path.join(out, f"{seed}.{name}"), "w", encoding="utf-8") as file: file.write(text)
-    print(f"{count} runs, {refused} refused, {lossy} with losses, {wrong} wrong")
+    print(f"{count} runs, {refused} refused, {lossy} with losses, {undecided} undecided, {wrong} wrong")
     sys.exit(1 if wrong else 0)
 
 if __name__ == "__main__": main()
