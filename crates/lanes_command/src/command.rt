@@ -15,7 +15,7 @@ use std::thread::Threads;
 use ua_base::{Folder, Gate, Link, Sink};
 
 /// The places of the queue between the lanes and the thread that sends.
-const ROOM: u32 = 64;
+const ROOM: u32 = 1024;
 
 /// Applies the writes of the script of this name, runs the writer groups of the configuration of this name or the built-in one on
 /// threads of their own, which hand their datagrams to this thread through a queue, sends them over the link, and writes what was
