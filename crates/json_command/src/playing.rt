@@ -94,7 +94,8 @@ fn tapped_play<'a, M: Made, R: Wait, L: Link>(
     ensures played { IfOk result.end (IsPlayOf M.config script.now (L.told result.link.now)) }
     ensures of_sent { OnOk result.end
         (IsOfLink M.config (L.told result.link.now) result.lines.items result.skipped) }
-    ensures opened { OnOk result.end (L.opened_with result.link.now ≡ Some (opening_of M.config script.now)) }
+    ensures opened { OnOk result.end
+        (L.opened_with result.link.now ≡ Some (opening_of M.config script.now)) }
     ensures opens { L.opened_with result.link.now ≢ M.opening
         → L.opened_with result.link.now ≡ Some (opening_of M.config script.now) }
     ensures unopened { result.end ≡ Err PlayEnd.Unopened
