@@ -171,6 +171,19 @@ def replies():
     say()
 
 
+def unasked_replies():
+    say("# pull_reply BYTES: the ring that a puller makes of a reply of unknown origin, or that there is none, since moments don't rise, or the fault")
+    top = (1 << 64) - 1
+    for policy in POLICIES:
+        for count in (1, 2, 3, 16):
+            for next_, lifetime in ((3, 7), (1, 1), (0, 7), (3, 0), (0, 0), (top, 0)):
+                say(f"pull_reply {answer(policy, 5, count, next_, lifetime).reply().hex()}")
+    for count, next_, lifetime in ((2, top, top), (3, 1, top - 1), (3, 1, top), (16, 1, top // 14)):
+        say(f"pull_reply {answer('aes128', 5, count, next_, lifetime).reply().hex()}")
+    say(f"pull_reply {answer('aes128', 5, 2, 3, 7).reply().hex()} 00")
+    say()
+
+
 def answers_by_chance(chance):
     say("# by chance: 60 rings, with lifetimes to the longest that fits, and five answers of each")
     for _ in range(60):
@@ -204,6 +217,7 @@ def main():
     refused_services()
     requests()
     replies()
+    unasked_replies()
     chance = Chance(14)
     answers_by_chance(chance)
     replies_by_chance(chance)

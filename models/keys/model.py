@@ -148,7 +148,13 @@ def read_reply(data):
     if any(key.moment >= 1 << 64 for key in answer.keys):
         raise Refused("BadKeys")
     rest.end()
-    return answer.text()
+    return answer
+
+
+def is_ring(keys):
+    """Tokens and moments rise, the first moment is 0, and the encrypting keys have one length."""
+    rises = all(before.token < key.token and before.moment < key.moment for before, key in zip(keys, keys[1:]))
+    return rises and keys[0].moment == 0 and len({len(key.encrypting) for key in keys}) == 1
 
 
 def in_room(data, room, most):
@@ -192,7 +198,11 @@ class Bench:
         return read_request(unhex(words))
 
     def read_reply(self, *words):
-        return read_reply(unhex(words))
+        return read_reply(unhex(words)).text()
+
+    def pull_reply(self, *words):
+        keys = read_reply(unhex(words)).pulled()
+        return " ".join(key.text() for key in keys) if is_ring(keys) else "no ring"
 
 
 def main():

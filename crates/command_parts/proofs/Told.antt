@@ -39,9 +39,9 @@ pub TellsFile-same : (P : List ℕ → Type 0) (a b : ToldFile) → a ≡ b → 
 TellsFile-same P a b e tells = subst (λ (file : ToldFile). TellsFile file P) e tells
 
 -- the script is that of the file
-pub script_told : (reader : ValueReader) (file : ToldFile) (config : Config) (plain : Bool) (bytes : List ℕ) (judgement : Result Script (ℕ × ScriptFault)) → file ≡ Some (Some bytes)
-    → IsJudgedScript file config plain judgement → script reader config bytes plain ≡ judgement
-script_told reader file config plain bytes judgement is j = subst (λ (l : List ℕ). script reader config l plain ≡ judgement) (read_told file j.bytes bytes is j.read) (j.judged reader)
+pub script_told : (reader : ValueReader) (file : ToldFile) (config : Config) (fates : Bool) (bytes : List ℕ) (judgement : Result Script (ℕ × ScriptFault)) → file ≡ Some (Some bytes)
+    → IsJudgedScript file config fates judgement → script reader config bytes fates ≡ judgement
+script_told reader file config fates bytes judgement is j = subst (λ (l : List ℕ). script reader config l fates ≡ judgement) (read_told file j.bytes bytes is j.read) (j.judged reader)
 
 -- the configuration is that of the file, or the built-in one
 pub config_told : (tells : List ℕ → ToldFile) (name : Option (List ℕ)) (config taken : Config) → IsToldConfig tells name config → IsConfigured tells name taken → taken ≡ config

@@ -10,13 +10,13 @@ use Rattle.command_parts.specs.declared.status.Status.{Status}
 use Rattle.command_parts.specs.declared.status.Status.TheVariants.{ScriptRefused}
 use Rattle.command_parts.specs.Files.{IsRead, EndsFile}
 
--- what was read is judged so, for a session with this configuration; where links have no fates, `plain` is false
-pub record IsJudgedScript (file : ToldFile) (config : Config) (plain : Bool) (judgement : Result Script (ℕ × ScriptFault)) : Type 0 where
+-- what was read is judged so, for a session with this configuration; where links have no fates, `fates` is false
+pub record IsJudgedScript (file : ToldFile) (config : Config) (fates : Bool) (judgement : Result Script (ℕ × ScriptFault)) : Type 0 where
   pub bytes : List ℕ
   pub read : IsRead file bytes
-  pub judged : (reader : ValueReader) → script reader config bytes plain ≡ judgement
+  pub judged : (reader : ValueReader) → script reader config bytes fates ≡ judgement
 
 -- what a status says of a file that was not taken as a script
 abbrev pub EndsScript : ToldFile → Config → List ℕ → Bool → Status → Type 0
-EndsScript file config name plain (ScriptRefused line fault) = IsJudgedScript file config plain (Err (line, fault))
-EndsScript file config name plain status = EndsFile file name status
+EndsScript file config name fates (ScriptRefused line fault) = IsJudgedScript file config fates (Err (line, fault))
+EndsScript file config name fates status = EndsFile file name status

@@ -15,22 +15,22 @@ use ps_script::{Script, ScriptEnd, read_script};
 use std::alloc::Global;
 use ua_base::Folder;
 
-/// The script that the file of this name is, for a session with this configuration. Where links have no fates, `plain` is
+/// The script that the file of this name is, for a session with this configuration. Where links have no fates, `fates` is
 /// false, and a line that gives one is refused.
 pub fn script_in<'w, F: Folder>(
     alloc: Global,
     config: &Config,
     name: &'w str,
-    plain: bool,
+    fates: bool,
     folder: &mut F,
 ) -> Result<Script, Status<'w>>
     requires { IsSound config.now }
     ensures script { IfOk result (λ script.
-        IsJudgedScript (F.tells folder.old name.now) config.now plain (Ok script)) }
+        IsJudgedScript (F.tells folder.old name.now) config.now fates (Ok script)) }
     ensures sound { IfOk result (IsScript config.now) }
-    ensures fateless { IfOk result (λ script. plain ≡ false → fates_of script.lines ≡ []) }
+    ensures fateless { IfOk result (λ script. fates ≡ false → fates_of script.lines ≡ []) }
     ensures ends { IfErr result
-        (EndsScript (F.tells folder.old name.now) config.now name.now plain) }
+        (EndsScript (F.tells folder.old name.now) config.now name.now fates) }
     ensures unread { IfErr result (λ status. IsUnread status
         → Rose (F.faults folder.old) (F.faults folder.new)) }
     ensures folder { KeepsFolder F.tells F.faults folder.old folder.new }
@@ -39,7 +39,7 @@ pub fn script_in<'w, F: Folder>(
         Ok(bytes) => bytes,
         Err(status) => return Err(status),
     };
-    match read_script(alloc, config, &bytes, plain) {
+    match read_script(alloc, config, &bytes, fates) {
         Ok(script) => Ok(script),
         Err(ScriptEnd::Refused { line, fault }) => Err(Status::ScriptRefused { line, fault }),
         Err(ScriptEnd::Memory) => Err(Status::OutOfMemory),

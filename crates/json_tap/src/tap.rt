@@ -32,6 +32,7 @@ pub struct Tap<'a, L: Link, M: Made> {
     ghost same_config: { config.now ≡ M.config },
     ghost unopened: { is_open ≡ false
         → (L.told link.now ≡ M.told) × (L.opened_with link.now ≡ M.opening) },
+    ghost opened: { is_open ≡ true → IsSome (L.opened_with link.now) },
     ghost kept: { is_open ≡ true
         → IsOfLink M.config (L.told link.now) book.lines.items book.skipped },
 }
@@ -90,6 +91,7 @@ impl<'a, L: Link, M: Made> Tap<'a, L, M> {
         ensures skipped { result.skipped ≡ skipped_in self.entry }
         ensures of_sent { is_open self.entry ≡ true → IsOfLink
             M.config (L.told result.link.now) result.lines.items result.skipped }
+        ensures opened { is_open self.entry ≡ true → IsSome (L.opened_with result.link.now) }
         ensures unopened { is_open self.entry ≡ false
             → (L.told result.link.now ≡ M.told) × (L.opened_with result.link.now ≡ M.opening) }
     {

@@ -1,23 +1,28 @@
 -- A guard over a pulled ring knows the keys of a covered moment, and opens what was protected under them.
-use Rattle.std.proofs.Common.{◌≡◌, ℕ, ◌+◌, ◌≤◌, ◌==◌, nat_lt, Bool, true, false, cond, List, [], ◌∷◌, ◌++◌, length, map, take, Option, Some, None, Ok, refl, sym, ◌∙◌, ap, subst, arith}
+use Rattle.std.proofs.Common.{◌≡◌, ℕ, ◌+◌, ◌≤◌, nat_lt, Bool, true, false, List, [], ◌∷◌, ◌++◌, length, map, take, Option, Some, None, Result, Ok, refl, sym, ◌∙◌, ap, subst, arith}
 use Rattle.std.specs.Prelude.{if◌then◌else◌}
 use Rattle.std.specs.Option.{option_map}
 use Rattle.std.proofs.lemmas.List.{length-take}
 use Rattle.group_keys.specs.declared.key_set.KeySet.{KeySet}
 use Rattle.group_keys.specs.declared.ring.Ring.{Ring}
 use Rattle.group_keys.specs.Faults.{IsAccepted}
-use Rattle.group_keys.specs.KeySets.{current, with_token}
+use Rattle.group_keys.specs.KeySets.{current}
 use Rattle.group_keys.specs.Ring.{is_long, key_sets}
-use Rattle.key_service.specs.Laws.{HasKeysOf}
+use Rattle.key_service.specs.declared.service.Keys.{Keys}
+use Rattle.key_service.specs.declared.wire_fault.WireFault.{WireFault}
+use Rattle.key_service.specs.Laws.{HasKeysOf, IsServedRing}
 use Rattle.key_service.specs.Answers.{answer}
-use Rattle.key_service.specs.Pulled.{pulled_sets}
-use Rattle.key_service.proofs.Served.{covered_moments}
-use Rattle.key_laws.specs.Pulled.{pulled_keys, made_pass, HasSendersKeys, IsCoveredSender, PassesMade, RestoresMade, StaysPublisher}
+use Rattle.key_service.specs.Pulled.{as_read, pulled_sets}
+use Rattle.key_service.proofs.Served.{covered_moments, pulled_read_back}
+use Rattle.key_laws.specs.Pulled.{pulled_keys, made_pass, moment_after, AreInOrder, HasSendersKeys, IsCoveredSender, IsPublisherAt, IsPullersGuard, IsReadersGuard, OpensMade, PassesMade, RestoresMade, StaysPublisher}
 use Rattle.message_guard.specs.declared.keys.TokenKeys.{TokenKeys}
+use Rattle.message_guard.specs.declared.guard.Guard.{Guard}
 use Rattle.message_guard.specs.declared.mode.Mode.{Mode}
+use Rattle.message_guard.specs.Acceptance.{is_acceptable}
+use Rattle.message_guard.specs.Guards.{Setup, opened_by, setup_of}
 use Rattle.message_guard.specs.Opening.{opened, verdict}
 use Rattle.message_guard.specs.Protection.{keys_in, keys_with, payload_in, signature_of}
-use Rattle.message_guard.specs.Senders.{SenderState, front_value, made_of, turned, turned_by}
+use Rattle.message_guard.specs.Senders.{SenderState, SenderStep, TurnTo, Front, Protect, advanced, after, front_value, made_of, turned, turned_by}
 use Rattle.message_guard.proofs.Restoring.{sent_is_passed, payload_restored}
 use Rattle.message_guard.proofs.Rings.{keys_with-map, set_of, keys_of_moment}
 
@@ -61,11 +66,56 @@ sets_stay s (Some set) = by_token (nat_lt s.keys.token set.token)
     by_token true = refl
     by_token false = refl
 
-pub publisher_goes_on : (ring : Ring) (s : SenderState) → StaysPublisher ring s
-publisher_goes_on ring s earlier now served order is = record {
+turns_on : (ring : Ring) (s : SenderState) (earlier now : ℕ) → IsServedRing ring → earlier ≤ now → IsPublisherAt ring earlier s → IsPublisherAt ring now (turned s now)
+turns_on ring s earlier now served order is = record {
   sets = sets_stay s (current s.sets now) ∙ is.sets;
   keys = subst (λ (sets : List KeySet). option_map keys_in (current sets now) ≡ Some (turned s now).keys) is.sets
       (keys_of_moment (is_long ring) s earlier now
       (subst (IsAccepted (is_long ring)) (sym is.sets) served.accepted) order
       (subst (λ (sets : List KeySet). option_map keys_in (current sets earlier) ≡ Some s.keys) (sym is.sets) is.keys));
 }
+
+goes_on : (ring : Ring) (moment : ℕ) (s : SenderState) (steps : List SenderStep) → IsServedRing ring → AreInOrder moment steps → IsPublisherAt ring moment s
+    → IsPublisherAt ring (moment_after moment steps) (after s steps)
+goes_on ring moment s [] served order is = is
+goes_on ring moment s (TurnTo now ∷ steps) served order is = goes_on ring now (turned s now) steps served order.1 (turns_on ring s moment now served order.0 is)
+goes_on ring moment s (Front mode ∷ steps) served order is = goes_on ring moment (advanced mode s) steps served order (record { sets = is.sets; keys = is.keys })
+goes_on ring moment s (Protect mode datagram payload ∷ steps) served order is =
+    goes_on ring moment (record s { fronted = None }) steps served order (record { sets = is.sets; keys = is.keys })
+
+pub publisher_goes_on : (ring : Ring) (s : SenderState) → StaysPublisher ring s
+publisher_goes_on ring s moment steps = goes_on ring moment s steps
+
+-- ---- a puller's guard
+
+pullers_setup : (ring : Ring) (now count first_block : ℕ) (mode : Mode) (guard : Guard) → IsPullersGuard ring now count mode first_block guard
+    → setup_of guard ≡ record { keys = pulled_keys ring now count; mode = mode; first_block = first_block }
+pullers_setup ring now count first_block mode guard is =
+    let setup = setup_of guard in
+    ap (λ (keys : List TokenKeys). record { keys = keys; mode = setup.mode; first_block = setup.first_block }) (is.over.keys ∙ ap (map keys_in) is.sets)
+    ∙ ap (λ (m : Mode). record { keys = pulled_keys ring now count; mode = m; first_block = setup.first_block }) is.over.mode_is
+    ∙ ap (λ (n : ℕ). record { keys = pulled_keys ring now count; mode = mode; first_block = n }) is.over.first_block_is
+
+pub pullers_guard_opens : (ring : Ring) (now count moment : ℕ) (s : SenderState) (mode : Mode) (guard : Guard) → IsCoveredSender ring now count moment s → OpensMade ring now count mode s guard
+pullers_guard_opens ring now count moment s mode guard is datagram payload accepted said of_ring of_accepted made acceptable says =
+    let same = pullers_setup ring now count s.first_block mode guard of_ring in
+    let sent = made_of mode s datagram payload in
+    let pass = made_pass s datagram payload in (
+      says accepted of_accepted ∙ ap (λ (setup : Setup). verdict setup.mode setup.keys accepted (Some (front_value mode s)) sent payload) same
+          ∙ passed ring now count moment s mode is datagram payload accepted made
+          (subst (λ (setup : Setup). is_acceptable setup.keys accepted s.keys.token s.used ≡ true) same acceptable),
+      ap (λ (setup : Setup). opened_by setup pass payload sent) same ∙ restored ring now count moment s mode is datagram payload made,
+    )
+
+pub readers_guard : (ring : Ring) (now count first_block : ℕ) (mode : Mode) (guard : Guard) → IsServedRing ring → IsReadersGuard ring now count mode first_block guard
+    → IsPullersGuard ring now count mode first_block guard
+readers_guard ring now count first_block mode guard served is =
+    let keys = answer ring now 0 count in
+    let of_answer = pulled_read_back ring now count served in
+    let both : Path (Result Keys WireFault) (Ok is.back) (Ok (as_read keys)) = sym is.read ∙ of_answer.read in
+    let same : is.back ≡ as_read keys = cc in
+    record {
+      pulled = is.pulled;
+      sets = is.sets ∙ ap pulled_sets same ∙ of_answer.sets;
+      over = is.over;
+    }

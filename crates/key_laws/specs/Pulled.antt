@@ -1,20 +1,26 @@
 -- What a guard over a pulled ring has of what the publisher sends.
-use Rattle.std.specs.Prelude.{◌≡◌, ℕ, ◌≤◌, List, ◌++◌, map, take, true, Some, Ok, option_map}
+use Rattle.std.specs.Prelude.{◌≡◌, ℕ, ◌≤◌, ⊤, List, [], ◌∷◌, ◌++◌, map, take, true, Some, Result, Ok, option_map}
 use Rattle.group_keys.specs.declared.ring.Ring.{Ring}
 use Rattle.group_keys.specs.KeySets.{current}
 use Rattle.group_keys.specs.Ring.{key_sets}
 use Rattle.key_service.specs.Answers.{answer}
 use Rattle.key_service.specs.Laws.{IsCovered, IsServedRing}
 use Rattle.key_service.specs.Pulled.{pulled_sets}
+use Rattle.key_service.specs.Reading.{reply_in}
+use Rattle.key_service.specs.Spelling.{reply_bytes}
+use Rattle.key_service.specs.declared.service.Keys.{Keys}
+use Rattle.message_guard.specs.declared.guard.Guard.{Guard}
 use Rattle.message_guard.specs.declared.keys.TokenKeys.{TokenKeys}
 use Rattle.message_guard.specs.declared.mode.Mode.{Mode}
+use Rattle.message_guard.specs.declared.open_fault.OpenFault.{OpenFault}
 use Rattle.message_guard.specs.declared.pass.Pass1.{Pass1}
 use Rattle.message_guard.specs.Acceptance.{Accepted, is_acceptable}
+use Rattle.message_guard.specs.Guards.{IsGuardOf, SaysVerdict, opened_by, setup_of}
 use Rattle.message_guard.specs.Modes.{is_secured}
 use Rattle.message_guard.specs.Opened.{sent_pass}
 use Rattle.message_guard.specs.Opening.{opened, verdict}
 use Rattle.message_guard.specs.Protection.{keys_in, keys_with, payload_in, signature_of}
-use Rattle.message_guard.specs.Senders.{IsSender, MayProtect, SenderState, front_value, made_of, turned}
+use Rattle.message_guard.specs.Senders.{IsSender, MayProtect, SenderState, SenderStep, TurnTo, Front, Protect, after, front_value, made_of}
 
 -- The keys of a guard over the ring that a puller makes of the answer to start 0. `Guard::new` has these of the ring that `pulled` gives.
 abbrev pub pulled_keys : Ring → ℕ → ℕ → List TokenKeys
@@ -32,10 +38,24 @@ pub record IsCoveredSender (ring : Ring) (now count moment : ℕ) (s : SenderSta
   pub covered : IsCovered (key_sets ring) now count moment
   pub publisher : IsPublisherAt ring moment s
 
--- a sender that turns to a later moment is the publisher's at that
+-- the last moment that a sender turned to, in the steps of those who share it
+abbrev pub moment_after : ℕ → List SenderStep → ℕ
+moment_after moment [] = moment
+moment_after moment (TurnTo now ∷ steps) = moment_after now steps
+moment_after moment (Front mode ∷ steps) = moment_after moment steps
+moment_after moment (Protect mode datagram payload ∷ steps) = moment_after moment steps
+
+-- the moments that it turns to don't fall
+abbrev pub AreInOrder : ℕ → List SenderStep → Type 0
+AreInOrder moment [] = ⊤
+AreInOrder moment (TurnTo now ∷ steps) = (moment ≤ now) × AreInOrder now steps
+AreInOrder moment (Front mode ∷ steps) = AreInOrder moment steps
+AreInOrder moment (Protect mode datagram payload ∷ steps) = AreInOrder moment steps
+
+-- the publisher's sender stays the publisher's, at the last moment that it turned to, whatever is sent with it in between
 abbrev pub StaysPublisher : Ring → SenderState → Type 0
-StaysPublisher ring s = (earlier now : ℕ) → IsServedRing ring → earlier ≤ now
-    → IsPublisherAt ring earlier s → IsPublisherAt ring now (turned s now)
+StaysPublisher ring s = (moment : ℕ) (steps : List SenderStep) → IsServedRing ring → AreInOrder moment steps
+    → IsPublisherAt ring moment s → IsPublisherAt ring (moment_after moment steps) (after s steps)
 
 -- the guard has the sender's keys, under their token
 abbrev pub HasSendersKeys : Ring → ℕ → ℕ → SenderState → Type 0
@@ -68,3 +88,35 @@ RestoresMade ring now count mode s = (datagram : List ℕ) (payload : ℕ)
     (made_pass s datagram payload) payload (made_of mode s datagram payload)
     ≡ take payload datagram ++ payload_in datagram payload
     ++ signature_of (made_of mode s datagram payload)
+
+-- a guard of this mode and first block over the ring, as `Guard::new` gives it, whatever it accepted since
+pub record IsGuardOver (ring : Ring) (mode : Mode) (first_block : ℕ) (guard : Guard) : Type 0 where
+  pub keys : (setup_of guard).keys ≡ map keys_in (key_sets ring)
+  pub mode_is : (setup_of guard).mode ≡ mode
+  pub first_block_is : (setup_of guard).first_block ≡ first_block
+
+-- a puller's guard: one over the ring that `pulled` gives of the answer to start 0
+pub record IsPullersGuard (ring : Ring) (now count : ℕ) (mode : Mode) (first_block : ℕ) (guard : Guard) : Type 0 where
+  pub pulled : Ring
+  pub sets : key_sets pulled ≡ pulled_sets (answer ring now 0 count)
+  pub over : IsGuardOver pulled mode first_block guard
+
+-- one over the ring that `pulled` gives of what was read of the answer's bytes
+pub record IsReadersGuard (ring : Ring) (now count : ℕ) (mode : Mode) (first_block : ℕ) (guard : Guard) : Type 0 where
+  pub back : Keys
+  pub read : reply_in (reply_bytes (answer ring now 0 count)) ≡ Ok back
+  pub pulled : Ring
+  pub sets : key_sets pulled ≡ pulled_sets back
+  pub over : IsGuardOver pulled mode first_block guard
+
+-- A puller's guard of the sender's first block, whatever it accepted before, says Ok of what was made wherever the number is
+-- acceptable, and what it decrypts is header and payload as they were, with the signature behind them.
+abbrev pub OpensMade : Ring → ℕ → ℕ → Mode → SenderState → Guard → Type 0
+OpensMade ring now count mode s guard = (datagram : List ℕ) (payload : ℕ) (accepted : Accepted) (said : Result Pass1 OpenFault)
+    → IsPullersGuard ring now count mode s.first_block guard → IsGuardOf accepted guard
+    → IsMade mode s datagram payload
+    → is_acceptable (setup_of guard).keys accepted s.keys.token s.used ≡ true
+    → SaysVerdict guard (Some (front_value mode s)) (made_of mode s datagram payload) payload said
+    → (said ≡ Ok (made_pass s datagram payload))
+    × (opened_by (setup_of guard) (made_pass s datagram payload) payload (made_of mode s datagram payload)
+    ≡ take payload datagram ++ payload_in datagram payload ++ signature_of (made_of mode s datagram payload))

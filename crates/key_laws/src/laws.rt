@@ -1,9 +1,25 @@
 //! What the definitions owe the reader, each law the contract of a function that does nothing.
 ghost use Rattle.std.specs.Prelude.{ℕ};
 ghost use Rattle.group_keys.specs.declared.ring.Ring.{Ring};
-ghost use Rattle.key_laws.specs.Pulled.{HasSendersKeys, IsCoveredSender, PassesMade, RestoresMade, StaysPublisher};
+ghost use Rattle.key_service.specs.Laws.{IsServedRing};
+ghost use Rattle.key_laws.specs.Pulled.{HasSendersKeys, IsCoveredSender, IsPullersGuard, IsReadersGuard, OpensMade, PassesMade, RestoresMade, StaysPublisher};
+ghost use Rattle.message_guard.specs.declared.guard.Guard.{Guard};
 ghost use Rattle.message_guard.specs.declared.mode.Mode.{Mode};
 ghost use Rattle.message_guard.specs.Senders.{SenderState};
+
+/// A puller's guard answers Ok on what the publisher's sender protects at a covered moment, wherever it accepts the number, and
+/// decrypts it to the payload.
+pub fn a_pullers_guard_opens_what_was_sent()
+    ensures { (ring : Ring) (now count moment : ℕ) (s : SenderState) (mode : Mode) (guard : Guard)
+        → IsCoveredSender ring now count moment s → OpensMade ring now count mode s guard }
+{}
+
+/// A guard over what was read of the answer's bytes is a puller's guard.
+pub fn a_readers_guard_is_a_pullers_guard()
+    ensures { (ring : Ring) (now count first_block : ℕ) (mode : Mode) (guard : Guard)
+        → IsServedRing ring → IsReadersGuard ring now count mode first_block guard
+        → IsPullersGuard ring now count mode first_block guard }
+{}
 
 /// What the publisher's sender protects at a covered moment is passed by a guard over the pulled ring that accepts its number, and
 /// one of the sender's first block restores its payload.
@@ -20,7 +36,7 @@ pub fn a_guard_of_a_pulled_ring_has_the_senders_keys()
         → IsCoveredSender ring now count moment s → HasSendersKeys ring now count s }
 {}
 
-/// The publisher's sender, turned to a later moment, is the publisher's sender at that moment.
+/// The publisher's sender, whatever is sent with it while its moments don't fall, is the publisher's sender at the last of these.
 pub fn a_publishers_sender_goes_on()
     ensures { (ring : Ring) (s : SenderState) → StaysPublisher ring s }
 {}

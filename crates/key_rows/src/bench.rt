@@ -1,7 +1,7 @@
 //! The calls by their names, and the service that the lines speak of.
 use crate::answers::{get, pull, reply};
 use crate::rings::ring_of;
-use crate::wire::{read_reply_row, read_request_row, request};
+use crate::wire::{pull_reply, read_reply_row, read_request_row, request};
 use case_lines::{Answer, Line, LineFault, refused, said};
 use dataset_meta::Name32;
 use key_service::Service;
@@ -28,6 +28,7 @@ impl Bench {
             "request" => request(self.alloc, line),
             "read_request" => read_request_row(self.alloc, line),
             "read_reply" => read_reply_row(self.alloc, line),
+            "pull_reply" => pull_reply(self.alloc, line),
             call => self.call(call, line),
         }
     }

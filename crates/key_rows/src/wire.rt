@@ -1,8 +1,8 @@
 //! Rows of requests, and of replies that are read.
 use crate::bench::name_of;
-use crate::shown::{ShownKeys, written};
-use case_lines::{Answer, Line, refused, told};
-use key_service::{read_reply, read_request, write_request};
+use crate::shown::{ShownKeys, ShownSets, written};
+use case_lines::{Answer, Line, refused, said, told};
+use key_service::{Keys, can_be_pulled, pulled, read_reply, read_request, write_request};
 use std::alloc::Global;
 use ua_binary::Pen;
 
@@ -40,4 +40,21 @@ pub fn read_reply_row(alloc: Global, line: &mut Line) -> Answer {
         Ok(keys) => told(alloc, &ShownKeys(&keys)),
         Err(fault) => refused(alloc, &fault),
     }
+}
+
+/// `pull_reply BYTES`: the ring that a puller makes of the reply, or that there is none, or the fault
+pub fn pull_reply(alloc: Global, line: &mut Line) -> Answer {
+    let bytes = line.bytes(alloc)?;
+    match read_reply(&bytes) {
+        Ok(keys) => pulled_ring(alloc, &keys),
+        Err(fault) => refused(alloc, &fault),
+    }
+}
+
+fn pulled_ring(alloc: Global, keys: &Keys) -> Answer {
+    if !can_be_pulled(keys) {
+        return said(alloc, "no ring");
+    }
+    let ring = pulled(keys);
+    told(alloc, &ShownSets(ring.key_sets()))
 }

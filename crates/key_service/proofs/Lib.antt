@@ -6,3 +6,4 @@ pub mod Again
 pub mod Covered
 pub mod Pullable
 pub mod Served
+pub mod Used

@@ -33,7 +33,7 @@ fit_each next lifetime base (set ∷ sets) each =
     same : (base i : ℕ) → base + suc i ≡ base + 1 + i
     same base i = omega arith
 
-moment_later : (next lifetime k : ℕ) → moment_of next lifetime (suc k) ≡ next + k * lifetime
+pub moment_later : (next lifetime k : ℕ) → moment_of next lifetime (suc k) ≡ next + k * lifetime
 moment_later next lifetime k =
     let back : suc k - 1 ≡ k = omega arith in
     ap (λ (b : Bool). if b then 0 else next + (suc k - 1) * lifetime) (not_equal (suc k) 0 (λ e. omega (arith, e)))
@@ -77,7 +77,7 @@ answered_at f sets m c k within below inside =
     ∙ ap f (get_or-take m (drop c sets) k none_set below ∙ get_or-drop c sets k none_set)
     ∙ sym (get_or-map f sets (c + k) none_set 0 inside)
 
-moments_at : (next lifetime : ℕ) (sets : List KeySet) (k : ℕ) → k < length sets → get_or (moments (timed_from next lifetime 0 sets)) k 0 ≡ moment_of next lifetime k
+pub moments_at : (next lifetime : ℕ) (sets : List KeySet) (k : ℕ) → k < length sets → get_or (moments (timed_from next lifetime 0 sets)) k 0 ≡ moment_of next lifetime k
 moments_at next lifetime sets k within =
     let zero_k : 0 + k ≡ k = omega arith in
     get_or-map (λ (s : KeySet). s.from) (timed_from next lifetime 0 sets) k none_set 0 (omega (arith, within, timed_length next lifetime 0 sets))

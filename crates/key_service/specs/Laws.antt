@@ -75,3 +75,9 @@ abbrev pub HasKeysOfMoment : Ring → ℕ → ℕ → Keys → Type 0
 HasKeysOfMoment ring now count keys = (moment : ℕ) (set : KeySet)
     → IsCovered (key_sets ring) now count moment → current (key_sets ring) moment ≡ Some set
     → HasKeysOf (pulled_sets keys) set
+
+-- a puller whose clock stands at 0 when it is answered uses at each covered moment the keys that the publisher's ring uses then
+abbrev pub UsesKeyOfMoment : Ring → ℕ → ℕ → Keys → Type 0
+UsesKeyOfMoment ring now count keys = (moment : ℕ) (set : KeySet)
+    → IsCovered (key_sets ring) now count moment → current (key_sets ring) moment ≡ Some set
+    → (from : ℕ) × (current (pulled_sets keys) (moment - now) ≡ Some (from_moment set from))

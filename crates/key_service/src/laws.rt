@@ -2,19 +2,22 @@
 ghost use Rattle.std.specs.Prelude.{◌≡◌, ℕ, List, Ok};
 ghost use Rattle.group_keys.specs.declared.ring.Ring.{Ring};
 ghost use Rattle.key_service.specs.Answers.{answer};
-ghost use Rattle.key_service.specs.Laws.{HasKeysOfMoment, IsPulledReadBack, IsReply, IsRequest, IsRequestReadBack, IsServedRing};
+ghost use Rattle.key_service.specs.Laws.{HasKeysOfMoment, IsPulledReadBack, IsReply, IsRequest, IsRequestReadBack, IsServedRing, UsesKeyOfMoment};
 ghost use Rattle.key_service.specs.Pulled.{as_read, IsPullable, pulled_sets};
 ghost use Rattle.key_service.specs.Reading.{reply_in};
 ghost use Rattle.key_service.specs.Spelling.{reply_bytes};
 ghost use Rattle.key_service.specs.declared.service.Keys.{Keys};
 
 /// What an answer to start 0 is written as is read as keys that a puller can make a ring of. This ring is that of the answer, and
-/// for each moment that the answer covers it has the keys that the publisher's ring uses then, under their token.
+/// for each moment that the answer covers it has the keys that the publisher's ring uses then, under their token, and uses them at
+/// that moment on a clock that stood at 0 when it was answered.
 pub fn a_written_answer_is_pulled()
     ensures ring { (ring : Ring) (now count : ℕ) → IsServedRing ring
         → IsPulledReadBack (answer ring now 0 count) }
     ensures keys { (ring : Ring) (now count : ℕ) → IsServedRing ring
         → HasKeysOfMoment ring now count (as_read (answer ring now 0 count)) }
+    ensures uses { (ring : Ring) (now count : ℕ) → IsServedRing ring
+        → UsesKeyOfMoment ring now count (as_read (answer ring now 0 count)) }
 {}
 
 /// A written request is read as itself.
@@ -51,4 +54,10 @@ pub fn a_read_answer_is_pulled_as_the_answer()
 pub fn the_keys_of_covered_moments_are_pulled()
     ensures { (ring : Ring) (now count : ℕ) → IsServedRing ring
         → HasKeysOfMoment ring now count (answer ring now 0 count) }
+{}
+
+/// A puller whose clock stands at 0 when it is answered uses at each covered moment the keys that the publisher uses then.
+pub fn a_puller_uses_the_publishers_keys()
+    ensures { (ring : Ring) (now count : ℕ) → IsServedRing ring
+        → UsesKeyOfMoment ring now count (answer ring now 0 count) }
 {}

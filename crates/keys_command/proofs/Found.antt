@@ -13,19 +13,20 @@ use Rattle.uadp_header.specs.declared.header.Header.{Header}
 use Rattle.uadp_header.specs.declared.header.SecurityPart.{SecurityPart}
 use Rattle.uadp_header.specs.Reading.{BeginsWith, IsSecured}
 use Rattle.uadp_header.specs.Spelling.{IsSendersSecurity, IsWritten, header_bytes, header_len}
+use Rattle.message_guard.specs.declared.guard.Guard.{Guard}
 use Rattle.message_guard.specs.declared.keys.TokenKeys.{TokenKeys}
 use Rattle.message_guard.specs.declared.mode.Mode.TheVariants.{Encrypt}
 use Rattle.message_guard.specs.declared.open_fault.OpenFault.{OpenFault}
 use Rattle.message_guard.specs.declared.pass.Pass1.{Pass1}
 use Rattle.message_guard.specs.Acceptance.{is_acceptable}
-use Rattle.message_guard.specs.Guards.{Setup, opened_by, security_told}
+use Rattle.message_guard.specs.Guards.{Setup, opened_by, security_told, setup_of}
 use Rattle.message_guard.specs.Opened.{MayOpen, sent_pass}
 use Rattle.message_guard.specs.Opening.{verdict}
 use Rattle.message_guard.specs.Protection.{keys_in, keys_with, payload_in, signature_of}
 use Rattle.message_guard.specs.Senders.{IsSender, MayProtect, SenderState, advanced, front_value, made_of, sent}
 use Rattle.message_guard.proofs.Carrying.{front_is_senders, one_place, one_security, written_carries}
 use Rattle.message_guard.proofs.Restoring.{payload_restored, sent_is_passed}
-use Rattle.keys_command.specs.Opening.{FindsZeros, IsPlain, IsProtected, Opens, alone, found_by, header_with, is_zeros, payload_by, zeros}
+use Rattle.keys_command.specs.Opening.{CanOpen, FindsZeros, IsPlain, IsProtected, Opens, alone, found_by, header_with, is_zeros, payload_by, zeros}
 
 -- ---- parts of lists
 
@@ -179,11 +180,9 @@ found_zeros s keys header may =
     ∙ ap (λ (xs : List ℕ). Some (slice_range xs (length header) pass.end)) restored
     ∙ ap Some (middle header zeros (signature_of datagram) (length header) pass.end refl refl)
 
-pub opened_is : (setup : Setup) (set : KeySet) (answer : Bool) → setup.mode ≡ Encrypt → setup.first_block ≡ 1 → keys_with setup.keys set.token ≡ Some (keys_in set) → Opens setup set answer
-    → answer ≡ true
-opened_is setup set answer mode first_block known opens =
-    let datagram = opens.0 in
-    let is = opens.1 in
+found_protected : (setup : Setup) (set : KeySet) (datagram : List ℕ) → setup.mode ≡ Encrypt → setup.first_block ≡ 1 → keys_with setup.keys set.token ≡ Some (keys_in set)
+    → (is : IsProtected set datagram) → found_by setup (front_value Encrypt is.sender) datagram (length is.header) ≡ Some zeros
+found_protected setup set datagram mode first_block known is =
     let s = is.sender in
     let has : keys_with setup.keys s.keys.token ≡ Some s.keys = subst (λ (k : TokenKeys). keys_with setup.keys k.token ≡ Some k) (sym is.keys) known in
     let may : MayOpen Encrypt s setup.keys [] =
@@ -191,8 +190,26 @@ opened_is setup set answer mode first_block known opens =
     let of_guard : setup ≡ record { keys = setup.keys; mode = Encrypt; first_block = s.first_block } =
     ap (λ m. record { keys = setup.keys; mode = m; first_block = setup.first_block }) mode
     ∙ ap (λ (n : ℕ). record { keys = setup.keys; mode = Encrypt; first_block = n }) (first_block ∙ sym is.first_block) in
-    let found : found_by setup (front_value Encrypt s) datagram (length is.header) ≡ Some zeros =
     ap (λ (xs : List ℕ). found_by setup (front_value Encrypt s) xs (length is.header)) is.sent
     ∙ ap (λ (g : Setup). found_by g (front_value Encrypt s) (sent Encrypt s is.header zeros) (length is.header)) of_guard
-    ∙ found_zeros s setup.keys is.header may in
-    opens.2 (front_value Encrypt s) (length is.header) is.secured ∙ ap is_zeros found
+    ∙ found_zeros s setup.keys is.header may
+
+-- whichever header is read of it
+pub protected_is_found : (guard : Guard) (set : KeySet) (datagram : List ℕ) → CanOpen guard set → IsProtected set datagram → FindsZeros (setup_of guard) datagram true
+protected_is_found guard set datagram can is security payload read =
+    let setup = setup_of guard in
+    let front = front_value Encrypt is.sender in
+    let found : found_by setup front datagram (length is.header) ≡ Some zeros = found_protected setup set datagram can.mode can.first_block can.known is in
+    let same_place : length is.header ≡ payload = one_place datagram (Some front) (Some security) (length is.header) payload is.secured read in
+    let one_verdict : verdict setup.mode setup.keys [] (Some front) datagram (length is.header) ≡ verdict setup.mode setup.keys [] (Some security) datagram payload =
+    same_verdict setup datagram (Some front) (length is.header) security payload is.secured read in
+    sym (ap is_zeros
+    (ap (payload_by setup datagram payload) (sym one_verdict)
+    ∙ ap (λ (n : ℕ). payload_by setup datagram n (verdict setup.mode setup.keys [] (Some front) datagram (length is.header))) (sym same_place)
+    ∙ found))
+
+pub opened_is : (setup : Setup) (set : KeySet) (answer : Bool) → setup.mode ≡ Encrypt → setup.first_block ≡ 1 → keys_with setup.keys set.token ≡ Some (keys_in set) → Opens setup set answer
+    → answer ≡ true
+opened_is setup set answer mode first_block known opens =
+    let is = opens.1 in
+    opens.2 (front_value Encrypt is.sender) (length is.header) is.secured ∙ ap is_zeros (found_protected setup set opens.0 mode first_block known is)

@@ -14,6 +14,6 @@ mod text;
 mod words;
 
 pub use command::keys;
-pub use laws::a_configuration_has_one_text;
+pub use laws::{a_configuration_has_one_text, what_is_protected_is_found};
 pub use refusal::Refusal;
 pub use words::{Asked, keys_in};

@@ -20,7 +20,7 @@ use session_command::status_of;
 use std::alloc::Global;
 use std::sync::Wait;
 use std::thread::Threads;
-use ua_base::{Gate, Link, Sink};
+use ua_base::{Gate, Link, NoMemory, Sink};
 
 /// Runs `32n` generated writes, of four threads, beside `4n` ticks over the link, with the built-in configuration, and writes the
 /// summary of the session. The gate is called before and after each write and each tick.
@@ -93,5 +93,8 @@ fn work_summary<R: Threads + Wait + Sync, A: Link, G: Gate>(
 {
     let closed = run_script(rt, alloc, config, script, lab, gate)?;
     let ticks = script.ticks() as u64;
-    Ok(load_summary(alloc, config, &closed, n, ticks)?)
+    match load_summary(alloc, config, &closed, n, ticks) {
+        Ok(text) => Ok(text),
+        Err(NoMemory) => Err(PlayEnd::Memory),
+    }
 }

@@ -22,13 +22,13 @@ use Rattle.writer_group.specs.declared.sampled.Sampled.{Sampled}
 use Rattle.writer_group.specs.Turns.{no_sample}
 use Rattle.session_model.specs.Steps.{Plan, Step, Tick, Pump}
 use Rattle.session_model.specs.Sets.{meta_in}
-use Rattle.session_laws.specs.Telling.{TellsHeadline}
+use Rattle.session_laws.specs.Telling.{HasRun, TellsHeadline}
 use Rattle.script_player.specs.Plays.{IsPlayOf, plan_by, row_written}
 use Rattle.script_player.specs.Playing.{IsLineBy, IsPlayed, IsTickedBy, log_after, sample_after, samples_after, with_write}
 use Rattle.script_player.proofs.Headline.{HistoriesHaveRows, headline, starts-taken, starts-with-write}
 use Rattle.script_runner.specs.Legal.{IsLegalLog, fields_in, history_by, row_made}
 use Rattle.script_runner.specs.Running.{AreWithin, IsLineRun, IsRunBy, IsTickedAt, Logs, sample_at, samples_at}
-use Rattle.script_runner.specs.Played.{IsRunInOrder}
+use Rattle.script_runner.specs.Played.{IsRunInOrder, WritesLegally, logs_written}
 use Rattle.script_runner.specs.Runs.{IsRunOf}
 use Rattle.script_runner.proofs.Legal.{ClosedHistoriesAreLegal}
 use Rattle.script_runner.proofs.PlayedLegal.{RowLaws, past-none, played-legal}
@@ -83,18 +83,11 @@ run-so p logs (line ∷ before) steps looks begin (earlier, looked, played, by) 
     let then = begin-before p.full logs line before begin in
     (earlier, run-so p logs before earlier looked then played, line-so p logs before line.act earlier steps looked looks then by)
 
--- ---- the whole of it
+-- ---- the histories
 
-module _ (config : Config) (script : Script) (told : Option LinkState) (closed : Closed) (is : IsScript config script) (play : IsPlayOf config script told closed) (rows : HistoriesHaveRows)
-    (row-laws : RowLaws) (closed-laws : ClosedHistoriesAreLegal) where
-  abbrev p : Plan
-  p = plan_by config script
-
+module _ (config : Config) (script : Script) (is : IsScript config script) (row-laws : RowLaws) (closed-laws : ClosedHistoriesAreLegal) where
   abbrev logs : Logs
-  logs = λ set. log_after (meta_in script.metas set) set (reverse script.lines)
-
-  begin : Begin script.metas logs (reverse script.lines)
-  begin set lt = starts_itself (logs set)
+  logs = logs_written script
 
   legal : (set : ℕ) → set < length config.dataset → IsLegalLog script set (logs set)
   legal set lt = played-legal config script is row-laws set lt closed-laws
@@ -109,22 +102,39 @@ module _ (config : Config) (script : Script) (told : Option LinkState) (closed :
           ap (λ (log : List Entry). row_of (fields_in script set) (history_of (fields_in script set) log) version) none
           ∙ sym (ap (λ (log : List Entry). row_of (fields_in script set) (history_by script set (threads_of log)) version) none)
 
+  rows-same : row_written script ≡ row_made script logs
+  rows-same = λ i set version. row-same set version i
+
+  pub writes-legally : WritesLegally config script
+  writes-legally = record { legal = legal; threads = λ set. refl; rows = rows-same }
+
+-- ---- the whole of it
+
+module _ (config : Config) (script : Script) (told : Option LinkState) (closed : Closed) (is : IsScript config script) (play : IsPlayOf config script told closed) (rows : HistoriesHaveRows)
+    (row-laws : RowLaws) (closed-laws : ClosedHistoriesAreLegal) where
+  abbrev p : Plan
+  p = plan_by config script
+
+  begin : Begin script.metas (logs_written script) (reverse script.lines)
+  begin set lt = starts_itself (logs_written script set)
+
   abbrev is-run : IsRunOf config script told closed
   is-run = record {
-    logs = logs;
+    logs = logs_written script;
     earlier = play.earlier;
     steps = play.steps;
-    legal = legal;
-    ran = run-so p logs (reverse script.lines) play.earlier play.looks begin play.played;
-    ends = ticked-so p logs (reverse script.lines) 0 true play.earlier play.steps begin play.ends;
+    legal = legal config script is row-laws closed-laws;
+    ran = run-so p (logs_written script) (reverse script.lines) play.earlier play.looks begin play.played;
+    ends = ticked-so p (logs_written script) (reverse script.lines) 0 true play.earlier play.steps begin play.ends;
     rise = (headline config script play.earlier play.steps play.looks is play.played play.ends rows).0;
     steps_are = play.steps_are;
     run = play.run;
+    lived = subst (λ (r : ℕ → ℕ → List DataValue). HasRun p play.steps r) (rows-same config script is row-laws closed-laws) play.lived;
     tells = play.tells;
     closed_after = play.closed_after;
     histories = play.histories;
     watches = are-looks p script.lines play.earlier play.looks closed.watches play.played play.watches;
-    headline = subst (λ (r : ℕ → ℕ → List DataValue). TellsHeadline p play.steps r closed) (λ i set version. row-same set version i) play.headline;
+    headline = subst (λ (r : ℕ → ℕ → List DataValue). TellsHeadline p play.steps r closed) (rows-same config script is row-laws closed-laws) play.headline;
   }
 
   pub in-order : IsRunInOrder config script told closed play

@@ -8,6 +8,7 @@ use Rattle.ps_config.specs.declared.parts.Config.{Config}
 use Rattle.ps_report.specs.declared.closed.Closed.{Closed}
 use Rattle.ps_script.specs.declared.script.Script.{Script}
 use Rattle.ps_script.specs.Sound.{IsScript}
+use Rattle.session_laws.specs.Telling.{HasRun}
 use Rattle.session_model.specs.Steps.{Plan, Step, Tick, Pump}
 use Rattle.session_model.specs.Sends.{TellsRun}
 use Rattle.session_model.specs.Closing.{IsClosedAfter}
@@ -71,6 +72,13 @@ module _ (config : Config) (script : Script) (is : IsScript config script) (plan
   pub is-run : HistoriesHaveRows → RunsTellTheHeadline → Ends config script h.steps new dones closed → IsRunOf config script after closed
   is-run rows tells-all e =
       let closed_after : IsClosedAfter p steps closed = f.closed_after p steps stands e.in_order in
+      let lived : HasRun p steps (row_made script logs) = record {
+        plan = plan;
+        steps_are = stands.steps_are;
+        run = stands.run;
+        rise = rise;
+        versions = are-versions config script logs h.steps steps rows is e.legal ran ends;
+      } in
       record {
         logs = logs;
         earlier = h.steps;
@@ -81,17 +89,10 @@ module _ (config : Config) (script : Script) (is : IsScript config script) (plan
         rise = rise;
         steps_are = stands.steps_are;
         run = stands.run;
+        lived = lived;
         tells = led.3 h.tells;
         closed_after = closed_after;
         histories = e.histories;
         watches = e.watches;
-        headline = tells-all p steps (row_made script logs) closed
-            (record {
-              plan = plan;
-              steps_are = stands.steps_are;
-              run = stands.run;
-              rise = rise;
-              versions = are-versions config script logs h.steps steps rows is e.legal ran ends;
-            })
-            closed_after;
+        headline = tells-all p steps (row_made script logs) closed lived closed_after;
       }

@@ -11,7 +11,7 @@ use Rattle.session_model.specs.Sends.{IsRun, TellsRun}
 use Rattle.session_model.specs.Keeping.{AreSteps}
 use Rattle.session_model.specs.Closing.{IsClosedAfter}
 use Rattle.session_laws.specs.Sessions.{SamplesRise}
-use Rattle.session_laws.specs.Telling.{TellsHeadline}
+use Rattle.session_laws.specs.Telling.{HasRun, TellsHeadline}
 use Rattle.script_player.specs.Plays.{plan_by}
 use Rattle.script_runner.specs.Legal.{IsLegalLog, row_made}
 use Rattle.script_runner.specs.Running.{IsRunBy, IsTickedAt, Logs}
@@ -30,6 +30,7 @@ pub record IsRunOf (config : Config) (script : Script) (told : Option LinkState)
   pub rise : SamplesRise (plan_by config script) steps
   pub steps_are : AreSteps (plan_by config script) steps
   pub run : IsRun (plan_by config script) steps
+  pub lived : HasRun (plan_by config script) steps (row_made script logs)
   pub tells : TellsRun (plan_by config script) steps told
   pub closed_after : IsClosedAfter (plan_by config script) steps closed
   pub histories : map (λ history. history.threads) closed.histories ≡ map (λ set. authors (logs set)) (range_with_len 0 (length config.dataset))

@@ -7,5 +7,5 @@ mod laws;
 mod lists;
 mod run;
 
-pub use laws::a_played_script_is_a_run;
+pub use laws::{a_played_script_is_a_run, a_played_script_writes_legal_histories};
 pub use run::run_script;

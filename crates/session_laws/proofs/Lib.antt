@@ -27,3 +27,11 @@ mod Newest
 mod Reaching
 mod LastItems
 mod ClosingHeld
+mod SameLines
+mod Anew
+mod Coming
+mod GotParts
+mod ClosingGot
+mod Delivering
+mod ThreeGroups
+mod Growing

@@ -64,7 +64,8 @@ module _ (laws : TurnLaws) (law : TakesSignedAlone) (most : ℕ) (p : Play) (le 
       (all-on (IsPieceOf (IsOfAnswer (its_meta p) (its_answers p)) (IsChunkOf (its_meta p) (its_answers p) its_bytes) (its_meta p)) enabled (pieces way.seat.part opened.payload) (are opened refl))
       (sent-cut word (its_meta p) (its_answers p) its_bytes (is_raised (its_setting p) pairs opened) NewToken list h)
 
-  events-sent : (events : List Event) → CameAsMade (its_setting p) p.config p.pasts events → AreSent word (its_meta p) (its_answers p) its_bytes (marks (its_setting p) way events)
+  -- whatever befell it so far
+  pub events-sent : (events : List Event) → CameAsMade (its_setting p) p.config p.pasts events → AreSent word (its_meta p) (its_answers p) its_bytes (marks (its_setting p) way events)
   events-sent [] came = record { items = tt; chunks = tt }
   events-sent (Got now on datagram ∷ before) came =
       let setting = its_setting p in

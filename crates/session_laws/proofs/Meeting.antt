@@ -136,7 +136,7 @@ lossy-journal =
 -- ---- what is got was sent
 
 -- each datagram that is got was sent before
-abbrev AreSent : List Entry → List Entry → Type 0
+abbrev pub AreSent : List Entry → List Entry → Type 0
 AreSent so_far [] = Unit {0}
 AreSent so_far (Sent d ∷ list) = AreSent (so_far ++ Sent d ∷ []) list
 AreSent so_far (SendFailed ∷ list) = AreSent (so_far ++ SendFailed ∷ []) list
@@ -161,7 +161,7 @@ here-sent so_far Empty list d are same = absurd (cc)
 here-sent so_far (Long len) list d are same = absurd (cc)
 here-sent so_far ReceiveFailed list d are same = absurd (cc)
 
-all-sent : (list so_far before after : List Entry) (d : List ℕ) → AreSent so_far list → list ≡ before ++ Got d ∷ after → Contains (so_far ++ before) (Sent d)
+pub all-sent : (list so_far before after : List Entry) (d : List ℕ) → AreSent so_far list → list ≡ before ++ Got d ∷ after → Contains (so_far ++ before) (Sent d)
 all-sent [] so_far [] after d are same = absurd (cc)
 all-sent [] so_far (b ∷ before) after d are same = absurd (cc)
 all-sent (e ∷ list) so_far [] after d are same =

@@ -73,7 +73,7 @@ pub record TurnLaws : Type 0 where
 
 -- ---- a frame of an answer
 
-own-major : (versions : Bool) (meta major : ℕ) → meta ≡ major → option_map_or (λ (m : ℕ). not (m == meta)) (version_if versions major) false ≡ false
+pub own-major : (versions : Bool) (meta major : ℕ) → meta ≡ major → option_map_or (λ (m : ℕ). not (m == meta)) (version_if versions major) false ≡ false
 own-major true meta major same = ap not (eq-eqb major meta (sym same))
 own-major false meta major same = refl
 

@@ -52,7 +52,7 @@ pub record Laws : Type 0 where
   pub ring : RingLaw
   pub hold : HoldLaw
 
-abbrev play_of : Plan → ℕ → ℕ → ℕ → ℕ → List Step → Play
+abbrev pub play_of : Plan → ℕ → ℕ → ℕ → ℕ → List Step → Play
 play_of p r i g w steps = record {
   config = p.config;
   index = g;

@@ -121,12 +121,17 @@ bare-item : (meta : MetaData) (answered : List Answered) (f : PlacedFrame) (o : 
 bare-item meta answered f None is e = tt
 bare-item meta answered f (Some frame) is e = λ now s. record { frame = f; answer = is; bare = e }
 
+-- by numbers such a frame is the answer's
+pub frame-gives : (way : Way) (answered : List Answered) (first next : ℕ) (frame : Frame) → way.seat.part.numbering ≡ words.Message → Source way answered first next → (is : IsOfAnswer way.seat.meta answered frame)
+    → frame_of way (place_from first) frame ≡ Some (placed_cut way.seat.meta is.placed)
+frame-gives way answered first next frame by source is =
+    by-number way (place_from first) frame (carried is.placed) (content_of (placed_cut way.seat.meta is.placed)) true (ap is_numbered by) is.own is.number is.content
+    ∙ ap (λ (f : PlacedFrame). Some f) (framed-back first next way.seat.meta is.placed source.few (source.spans is.placed is.answer))
+
 item-is : (word : NumberingWord) (way : Way) (answered : List Answered) (first next : ℕ) (frame : Frame) → way.seat.part.numbering ≡ word → Source way answered first next → IsOfAnswer way.seat.meta answered frame
     → IsItem word way.seat.meta answered (frame_of way (place_from first) frame)
 item-is words.Message way answered first next frame by source is =
-    let back = framed-back first next way.seat.meta is.placed source.few (source.spans is.placed is.answer) in
-    let e = by-number way (place_from first) frame (carried is.placed) (content_of (placed_cut way.seat.meta is.placed)) true (ap is_numbered by) is.own is.number is.content ∙ ap (λ (f : PlacedFrame). Some f) back in
-    subst (IsItem words.Message way.seat.meta answered) (sym e) (λ now s. record { frame = is.placed; answer = is.answer; cut = refl })
+    subst (IsItem words.Message way.seat.meta answered) (sym (frame-gives way answered first next frame by source is)) (λ now s. record { frame = is.placed; answer = is.answer; cut = refl })
 item-is words.None way answered first next frame by source is =
     let cut = placed_cut way.seat.meta is.placed in
     let e = by-number way (place_from first) frame (carried is.placed) (content_of cut) false (ap is_numbered by) is.own is.number is.content ∙ unnumbered-is cut in
@@ -151,7 +156,7 @@ loud-back first next (Change place patch) le loud h = place_from-number first pl
 loud-back first next (Alive n) le loud h = absurd (cc)
 
 -- a chunk that is laid with the place of its number
-chunk-laid : (way : Way) (answered : List Answered) (bytes : ℕ → List ℕ) (first next : ℕ) (chunk : Chunk) → Source way answered first next → IsChunkOf way.seat.meta answered bytes chunk
+pub chunk-laid : (way : Way) (answered : List Answered) (bytes : ℕ → List ℕ) (first next : ℕ) (chunk : Chunk) → Source way answered first next → IsChunkOf way.seat.meta answered bytes chunk
     → IsLaidOf way.seat.meta answered bytes (placed (place_from first) chunk)
 chunk-laid way answered bytes first next chunk source is =
     let place : place_from first chunk.place ≡ place_of is.placed = ap (place_from first) is.number ∙ loud-back first next is.placed source.few is.loud (source.spans is.placed is.answer) in
@@ -171,7 +176,7 @@ whole-cover true false c e = absurd (cc)
 whole-cover false b c e = absurd (cc)
 
 -- a message that is whole is the answer's
-whole-is : (meta : MetaData) (answered : List Answered) (bytes : ℕ → List ℕ) (c : Chunk) (chunks : List Chunk) → IsLaidOf meta answered bytes c → All (IsLaidOf meta answered bytes) chunks
+pub whole-is : (meta : MetaData) (answered : List Answered) (bytes : ℕ → List ℕ) (c : Chunk) (chunks : List Chunk) → IsLaidOf meta answered bytes c → All (IsLaidOf meta answered bytes) chunks
     → is_whole_at chunks c ≡ true → message_of (c ∷ chunks) c.place c.total ≡ bytes c.place
 whole-is meta answered bytes c chunks is all whole =
     let message = bytes c.place in

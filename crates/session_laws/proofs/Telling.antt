@@ -37,7 +37,7 @@ use Rattle.session_model.specs.Closing.{IsClosedAfter, IsReaderEnd, IsWriterEnd,
 use Rattle.session_model.specs.Sends.{journal}
 use Rattle.session_laws.specs.Reading.{IsMatchedIn, ReadsByRecords, arrivals_at, first_number_of}
 use Rattle.session_laws.specs.Headline.{InSession, IsPublished, PublishesVersion, answered_turn, meta_of}
-use Rattle.session_laws.specs.Printed.{EndsReader, EndsWriter, TellsVersion, TellsPublished, TellsReader, TellsWriter, row_by, why_by, breaks_by}
+use Rattle.session_laws.specs.Printed.{EndsReader, EndsWriter, TellsVersion, TellsPublished, TellsReader, TellsWriter, row_by, number_by, why_by, breaks_by}
 use Rattle.session_laws.specs.Sessions.{AreVersions, IsHonestFor, SamplesRise}
 use Rattle.session_laws.specs.Pasts.{settings_at}
 use Rattle.session_laws.specs.Telling.{HasRun, IsReaderTold, IsWriterTold, TellsHeadline}
@@ -53,7 +53,7 @@ pub record HeadlineLaws : Type 0 where
 
 -- ---- ends
 
-writer-index : (config : Config) (g w : ℕ) → w < length (group_at config g).writer → g < length config.group
+pub writer-index : (config : Config) (g w : ℕ) → w < length (group_at config g).writer → g < length config.group
 writer-index config g w within = on (cases_lt g (length config.group))
   where
     on : (g < length config.group) ⊎ (length config.group ≤ g) → g < length config.group
@@ -106,6 +106,10 @@ min-zero n = omega arith
 row-kept : (numbering : NumberingWord) (arrivals : List Arrival) (kept : Kept) → KeepsBy (numbering_of numbering) arrivals kept → kept.row ≡ row_by numbering arrivals
 row-kept words.Message arrivals kept keeps = keeps.over.row
 row-kept words.None arrivals kept keeps = keeps.row
+
+number-kept : (numbering : NumberingWord) (arrivals : List Arrival) (kept : Kept) → KeepsBy (numbering_of numbering) arrivals kept → kept.number ≡ number_by numbering arrivals
+number-kept words.Message arrivals kept keeps = keeps.over.number
+number-kept words.None arrivals kept keeps = keeps.number
 
 why-kept : (numbering : NumberingWord) (arrivals : List Arrival) (kept : Kept) → KeepsBy (numbering_of numbering) arrivals kept → kept.row ≡ None → kept.why ≡ why_by numbering arrivals
 why-kept words.Message arrivals kept keeps none = keeps.over.why (none-of (λ (h : Held). h.row) (held_in (records (since_cut arrivals))) (sym keeps.over.row ∙ none))
@@ -177,6 +181,7 @@ reader-tells laws p r i g w steps rows closed reader writer is versions after en
     let values : HeldEnd → List DataValue = λ held. row_in (meta_of p r i).fields held.row.words in
     record {
       held = shows.row ∙ row-kept numbering arrivals member.kept keeps;
+      number = λ held e. if-some (λ held. held.number ≡ member.kept.number) reader.held held e shows.number ∙ number-kept numbering arrivals member.kept keeps;
       holds = λ held e.
           let tells = if-some (λ held. TellsHeld p.config closed.writers (read_group_at p.config r) (part_at (read_group_at p.config r) i) held) reader.held held e (reader-told p r i steps closed reader after ends) in
           let number = if-some (λ held. held.number ≡ member.kept.number) reader.held held e shows.number in

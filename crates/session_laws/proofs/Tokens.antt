@@ -37,7 +37,7 @@ self : (n : ℕ) → (n == n) ≡ true
 self n = grind (arith, nat_tests)
 
 -- a refresh keeps it
-fresh-where : (test : ℕ → Bool) (w : ℕ) (past : List GroupDeed) (writers : List ℕ) → is_refreshed w past ≡ true → is_refreshed w (refreshed_where test past writers) ≡ true
+pub fresh-where : (test : ℕ → Bool) (w : ℕ) (past : List GroupDeed) (writers : List ℕ) → is_refreshed w past ≡ true → is_refreshed w (refreshed_where test past writers) ≡ true
 fresh-where test w past writers e = refreshed-keeps (λ past. is_refreshed w past ≡ true) (λ writer past h. or-true (writer == w) (is_refreshed w past) h) test past writers e
 
 -- one of its own makes it
@@ -105,6 +105,12 @@ fresh-to p before now closing samples g w (suc k) le h =
 fresh-use : (config : Config) (g w : ℕ) (deeds : List Deed) → IsFreshAt config g w deeds → is_refreshed w (group_past config g deeds) ≡ true
 unfolding IsFreshAt
 fresh-use config g w deeds h = h
+
+-- once the senders came to a moment that changes the token of the group's key group
+pub rekey-fresh : (config : Config) (now : ℕ) (before : List Deed) (g w : ℕ) → is_rekeyed config now before g ≡ true → g < length config.group → w < length (group_at config g).writer
+    → is_refreshed w (group_past config g (rekeyed config now before)) ≡ true
+rekey-fresh config now before g w e there within =
+    fresh-use config g w (rekeyed config now before) (rekey-made config now before g w (group_indexes config) (CameTo now ∷ before) e within (writer-in (length config.group) g there))
 
 -- at a tick that changes the token of the group's key group
 pub new-token : FreshLaw → (p : Plan) (before : List Step) (now : ℕ) (closing : Bool) (samples : List Sampled) (g w : ℕ) (turn : WriterTurn) → g < length p.config.group → w < length (group_at p.config g).writer

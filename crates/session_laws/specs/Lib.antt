@@ -10,3 +10,4 @@ pub mod Fresh
 pub mod Twins
 pub mod Courses
 pub mod Newest
+pub mod Delivered

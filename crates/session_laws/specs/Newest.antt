@@ -1,20 +1,26 @@
 -- A reader that holds the newest version: the last datagram that comes brings it the key frame of the last place in its writer's log.
-use Rattle.std.specs.Prelude.{◌≡◌, ℕ, List, [], ◌∷◌, ◌++◌, Contains, true, Option, Some, option_map}
+use Rattle.std.specs.Prelude.{◌≡◌, ◌≢◌, ◌⊎◌, ℕ, List, [], ◌∷◌, ◌++◌, map, Contains, true, false, Option, Some, option_map, Ok}
 use Rattle.seq_number.specs.Numbers.{number_of_place}
 use Rattle.dataset_meta.specs.DataValues.{DataValue}
 use Rattle.dataset_meta.specs.Rows.{row_cut}
 use Rattle.ua_base.specs.Journal.{Entry, Got, received_list}
 use Rattle.config_tables.specs.declared.words.NumberingWord.TheVariants as words
 use Rattle.reader_group.specs.Complete.{BringsWhole}
+use Rattle.message_guard.specs.Modes.{is_secured}
+use Rattle.pubsub_states.specs.declared.component.Component.TheVariants.{Reader}
 use Rattle.reader_group.specs.Members.{seat_at}
+use Rattle.reader_group.specs.Opening.{Opened, verdict}
+use Rattle.reader_group.specs.Payloads.{pieces}
+use Rattle.reader_group.specs.Plain.{Setting}
 use Rattle.reader_group.specs.Settings.{setting_of}
 use Rattle.writer_group.specs.Parts.{group_at}
 use Rattle.writer_group.specs.Payloads.{writer_at}
 use Rattle.pubsub_model.specs.Cadence.{HadTurn, WriterDeed, WriterTurn, cadence, next_place}
 use Rattle.pubsub_model.specs.Records.{Item, place_in, since_cut}
-use Rattle.session_model.specs.Deeds.{log_at, writer_deeds}
+use Rattle.session_model.specs.Deeds.{deeds, group_past, log_at, writer_deeds}
 use Rattle.session_model.specs.Events.{plain_at, reader_at, readers_on, receives}
-use Rattle.session_model.specs.Steps.{Plan, Step, Pump}
+use Rattle.session_model.specs.Steps.{Plan, Step, Pump, is_on}
+use Rattle.writer_group.specs.Turns.{GroupDeed, GroupTurn, HadGroupTurn, took_by}
 use Rattle.session_laws.specs.Headline.{meta_of}
 use Rattle.session_laws.specs.Pasts.{settings_at}
 use Rattle.session_laws.specs.Reading.{arrivals_at, first_number_of}
@@ -55,6 +61,32 @@ pub record ClosingCame (p : Plan) (r i g w : ℕ) (steps : List Step) (before : 
   pub last : writer_deeds p g w steps ≡ HadTurn turn ∷ before
   pub closing : turn.closing ≡ true
   pub came : let s = settings_at (group_at p.config g) w in HasCome p r i g w steps (next_place s (cadence s before))
+
+-- a read group that accepted nothing yet opens the datagram, and has a part of it for its reader
+pub record HasPartFor (setting : Setting) (i : ℕ) (datagram : List ℕ) : Type 0 where
+  pub opened : Opened
+  pub opens : verdict setting.group setting.setup [] datagram ≡ Ok opened
+  pub part : pieces (seat_at setting.seats i).part opened.payload ≢ []
+
+-- the datagram came in one of these pumps
+abbrev pub CameIn : List (List Entry) → List ℕ → Type 0
+CameIn [] datagram = ⊥
+CameIn (entries ∷ before) datagram = Contains entries (Got datagram) ⊎ CameIn before datagram
+
+-- The writer had a closing turn in the last one of its group, and each datagram of that with a part for the reader came in the pumps that the steps end with: to a
+-- read group that isn't secured and is Operational, whose reader is enabled and goes by numbers.
+pub record ClosingGot (p : Plan) (r i g w : ℕ) (steps : List Step) (before : List GroupDeed) (turn : GroupTurn) (own : WriterTurn) : Type 0 where
+  pub numbered : (seat_at (setting_of p.config r).seats i).part.numbering ≡ words.Message
+  pub unsecured : is_secured (setting_of p.config r).setup.mode ≡ false
+  pub last : group_past p.config g (deeds p steps) ≡ HadGroupTurn turn ∷ before
+  pub took : took_by w turn ≡ Some own
+  pub closing : own.closing ≡ true
+  pub earlier : List Step
+  pub pumps : List (List Entry)
+  pub split : steps ≡ map Pump pumps ++ earlier
+  pub operational : receives p.config earlier r ≡ true
+  pub enabled : is_on p.config earlier (Reader r i) ≡ true
+  pub came : (datagram : List ℕ) → Contains turn.made datagram → HasPartFor (setting_of p.config r) i datagram → CameIn pumps datagram
 
 -- the reader holds the row of the version, cut to its fields
 abbrev pub HoldsRowOf : Plan → ℕ → ℕ → ℕ → ℕ → List Step → (ℕ → ℕ → List DataValue) → ℕ → Type 0

@@ -1,6 +1,7 @@
 -- What a closed session tells of a matched reader: the published version that it holds, or why it waits.
 use Rattle.std.specs.Prelude.{◌≡◌, ℕ, ◌-◌, ◌^◌, ◌%◌, min, List, [], length, reverse, take, Contains, Option, Some, None, option_map, slice_get}
 use Rattle.std.specs.List.Sorted.{IsNonDecreasingBy}
+use Rattle.seq_number.specs.Numbers.{number_of_place}
 use Rattle.dataset_meta.specs.DataValues.{DataValue}
 use Rattle.dataset_meta.specs.Rows.{row_cut}
 use Rattle.row_words.specs.Belonging.{row_in}
@@ -42,6 +43,11 @@ abbrev pub row_by : NumberingWord → List Arrival → Option (List DataValue)
 row_by words.Message arrivals = option_map (λ h. h.row) (held arrivals)
 row_by words.None arrivals = unnumbered_row arrivals
 
+-- the number of the record that is held
+abbrev pub number_by : NumberingWord → List Arrival → Option ℕ
+number_by words.Message arrivals = option_map (λ h. number_of_place h.place) (held arrivals)
+number_by words.None arrivals = None
+
 abbrev pub why_by : NumberingWord → List Arrival → Why
 why_by words.Message arrivals = why arrivals
 why_by words.None arrivals = cut_reason arrivals
@@ -66,11 +72,14 @@ pub record TellsPublished (p : Plan) (r i g w : ℕ) (rows : ℕ → ℕ → Lis
   pub tells : TellsVersion (seat_at (setting_of p.config r).seats i).part.numbering told place version
   pub row : row_in (meta_of p r i).fields told.row.words ≡ row_cut (meta_of p r i) (rows (writer_at (group_at p.config g) w).dataset version)
 
--- what the reader holds by *Records*, and nothing else, is told; it is of a published version; else its reason is told, and always its breaks, the last eight in order
+-- What the reader holds by *Records*, and nothing else, is told, with the number of the record that is held; it is of a published version; else its reason is told,
+-- and always its breaks, the last eight in order.
 pub record TellsReader (p : Plan) (r i g w : ℕ) (steps : List Step) (rows : ℕ → ℕ → List DataValue) (log : List (ℕ × ℕ)) (end : ReaderEnd) : Type 0 where
   pub held : let numbering = (seat_at (setting_of p.config r).seats i).part.numbering in
       option_map (λ told. row_in (meta_of p r i).fields told.row.words) end.held
       ≡ row_by numbering (arrivals_at p.config r i (first_number_of p.config g w) steps)
+  pub number : let numbering = (seat_at (setting_of p.config r).seats i).part.numbering in
+      (told : HeldEnd) → end.held ≡ Some told → told.number ≡ number_by numbering (arrivals_at p.config r i (first_number_of p.config g w) steps)
   pub holds : (told : HeldEnd) → end.held ≡ Some told → TellsPublished p r i g w rows log told
   pub waits : let numbering = (seat_at (setting_of p.config r).seats i).part.numbering in
       end.held ≡ None → end.why ≡ why_by numbering (arrivals_at p.config r i (first_number_of p.config g w) steps)

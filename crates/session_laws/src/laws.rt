@@ -1,5 +1,5 @@
 //! Laws of sessions, each the contract of a function that does nothing.
-ghost use Rattle.std.specs.Prelude.{◌≡◌, ◌<◌, ◌≤◌, ◌+◌, ℕ, Bool, true, List, ◌∷◌, ◌++◌, length, Some, AllPairs, filter, is_ok};
+ghost use Rattle.std.specs.Prelude.{◌≡◌, ◌<◌, ◌≤◌, ◌+◌, ℕ, Bool, true, List, ◌∷◌, ◌++◌, length, Some, AllPairs, filter, is_ok, map};
 ghost use Rattle.std.specs.List.Sorted.{IsNonDecreasingBy};
 ghost use Rattle.dataset_meta.specs.DataValues.{DataValue};
 ghost use Rattle.ua_base.specs.Journal.{Entry};
@@ -7,30 +7,32 @@ ghost use Rattle.message_guard.specs.Senders.{HaveOtherNumbers};
 ghost use Rattle.pubsub_model.specs.Cadence.{WriterDeed, WriterTurn, HadTurn, cadence, is_data, next_place};
 ghost use Rattle.pubsub_model.specs.Frames.{Whole};
 ghost use Rattle.writer_group.specs.declared.sampled.Sampled.{Sampled};
-ghost use Rattle.writer_group.specs.Turns.{answer_of, writer_past};
+ghost use Rattle.writer_group.specs.Turns.{GroupDeed, GroupTurn, answer_of, writer_past};
 ghost use Rattle.writer_group.specs.Payloads.{writer_at};
 ghost use Rattle.pubsub_states.specs.declared.component.Component.{Component};
 ghost use Rattle.reader_group.specs.Agreeing.{MemberIs};
 ghost use Rattle.session_model.specs.Steps.{Plan, Step, Pump};
-ghost use Rattle.session_model.specs.Deeds.{deeds, group_past, is_rekeyed, log_at, writer_deeds};
+ghost use Rattle.ps_report.specs.declared.closed.Closed.{Closed};
+ghost use Rattle.session_model.specs.Closing.{IsClosedAfter, limits, link_end, read_group_end};
+ghost use Rattle.session_model.specs.Deeds.{answered_at, deeds, group_past, is_rekeyed, log_at, writer_deeds};
 ghost use Rattle.writer_group.specs.Parts.{group_at};
 ghost use Rattle.session_model.specs.Answers.{answers_at, taken_by};
 ghost use Rattle.session_model.specs.Events.{reader_at};
 ghost use Rattle.session_model.specs.Counts.{most_ticks, ticks_in};
 ghost use Rattle.session_model.specs.Keeping.{AreSteps, IsPlan};
 ghost use Rattle.session_laws.specs.Reading.{ReadsByRecords, first_number_of};
-ghost use Rattle.session_model.specs.Sends.{IsRun, journal};
+ghost use Rattle.session_model.specs.Sends.{IsRun, journal, sent_by};
 ghost use Rattle.session_model.specs.States.{state_at};
 ghost use Rattle.session_model.specs.Stores.{stores};
 ghost use Rattle.session_model.specs.Turns.{deeds_before};
 ghost use Rattle.session_laws.specs.Courses.{HaveOneCourse};
-ghost use Rattle.session_laws.specs.Fresh.{protected_by};
+ghost use Rattle.session_laws.specs.Fresh.{BeginWithKeys, keyed_turns, protected_by};
 ghost use Rattle.session_laws.specs.Headline.{InSession, ComesFrom, IsPublished, PublishesVersion, answered_turn};
-ghost use Rattle.session_laws.specs.Newest.{BringsLast, ClosingCame, HoldsRowOf, IsLastLogged, IsNewest};
+ghost use Rattle.session_laws.specs.Newest.{BringsLast, ClosingCame, ClosingGot, HoldsRowOf, IsLastLogged, IsNewest};
 ghost use Rattle.session_laws.specs.Pasts.{settings_at};
 ghost use Rattle.session_laws.specs.Plays.{Play, IsPlay, ComesFromWriter, HoldsVersion, its_marks, its_member, its_way};
 ghost use Rattle.session_laws.specs.Sessions.{AreVersions, SamplesRise};
-ghost use Rattle.session_laws.specs.Twins.{TwinStep, AddRefused, AreTwins, firsts, seconds};
+ghost use Rattle.session_laws.specs.Twins.{TwinStep, AddRefused, AreTwins, HaveFurther, firsts, seconds, with_counts_of};
 
 use crate::turning::each_turn_of_a_session_holds;
 use group_laws::{
@@ -131,12 +133,26 @@ pub fn a_key_frame_that_comes_last_is_held()
 
 /// Where the last turn of a writer was a closing one, and its frame came to a matched reader that goes by numbers, since its last
 /// cut, the reader holds the row of the turn's version, cut to its fields: at whatever place of a pump the frame came, however
-/// often, and whatever came before or behind it.
+/// often, and whatever came before or behind it. It came where, without security, each datagram of the turn with a part for the
+/// reader is one that the journal has as received in the pumps behind it, whole or in chunks, in whichever order.
 pub fn a_closing_frame_that_came_is_held()
-    ensures { (p : Plan) (r i g w : ℕ) (steps : List Step) (rows : ℕ → ℕ → List DataValue)
+    ensures received { (p : Plan) (r i g w : ℕ) (steps : List Step) (rows : ℕ → ℕ → List DataValue)
+        (before : List GroupDeed) (turn : GroupTurn) (own : WriterTurn) → InSession p r i g w steps
+        → AreVersions p steps rows → ClosingGot p r i g w steps before turn own
+        → HoldsRowOf p r i g w steps rows own.version }
+    ensures came { (p : Plan) (r i g w : ℕ) (steps : List Step) (rows : ℕ → ℕ → List DataValue)
         (before : List WriterDeed) (turn : WriterTurn) → InSession p r i g w steps → AreVersions p steps rows
         → ClosingCame p r i g w steps before turn → HoldsRowOf p r i g w steps rows turn.version }
 {
+    each_datagram_is_taken_as_it_was_sent();
+    each_part_is_of_what_was_answered();
+    a_datagram_has_nothing_for_readers_of_other_groups();
+    a_matched_reader_reads_its_writer();
+    what_a_secured_group_takes_is_signed();
+    near_readers_have_their_records();
+    cut_rows_have_words();
+    a_ring_makes_senders_of_its_key_group();
+    each_turn_of_a_session_holds();
     answers_have_places_of_their_span();
     matched_readers_hold_published_versions();
 }
@@ -156,9 +172,14 @@ pub fn no_token_and_number_come_twice_in_a_session()
     each_turn_of_a_session_holds();
 }
 
-/// At a tick that changes the token of a group's key group each of its writers answers with a key frame, if it has a turn.
+/// Under each new token a writer's first frame is a key frame: at whichever tick the writer first has a turn under it, which
+/// is one that changes the token of its group's key group or a later one.
 pub fn a_new_token_begins_with_key_frames()
-    ensures { (p : Plan) (before : List Step) (now : ℕ) (closing : Bool) (samples : List Sampled) (g w : ℕ) (turn : WriterTurn)
+    ensures first { (p : Plan) (k g w : ℕ) (steps : List Step) → (group_at p.config g).keygroup ≡ Some k
+        → w < length (group_at p.config g).writer → BeginWithKeys (keyed_turns p.config k g w (deeds p steps)) }
+    ensures turns { (p : Plan) (k g w : ℕ) (steps : List Step)
+        → map (λ turn. turn.answered) (keyed_turns p.config k g w (deeds p steps)) ≡ answered_at p g w steps }
+    ensures at_once { (p : Plan) (before : List Step) (now : ℕ) (closing : Bool) (samples : List Sampled) (g w : ℕ) (turn : WriterTurn)
         → g < length p.config.group → w < length (group_at p.config g).writer
         → is_rekeyed p.config now (deeds p before) g ≡ true
         → let past = group_past p.config g (deeds_before p before now closing samples g) in
@@ -170,8 +191,10 @@ pub fn a_new_token_begins_with_key_frames()
 }
 
 /// Two courses of a session whose pumps differ in datagrams alone that read groups refuse where they stand, as where the second has
-/// further ones: the groups do the same, each reader is the same and has the same stores, each read group takes the same
-/// datagrams with the same answers, and each component has the same state.
+/// further ones: the groups do the same and have as many sends done, each reader is the same and has the same stores, each read
+/// group takes the same datagrams with the same answers, and each component has the same state. So what a closed session tells
+/// of groups, writers and readers is the same; of read groups the counts of causes alone may differ, and of the link, where the
+/// second course has further datagrams alone and no pump ends at its limit, the count of received datagrams.
 pub fn refused_datagrams_leave_no_trace_in_a_session()
     ensures groups { (p : Plan) (twins : List TwinStep) → deeds p (firsts twins) ≡ deeds p (seconds twins) }
     ensures further { (p : Plan) (twins : List TwinStep) → AddRefused p twins → AreTwins p twins }
@@ -185,6 +208,17 @@ pub fn refused_datagrams_leave_no_trace_in_a_session()
         → taken_by (answers_at p.config r (firsts twins)) ≡ taken_by (answers_at p.config r (seconds twins)) }
     ensures states { (p : Plan) (twins : List TwinStep) → AreTwins p twins → (component : Component)
         → state_at p (firsts twins) component ≡ state_at p (seconds twins) component }
+    ensures sends { (p : Plan) (twins : List TwinStep) (g : ℕ)
+        → sent_by p g (firsts twins) ≡ sent_by p g (seconds twins) }
+    ensures lines { (p : Plan) (twins : List TwinStep) (closed : Closed) → AreTwins p twins
+        → IsClosedAfter p (firsts twins) closed
+        → IsClosedAfter p (seconds twins) (with_counts_of p (seconds twins) closed) }
+    ensures causes { (p : Plan) (twins : List TwinStep) (r : ℕ) → AreTwins p twins
+        → let end = read_group_end p (seconds twins) r in
+        end ≡ record (read_group_end p (firsts twins) r) { causes = end.causes } }
+    ensures received { (p : Plan) (twins : List TwinStep) → HaveFurther twins
+        → limits (firsts twins) ≡ 0 → limits (seconds twins) ≡ 0 → let end = link_end p (seconds twins) in
+        end ≡ record (link_end p (firsts twins)) { received = end.received } }
 {
     refused_datagrams_leave_no_trace();
 }

@@ -15,4 +15,7 @@ pub use laws::{
 };
 pub use printed::{a_closed_session_tells_the_headline, closed_sessions_tell_published_versions};
 pub use turning::each_turn_of_a_session_holds;
-pub use witness::small_sessions_meet_the_premises;
+pub use witness::{
+    sessions_of_each_kind_meet_the_premises, small_sessions_meet_the_premises,
+    what_is_sent_can_come,
+};

@@ -8,8 +8,11 @@ use Rattle.check_command.specs.Checks.{CheckEnds}
 use Rattle.play_command.specs.Plays.{PlayEnds}
 use Rattle.run_command.specs.Runs.{RunEnds}
 use Rattle.load_command.specs.Loads.{LoadEnds, Output}
+use Rattle.json_command.specs.Jsons.{JsonEnds}
 use Rattle.keys_command.specs.Ends.{KeysEnds}
-use Rattle.uapubsub.specs.Words.{Shape, Check, Play, Run, Load, Keys}
+use Rattle.relay_command.specs.Ends.{RelayEnds, names_of}
+use Rattle.lanes_command.specs.Runs.{LanesEnds}
+use Rattle.uapubsub.specs.Words.{Shape, Check, Play, Run, Load, Json, Keys, Relay, Lanes}
 
 -- folder and output, and the two links
 pub record World : Type 0 where
@@ -30,25 +33,32 @@ Does (Check config) status old new = CheckEnds status config old.outside new.out
 Does (Play script config) status old new = PlayEnds status script config old.outside new.outside old.lab new.lab
 Does (Run script config) status old new = RunEnds status script config old.outside new.outside old.wire new.wire
 Does (Load n) status old new = LoadEnds status n (output_in old) (output_in new) old.lab new.lab
+Does (Json script config) status old new = JsonEnds status script config old.outside new.outside old.lab new.lab
 Does (Keys config asked) status old new = KeysEnds status config asked old.outside new.outside
+Does (Relay script first second) status old new =
+    RelayEnds status (names_of script first second) old.outside new.outside old.lab new.lab old.wire new.wire
+Does (Lanes script config) status old new = LanesEnds status script config old.outside new.outside old.lab new.lab
 
--- the commands that use the link in memory, and the one that uses the network
+-- the commands that read files
+abbrev pub uses_folder : Shape → Bool
+uses_folder (Load n) = false
+uses_folder _ = true
+
+-- the commands that use the link in memory
 abbrev pub uses_lab : Shape → Bool
 uses_lab (Check config) = false
-uses_lab (Play script config) = true
 uses_lab (Run script config) = false
-uses_lab (Load n) = true
 uses_lab (Keys config asked) = false
+uses_lab _ = true
 
+-- the commands that use the network
 abbrev pub uses_wire : Shape → Bool
-uses_wire (Check config) = false
-uses_wire (Play script config) = false
 uses_wire (Run script config) = true
-uses_wire (Load n) = false
-uses_wire (Keys config asked) = false
+uses_wire (Relay script first second) = true
+uses_wire _ = false
 
--- The number is that of a status that says so, and the text of this status stands on the error output. old, new: what this tells before and behind; before,
--- after: its counts of faults
+-- The number is that of a status that says so, and the text of this status was written on the error output, whole where its count of faults didn't rise. old,
+-- new: what this tells before and behind; before, after: its counts of faults
 pub record EndsAs (Says : Status → Type 0) (number : ℕ) (old new : Option (List ℕ)) (before after : ℕ) : Type 0 where
   pub status : Status
   pub numbered : number ≡ number_of status

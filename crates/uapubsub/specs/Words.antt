@@ -14,13 +14,18 @@ pub data Shape : Type 0 where
   Play : (script : List ℕ) (config : Option (List ℕ)) → Shape
   Run : (script : List ℕ) (config : Option (List ℕ)) → Shape
   Load : (n : ℕ) → Shape
+  Json : (script : List ℕ) (config : Option (List ℕ)) → Shape
   Keys : (config : List ℕ) (asked : Asked) → Shape
+  Relay : (script first second : List ℕ) → Shape
+  Lanes : (script : List ℕ) (config : Option (List ℕ)) → Shape
 
--- `play` or `run` of a script, with the configuration that is named
+-- a command of a script, with the configuration that is named
 abbrev pub script_shape : List ℕ → List ℕ → Option (List ℕ) → Option Shape
 script_shape command script config =
     if bytes_eq command (codes "play") then Some (Play script config)
     else if bytes_eq command (codes "run") then Some (Run script config)
+    else if bytes_eq command (codes "json") then Some (Json script config)
+    else if bytes_eq command (codes "lanes") then Some (Lanes script config)
     else None
 
 -- `load N`, or a command of a script with the built-in configuration
@@ -35,16 +40,24 @@ abbrev pub check_shape : List ℕ → List ℕ → List ℕ → Option Shape
 check_shape command option config =
     if bytes_eq command (codes "check") && (bytes_eq option (codes "--config") && is_file_name config) then Some (Check config) else None
 
--- a command of `SCRIPT --config FILE`
+-- `SCRIPT FILE SECOND`
+abbrev pub relay_shape : List ℕ → List ℕ → List ℕ → Option Shape
+relay_shape script first second = if is_file_name script && (is_file_name first && is_file_name second) then Some (Relay script first second) else None
+
+-- `SCRIPT --config FILE`
 abbrev pub named_shape : List ℕ → List ℕ → List ℕ → List ℕ → Option Shape
 named_shape command script option config =
     if bytes_eq option (codes "--config") && (is_file_name script && is_file_name config) then script_shape command script (Some config) else None
+
+-- a command of three words
+abbrev pub long_shape : List ℕ → List ℕ → List ℕ → List ℕ → Option Shape
+long_shape command script other last = if bytes_eq command (codes "relay") then relay_shape script other last else named_shape command script other last
 
 -- what these words ask for
 abbrev pub shape_of : List (List ℕ) → Option Shape
 shape_of (command ∷ word ∷ []) = short_shape command word
 shape_of (command ∷ option ∷ config ∷ []) = check_shape command option config
-shape_of (command ∷ script ∷ option ∷ config ∷ []) = named_shape command script option config
+shape_of (command ∷ script ∷ other ∷ last ∷ []) = long_shape command script other last
 shape_of words = option_map (λ found. Keys found.0 found.1) (keys_of words)
 
 -- the size of a load is one that may be asked for
@@ -58,4 +71,7 @@ shape_by (commands.Check config) = Check config.now
 shape_by (commands.Play script config) = Play script.now (option_copied config)
 shape_by (commands.Run script config) = Run script.now (option_copied config)
 shape_by (commands.Load n) = Load n
+shape_by (commands.Json script config) = Json script.now (option_copied config)
 shape_by (commands.Keys config asked) = Keys config.now asked
+shape_by (commands.Relay script first second) = Relay script.now first.now second.now
+shape_by (commands.Lanes script config) = Lanes script.now (option_copied config)

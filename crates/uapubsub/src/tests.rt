@@ -8,8 +8,8 @@ use std::sync::Wait;
 use std::test::Fail;
 use std::thread::Threads;
 
-/// The runs. The first line of each has the words; the file `s`, and behind ` | ` the file `c`, in which a slash is a line
-/// feed; the calls that fail, by their numbers from 0; and what the run shows. Below stands what it leaves: the output, the
+/// The runs. The first line of each has the words; the file `s`, and behind ` | ` each the files `c` and `d`, in which a slash is a
+/// line feed; the calls that fail, by their numbers from 0; and what the run shows. Below stands what it leaves: the output, the
 /// status, and the error output in brackets.
 const RUNS: &str = "play s; write 0 demo a=7/tick 100/; none; a report
 history demo 1: 0
@@ -62,7 +62,7 @@ link sent 2 failed 0 received 2 broken 0 long 0 limit 0
 end
 status 0, error output []
 $ play; write 0 demo a=7/tick 100/; none; words without a shape
-status 2, error output [usage: uapubsub check --config FILE | play SCRIPT [--config FILE] | run SCRIPT [--config FILE] | load N | keys FILE GROUP START COUNT MS
+status 2, error output [usage: uapubsub check --config FILE | play SCRIPT [--config FILE] | run SCRIPT [--config FILE] | load N | json SCRIPT [--config FILE] | keys FILE GROUP START COUNT MS | relay SCRIPT FILE SECOND | lanes SCRIPT [--config FILE]
 ]
 $ play s; no file; none; no file
 status 5, error output [cannot read s
@@ -182,13 +182,13 @@ $ play s --config c; write 0 demo a=7/ | [publisher]/id = \"u8:5\"/; read1; the 
 status 5, error output [cannot read s
 ]
 $ play s --configs c; write 0 demo a=7/; none; another option
-status 2, error output [usage: uapubsub check --config FILE | play SCRIPT [--config FILE] | run SCRIPT [--config FILE] | load N | keys FILE GROUP START COUNT MS
+status 2, error output [usage: uapubsub check --config FILE | play SCRIPT [--config FILE] | run SCRIPT [--config FILE] | load N | json SCRIPT [--config FILE] | keys FILE GROUP START COUNT MS | relay SCRIPT FILE SECOND | lanes SCRIPT [--config FILE]
 ]
 $ play s --config -c; write 0 demo a=7/; none; a word that names no file
-status 2, error output [usage: uapubsub check --config FILE | play SCRIPT [--config FILE] | run SCRIPT [--config FILE] | load N | keys FILE GROUP START COUNT MS
+status 2, error output [usage: uapubsub check --config FILE | play SCRIPT [--config FILE] | run SCRIPT [--config FILE] | load N | json SCRIPT [--config FILE] | keys FILE GROUP START COUNT MS | relay SCRIPT FILE SECOND | lanes SCRIPT [--config FILE]
 ]
 $ play s --config; write 0 demo a=7/; none; an option without its word
-status 2, error output [usage: uapubsub check --config FILE | play SCRIPT [--config FILE] | run SCRIPT [--config FILE] | load N | keys FILE GROUP START COUNT MS
+status 2, error output [usage: uapubsub check --config FILE | play SCRIPT [--config FILE] | run SCRIPT [--config FILE] | load N | json SCRIPT [--config FILE] | keys FILE GROUP START COUNT MS | relay SCRIPT FILE SECOND | lanes SCRIPT [--config FILE]
 ]
 $ run s; ; none; a run without a line
 history demo 0:
@@ -214,13 +214,13 @@ reader r1 a=8 b=100008 c=200008 d=300008
 end
 status 0, error output []
 $ load 0; no file; none; no work
-status 2, error output [usage: uapubsub check --config FILE | play SCRIPT [--config FILE] | run SCRIPT [--config FILE] | load N | keys FILE GROUP START COUNT MS
+status 2, error output [usage: uapubsub check --config FILE | play SCRIPT [--config FILE] | run SCRIPT [--config FILE] | load N | json SCRIPT [--config FILE] | keys FILE GROUP START COUNT MS | relay SCRIPT FILE SECOND | lanes SCRIPT [--config FILE]
 ]
 $ load 01; no file; none; a leading zero
-status 2, error output [usage: uapubsub check --config FILE | play SCRIPT [--config FILE] | run SCRIPT [--config FILE] | load N | keys FILE GROUP START COUNT MS
+status 2, error output [usage: uapubsub check --config FILE | play SCRIPT [--config FILE] | run SCRIPT [--config FILE] | load N | json SCRIPT [--config FILE] | keys FILE GROUP START COUNT MS | relay SCRIPT FILE SECOND | lanes SCRIPT [--config FILE]
 ]
 $ load 1025; no file; none; too much work
-status 2, error output [usage: uapubsub check --config FILE | play SCRIPT [--config FILE] | run SCRIPT [--config FILE] | load N | keys FILE GROUP START COUNT MS
+status 2, error output [usage: uapubsub check --config FILE | play SCRIPT [--config FILE] | run SCRIPT [--config FILE] | load N | json SCRIPT [--config FILE] | keys FILE GROUP START COUNT MS | relay SCRIPT FILE SECOND | lanes SCRIPT [--config FILE]
 ]
 $ load 1; no file; open0; work without its link
 status 8, error output [cannot open link
@@ -230,11 +230,62 @@ refused NotFound
 end
 status 0, error output []
 $ keys c k1 0 2 1099511627777; no file | [publisher]/id = \"u8:5\"/; none; too late a moment
-status 2, error output [usage: uapubsub check --config FILE | play SCRIPT [--config FILE] | run SCRIPT [--config FILE] | load N | keys FILE GROUP START COUNT MS
+status 2, error output [usage: uapubsub check --config FILE | play SCRIPT [--config FILE] | run SCRIPT [--config FILE] | load N | json SCRIPT [--config FILE] | keys FILE GROUP START COUNT MS | relay SCRIPT FILE SECOND | lanes SCRIPT [--config FILE]
 ]
 $ keys c k1 0 2 500; no file; none; no configuration to ask
 status 5, error output [cannot read c
 ]
+$ json s; write 0 demo a=7/tick 100/; none; each message in the JSON mapping
+{\"MessageId\":\"0\",\"MessageType\":\"ua-data\",\"Messages\":[{\"DataSetWriterId\":1,\"MessageType\":\"ua-keyframe\",\"Payload\":{\"a\":7,\"b\":0,\"c\":0,\"d\":0},\"SequenceNumber\":0}],\"PublisherId\":\"5\"}
+{\"MessageId\":\"1\",\"MessageType\":\"ua-data\",\"Messages\":[{\"DataSetWriterId\":1,\"MessageType\":\"ua-keyframe\",\"Payload\":{\"a\":7,\"b\":0,\"c\":0,\"d\":0},\"SequenceNumber\":1}],\"PublisherId\":\"5\"}
+jsonreader r1 number 1: a=7 b=0 c=0 d=0
+json lines 2 skipped 0
+end
+status 0, error output []
+$ json s; write 0 demo a=7/tick 100/; out0; messages that are not written
+status 6, error output []
+$ relay s c d; write 0 demo a=7/tick 100/ | [publisher]/id = \"u8:5\"/[[dataset]]/name = \"demo\"/[[dataset.field]]/name = \"a\"/kind = \"UInt32\"/[[dataset.field]]/name = \"b\"/kind = \"UInt32\"/[[dataset.field]]/name = \"c\"/kind = \"UInt32\"/[[dataset.field]]/name = \"d\"/kind = \"UInt32\"/[[group]]/name = \"g1\"/id = 1/interval = 100/[[group.writer]]/name = \"w1\"/id = 1/dataset = \"demo\"/[[readgroup]]/name = \"rg1\"/publisher = \"u8:5\"/group = 1/[[readgroup.reader]]/name = \"r1\"/writer = 1/dataset = \"demo\"/ | [publisher]/id = \"u8:6\"/[[dataset]]/name = \"r1\"/[[dataset.field]]/name = \"a\"/kind = \"UInt32\"/[[dataset.field]]/name = \"b\"/kind = \"UInt32\"/[[dataset.field]]/name = \"c\"/kind = \"UInt32\"/[[dataset.field]]/name = \"d\"/kind = \"UInt32\"/[[group]]/name = \"g2\"/id = 2/interval = 100/[[group.writer]]/name = \"w2\"/id = 2/dataset = \"r1\"/[[readgroup]]/name = \"rg2\"/publisher = \"u8:6\"/group = 2/[[readgroup.reader]]/name = \"r2\"/writer = 2/dataset = \"r1\"/; none; what a reader holds is published again
+history demo 1: 0
+group g1 operational sent 2
+writer w1 operational 2: 0=1 1=1
+readgroup rg1 operational taken 2:
+reader r1 operational number 1 version 1: a=7 b=0 c=0 d=0
+gaps r1 0:
+link sent 2 failed 0 received 2 broken 0 long 0 limit 0
+gateway w2 2: 0=1 1=2
+relayed r2 number 1 store 2 version 1: a=7 b=0 c=0 d=0
+gateway link sent 2 failed 0 received 2
+end
+status 0, error output []
+$ relay s c d; tick 100/ | [publisher]/id = \"u8:5\"/[[dataset]]/name = \"demo\"/[[dataset.field]]/name = \"a\"/kind = \"UInt32\"/[[dataset.field]]/name = \"b\"/kind = \"UInt32\"/[[dataset.field]]/name = \"c\"/kind = \"UInt32\"/[[dataset.field]]/name = \"d\"/kind = \"UInt32\"/[[group]]/name = \"g1\"/id = 1/interval = 100/[[group.writer]]/name = \"w1\"/id = 1/dataset = \"demo\"/[[readgroup]]/name = \"rg1\"/publisher = \"u8:5\"/group = 1/[[readgroup.reader]]/name = \"r1\"/writer = 1/dataset = \"demo\"/ | [publisher]/id = \"u8:6\"/[[dataset]]/name = \"r9\"/[[dataset.field]]/name = \"a\"/kind = \"UInt32\"/[[dataset.field]]/name = \"b\"/kind = \"UInt32\"/[[dataset.field]]/name = \"c\"/kind = \"UInt32\"/[[dataset.field]]/name = \"d\"/kind = \"UInt32\"/[[group]]/name = \"g2\"/id = 2/interval = 100/[[group.writer]]/name = \"w2\"/id = 2/dataset = \"r9\"/[[readgroup]]/name = \"rg2\"/publisher = \"u8:6\"/group = 2/[[readgroup.reader]]/name = \"r2\"/writer = 2/dataset = \"r9\"/; none; a data set without a source
+status 3, error output [config: C26 NoSource dataset[0]
+]
+$ relay s c; tick 100/; none; a second configuration is asked for
+status 2, error output [usage: uapubsub check --config FILE | play SCRIPT [--config FILE] | run SCRIPT [--config FILE] | load N | json SCRIPT [--config FILE] | keys FILE GROUP START COUNT MS | relay SCRIPT FILE SECOND | lanes SCRIPT [--config FILE]
+]
+$ relay s --config d; tick 100/; none; relay has no option
+status 2, error output [usage: uapubsub check --config FILE | play SCRIPT [--config FILE] | run SCRIPT [--config FILE] | load N | json SCRIPT [--config FILE] | keys FILE GROUP START COUNT MS | relay SCRIPT FILE SECOND | lanes SCRIPT [--config FILE]
+]
+$ lanes s; write 0 demo a=7/tick 100/; none; the writer groups on threads
+lane g1 sent 2
+writer w1 2: 0=1 1=1
+lanes sent 2 failed 0
+end
+status 0, error output []
+$ lanes s; disable w1/; none; a line that lanes don't take
+status 4, error output [script: line 1 S13 NotInLanes
+]
+$ run s; write 0 demo a=1/write 0 demo a=2/watch 1 r1 2/; none; a run with writes and a watch
+history demo 2: 0 0
+group g1 operational sent 1
+writer w1 operational 1: 0=2
+readgroup rg1 operational taken 1:
+reader r1 operational number 0 version 2: a=2 b=0 c=0 d=0
+gaps r1 0:
+watch 1 r1: 0 0
+link sent 1 failed 0 received 1 broken 0 long 0 limit 0
+end
+status 0, error output []
 $ check --config s; [publisher]/id = \"u8:5\"/; none; a configuration
 ok
 status 0, error output []
@@ -273,15 +324,14 @@ fn failing<N: From<u8> + Drop>(alloc: Global, fails: &str, call: &str) -> Result
     Ok(numbers)
 }
 
-/// The folder with the files `s` and `c`, where there are such.
+/// The folder with the files `s`, `c` and `d`, where there are such.
 fn folder_with(alloc: Global, files: &str, fails: &str) -> Result<MemoryFolder, Fail> {
-    let (script, config) = match files.split_once(" | ") {
-        Some((script, config)) => (script, config),
-        None => (files, "no file"),
-    };
     let mut there = Vec::new(alloc);
-    add_file(alloc, &mut there, b"s", script)?;
-    add_file(alloc, &mut there, b"c", config)?;
+    let mut texts = files.split(" | ");
+    for name in ["s", "c", "d"] {
+        let text = texts.next().unwrap_or("no file");
+        add_file(alloc, &mut there, name.as_bytes(), text)?;
+    }
     Ok(MemoryFolder::new(there, failing(alloc, fails, "read")?))
 }
 

@@ -5,15 +5,18 @@ ghost use Rattle.command_parts.specs.Statuses.{IsDone, IsUnwritten, number_of, t
 ghost use Rattle.command_parts.specs.Telling.{WritesText};
 ghost use Rattle.session_command.specs.Links.{IsBeforeLink as IsStatusBeforeLink};
 ghost use Rattle.uapubsub.specs.Words.{IsBounded, Shape, Play, Run, shape_by, shape_of};
-ghost use Rattle.uapubsub.specs.Ends.{Does, EndsAs, IsBeforeLink, uses_lab, uses_wire, world_of};
+ghost use Rattle.uapubsub.specs.Ends.{Does, EndsAs, IsBeforeLink, uses_folder, uses_lab, uses_wire, world_of};
 ghost use Rattle.uapubsub.specs.Headline.{WritesPlay, WritesRun};
 
 use crate::words::{Command, command_in};
 use check_command::check;
 use command_parts::{Status, Word, tell};
+use json_command::json;
 use keys_command::keys;
+use lanes_command::lanes;
 use load_command::load;
 use play_command::play;
+use relay_command::relay;
 use run_command::run;
 use std::alloc::Global;
 use std::sync::Wait;
@@ -69,7 +72,8 @@ pub fn top<R: Threads + Wait + Sync, F: Folder, A: Link, B: Link, G: Gate, K: Si
         (E.faults err.old) (E.faults err.new) (text_of Status.BadWords) }
     ensures untouched { result ≡ 2 → folder.new ≡ folder.old }
 
-    // What no command uses, what an answer other than 0 leaves, and what any does.
+    // What a command doesn't use, what an answer other than 0 leaves, and what any does.
+    ensures folder { (shape : Shape) → shape_of words.now ≡ Some shape → uses_folder shape ≡ false → folder.new ≡ folder.old }
     ensures lab { (shape : Shape) → shape_of words.now ≡ Some shape → uses_lab shape ≡ false → lab.new ≡ lab.old }
     ensures wire { (shape : Shape) → shape_of words.now ≡ Some shape → uses_wire shape ≡ false → wire.new ≡ wire.old }
     ensures unlinked { IsBeforeLink result → (lab.new ≡ lab.old) × (wire.new ≡ wire.old) }
@@ -107,6 +111,7 @@ fn act<'w, R: Threads + Wait + Sync, F: Folder, A: Link, B: Link, G: Gate, K: Si
         (wire_of A.told A.faults A.opened_with lab.old) (wire_of B.told B.faults B.opened_with wire.old))
         (world_of (outside_of F.tells F.faults K.written K.faults folder.new out.new)
         (wire_of A.told A.faults A.opened_with lab.new) (wire_of B.told B.faults B.opened_with wire.new)) }
+    ensures folder { uses_folder (shape_by command.now) ≡ false → folder.new ≡ folder.old }
     ensures lab { uses_lab (shape_by command.now) ≡ false → lab.new ≡ lab.old }
     ensures wire { uses_wire (shape_by command.now) ≡ false → wire.new ≡ wire.old }
     ensures unlinked { IsStatusBeforeLink result → (lab.new ≡ lab.old) × (wire.new ≡ wire.old) }
@@ -122,7 +127,16 @@ fn act<'w, R: Threads + Wait + Sync, F: Folder, A: Link, B: Link, G: Gate, K: Si
         Command::Play { script, config } => play(rt, alloc, script, *config, folder, lab, out),
         Command::Run { script, config } => run(rt, alloc, script, *config, folder, wire, gate, out),
         Command::Load { n } => load(rt, alloc, *n, lab, gate, out),
+        Command::Json { script, config } => json(rt, alloc, script, *config, folder, lab, out),
         Command::Keys { config, asked } => keys(alloc, config, asked, folder, out),
+        Command::Relay {
+            script,
+            first,
+            second,
+        } => relay(rt, alloc, script, first, second, folder, lab, wire, out),
+        Command::Lanes { script, config } => {
+            lanes(rt, alloc, script, *config, folder, lab, gate, out)
+        }
     }
 }
 

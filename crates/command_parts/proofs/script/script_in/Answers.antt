@@ -8,5 +8,5 @@ returns-in-Err-Refused-clause-ends g c =
     record {
       bytes = c.in-Ok.bytes.items;
       read = c.in-Ok.ensures.bytes;
-      judged = λ reader. subst (λ (l : List ℕ). script reader c.args.config.now l c.args.plain ≡ Err (c.in-Err-Refused.line, c.in-Err-Refused.fault)) c.deref.ensures.value (refused reader);
+      judged = λ reader. subst (λ (l : List ℕ). script reader c.args.config.now l c.args.fates ≡ Err (c.in-Err-Refused.line, c.in-Err-Refused.fault)) c.deref.ensures.value (refused reader);
     }

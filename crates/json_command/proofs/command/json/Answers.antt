@@ -1,0 +1,17 @@
+use Rattle.std.proofs.Common.{List, ℕ, refl, subst}
+use Rattle.command_parts.specs.Outputs.{EndsWriting}
+use Rattle.session_command.proofs.Ended.{written_late}
+use Rattle.session_command.proofs.Ends.{ends_written}
+use Rattle.json_command.proofs.command.json.Goals as goal
+
+pub returns-in-Ok-written-clause-ends : goal.returns-in-Ok-written-clause-ends
+returns-in-Ok-written-clause-ends g c =
+    let written = subst (λ (text : List ℕ). EndsWriting (g.K.Sink.written c.args.out.now) (g.K.Sink.written c.write_text.new.out) text c.write_text.result) c.deref.ensures.value c.write_text.ensures.written in
+    ends_written _ _ _ _ _ _ _ _ _ _ _ _ c.in-Ok-written.text.items c.in-Ok.ensures.accepts refl c.in-Ok-written.ensures.text c.in-Ok-written.ensures.opened c.in-Ok-written.ensures.faults
+    written c.write_text.ensures.cause (c.in-Ok.ensures.folder.files, c.in-Ok.ensures.folder.counted)
+
+pub returns-in-Ok-written-clause-unlinked : goal.returns-in-Ok-written-clause-unlinked
+returns-in-Ok-written-clause-unlinked g c = λ is. absurd ((written_late _ _ _ _ c.write_text.ensures.written).behind_link is)
+
+pub returns-in-Ok-written-clause-silent : goal.returns-in-Ok-written-clause-silent
+returns-in-Ok-written-clause-silent g c = λ done unwritten. absurd ((written_late _ _ _ _ c.write_text.ensures.written).written done unwritten)

@@ -1,0 +1,5 @@
+pub mod Matching
+pub mod Reading
+pub mod Parts
+pub mod Readers
+pub mod Texts
