@@ -66,7 +66,7 @@ pub record Leads (second : Config) (before : List GatewayStep) (step : GatewaySt
   pub tells : TellsRun (plan_again second) (session_steps (sources_of s) before) told
       → TellsRun (plan_again second) (session_steps (sources_of s) (step ∷ before)) after
 
--- memory ran out at a send of the tick, as of a session's
+-- memory ran out at a send of the tick: of the gateway's session the first datagrams of the tick were sent, each once, in order, and no further one
 abbrev pub HaltsTick : Config → List ℕ → List GatewayStep → ℕ → Bool → Option LinkState → Option LinkState → Type 0
 HaltsTick second sources before ms closing told after =
     parts.HaltsTick (plan_again second) (session_steps sources before) ms closing (samples_after sources before) told after

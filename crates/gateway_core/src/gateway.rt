@@ -58,8 +58,8 @@ pub struct Gateway<'c> {
 }
 
 impl<'c> Gateway<'c> {
-    /// The samples of the next tick are what the passes have seen of the sources' targets, each with
-    /// its count of stores as version. The version of each store is kept, as far as its origin
+    /// The samples of the next tick are what the passes have seen of the sources' targets, each
+    /// with its count of stores as version. The version of each store is kept, as far as its origin
     /// tells it.
     pub fn collect(&mut self, passes: &Passes, origins: &[Origin])
         requires may { MayTake self.old passes.now origins.now }
@@ -74,12 +74,12 @@ impl<'c> Gateway<'c> {
         self.collected.take(passes, origins);
     }
 
-    /// A tick with what was collected last, as a session's in which all components are enabled: time
-    /// goes on by so many milliseconds, an hour at most; each sender turns to the moment, and a new
-    /// token refreshes its groups' writers; timers expire; and each group that is due (at the closing
-    /// tick each one) and whose sender isn't spent has its turn, and its datagrams are sent once
-    /// each, in order. Want of memory comes from a send of the link alone; what was done before it
-    /// stands.
+    /// A tick with what was collected last, as a session's in which all components are enabled:
+    /// time goes on by so many milliseconds, an hour at most; each sender turns to the moment, and
+    /// a new token refreshes its groups' writers; timers expire; and each group that is due (at the
+    /// closing tick each one) and whose sender isn't spent has its turn, and its datagrams are sent
+    /// once each, in order. Want of memory comes from a send of the link alone; what was done
+    /// before it stands.
     pub fn tick<L: Link>(&mut self, ms: u64, closing: bool, link: &mut L) -> Ticked
         requires open { IsSome (L.opened_with link.old) }
         requires may { MayTick ms closing self.old }
@@ -125,9 +125,9 @@ impl<'c> Gateway<'c> {
         self.publisher.tell(self.config, &mut self.tree);
     }
 
-    /// Receives what came, until nothing waits, a receive fails or 65,536 datagrams were taken; each
-    /// goes to each read group in order. The answer is how many were taken, and whether the pump
-    /// ended for that.
+    /// Receives what came, until nothing waits, a receive fails or 65,536 datagrams were taken;
+    /// each goes to each read group in order. The answer is how many were taken, and whether the
+    /// pump ended for that.
     pub fn pump<L: Link>(&mut self, link: &mut L) -> Pumped
         requires open { IsSome (L.opened_with link.old) }
         requires may { MayPump self.old }

@@ -19,9 +19,9 @@ use std::alloc::Global;
 use ua_base::NoMemory;
 
 impl<'c> Gateway<'c> {
-    /// A gateway of the second configuration, each of whose data sets has a source in the first, for
-    /// so many ticks, the closing one included, and for as many collects: all memory is taken here.
-    /// An error says that it ran out.
+    /// A gateway of the second configuration, each of whose data sets has a source in the first,
+    /// for so many ticks, the closing one included, and for as many collects: all memory is taken
+    /// here. An error says that it ran out.
     pub fn open(
         alloc: Global,
         first: &Config,

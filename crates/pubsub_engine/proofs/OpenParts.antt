@@ -1,42 +1,21 @@
 -- A new session: what its parts are when they are made, and that it may be called and stands where no step was.
-use Rattle.std.proofs.Common.{◌≡◌, refl, sym, ap, ◌∙◌, subst, arith, ℕ, zero, suc, ◌+◌, ◌<◌, ◌≤◌, Bool, true, false, List, [], ◌∷◌, length, get_or, map, All}
-use Rattle.std.specs.Prelude.{◌||◌, Option, replicate, vec_len}
-use Rattle.std.specs.List.{HoldsAt}
+use Rattle.std.proofs.Common.{◌≡◌, refl, sym, ap, ◌∙◌, subst, arith, ℕ, zero, suc, ◌+◌, ◌<◌, ◌≤◌, false, List, [], ◌∷◌, length, get_or, map, All}
+use Rattle.std.specs.Prelude.{Option, replicate, vec_len}
 use Rattle.std.proofs.lemmas.List.{get_or-map, length-map}
 use Rattle.std.proofs.lemmas.List.Elements.{length_all_zip}
 use Rattle.dataset_meta.specs.Metas.{MetaData, HasGrown, IsMeta}
 use Rattle.row_words.specs.Belonging.{row_in}
-use Rattle.ps_config.specs.declared.parts.Config.{Config}
 use Rattle.ps_config.specs.Sound.{readers}
-use Rattle.pubsub_states.specs.declared.component.Component.{Component}
-use Rattle.pubsub_states.specs.declared.component.Component.TheVariants.{Root, Connection, Group, Writer, ReadGroup, Reader}
-use Rattle.pubsub_states.specs.declared.flags.Flags.{Flags}
-use Rattle.pubsub_states.specs.Components.{Counts, IsAmong}
-use Rattle.pubsub_states.specs.Changes.{StandsAfter, TreeValue, flags_in}
-use Rattle.reader_group.specs.Members.{MemberValue, Seat, new_member}
-use Rattle.reader_group.specs.Settings.{setting_of}
 use Rattle.version_cell.specs.declared.rule.Entry.{Entry}
 use Rattle.version_cell.specs.Known.{Known, nothing}
 use Rattle.version_cell.specs.Cells.{CellData}
 use Rattle.version_cell.specs.Passes.{new_pass}
 use Rattle.version_cell.specs.Sets.{new_passes, no_cell, pass_at}
-use Rattle.writer_group.specs.Parts.{group_at}
 use Rattle.writer_group.specs.Standing.{IsGood}
 use Rattle.writer_group.specs.declared.sampled.Sampled.{Sampled}
 use Rattle.session_model.specs.Counts.{most_ticks}
 use Rattle.session_model.specs.Sets.{AreRowsOf}
-use Rattle.session_model.specs.States.{flags_at}
-use Rattle.session_model.specs.Deeds.{is_spent}
-use Rattle.session_parts.specs.declared.publisher.Publisher.{Publisher}
-use Rattle.session_parts.specs.declared.receiving.Receiving.{Receiving}
-use Rattle.session_parts.specs.declared.sends.GroupSends.{GroupSends}
-use Rattle.session_parts.specs.declared.subscriber.Subscriber.{Subscriber}
-use Rattle.session_parts.specs.Holding.{HasBuffers, HoldPublisher, HoldSubscriber, MayAllGoOn}
-use Rattle.session_parts.specs.Pumping.{HasNoCounts}
-use Rattle.session_parts.specs.Standing.{AreSendsIn, HasFlags, HavePast, HaveReadAll, HaveSent, HaveTalliedAll, IsOfGroup}
-use Rattle.session_parts.specs.Ticking.{TellsFaults, is_faulty, is_spent_by}
-use Rattle.session_parts.proofs.Few.{keyed}
-use Rattle.session_parts.proofs.Turning.{spent-is}
+use Rattle.session_parts.specs.Holding.{MayAllGoOn}
 use Rattle.pubsub_engine.specs.declared.size.Append.{Append}
 use Rattle.pubsub_engine.specs.declared.sampling.Samples.{Samples}
 use Rattle.pubsub_engine.specs.declared.storing.Last.{Last}
@@ -48,6 +27,7 @@ use Rattle.pubsub_engine.specs.Standing.{Stands, opening_sample, samples_of}
 use Rattle.pubsub_engine.specs.Storing.{meta_at_place}
 use Rattle.pubsub_engine.proofs.OpenSets.{full-metas, grow-full}
 use Rattle.pubsub_engine.proofs.Places.{within-all}
+use Rattle.session_parts.proofs.Fresh.{IsFreshPublisher, IsFreshReceiving, IsFreshSubscriber, IsFreshTree, fresh-flags}
 
 -- ---- the parts
 
@@ -56,35 +36,11 @@ pub record IsFreshSamples (sets : ℕ) (samples : Samples) : Type 0 where
   pub cut : vec_len samples.cut ≡ sets
   pub passes : length samples.passes ≡ sets
 
-pub record IsFreshPublisher (config : Config) (turns : ℕ) (publisher : Publisher) : Type 0 where
-  pub holds : HoldPublisher config publisher
-  pub past : HavePast config config.dataset [] publisher.groups.items
-  pub senders : HaveSent config [] publisher.senders.items
-  pub goes_on : MayAllGoOn config config.dataset turns publisher.groups.items
-  pub sends : (g : ℕ) → g < length config.group → HoldsAt (IsOfGroup 0 false) publisher.sends.items g
-  pub link : AreSendsIn [] publisher.link
-
-pub record IsFreshSubscriber (config : Config) (subscriber : Subscriber) : Type 0 where
-  pub holds : HoldSubscriber config subscriber
-  pub read : HaveReadAll config (λ _. []) subscriber.groups.items
-  pub tallied : HaveTalliedAll config (λ _. []) subscriber.tallies.items
-
-pub record IsFreshReceiving (receiving : Receiving) : Type 0 where
-  pub room : HasBuffers receiving
-  pub counts : HasNoCounts receiving
-
 pub record AreFreshStores (count : ℕ) (stores : Stores) : Type 0 where
   pub lasts : length stores.last.items ≡ count
   pub none : (k : ℕ) → k < count → (d : Last) → (get_or stores.last.items k d).is_there ≡ false
   pub keepers : length stores.keeper ≡ count
   pub unseen : (k : ℕ) → k < count → (pass_at stores.keeper k).seen ≡ []
-
--- the groups' faults were told to a tree where nothing was told before
-pub record IsFreshTree (config : Config) (publisher : Publisher) (tree : TreeValue) : Type 0 where
-  pub before : TreeValue
-  pub opening : StandsAfter config [] before
-  pub told : TellsFaults config publisher before tree
-  pub counts : tree.counts ≡ before.counts
 
 abbrev pub left_by : ℕ → Left
 left_by turns = record { ticks = turns; pumps = 0; stores = turns; is_closed = false }
@@ -165,41 +121,6 @@ fresh-session appends turns s fresh =
     }
 
 -- ---- it stands where no step was
-
-always-new : (seats : List Seat) (i : ℕ) → get_or (map (λ (seat : Seat). new_member) seats) i new_member ≡ new_member
-always-new [] i = refl
-always-new (seat ∷ seats) zero = refl
-always-new (seat ∷ seats) (suc i) = always-new seats i
-
-none-sent : GroupSends
-none-sent = record { done = 0; is_failing = false }
-
-fresh-flags : (full : List MetaData) (config : Config) (turns : ℕ) (publisher : Publisher) (tree : TreeValue) → IsGood config → IsFreshPublisher config turns publisher
-    → IsFreshTree config publisher tree → HasFlags (flags_at (record { config = config; full = full }) []) tree
-fresh-flags full config turns publisher tree good fresh is component among = on component (subst (λ (c : Counts). IsAmong c component) is.counts among)
-  where
-    within : (g : ℕ) → IsAmong is.before.counts (Group g) → g < length config.group
-    within g there =
-        subst (λ (n : ℕ). g < n) (length-map config.group (λ group. length group.writer)) (subst (λ (c : Counts). IsAmong c (Group g)) is.opening.counts there)
-
-    faulty : (g : ℕ) → g < length config.group → is_faulty publisher (group_at config g) g none-sent ≡ is_spent config g []
-    faulty g low =
-        ap (λ (b : Bool). b || is_spent_by publisher.senders.items (group_at config g).keygroup) (fresh.sends g low none-sent).failing_is
-        ∙ spent-is config g [] publisher.senders.items (group_at config g).keygroup refl (λ k at. keyed config good g k low at) fresh.senders
-
-    on : (c : Component) → IsAmong is.before.counts c → flags_in tree c ≡ flags_at (record { config = config; full = full }) [] c
-    on Root there = is.told.others Root there (λ g same. cc) ∙ is.opening.flags Root there
-    on Connection there = is.told.others Connection there (λ g same. cc) ∙ is.opening.flags Connection there
-    on (Group g) there =
-        is.told.groups g (within g there) none-sent
-        ∙ ap (λ (f : Flags). record f { fault = is_faulty publisher (group_at config g) g none-sent }) (is.opening.flags (Group g) there)
-        ∙ ap (λ (b : Bool). record { enabled = true; fault = b; ready = true }) (faulty g (within g there))
-    on (Writer g w) there = is.told.others (Writer g w) there (λ h same. cc) ∙ is.opening.flags (Writer g w) there
-    on (ReadGroup r) there = is.told.others (ReadGroup r) there (λ g same. cc) ∙ is.opening.flags (ReadGroup r) there
-    on (Reader r i) there =
-        is.told.others (Reader r i) there (λ g same. cc)
-        ∙ is.opening.flags (Reader r i) there
-        ∙ ap (λ (m : MemberValue). record { enabled = true; fault = m.late; ready = m.ready }) (sym (always-new (setting_of config r).seats i))
 
 pub fresh-stands : (appends : List Append) (turns : ℕ) (s : Session) → IsFresh appends turns s → Stands (plan_of s) [] s
 fresh-stands appends turns s fresh =

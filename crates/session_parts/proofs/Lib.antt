@@ -30,3 +30,4 @@ pub mod HaltedTick
 pub mod Pumped
 pub mod Ended
 pub mod Begun
+pub mod Fresh

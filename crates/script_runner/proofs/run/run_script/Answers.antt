@@ -16,9 +16,10 @@ use Rattle.script_player.specs.Plays.{plan_by}
 use Rattle.script_player.proofs.Newly.{opened-empty}
 use Rattle.script_runner.specs.Conducting.{HasConducted}
 use Rattle.script_runner.proofs.Beginning.{begins, may-close}
-use Rattle.script_runner.proofs.Completed.{closed-is, run-is}
+use Rattle.script_runner.proofs.Completed.{Completes, completes, opened-by}
 use Rattle.script_runner.proofs.Handing.{lists-short}
 use Rattle.script_runner.proofs.Opened.{IsOpened, are-cells, are-duties, are-own}
+use Rattle.script_runner.proofs.run.run_script.Given.{Over}
 use Rattle.script_runner.proofs.run.run_script.Goals as goal
 
 pub open-requires-clause-sets : goal.open-requires-clause-sets
@@ -36,17 +37,8 @@ new-requires-clause-short g c =
     let o = c.in_ok-session.field-0 in
     let lists = c.in_ok-lists.lists.items in
     let all = c.in_ok-lists.ensures in
-    let opened : IsOpened config script o.session o.bank o.targets o.hands.items o.watches lists = record {
-      plan = e.plan ∙ ap (λ (full : List MetaData). record { config = config; full = full }) size.full;
-      bank_is = e.bank;
-      cells = e.cells;
-      quotas = e.quotas ∙ size.writes;
-      targets_are = e.targets;
-      hands_are = e.hands;
-      own = e.looks;
-      eight = all.eight;
-      lists_are = all.lists;
-    } in
+    let opened : IsOpened config script o.session o.bank o.targets o.hands.items o.watches lists =
+    opened-by config script o.session o.bank o.targets o.hands.items o.watches lists e.plan size.full e.bank e.cells e.quotas size.writes e.targets e.hands e.looks all.eight all.lists in
     lists-short config script c.requires.script o.bank o.targets.cells (are-cells config script c.requires.script o.session o.bank o.targets o.hands.items o.watches lists opened) lists
     all.eight all.lists
 
@@ -72,17 +64,8 @@ run_beside-requires-clause-ready g c κs within =
     let o = c.in_ok-session.field-0 in
     let lists = c.in_ok-lists.lists.items in
     let all = c.in_ok-lists.ensures in
-    let opened : IsOpened config script o.session o.bank o.targets o.hands.items o.watches lists = record {
-      plan = e.plan ∙ ap (λ (full : List MetaData). record { config = config; full = full }) size.full;
-      bank_is = e.bank;
-      cells = e.cells;
-      quotas = e.quotas ∙ size.writes;
-      targets_are = e.targets;
-      hands_are = e.hands;
-      own = e.looks;
-      eight = all.eight;
-      lists_are = all.lists;
-    } in
+    let opened : IsOpened config script o.session o.bank o.targets o.hands.items o.watches lists =
+    opened-by config script o.session o.bank o.targets o.hands.items o.watches lists e.plan size.full e.bank e.cells e.quotas size.writes e.targets e.hands e.looks all.eight all.lists in
     subst (λ (duties : List Duty). AreReady o.bank o.targets.cells duties) (sym c.in_ok-crew.ensures.duties)
     (are-duties config script c.requires.script o.session o.bank o.targets o.hands.items o.watches lists opened).ready
 
@@ -93,8 +76,10 @@ pub finish-requires-clause-may : goal.finish-requires-clause-may
 finish-requires-clause-may g c =
     may-close (plan_of c.in_ok-session.field-0.session).config c.args.script.now (g.L.Link.told c.run_beside.new.link) c.run_beside.new.session c.in_ok-dones.ensures.conducted
 
-pub returns-clause-ran : goal.returns-clause-ran
-returns-clause-ran g c =
+-- it ran as the script's lines say, and was closed
+completed : (g : Over) (c : goal.After-drop-bank-inside-2 g)
+    → Completes c.args.config.now c.args.script.now (g.L.Link.told c.finish.new.link) c.in_ok-finish.field-0
+completed g c =
     let config : Config = c.args.config.now in
     let script : Script = c.args.script.now in
     let size = c.size_of-size.ensures in
@@ -102,57 +87,22 @@ returns-clause-ran g c =
     let o = c.in_ok-session.field-0 in
     let lists = c.in_ok-lists.lists.items in
     let all = c.in_ok-lists.ensures in
-    let plan : plan_of o.session ≡ plan_by config script = e.plan ∙ ap (λ (full : List MetaData). record { config = config; full = full }) size.full in
-    let opened : IsOpened config script o.session o.bank o.targets o.hands.items o.watches lists = record {
-      plan = plan;
-      bank_is = e.bank;
-      cells = e.cells;
-      quotas = e.quotas ∙ size.writes;
-      targets_are = e.targets;
-      hands_are = e.hands;
-      own = e.looks;
-      eight = all.eight;
-      lists_are = all.lists;
-    } in
+    let opened : IsOpened config script o.session o.bank o.targets o.hands.items o.watches lists =
+    opened-by config script o.session o.bank o.targets o.hands.items o.watches lists e.plan size.full e.bank e.cells e.quotas size.writes e.targets e.hands e.looks all.eight all.lists in
     let d = c.in_ok-dones.ensures in
     let dones = c.in_ok-dones.dones.items in
-    run-is config script c.requires.script (subst IsPlan plan (e.is_plan c.requires.types)) o.session o.bank o.targets o.hands.items o.watches lists opened dones
+    completes config script c.requires.script (subst IsPlan opened.plan (e.is_plan c.requires.types)) o.session o.bank o.targets o.hands.items o.watches lists opened dones
     (subst (λ (duties : List Duty). AreDone o.bank o.targets.cells duties dones) c.in_ok-crew.ensures.duties d.done) (g.L.Link.told c.run_beside.new.link) (g.L.Link.told c.finish.new.link)
     c.run_beside.new.session d.session d.bank d.targets
-    (subst (λ (k : Config). HasConducted k script (reverse script.lines) (g.L.Link.told c.run_beside.new.link) c.run_beside.new.session) (ap (λ (q : Plan). q.config) plan) d.conducted)
-    c.in_ok-finish.field-0 c.in_ok-finish.ensures.finishes
-    (record { legal = c.closed_histories_are_legal.ensures.legal; history = c.closed_histories_are_legal.ensures.history }) c.histories_are_the_models.ensures.rows
-    c.a_closed_session_tells_the_headline.ensures
-
-pub returns-clause-closed : goal.returns-clause-closed
-returns-clause-closed g c =
-    let config : Config = c.args.config.now in
-    let script : Script = c.args.script.now in
-    let size = c.size_of-size.ensures in
-    let e = c.in_ok-session.ensures in
-    let o = c.in_ok-session.field-0 in
-    let lists = c.in_ok-lists.lists.items in
-    let all = c.in_ok-lists.ensures in
-    let plan : plan_of o.session ≡ plan_by config script = e.plan ∙ ap (λ (full : List MetaData). record { config = config; full = full }) size.full in
-    let opened : IsOpened config script o.session o.bank o.targets o.hands.items o.watches lists = record {
-      plan = plan;
-      bank_is = e.bank;
-      cells = e.cells;
-      quotas = e.quotas ∙ size.writes;
-      targets_are = e.targets;
-      hands_are = e.hands;
-      own = e.looks;
-      eight = all.eight;
-      lists_are = all.lists;
-    } in
-    let d = c.in_ok-dones.ensures in
-    let dones = c.in_ok-dones.dones.items in
-    closed-is config script c.requires.script (subst IsPlan plan (e.is_plan c.requires.types)) o.session o.bank o.targets o.hands.items o.watches lists opened dones
-    (subst (λ (duties : List Duty). AreDone o.bank o.targets.cells duties dones) c.in_ok-crew.ensures.duties d.done) (g.L.Link.told c.run_beside.new.link) (g.L.Link.told c.finish.new.link)
-    c.run_beside.new.session d.session d.bank d.targets
-    (subst (λ (k : Config). HasConducted k script (reverse script.lines) (g.L.Link.told c.run_beside.new.link) c.run_beside.new.session) (ap (λ (q : Plan). q.config) plan) d.conducted)
+    (subst (λ (k : Config). HasConducted k script (reverse script.lines) (g.L.Link.told c.run_beside.new.link) c.run_beside.new.session) (ap (λ (q : Plan). q.config) opened.plan) d.conducted)
     c.in_ok-finish.field-0 c.in_ok-finish.ensures.finishes
     (record { legal = c.closed_histories_are_legal.ensures.legal; history = c.closed_histories_are_legal.ensures.history })
+
+pub returns-clause-ran : goal.returns-clause-ran
+returns-clause-ran g c = (completed g c).ran c.histories_are_the_models.ensures.rows c.a_closed_session_tells_the_headline.ensures
+
+pub returns-clause-closed : goal.returns-clause-closed
+returns-clause-closed g c = (completed g c).closed_of
 
 pub returns-clause-opened : goal.returns-clause-opened
 returns-clause-opened g c =
