@@ -11,3 +11,4 @@ pub mod Ending
 pub mod Beginning
 pub mod Whole
 pub mod TextOf
+pub mod Tells

@@ -3,3 +3,4 @@ pub mod Texts
 pub mod Links
 pub mod Relaying
 pub mod Ends
+pub mod Telling

@@ -3,6 +3,7 @@
 
 mod command;
 mod held;
+mod laws;
 mod logs;
 mod matching;
 mod put;
@@ -11,5 +12,6 @@ mod sources;
 mod text;
 
 pub use command::relay;
+pub use laws::the_lines_of_a_gateway_tell_stores;
 pub use matching::matched_writer;
 pub use sources::unsourced;
