@@ -1,6 +1,7 @@
 // A session as one writes it by hand, over the groups of bench/groups: at each turn rows change, each group makes its datagrams, each
 // goes over the link, which is LINK, by default one in memory, and each read group is given each datagram that comes, a copy but for
-// the last one; a reader's row is stored where its number is another one. At the end it prints what each writer sent, as a report does.
+// the last one; a reader's row is stored where its number is another one, under a lock, since other threads may look at it. At the
+// end it prints what each writer sent, as a report does.
 // usage: by_hand built-in|device TURNS [TURNS_OF_A_KEY_FRAME]     (of the device's first group, by default 10)
 #include "../groups/plain.h"
 #ifdef LINK
@@ -8,6 +9,7 @@
 #else
 #include "memory_link.h"
 #endif
+#include <pthread.h>
 #include <stdio.h>
 #include <stdlib.h>
 #include <string.h>
@@ -22,6 +24,7 @@ static size_t set_count, group_count, reader_count;
 static uint64_t stores[3];
 static uint16_t stored[3];
 static bool on[MAX_WRITERS];
+static pthread_mutex_t locks[3] = {PTHREAD_MUTEX_INITIALIZER, PTHREAD_MUTEX_INITIALIZER, PTHREAD_MUTEX_INITIALIZER};
 
 // ---- turns and pumps
 
@@ -48,7 +51,9 @@ static uint64_t pump(uint64_t now) {
     for (size_t r = 0; r < reader_count; r++) {
         const struct reader *reader = &readers[r].readers[0];
         if (!reader->holds || (stores[r] && stored[r] == reader->number)) continue;
+        pthread_mutex_lock(&locks[r]);
         memcpy(targets[r].words, reader->row.words, 8 * WORDS_OF(&metas[reader->dataset]));
+        pthread_mutex_unlock(&locks[r]);
         stored[r] = reader->number;
         stores[r]++;
     }

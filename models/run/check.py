@@ -156,14 +156,22 @@ def is_front(state, report):
     """whether the logs so far begin the told ones"""
     return all(w.log == report.logs[c.name][:len(w.log)] for g, it in enumerate(state.groups) for c, w in zip(state.writer_at[g], it.writers))
 
+def quiet_at(state, writer, rows, version):
+    """the first version from this one on, alone in a list, at which the writer has sent the row already; none where there is no such one"""
+    sent = [row for _, row, answer in writer.turns if answer in ("Whole", "Change")]
+    fields = len(state.c.sets[writer.part["set"]]["fields"])
+    return [v for v in range(version, len(rows)) if sent and rows[v][:fields] == sent[-1]][:1]
+
 def candidates(state, report, rows, versions):
-    """for each data set the versions that a tick may have sampled: that of the tick before, or the next of one of its writers' logs"""
+    """for each data set the versions that a tick may have sampled: that of the tick before, the next of one of its writers' logs, or one at which
+    a writer has nothing to send"""
     found = [{v} for v in versions]
     for g, it in enumerate(state.groups):
         for c, w in zip(state.writer_at[g], it.writers):
             rest = report.logs[c.name][len(w.log):]
             at = w.part["set"]
             if rest and rest[0][1] >= versions[at]: found[at].add(rest[0][1])
+            found[at].update(quiet_at(state, w, rows[at], versions[at]))
     return itertools.product(*[sorted(vs) for vs in found])
 
 def ticked(after, report, rows, versions, ms, closing):

@@ -28,6 +28,7 @@ class Tap:
     def __init__(self, port, then=lambda datagram: None):
         self.port, self.then, self.datagrams, self.stop = port, then, [], threading.Event()
         self.socket = socket.socket(socket.AF_PACKET, socket.SOCK_DGRAM, socket.ntohs(IPV4))
+        self.socket.setsockopt(socket.SOL_SOCKET, socket.SO_RCVBUF, 1 << 22)    # others may use loopback too
         self.socket.bind(("lo", 0))
         self.thread = threading.Thread(target=self.read)
     def read(self):
