@@ -54,6 +54,6 @@ fn two_groups_turn_at_once(rt: HostRuntime) -> Result<(), Fail> {
     );
     assert_eq!(&rt; status.number(), 0);
     assert!(&rt; out.bytes() == TOLD);
-    assert!(&rt; gate.noted() == (0, 4, 4));
+    assert!(&rt; gate.noted() == (0, 20_204, 20_204));
     Ok(())
 }

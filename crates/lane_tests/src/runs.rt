@@ -32,7 +32,7 @@ fn all_come<R: Threads + Wait + Sync + Abort>(rt: &R, alloc: Global, room: u32) 
         &mut link,
         &gate,
     )?;
-    assert!(rt; gate.noted() == (0, 6, 6));
+    assert!(rt; gate.noted() == (0, 60_306, 60_306));
     assert!(rt; ran.sent[0] <= 6 && ran.sent[1] <= 6);
     assert!(rt; ran.sent[0] + ran.sent[1] == 11);
     assert!(rt; ran.failed == 1);
