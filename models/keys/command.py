@@ -6,7 +6,6 @@ import re, sys, tomllib
 from model import POLICIES, Key, Refused, Service
 
 NUMBER = re.compile(r"0|[1-9][0-9]*")
-GROUP = re.compile(r"[a-z][a-z0-9_]{0,31}")
 MOST = 4294967295
 
 
@@ -15,7 +14,7 @@ def asked(words):
     if len(words) != 6 or words[0] != "keys":
         return None
     file, group, *numbers = words[1:]
-    if not 1 <= len(file) <= 255 or file.startswith("-") or not GROUP.fullmatch(group):
+    if not 1 <= len(file) <= 255 or file.startswith("-"):
         return None
     if not all(NUMBER.fullmatch(number) for number in numbers):
         return None

@@ -79,8 +79,7 @@ def words():
     print("# words of no such shape, and the longest names and the largest numbers")
     long = "f" * 255
     for shape in (["keys"], ["keys", "c", "k1", "0", "1"], ["keys", "c", "k1", "0", "1", "0", "0"], ["key", "c", "k1", "0", "1", "0"], ["keys", "-c", "k1", "0", "1", "0"],
-                  ["keys", long, "k1", "0", "1", "0"], ["keys", long + "f", "k1", "0", "1", "0"], ["keys", "c", "1k", "0", "1", "0"], ["keys", "c", "K", "0", "1", "0"],
-                  ["keys", "c", "k" * 32, "0", "1", "0"], ["keys", "c", "k" * 33, "0", "1", "0"]):
+                  ["keys", long, "k1", "0", "1", "0"], ["keys", long + "f", "k1", "0", "1", "0"]):
         run(*shape)
     for number in ("00", "01", "-1", "+1", "1.0", "0x1", "one", "4294967295", "4294967296", "18446744073709551616", "99999999999999999999999"):
         ask("k1", number, "1", "0")
@@ -90,7 +89,20 @@ def words():
         ask("k1", 0, 1, moment)
 
 
+def no_names():
+    print("# words that no key group has: no names, with a capital, a digit first, another byte or 33 bytes, and the longest name; the file and the numbers are judged as ever")
+    for name in ("K9", "K", "K1", "1k", "9", "k-1", "_k", "k" * 33, "k" * 32):
+        ask(name, 0, 1, 0)
+        ask(name, 6, 1, 10)
+    ask("K9", "01", 1, 0)
+    run("keys", "d", "K9", 0, 1, 0)
+    print("writes 0")
+    ask("K9", 0, 1, 0)
+    print("writes")
+
+
 answers()
 refusals()
 ends()
 words()
+no_names()

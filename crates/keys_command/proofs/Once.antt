@@ -1,5 +1,5 @@
 -- A configuration has one text.
-use Rattle.std.proofs.Common.{◌≡◌, ℕ, Bool, List, ◌++◌, Option, Some, None, Result, Ok, Err, refl, sym, ap, subst, ◌∙◌, arith}
+use Rattle.std.proofs.Common.{◌≡◌, ℕ, Bool, List, ◌++◌, Option, Some, None, option_and_then, Result, Ok, Err, refl, sym, ap, subst, ◌∙◌, arith}
 use Rattle.std.specs.Prelude.{codes, slice_index}
 use Rattle.group_keys.specs.declared.key_set.KeySet.{KeySet}
 use Rattle.group_keys.specs.declared.ring.Ring.{Ring}
@@ -69,4 +69,4 @@ one_group None asked x y is also = ap (keys_text asked.start) (is ∙ sym also)
 one_group (Some group) asked x y is also = one_service is.0 also.0 asked x y (is.1.long ∙ sym also.1.long) (is.1.keys ∙ sym also.1.keys) is.2 also.2
 
 pub one_text : (config : Config) (asked : Asked) (one other : List ℕ) → TellsAnswer config asked one → TellsAnswer config asked other → one ≡ other
-one_text config asked one other is also = is.2 ∙ one_group (group_named config.keygroup asked.group) asked is.0 also.0 is.1 also.1 ∙ sym also.2
+one_text config asked one other is also = is.2 ∙ one_group (option_and_then (group_named config.keygroup) asked.group) asked is.0 also.0 is.1 also.1 ∙ sym also.2

@@ -1,5 +1,5 @@
 -- What a key service answers that serves a key group of a configuration.
-use Rattle.std.specs.Prelude.{◌≡◌, List, ℕ, map, find, Option, Some, None, Result, Ok, Err}
+use Rattle.std.specs.Prelude.{◌≡◌, List, ℕ, map, find, Option, Some, None, option_and_then, Result, Ok, Err}
 use Rattle.std.specs.Str.{bytes_eq}
 use Rattle.group_keys.specs.declared.ring.Ring.{Ring}
 use Rattle.group_keys.specs.Ring.{is_long as is_long_ring, key_sets}
@@ -38,11 +38,12 @@ IsAnswerOf ring asked (Err NotFound) = ⊥
 abbrev pub IsServiceAnswer : KeyGroupPart → Asked → Result Keys Refusal → Type 0
 IsServiceAnswer group asked answer = (ring : Ring) × IsRingOf group ring × IsAnswerOf ring asked answer
 
--- NotFound where there is no key group
+-- NotFound where there is no key group, as where GROUP is no name
 abbrev pub IsGroupAnswer : Option KeyGroupPart → Asked → Result Keys Refusal → Type 0
 IsGroupAnswer None asked answer = answer ≡ Err NotFound
 IsGroupAnswer (Some group) asked answer = IsServiceAnswer group asked answer
 
 -- what is answered of a configuration
 abbrev pub IsAnswer : Config → Asked → Result Keys Refusal → Type 0
-IsAnswer config asked answer = IsGroupAnswer (group_named config.keygroup asked.group) asked answer
+IsAnswer config asked answer =
+    IsGroupAnswer (option_and_then (group_named config.keygroup) asked.group) asked answer

@@ -6,17 +6,17 @@ use Rattle.config_tables.specs.Texts.{number_spelled}
 use Rattle.command_parts.specs.Words.{is_file_name}
 use Rattle.keys_command.specs.declared.words.Asked.{Asked}
 
--- the name that a word is
+-- the name that a word is, if it is one
 abbrev pub name_spelled : List ℕ → Option (List ℕ)
 name_spelled word = if is_name word then Some word else None
 
--- all four are there, or nothing is asked
+-- the three numbers are there, or nothing is asked
 abbrev pub asked_of : Option (List ℕ) → Option ℕ → Option ℕ → Option ℕ → Option Asked
-asked_of (Some group) (Some start) (Some count) (Some moment) =
+asked_of group (Some start) (Some count) (Some moment) =
     Some (record { group = group; start = start; count = count; moment = moment })
-asked_of _ _ _ _ = None
+asked_of group _ _ _ = None
 
--- `GROUP START COUNT MS`: a name, two numbers of 32 bits, and one of at most 2^40, decimal without a leading zero
+-- `GROUP START COUNT MS`: any word, two numbers of 32 bits, and one of at most 2^40, decimal without a leading zero
 abbrev pub asked_in : List ℕ → List ℕ → List ℕ → List ℕ → Option Asked
 asked_in group start count moment =
     asked_of (name_spelled group) (number_spelled 4294967295 start) (number_spelled 4294967295 count)

@@ -20,7 +20,10 @@ pub(crate) fn answer_of(config: &Config, asked: &Asked) -> Result<Keys, Refusal>
     ensures reply { IfOk result IsReply }
     ensures pullable { asked.now.start ≡ 0 → IfOk result IsPullable }
 {
-    let Some(group) = group_named(config.keygroup.as_slice(), &asked.group) else {
+    let Some(name) = &asked.group else {
+        return Err(Refusal::NotFound);
+    };
+    let Some(group) = group_named(config.keygroup.as_slice(), name) else {
         return Err(Refusal::NotFound);
     };
     answer_by(group, asked)
@@ -36,7 +39,6 @@ fn group_named<'a>(groups: &'a [KeyGroupPart], name: &Name32) -> Option<&'a KeyG
 
 fn answer_by(group: &KeyGroupPart, asked: &Asked) -> Result<Keys, Refusal>
     requires sound { IsKeyGroup group.now }
-    requires named { group.now.name ≡ asked.now.group }
     ensures answer { IsServiceAnswer group.now asked.now result }
     ensures reply { IfOk result IsReply }
     ensures pullable { asked.now.start ≡ 0 → IfOk result IsPullable }
@@ -45,7 +47,7 @@ fn answer_by(group: &KeyGroupPart, asked: &Asked) -> Result<Keys, Refusal>
         Ok(service) => service,
         Err(fault) => return Err(Refusal::Unserved(fault)),
     };
-    let request = request_back(&asked.group, asked.start, asked.count);
+    let request = request_back(&group.name, asked.start, asked.count);
     match service.get(asked.moment, &request.group, request.start, request.count) {
         Ok(keys) => Ok(keys),
         Err(KeyFault::NotFound) => unreachable!(),

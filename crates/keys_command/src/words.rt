@@ -16,8 +16,8 @@ const MOST_MOMENT: u64 = 1_099_511_627_776;
 /// What a key service is asked for (OPC 10000-14 8.3.2, GetSecurityKeys), and when.
 #[derive(Clone, Copy, Debug)]
 pub struct Asked {
-    /// The security group.
-    pub group: Name32,
+    /// The security group; none where the word is no name, so that no group has it.
+    pub group: Option<Name32>,
     /// The token of the first key, and 0 for the current one.
     pub start: u32,
     /// How many keys; at least one is answered.
@@ -27,7 +27,7 @@ pub struct Asked {
 }
 
 /// The file and what is asked of it, by `keys FILE GROUP START COUNT MS`, and by no other words. START and COUNT are 0 to
-/// 4294967295 and MS is 0 to 2^40, decimal without a leading zero; GROUP is a name of 1 to 32 bytes.
+/// 4294967295 and MS is 0 to 2^40, decimal without a leading zero; GROUP is any word.
 pub fn keys_in(words: &[Word]) -> Option<(&str, Asked)>
     ensures { option_map (λ found. (found.0.now, found.1)) result ≡ keys_of words.now }
 {
@@ -52,7 +52,7 @@ pub fn keys_in(words: &[Word]) -> Option<(&str, Asked)>
 fn asked_in(group: &str, start: &str, count: &str, moment: &str) -> Option<Asked>
     ensures { result ≡ asked_in group.now start.now count.now moment.now }
 {
-    let group = Name32::new(group.as_bytes())?;
+    let group = Name32::new(group.as_bytes());
     let start = number_spelled(start.as_bytes(), MOST_32)?;
     let count = number_spelled(count.as_bytes(), MOST_32)?;
     let moment = number_spelled(moment.as_bytes(), MOST_MOMENT)?;
