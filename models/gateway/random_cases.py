@@ -101,15 +101,16 @@ def unmatch(first, read, x):
     sets = [s for s in first.sets if s is not x["set"]]
     if sets and not fixed: reader["set"] = r.choice(sets)
     if fixed and x["offset"] == max(y["offset"] for y in read["readers"]): reader.update(size=x["size"] + 1, offset=x["offset"] + 1)
-    key = r.choice(sorted(group) + sorted(reader) * 2)
+    rare = [key for key in ("layout", "security", "keygroup", "size", "offset") if key in group or key in reader]
+    key = r.choice(sorted(group) + sorted(reader) + rare * 4)
     it, to = (group, read) if key in group else (reader, x)
     to[key] = it[key]
     return key
 
 def other_fields(r, fields):
     """alters a data set's fields in one way"""
-    k = r.randrange(len(fields))
-    ways = ["name", "kind", "more"] + ["fewer"] * (len(fields) > 1) + ["order"] * (len(fields) > 1) + ["cap"] * 3 * (fields[k]["cap"] > 1)
+    k = max(r.sample(range(len(fields)), min(2, len(fields))), key=lambda at: fields[at]["cap"])
+    ways = ["name", "kind", "more"] + ["fewer", "order"] * (len(fields) > 1) + ["cap"] * 3 * (fields[k]["cap"] > 1)
     way = r.choice(ways)
     if way == "name": fields[k]["name"] = "other"
     if way == "kind": fields[k].update(kind=r.choice([n for n in sessions.SIZES if n not in (fields[k]["kind"], "Guid")]), cap=0)
