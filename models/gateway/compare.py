@@ -10,73 +10,86 @@ import os, re, subprocess, sys, tomllib
 HERE = os.path.dirname(os.path.abspath(__file__))
 AT_ONCE = 50
 
+SECURED = ("sign", "encrypt")
+
 class Case:
     """a case with the model's answer"""
     def __init__(self, text, answer):
         lines = [line.partition(" ") for line in text.split("\n")]
         self.text, self.answer = text, answer.partition("\nrelay ->")[2]
-        self.files = {word: rest.replace("\\n", "\n") for word, _, rest in lines if word in ("first", "second", "script")}
-        self.first, self.second = (tomllib.loads(self.files[word]) for word in ("first", "second"))
-        self.sources = {t["name"] for t in self.second.get("dataset", [])}
-    def accepted(self):
-        return "status 0" in self.answer
-    def gateway(self):
-        """what stands of the gateway in the answer"""
-        return "\n".join(re.findall(r"^(?:gateway|relayed) .*", self.answer, re.M))
-    def stores(self):
-        """the stores of each writer's log"""
-        return [[int(s) for s in re.findall(r"=(\d+)", log)] for log in re.findall(r"^gateway \w+ \d+:(.*)", self.answer, re.M)]
-    def readers(self, document):
-        return [x for g in document.get("readgroup", []) for x in g["reader"]]
+        files = {word: rest.replace("\\n", "\n") for word, _, rest in lines if word in ("first", "second", "script")}
+        self.first, self.second = (tomllib.loads(files[word]) for word in ("first", "second"))
+        self.script = "\n" + files["script"]
+        self.sets = {t["name"] for t in self.second.get("dataset", [])}
+        self.sourcing = [g for g in self.first.get("readgroup", []) if any(x["name"] in self.sets for x in g["reader"])]
+        self.readers = [x for g in self.second.get("readgroup", []) for x in g["reader"]]
+    def says(self, pattern):
+        """whether a line of the answer begins so"""
+        return re.search("^" + pattern, self.answer, re.M) is not None
+    def refused(self, way=""):
+        """whether C26 refuses SECOND, which is spoilt in this way"""
+        return "C26" in self.answer and f"# spoilt {way}" in self.text
+    def secured(self, document):
+        return any(g["security"] in SECURED for g in document.get("group", []))
+    def slotted(self, document):
+        return any(g["layout"] == "fixed" for g in document.get("group", []))
+    def small(self):
+        return any(g["max_size"] < 1400 for g in self.second.get("group", []))
+    def keyed(self, has):
+        return any(has(k) for k in self.second.get("keygroup", []))
+    def logs(self, has):
+        """whether a writer's log has stores that are so"""
+        return any(has([int(s) for s in re.findall(r"=(\d+)", log)]) for log in re.findall(r"^gateway \w+ \d+:(.*)", self.answer, re.M))
     def relayed_alike(self):
         """whether two readers of SECOND that stand in the answer have one writer"""
         told = set(re.findall(r"^relayed (\w+) ", self.answer, re.M))
-        writers = [x["writer"] for x in self.readers(self.second) if x["name"] in told]
+        writers = [x["writer"] for x in self.readers if x["name"] in told]
         return len(writers) != len(set(writers))
     def restarted(self):
         """whether a source, or what is above it, is disabled and enabled again"""
-        above = {"root", "connection"} | {g["name"] for g in self.first.get("readgroup", []) for x in g["reader"] if x["name"] in self.sources}
-        return any(f"disable {n}\n" in self.files["script"] and f"enable {n}\n" in self.files["script"].split(f"disable {n}\n", 1)[1] for n in above | self.sources)
+        names = {"root", "connection"} | {g["name"] for g in self.sourcing} | self.sets
+        return any(f"\nenable {n}\n" in self.script.partition(f"\ndisable {n}\n")[2] for n in names)
 
-def groups(document, key, *values):
-    return any(g.get(key) in values for g in document.get("group", []))
+REFUSED = [("refused by C26", lambda c: c.refused()), ("not at the first data set", lambda c: c.refused() and "dataset[0]" not in c.answer)]
+REFUSED += [(f"of {way}", lambda c, way=way: c.refused(way)) for way in [
+    "name", "unmatched", "numbering", "fields", "major", "quality", "unmatched publisher", "unmatched group", "unmatched version", "unmatched class_id",
+    "unmatched layout", "unmatched security", "unmatched keygroup", "unmatched writer", "unmatched set", "unmatched offset", "unmatched size",
+    "fields name", "fields kind", "fields more", "fields fewer", "fields order", "fields cap"]]
 
-def source_groups(c, key, *values):
-    return any(g.get(key) in values for g in c.first.get("readgroup", []) if any(x["name"] in c.sources for x in g["reader"]))
-
-def spoilt(way):
-    return way, lambda c: f"# spoilt {way}" in c.text and "C26" in c.answer
-
-SECURED, SOURCED = ("sign", "encrypt"), lambda c: [x for x in c.readers(c.first) if x["name"] in c.sources]
-TRAITS = [
-    ("accepted", Case.accepted), ("refused by C26", lambda c: "C26" in c.answer),
-    *((f"  {name}", has) for name, has in map(spoilt, ["name", "unmatched", "numbering", "fields", "major", "quality"])),
-    ("  not at the first data set", lambda c: "C26" in c.answer and "dataset[0]" not in c.answer),
-    *((f"  unmatched by {key}", spoilt(f"unmatched {key}\n")[1]) for key in
-      ["publisher", "group", "version", "class_id", "layout", "security", "keygroup", "writer", "set", "offset", "size"]),
-    *((f"  fields by {way}", spoilt(f"fields {way}\n")[1]) for way in ["name", "kind", "more", "fewer", "order", "cap"]),
-    ("no data set in SECOND", lambda c: not c.sources), ("several data sets in SECOND", lambda c: len(c.sources) > 1),
-    *((f"accepted: {name}", lambda c, has=has: c.accepted() and has(c)) for name, has in [
-        ("FILE secured", lambda c: groups(c.first, "security", *SECURED)), ("SECOND secured", lambda c: groups(c.second, "security", *SECURED)),
-        ("FILE with slots", lambda c: groups(c.first, "layout", "fixed")), ("SECOND with slots", lambda c: groups(c.second, "layout", "fixed")),
-        ("FILE secured, SECOND with slots", lambda c: groups(c.first, "security", *SECURED) and groups(c.second, "layout", "fixed")),
-        ("SECOND in small datagrams", lambda c: groups(c.second, "max_size", 128, 200, 400)), ("SECOND with quality", lambda c: any(t.get("quality") for t in c.second.get("dataset", []))),
-        ("SECOND with several tokens", lambda c: any(len(k["key"]) > 1 for k in c.second.get("keygroup", []))),
-        ("a sender of SECOND that is nearly spent", lambda c: any(k.get("used", 0) for k in c.second.get("keygroup", []))),
-        ("a source that is secured", lambda c: source_groups(c, "security", *SECURED)), ("a source with a slot", lambda c: source_groups(c, "layout", "fixed")),
-        ("two readers of one writer", Case.relayed_alike), ("a reader without numbering holds", lambda c: "number - store - version -:" in c.answer),
-        ("a source with a timeout", lambda c: any(x["timeout"] for x in SOURCED(c))), ("a reader of SECOND with a timeout", lambda c: any(x["timeout"] for x in c.readers(c.second))),
-        ("a source restarted", Case.restarted), ("an append", lambda c: "\nappend " in "\n" + c.files["script"]), ("a fate", lambda c: "fate " in c.files["script"]),
-        ("a failing call of lab", lambda c: re.search(r"\n(sends|receives) ", c.text)), ("a failing call of wire", lambda c: "\nwire_" in c.text),
-        ("a writer publishes a store that isn't 0", lambda c: any(any(log) for log in c.stores())), ("a writer publishes the opening row", lambda c: any(0 in log for log in c.stores())),
-        ("a writer publishes a store twice", lambda c: any(len(set(log)) < len(log) for log in c.stores())), ("a writer publishes 3 stores", lambda c: any(len(set(log)) > 2 for log in c.stores())),
-        ("a writer leaves a store out", lambda c: any(b > a + 1 for log in c.stores() for a, b in zip(log, log[1:]))),
-        ("a place past 65535", lambda c: re.search(r"^gateway .* 65536=", c.answer, re.M)),
-        ("a reader holds a store of a version that isn't 0", lambda c: re.search(r"^relayed .* store [1-9]\d* version [1-9]", c.answer, re.M)),
-        *((f"a reader waits {why}", lambda c, why=why: re.search(f"^relayed .* waits {why}", c.answer, re.M)) for why in ["start", "gap", "timeout", "newtoken", "jump"]),
-        ("no line of a reader", lambda c: "relayed " not in c.gateway()),
-    ]),
-]
+ACCEPTED = [
+    ("accepted", lambda c: True),
+    ("no data set in SECOND", lambda c: not c.sets),
+    ("several data sets in SECOND", lambda c: len(c.sets) > 1),
+    ("FILE secured", lambda c: c.secured(c.first)),
+    ("SECOND secured", lambda c: c.secured(c.second)),
+    ("FILE with slots", lambda c: c.slotted(c.first)),
+    ("SECOND with slots", lambda c: c.slotted(c.second)),
+    ("FILE secured, SECOND with slots", lambda c: c.secured(c.first) and c.slotted(c.second)),
+    ("SECOND in small datagrams", Case.small),
+    ("SECOND with quality", lambda c: any(t["quality"] for t in c.second.get("dataset", []))),
+    ("SECOND with several tokens", lambda c: c.keyed(lambda k: len(k["key"]) > 1)),
+    ("SECOND with a sender that is nearly spent", lambda c: c.keyed(lambda k: k["used"])),
+    ("a source that is secured", lambda c: any(g["security"] in SECURED for g in c.sourcing)),
+    ("a source with a slot", lambda c: any(g["layout"] == "fixed" for g in c.sourcing)),
+    ("a source with a timeout", lambda c: any(x["timeout"] for g in c.sourcing for x in g["reader"] if x["name"] in c.sets)),
+    ("a source restarted", Case.restarted),
+    ("a reader of SECOND with a timeout", lambda c: any(x["timeout"] for x in c.readers)),
+    ("two readers of one writer", Case.relayed_alike),
+    ("an append", lambda c: "\nappend " in c.script),
+    ("a fate", lambda c: "\nfate " in c.script),
+    ("a failing call of lab", lambda c: re.search(r"\n(sends|receives) ", c.text)),
+    ("a failing call of wire", lambda c: "\nwire_" in c.text),
+    ("a writer publishes a store that isn't 0", lambda c: c.logs(any)),
+    ("a writer publishes the opening row", lambda c: c.logs(lambda log: 0 in log)),
+    ("a writer publishes a store twice", lambda c: c.logs(lambda log: len(set(log)) < len(log))),
+    ("a writer publishes 3 stores", lambda c: c.logs(lambda log: len(set(log)) > 2)),
+    ("a writer leaves a store out", lambda c: c.logs(lambda log: any(b > a + 1 for a, b in zip(log, log[1:])))),
+    ("a place past 65535", lambda c: c.says(".* 65536=")),
+    ("a reader holds a store of a version that isn't 0", lambda c: c.says(r"relayed .* store [1-9]\d* version [1-9]")),
+    ("a reader without numbering holds", lambda c: c.says(r"relayed \w+ number - ")),
+    ("no line of a reader", lambda c: not c.says("relayed "))]
+ACCEPTED += [(f"a reader waits {why}", lambda c, why=why: c.says(rf"relayed \w+ waits {why}")) for why in ["start", "gap", "timeout", "newtoken"]]
+TRAITS = REFUSED + [(name, lambda c, has=has: c.says("status 0 ") and has(c)) for name, has in ACCEPTED]
 
 def parts(command, text=None):
     done = subprocess.run(command, input=text, stdout=subprocess.PIPE, text=True)
