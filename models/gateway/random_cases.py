@@ -3,8 +3,10 @@
 models/session/random_cases.py makes them, a SECOND whose data sets are what FILE's readers offer, and failing sends and receives of both links.
 One pair of five has a data set that is spoilt in one way, so that C26 refuses it; a note `# spoilt WAY` says how.
 
-usage: random_cases.py FIRST COUNT     (the seeds FIRST to FIRST + COUNT - 1)"""
-import copy, importlib.util, os, sys, tomllib
+usage: random_cases.py FIRST COUNT     (the seeds FIRST to FIRST + COUNT - 1)
+
+A seed that ends with 9 is wide, as those of sessions are; one that ends with 8 is busy, and loses what its readers of SECOND then wait for."""
+import copy, importlib.util, os, re, sys, tomllib
 
 def module(name, *path):
     path = os.path.join(os.path.dirname(os.path.abspath(__file__)), *path)
@@ -36,8 +38,11 @@ class First(sessions.Case):
         while True:
             line = super().write(s)
             if len(line) <= LONGEST: return line
-    def script(self):
+    def script(self, busy):
+        """where it is busy, something is written before each tick"""
+        writes = [self.write(self.r.choice(self.sets)) for _ in range(20 if busy else 0)]
         lines = super().script().split("\n")[:-1]
+        for at in reversed([at for at, line in enumerate(lines) if line.startswith("tick ")]) if busy else []: lines.insert(at, self.r.choice(writes))
         names = [w["name"] for g in self.groups for w in g["writers"]] + [x["name"] for g in self.reads for x in g["readers"]]
         still = [n for n in names if f"disable {n}" not in lines]
         if still and self.r.random() < 0.3:
@@ -144,16 +149,29 @@ def pair(seed):
     if bad is not None: sets.insert(r.randrange(len(sets) + 1), bad)
     return first, Second(first, sets), way
 
+CALLS = ["sends", "receives", "wire_sends", "wire_receives"]
+
+def lossy(r, files, fails):
+    """such failing calls of wire that a reader of SECOND waits in the end for want of a message, if a few tries find any"""
+    for _ in range(30):
+        fails.update(wire_sends=sorted(r.sample(range(25), 3)), wire_receives=list(range(r.randrange(40), 400)))
+        told = gateway.relayed(files["first"], files["second"], files["script"], [fails["sends"], fails["receives"]], [fails["wire_sends"], fails["wire_receives"]])
+        if any(re.match(r"relayed \w+ waits (gap|newtoken)", line) for line in told): return
+
 def main():
     first, count = int(sys.argv[1]), int(sys.argv[2])
     for seed in range(first, first + count):
         one, other, way = pair(seed)
+        busy = way is None and seed % 10 == 8
+        for w in [w for g in other.groups for w in g["writers"] if busy and g["layout"] == "dynamic"]: w["kfc"] = 10
+        files = dict(first=one.config(), second=other.config(), script=one.script(busy))
+        fails = {call: failing(one.r) for call in CALLS}
+        if busy: lossy(one.r, files, fails)
         print(f"# seed {seed}")
         if way: print(f"# spoilt {way}")
-        for word, text in (("first", one.config()), ("second", other.config()), ("script", one.script())): print(f"{word} " + text.replace("\n", "\\n"))
-        for word in ("sends", "receives", "wire_sends", "wire_receives"):
-            fails = failing(one.r)
-            if fails: print(word + "".join(f" {k}" for k in fails))
+        for word, text in files.items(): print(f"{word} " + text.replace("\n", "\\n"))
+        for word, calls in fails.items():
+            if calls: print(word + "".join(f" {k}" for k in calls))
         print("relay")
 
 if __name__ == "__main__": main()
