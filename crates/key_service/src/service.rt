@@ -42,7 +42,7 @@ impl Service {
     ghost use Rattle.group_keys.specs.Faults.{IsAccepted};
     ghost use Rattle.group_keys.specs.Ring.{is_long};
     ghost use Rattle.group_keys.specs.InMemory.{AreKeySets};
-    ghost use Rattle.key_service.specs.Laws.{IsReply};
+    ghost use Rattle.key_service.specs.Laws.{IsReply, IsServedRing};
     ghost use Rattle.key_service.specs.Pulled.{IsPullable};
     ghost use Rattle.key_service.specs.Answers.{name_of, ring_of, answer};
 
@@ -77,6 +77,7 @@ impl Service {
         ensures found { IsOk result ↔ (group.now ≡ name_of self.now) }
         ensures answer { IfOk result (λ keys. keys ≡ answer (ring_of self.now) now start count) }
         ensures reply { IfOk result IsReply }
+        ensures served { IfOk result (λ _. IsServedRing (ring_of self.now)) }
         ensures pullable { start ≡ 0 → IfOk result IsPullable }
     {
         if *group != self.name {

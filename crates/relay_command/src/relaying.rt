@@ -72,7 +72,7 @@ pub(crate) fn relayed_text<R: Wait, A: Link, B: Link>(
     } = accepted;
     let mut relay = Relay::open(rt, alloc, first, second, script)?;
     open_link(lab, first.publisher.port, &script.fates(alloc)?)?;
-    open_link(wire, second.publisher.port, &[])?;
+    open_again(wire, second)?;
     relay.play(rt, alloc, script, lab, wire)?;
     relay.end(rt, lab, wire)?;
     let Relay {
@@ -82,6 +82,18 @@ pub(crate) fn relayed_text<R: Wait, A: Link, B: Link>(
     } = relay;
     let closed = player.close(alloc)?;
     Ok(text_of(alloc, first, &closed, second, &gateway)?)
+}
+
+/// Opens the link of the second configuration, with its port and without fates.
+fn open_again<L: Link>(link: &mut L, second: &Config) -> Result<(), PlayEnd>
+    ensures opened { OnOk result (L.opened_with link.new ≡ Some (opening_again second.now)) }
+    ensures empty { OnOk result (IsUntold (L.told link.new)) }
+    ensures refused { OnErr result ((L.told link.new ≡ L.told link.old)
+        × (L.opened_with link.new ≡ L.opened_with link.old)) }
+    ensures unopened { result ≡ Err PlayEnd.Unopened → Rose (L.faults link.old) (L.faults link.new) }
+    ensures faults { L.faults link.old ≤ L.faults link.new }
+{
+    open_link(link, second.publisher.port, &[])
 }
 
 /// Opens a link, or says why it isn't open.

@@ -143,10 +143,12 @@ pub record Passes (ms : ℕ) (closing : Bool) (old new : Player) (told after : O
   pub by : PassesOn ms closing old.session new.session told after
   pub rest : new ≡ record old { session = new.session }
 
--- a component was switched by this step, if it was on or off as the step asks
+-- A component was switched by this step, if it was on or off as the step asks; if not, nothing changed.
 pub record Switches (step : Step) (id : ℕ) (was_on : Bool) (old new : Player) : Type 0 where
   pub stands : (p : Plan) (steps : List Step) → Stands p steps old.session
       → is_on p.config steps (component_at p.config id) ≡ was_on → Stands p (step ∷ steps) new.session
+  pub stays : (p : Plan) (steps : List Step) → Stands p steps old.session
+      → is_on p.config steps (component_at p.config id) ≡ not was_on → new ≡ old
   pub keeps : KeepsPasses old.session new.session
   pub left : left_of new.session ≡ left_of old.session
   pub appends : appends_left new.session ≡ appends_left old.session

@@ -170,6 +170,7 @@ impl<'c> Player<'c> {
         ensures player { OnOk result (IsPlayer self.new) }
         ensures passes { OnOk result
             (PassesTick ms closing self.old self.new (L.told link.old) (L.told link.new)) }
+        ensures memory { OnErr result (IsTrue L.takes_memory) }
         ensures link { KeepsLink L.opened_with L.faults link.old link.new }
     {
         let Player {
@@ -272,6 +273,7 @@ impl<'c> Player<'c> {
         ensures player { OnOk result (IsPlayer self.new) }
         ensures ends { OnOk result
             (PassesTick 0 true self.old self.new (L.told link.old) (L.told link.new)) }
+        ensures memory { OnErr result (IsTrue L.takes_memory) }
         ensures link { KeepsLink L.opened_with L.faults link.old link.new }
     {
         self.tick(rt, 0, true, link)

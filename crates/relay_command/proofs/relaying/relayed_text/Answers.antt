@@ -9,26 +9,26 @@ use Rattle.relay_command.proofs.relaying.relayed_text.Goals as goal
 pub play-requires-clause-relayed : goal.play-requires-clause-relayed
 play-requires-clause-relayed g c =
     let a = c.args.accepted.now in
-    (a.first, a.second, c.requires.script, c.in_ok-relay.ensures.new.relayed _ _ c.in_ok-open_link.ensures.empty c.in_ok-open_link-2.ensures.empty)
+    (a.first, a.second, c.requires.script, c.in_ok-relay.ensures.new.relayed _ _ c.in_ok-open_link.ensures.empty c.in_ok-open_again.ensures.empty)
 
 pub end-requires-clause-holds : goal.end-requires-clause-holds
 end-requires-clause-holds g c =
     let a = c.args.accepted.now in
-    let begun = c.in_ok-relay.ensures.new.relayed _ _ c.in_ok-open_link.ensures.empty c.in_ok-open_link-2.ensures.empty in
+    let begun = c.in_ok-relay.ensures.new.relayed _ _ c.in_ok-open_link.ensures.empty c.in_ok-open_again.ensures.empty in
     let h = c.in_ok-play.ensures.relayed a.first a.second c.requires.script begun in
     (a.second, holds-relay a.first a.second a.script _ _ _ c.play.new.self h)
 
 pub end-requires-clause-may : goal.end-requires-clause-may
 end-requires-clause-may g c =
     let a = c.args.accepted.now in
-    let begun = c.in_ok-relay.ensures.new.relayed _ _ c.in_ok-open_link.ensures.empty c.in_ok-open_link-2.ensures.empty in
+    let begun = c.in_ok-relay.ensures.new.relayed _ _ c.in_ok-open_link.ensures.empty c.in_ok-open_again.ensures.empty in
     let h = c.in_ok-play.ensures.relayed a.first a.second c.requires.script begun in
     may-close a.first a.script _ c.play.new.self.player h.played
 
 pub close-requires : goal.close-requires
 close-requires g c =
     let a = c.args.accepted.now in
-    let begun = c.in_ok-relay.ensures.new.relayed _ _ c.in_ok-open_link.ensures.empty c.in_ok-open_link-2.ensures.empty in
+    let begun = c.in_ok-relay.ensures.new.relayed _ _ c.in_ok-open_link.ensures.empty c.in_ok-open_again.ensures.empty in
     let h = c.in_ok-play.ensures.relayed a.first a.second c.requires.script begun in
     let e = c.in_ok-end.ensures.relays a.second (holds-relay a.first a.second a.script _ _ _ c.play.new.self h) in
     record { player = e.behind.player }
@@ -36,7 +36,7 @@ close-requires g c =
 pub text_of-requires-clause-closed : goal.text_of-requires-clause-closed
 text_of-requires-clause-closed g c =
     let a = c.args.accepted.now in
-    let begun = c.in_ok-relay.ensures.new.relayed _ _ c.in_ok-open_link.ensures.empty c.in_ok-open_link-2.ensures.empty in
+    let begun = c.in_ok-relay.ensures.new.relayed _ _ c.in_ok-open_link.ensures.empty c.in_ok-open_again.ensures.empty in
     let h = c.in_ok-play.ensures.relayed a.first a.second c.requires.script begun in
     let e = c.in_ok-end.ensures.relays a.second (holds-relay a.first a.second a.script _ _ _ c.play.new.self h) in
     closed-of c.passes_show_what_is_collected.ensures c.histories_are_the_models.ensures.rows c.a_closed_session_tells_the_headline.ensures a.first a.second a.script c.requires.script
@@ -45,7 +45,7 @@ text_of-requires-clause-closed g c =
 pub text_of-requires-clause-second : goal.text_of-requires-clause-second
 text_of-requires-clause-second g c =
     let a = c.args.accepted.now in
-    let begun = c.in_ok-relay.ensures.new.relayed _ _ c.in_ok-open_link.ensures.empty c.in_ok-open_link-2.ensures.empty in
+    let begun = c.in_ok-relay.ensures.new.relayed _ _ c.in_ok-open_link.ensures.empty c.in_ok-open_again.ensures.empty in
     let h = c.in_ok-play.ensures.relayed a.first a.second c.requires.script begun in
     let e = c.in_ok-end.ensures.relays a.second (holds-relay a.first a.second a.script _ _ _ c.play.new.self h) in
     record {
@@ -57,7 +57,7 @@ text_of-requires-clause-second g c =
 pub returns-clause-text : goal.returns-clause-text
 returns-clause-text g c =
     let a = c.args.accepted.now in
-    let begun = c.in_ok-relay.ensures.new.relayed _ _ c.in_ok-open_link.ensures.empty c.in_ok-open_link-2.ensures.empty in
+    let begun = c.in_ok-relay.ensures.new.relayed _ _ c.in_ok-open_link.ensures.empty c.in_ok-open_again.ensures.empty in
     let h = c.in_ok-play.ensures.relayed a.first a.second c.requires.script begun in
     let e = c.in_ok-end.ensures.relays a.second (holds-relay a.first a.second a.script _ _ _ c.play.new.self h) in
     relayed c.passes_show_what_is_collected.ensures c.histories_are_the_models.ensures.rows c.a_closed_session_tells_the_headline.ensures a.first a.second a.script c.requires.script

@@ -10,3 +10,6 @@ pub returns-clause-pullable : goal.returns-clause-pullable
 returns-clause-pullable c =
     λ zero_start. answer_is_pullable c.args.self.now.ring c.args.now c.args.start c.args.count c.answer.result c.answer.ensures.answer zero_start
     (record { accepted = c.answer.ensures.accepted; served = c.args.self.now.served; in_memory = c.answer.ensures.in_memory })
+
+pub returns-clause-served : goal.returns-clause-served
+returns-clause-served c = record { accepted = c.answer.ensures.accepted; served = c.args.self.now.served; in_memory = c.answer.ensures.in_memory }
