@@ -1,5 +1,5 @@
 -- What holds of a player between its calls, what each call asks for, and what it makes of the player. Lists of lines and of steps have the latest first.
-use Rattle.std.specs.Prelude.{◌≡◌, ◌≢◌, ⊤, ℕ, ◌+◌, ◌<◌, ◌≤◌, ◌==◌, List, [], ◌∷◌, ◌++◌, length, map, replicate, reverse, slice_get, slice_index_or, slice_set, Bool, true, false, Option, Some, option_map}
+use Rattle.std.specs.Prelude.{◌≡◌, ◌≢◌, ⊤, ℕ, ◌+◌, ◌<◌, ◌≤◌, ◌==◌, List, [], ◌∷◌, ◌++◌, length, map, replicate, reverse, slice_get, slice_index_or, slice_set, Bool, true, false, not, Option, Some, option_map}
 use Rattle.std.specs.List.{filter, range_with_len, HoldsAt, All}
 use Rattle.dataset_meta.specs.declared.field.Field.{Field}
 use Rattle.dataset_meta.specs.Metas.{MetaData}

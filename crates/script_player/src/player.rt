@@ -1,5 +1,5 @@
 //! What plays the lines of a script, one by one.
-ghost use Rattle.std.specs.Prelude.{◌≡◌, ◌<◌, ◌≤◌, [], ℕ, length, map, replicate, reverse, slice_get, slice_index, All, IsSome, IfOk, OnOk, Some, List, true, false};
+ghost use Rattle.std.specs.Prelude.{◌≡◌, ◌<◌, ◌≤◌, [], ℕ, length, map, replicate, reverse, slice_get, slice_index, All, IsSome, IsTrue, IfOk, OnErr, OnOk, Some, List, true, false};
 ghost use Rattle.ua_base.specs.Links.{KeepsLink};
 ghost use Rattle.version_cell.specs.Passes.{SeesMore};
 ghost use Rattle.version_cell.specs.Sets.{ArePassesOf, pass_at};

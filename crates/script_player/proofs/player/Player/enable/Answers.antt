@@ -1,6 +1,7 @@
 use Rattle.std.proofs.Common.{Bool, refl, ap, ◌∙◌}
 use Rattle.std.specs.Prelude.{if◌then◌else◌}
 use Rattle.pubsub_states.specs.declared.tree.Switched.TheVariants.{Done, InvalidState}
+use Rattle.pubsub_engine.specs.declared.session.Session.{Session}
 use Rattle.script_player.proofs.Staying.{player-stays}
 use Rattle.script_player.proofs.player.Player.enable.Goals as goal
 
@@ -11,6 +12,7 @@ returns c =
       player = player-stays c.args.self.now c.enable.new.self c.requires.player e.session e.passes;
       switches = record {
         stands = λ p steps stands is. e.stands (e.answer p steps stands ∙ ap (λ (on : Bool). if on then InvalidState else Done) is) p steps stands;
+        stays = λ p steps stands is. ap (λ (session : Session). record c.args.self.now { session = session }) (e.refused (e.answer p steps stands ∙ ap (λ (on : Bool). if on then InvalidState else Done) is));
         keeps = e.passes;
         left = e.left;
         appends = e.appends;

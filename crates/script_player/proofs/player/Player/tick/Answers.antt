@@ -15,5 +15,6 @@ returns g c =
     record {
       player = on_ok_weaker r (λ k. player-passed c.args.ms c.args.closing player c.pass.new.session told after c.requires.player k.1.1.1 k.0 k.1.1.0 k.1.0) known;
       passes = on_ok_weaker r (λ on. record { by = on; rest = refl }) e.passes;
+      memory = e.memory;
       link = e.link;
     }
