@@ -7,6 +7,7 @@ ghost use Rattle.row_words.specs.Belonging.{Belongs, row_in};
 ghost use Rattle.row_words.specs.Patches.{IsPatchOf, patch_in, patched_words};
 ghost use Rattle.key_delta.specs.Changes.{changes_upto};
 
+use crate::passing::passed;
 use dataset_meta::Meta;
 use row_words::{Patch, Row, is_scalar};
 
@@ -57,7 +58,8 @@ fn next_changed(meta: &Meta, old: &Row, new: &Row, from: usize) -> usize
         (row_in meta.now.fields new.now.words) result) (row_in meta.now.fields old.now.words) result }
 {
     let fields = meta.fields();
-    for index in from..fields.len() {
+    let first = passed(meta, old, new, from);
+    for index in first..fields.len() {
         if differs_at(meta, index as u8, old, new) {
             return index;
         }

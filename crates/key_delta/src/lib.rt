@@ -4,6 +4,7 @@
 mod changes;
 mod copying;
 mod laws;
+mod passing;
 
 pub use changes::{apply, changed, is_changed, mark_changes};
 pub use copying::{clear_front, copy_front, wider};
