@@ -1,5 +1,5 @@
 -- The words of one field among those of two rows, and the words of whole rows.
-use Rattle.std.proofs.Common.{◌≡◌, ◌≢◌, ℕ, ◌+◌, ◌-◌, ◌<◌, Bool, true, false, not, ◌&&◌, ◌==◌, List, [], ◌∷◌, ◌++◌, length, take, drop, get_or, replicate, refl, sym, ap, ◌∙◌, subst, arith, ◌↔◌}
+use Rattle.std.proofs.Common.{◌≡◌, ℕ, ◌+◌, ◌-◌, ◌<◌, Bool, true, false, not, ◌&&◌, ◌==◌, List, [], ◌∷◌, ◌++◌, length, take, drop, get_or, replicate, refl, sym, ap, ◌∙◌, subst, arith, ◌↔◌}
 use Rattle.std.specs.List.{HoldsAt}
 use Rattle.std.specs.Str.{bytes_eq}
 use Rattle.std.proofs.lemmas.Slice.Eq.{bytes_eq-Decides}
@@ -121,13 +121,3 @@ fronts meta words belongs =
     let front : take (words_of meta.fields) words ≡ spelled_parts meta.fields row =
     ap (take (words_of meta.fields)) belongs.spelled ∙ take_at (spelled_parts meta.fields row) zeros (words_of meta.fields) long in
     belongs.spelled ∙ ap (λ (ws : List ℕ). ws ++ zeros) (sym front) ∙ ap (λ (n : ℕ). take (words_of meta.fields) words ++ replicate (125 - n) 0) long
-
--- whether the first words differ
-pub record IsUpTo (one other : List ℕ) (count : ℕ) (differs : Bool) : Type 0 where
-  pub apart : differs ≡ true → one ≢ other
-  pub same : differs ≡ false → take count one ≡ take count other
-
-pub same_fronts : (meta : MetaData) (one other : List ℕ) (count : ℕ) → Belongs meta one → Belongs meta other → count ≡ words_of meta.fields → take count one ≡ take count other → one ≡ other
-same_fronts meta one other count of_one of_other all same =
-    let same_words = subst (λ (n : ℕ). take n one ≡ take n other) all same in
-    fronts meta one of_one ∙ ap (λ (ws : List ℕ). ws ++ replicate (125 - words_of meta.fields) 0) same_words ∙ sym (fronts meta other of_other)

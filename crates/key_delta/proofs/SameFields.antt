@@ -1,7 +1,6 @@
 -- Fields whose words are the same.
-use Rattle.std.proofs.Common.{◌≡◌, ℕ, zero, suc, ◌+◌, ◌-◌, ◌<◌, ◌≤◌, Bool, true, false, not, List, [], ◌∷◌, length, take, drop, get_or, refl, sym, ap, ◌∙◌, subst, arith}
+use Rattle.std.proofs.Common.{◌≡◌, ℕ, zero, suc, ◌+◌, ◌-◌, ◌<◌, ◌≤◌, false, not, List, [], ◌∷◌, length, take, drop, get_or, refl, sym, ap, ◌∙◌, subst, arith}
 use Rattle.std.specs.Prelude.{sum_by}
-use Rattle.std.specs.Str.{bytes_eq}
 use Rattle.std.proofs.lemmas.Slice.Eq.{bytes_eq-Decides}
 use Rattle.std.proofs.lemmas.List.{drop-drop, drop-take, take-take, take_all, length-take}
 use Rattle.std.proofs.lemmas.List.Sums.{sum_by_more, sum_by-take-le}
@@ -9,7 +8,7 @@ use Rattle.dataset_meta.specs.declared.field.Field.{Field}
 use Rattle.dataset_meta.specs.DataValues.{DataValue}
 use Rattle.dataset_meta.specs.Fields.{width_of}
 use Rattle.dataset_meta.specs.Metas.{start_of, value_words, IsMeta, MetaData}
-use Rattle.dataset_meta.specs.SameValues.{same_value, same_data_value}
+use Rattle.dataset_meta.specs.SameValues.{same_data_value}
 use Rattle.dataset_meta.proofs.RowLaws.{length_row}
 use Rattle.row_words.specs.Belonging.{row_in, Belongs}
 use Rattle.row_words.proofs.FieldLaws.{stands}

@@ -7,7 +7,8 @@ ghost use Rattle.row_words.specs.Belonging.{Belongs, row_in};
 ghost use Rattle.row_words.specs.Patches.{IsPatchOf, patch_in, patched_words};
 ghost use Rattle.key_delta.specs.Changes.{changes_upto};
 
-use crate::passing::passed;
+use crate::copying::used_words;
+use crate::passing::{passed, same_front};
 use dataset_meta::Meta;
 use row_words::{Patch, Row, is_scalar};
 
@@ -36,10 +37,14 @@ pub fn mark_changes(meta: &Meta, old: &Row, new: &Row, patch: &mut Patch)
         ≡ differs (row_in meta.now.fields old.now.words) (row_in meta.now.fields new.now.words) }
 {
     let count = meta.fields().len();
-    let mut index = next_changed(meta, old, new, 0);
+    let mut index = 0;
     while index < count {
-        patch.mark(meta, index as u8, new);
-        index = next_changed(meta, old, new, index + 1);
+        let next = next_changed(meta, old, new, index);
+        if next == count {
+            return;
+        }
+        patch.mark(meta, next as u8, new);
+        index = next + 1;
     }
 }
 
@@ -79,20 +84,15 @@ pub fn apply(meta: &Meta, row: &mut Row, patch: &Patch)
     patch.lay(meta, row);
 }
 
-/// Whether two rows differ in any field. Behind the words of the meta both have zeros. Each word is compared, with no branch, so
-/// that several are compared at a time.
+/// Whether two rows differ in any field. Behind the words that are compared both have zeros.
 pub fn is_changed(meta: &Meta, old: &Row, new: &Row) -> bool
     requires old { Belongs meta.now old.now.words }
     requires new { Belongs meta.now new.now.words }
     ensures changed { result ≡ true → old.now.words ≢ new.now.words }
     ensures same { result ≡ false → old.now.words ≡ new.now.words }
 {
-    prove!(meta.words() <= 125);
-    let mut differs = false;
-    for index in 0..meta.words() as usize {
-        differs |= old.words[index] != new.words[index];
-    }
-    differs
+    let count = used_words(meta) as usize;
+    same_front(&old.words[..count], &new.words[..count]) < count
 }
 
 #[inline(always)]

@@ -23,6 +23,9 @@ pub(crate) fn passed(meta: &Meta, old: &Row, new: &Row, from: usize) -> usize
         return from;
     }
     let begin = usize::from(meta.start(from as u8));
+    if old.words[begin] != new.words[begin] {
+        return from;
+    }
     let end = meta.value_words() as usize;
     let same = same_front(&old.words[begin..end], &new.words[begin..end]);
     if begin + same == end {

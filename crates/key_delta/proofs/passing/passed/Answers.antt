@@ -1,4 +1,4 @@
-use Rattle.std.proofs.Common.{◌≡◌, ◌≤◌, ◌+◌, refl, sym, ◌∙◌, arith, length}
+use Rattle.std.proofs.Common.{◌≡◌, refl, sym, ◌∙◌, arith, length}
 use Rattle.dataset_meta.specs.Metas.{start_of, value_words}
 use Rattle.key_delta.proofs.SameFields.{passes_to, start_last}
 use Rattle.key_delta.proofs.passing.passed.Goals as goal
