@@ -1,5 +1,5 @@
 //! Changes between rows.
-ghost use Rattle.std.specs.Prelude.{◌≡◌, ◌≢◌, ◌<◌, ◌≤◌, [], true, false, not, length};
+ghost use Rattle.std.specs.Prelude.{◌≡◌, ◌≢◌, ◌<◌, ◌≤◌, ◌+◌, [], true, false, not, length};
 ghost use Rattle.std.specs.List.{HoldsAt};
 ghost use Rattle.dataset_meta.specs.Rows.{patched, differs};
 ghost use Rattle.dataset_meta.specs.SameValues.{same_value, same_data_value};
@@ -39,37 +39,31 @@ pub fn mark_changes(meta: &Meta, old: &Row, new: &Row, patch: &mut Patch)
     let count = meta.fields().len();
     let mut index = 0;
     while index < count {
-        let next = next_changed(meta, old, new, index);
+        let next = passed(meta, old, new, index);
         if next == count {
             return;
         }
-        patch.mark(meta, next as u8, new);
+        mark_changed(meta, next as u8, old, new, patch);
         index = next + 1;
     }
 }
 
-/// The first field from this index on that differs, or how many there are. It writes nothing, so that the fields that don't
-/// differ are passed fast.
-fn next_changed(meta: &Meta, old: &Row, new: &Row, from: usize) -> usize
+/// Marks the field at this index, where it differs.
+#[inline(always)]
+fn mark_changed(meta: &Meta, index: u8, old: &Row, new: &Row, patch: &mut Patch)
     requires old { Belongs meta.now old.now.words }
     requires new { Belongs meta.now new.now.words }
-    requires from { from ≤ length meta.now.fields }
-    ensures within { result ≤ length meta.now.fields }
-    ensures ahead { from ≤ result }
-    ensures same { changes_upto result (row_in meta.now.fields old.now.words) (row_in meta.now.fields new.now.words)
-        ≡ changes_upto from (row_in meta.now.fields old.now.words) (row_in meta.now.fields new.now.words) }
-    ensures differs { result < length meta.now.fields
-        → HoldsAt (λ before. HoldsAt (λ after. true ≡ not (same_data_value before after))
-        (row_in meta.now.fields new.now.words) result) (row_in meta.now.fields old.now.words) result }
+    requires index { index < length meta.now.fields }
+    requires of { IsPatchOf meta.now patch.old }
+    requires marked { patch_in meta.now.fields patch.old
+        ≡ changes_upto index (row_in meta.now.fields old.now.words) (row_in meta.now.fields new.now.words) }
+    ensures of { IsPatchOf meta.now patch.new }
+    ensures marked { patch_in meta.now.fields patch.new
+        ≡ changes_upto (index + 1) (row_in meta.now.fields old.now.words) (row_in meta.now.fields new.now.words) }
 {
-    let fields = meta.fields();
-    let first = passed(meta, old, new, from);
-    for index in first..fields.len() {
-        if differs_at(meta, index as u8, old, new) {
-            return index;
-        }
+    if differs_at(meta, index, old, new) {
+        patch.mark(meta, index, new);
     }
-    fields.len()
 }
 
 /// Gives each field that the patch marks its new value and status, and leaves the others.

@@ -2,26 +2,44 @@
 ghost use Rattle.std.specs.Prelude.{◌≡◌, ◌≢◌, ◌<◌, ◌≤◌, ◌+◌, true, length, take};
 ghost use Rattle.dataset_meta.specs.Metas.{start_of};
 ghost use Rattle.row_words.specs.Belonging.{Belongs, row_in};
-ghost use Rattle.key_delta.specs.Changes.{changes_upto};
+ghost use Rattle.key_delta.specs.Changes.{changes_upto, HaveSameValues, HaveSameStatuses};
 
 use dataset_meta::Meta;
 use row_words::Row;
 
-/// A field before which, from this one on, none differs. The words of the values are compared, and then the field is sought that
-/// has the first word that differs. Of a data set with statuses no field is passed.
+/// A field before which, from this one on, none differs. It is sought by words; the field itself may be the same.
+#[inline(always)]
 pub(crate) fn passed(meta: &Meta, old: &Row, new: &Row, from: usize) -> usize
     requires old { Belongs meta.now old.now.words }
     requires new { Belongs meta.now new.now.words }
-    requires from { from ≤ length meta.now.fields }
+    requires from { from < length meta.now.fields }
     ensures within { result ≤ length meta.now.fields }
     ensures ahead { from ≤ result }
     ensures same { changes_upto result (row_in meta.now.fields old.now.words) (row_in meta.now.fields new.now.words)
         ≡ changes_upto from (row_in meta.now.fields old.now.words) (row_in meta.now.fields new.now.words) }
 {
-    let count = meta.fields().len();
-    if meta.quality() || from == count {
+    prove!(!meta.fields().is_empty());
+    if !meta.quality() {
+        return values_passed(meta, old, new, from);
+    }
+    let place = meta.value_words() as usize + from / 2;
+    if old.words[place] != new.words[place] {
         return from;
     }
+    let values = values_passed(meta, old, new, from);
+    statuses_passed(meta, old, new, from, values)
+}
+
+/// A field before which, from this one on, no value differs.
+fn values_passed(meta: &Meta, old: &Row, new: &Row, from: usize) -> usize
+    requires old { Belongs meta.now old.now.words }
+    requires new { Belongs meta.now new.now.words }
+    requires from { from < length meta.now.fields }
+    ensures within { result ≤ length meta.now.fields }
+    ensures ahead { from ≤ result }
+    ensures same { HaveSameValues meta.now.fields from result old.now.words new.now.words }
+{
+    let count = meta.fields().len();
     let begin = usize::from(meta.start(from as u8));
     if old.words[begin] != new.words[begin] {
         return from;
@@ -32,6 +50,30 @@ pub(crate) fn passed(meta: &Meta, old: &Row, new: &Row, from: usize) -> usize
         return count;
     }
     field_of(meta, from, same)
+}
+
+/// A field before which, from this one on, no status differs, and none behind `to`.
+fn statuses_passed(meta: &Meta, old: &Row, new: &Row, from: usize, to: usize) -> usize
+    requires old { Belongs meta.now old.now.words }
+    requires new { Belongs meta.now new.now.words }
+    requires from { from ≤ to }
+    requires to { to ≤ length meta.now.fields }
+    ensures within { result ≤ to }
+    ensures ahead { from ≤ result }
+    ensures same { HaveSameStatuses meta.now.fields from result old.now.words new.now.words }
+{
+    prove!(!meta.fields().is_empty());
+    let begin = meta.value_words() as usize + from / 2;
+    let end = meta.value_words() as usize + (to + 1) / 2;
+    let same = same_front(&old.words[begin..end], &new.words[begin..end]);
+    let first = 2 * (from / 2 + same);
+    if first < from {
+        from
+    } else if first < to {
+        first
+    } else {
+        to
+    }
 }
 
 /// A field that starts no more than so many words behind the one at this index. Where each takes one word it is found at once.

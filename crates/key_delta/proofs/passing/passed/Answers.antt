@@ -1,20 +1,13 @@
-use Rattle.std.proofs.Common.{◌≡◌, refl, sym, ◌∙◌, arith, length}
-use Rattle.dataset_meta.specs.Metas.{start_of, value_words}
-use Rattle.key_delta.proofs.SameFields.{passes_to, start_last}
+use Rattle.std.proofs.Common.{sym, ◌∙◌}
+use Rattle.key_delta.proofs.SameFields.{values_pass, both_pass}
 use Rattle.key_delta.proofs.passing.passed.Goals as goal
 
-pub returns-then-begin-same-clause-same : goal.returns-then-begin-same-clause-same
-returns-then-begin-same-clause-same c =
-    let fields = c.args.meta.now.fields in
-    let begins : c.from-begin.result ≡ start_of fields c.args.from = c.from-begin.ensures ∙ c.start.ensures in
-    let all : length c.fields-count.result.now ≡ length fields = rw c.fields-count.ensures.fields refl in
-    let last : start_of fields (length c.fields-count.result.now) ≡ value_words fields = rw all (start_last fields) in
-    passes_to c.args.meta.now c.args.old.now.words c.args.new.now.words c.args.from (length c.fields-count.result.now) c.from-begin.result _ c.same_front-same.result c.fields-count.ensures.meta c.requires.old c.requires.new
-    (sym c.quality.ensures ∙ c.if-quality.false) (omega (arith, all, c.requires.from)) (omega (arith, all)) begins (omega (arith, last, c.if-begin-same.true, c.value_words-end.ensures)) c.same_front-same.ensures.within c.same_front-same.ensures.same
+pub returns-then-not-quality-clause-same : goal.returns-then-not-quality-clause-same
+returns-then-not-quality-clause-same c =
+    values_pass c.args.meta.now c.args.old.now.words c.args.new.now.words c.args.from c.values_passed.result c.fields.ensures.meta c.requires.old c.requires.new
+    (sym c.quality.ensures ∙ c.if-not-quality.true) c.values_passed.ensures.ahead c.values_passed.ensures.within c.values_passed.ensures.same
 
 pub returns-clause-same : goal.returns-clause-same
 returns-clause-same c =
-    let fields = c.args.meta.now.fields in
-    let begins : c.from-begin.result ≡ start_of fields c.args.from = c.from-begin.ensures ∙ c.start.ensures in
-    passes_to c.args.meta.now c.args.old.now.words c.args.new.now.words c.args.from c.field_of.result c.from-begin.result _ c.same_front-same.result c.fields-count.ensures.meta c.requires.old c.requires.new
-    (sym c.quality.ensures ∙ c.if-quality.false) c.field_of.ensures.ahead (omega (arith, c.field_of.ensures.within)) begins (omega (arith, begins, c.field_of.ensures.begins)) c.same_front-same.ensures.within c.same_front-same.ensures.same
+    both_pass c.args.meta.now c.args.old.now.words c.args.new.now.words c.args.from c.statuses_passed.result c.values_passed-values.result c.fields.ensures.meta c.requires.old c.requires.new
+    c.statuses_passed.ensures.ahead c.statuses_passed.ensures.within c.values_passed-values.ensures.within c.statuses_passed.ensures.same c.values_passed-values.ensures.same
