@@ -1,11 +1,9 @@
 -- What stands behind the words that are used of what a writer keeps.
-use Rattle.std.proofs.Common.{◌≡◌, ℕ, ◌≤◌, replicate, refl, sym, subst, arith}
-use Rattle.dataset_meta.specs.Metas.{MetaData, words_of}
+use Rattle.std.proofs.Common.{◌≡◌, ℕ, replicate, refl, sym, subst, arith}
 use Rattle.row_words.specs.declared.row.Row.{Row}
 use Rattle.row_words.specs.declared.patch.Patch.{Patch}
-use Rattle.row_words.specs.Patches.{IsPatchOf}
 use Rattle.key_delta.specs.Fronts.{HasZerosBehind}
-use Rattle.key_delta.proofs.FrontLaws.{belongs_behind, opening_behind}
+use Rattle.key_delta.proofs.FrontLaws.{opening_behind}
 use Rattle.frame_codec.specs.declared.frame.FrameKind.{FrameKind}
 use Rattle.frame_codec.specs.declared.frame.FrameKind.TheVariants as kinds
 use Rattle.dataset_writer.specs.declared.sends.Sends.{Sends}
@@ -16,9 +14,8 @@ use Rattle.dataset_writer.specs.Sends.{EndsInZeros}
 pub whole_behind : (used : ℕ) (kind : FrameKind) (row : Row) → kind ≡ kinds.Whole row → HasZerosBehind used row.words → HasZerosBehind used (words_of_kind kind)
 whole_behind used kind row is behind = subst (λ (k : FrameKind). HasZerosBehind used (words_of_kind k)) (sym is) behind
 
-pub change_behind : (meta : MetaData) (used : ℕ) (kind : FrameKind) (patch : Patch) → kind ≡ kinds.Change patch → IsPatchOf meta patch → words_of meta.fields ≤ used → used ≤ 125 → HasZerosBehind used (words_of_kind kind)
-change_behind meta used kind patch is of covers narrow =
-    subst (λ (k : FrameKind). HasZerosBehind used (words_of_kind k)) (sym is) (belongs_behind meta patch.row.words used of.belongs covers narrow)
+pub change_behind : (used : ℕ) (kind : FrameKind) (patch : Patch) → kind ≡ kinds.Change patch → HasZerosBehind used patch.row.words → HasZerosBehind used (words_of_kind kind)
+change_behind used kind patch is behind = subst (λ (k : FrameKind). HasZerosBehind used (words_of_kind k)) (sym is) behind
 
 -- what is kept, after a frame was sent
 pub data_ends : (old new : Sends) (row : Row) → EndsInZeros old → HasZerosBehind old.used row.words → new.used ≡ old.used → new.row ≡ row → new.frame.kind ≡ old.frame.kind → EndsInZeros new

@@ -10,8 +10,8 @@ ghost use Rattle.dataset_writer.specs.Kinds.{words_of_kind};
 
 use dataset_meta::Meta;
 use frame_codec::FrameKind;
-use key_delta::{changed, clear_front, copy_front, mark_changes};
-use row_words::Row;
+use key_delta::{clear_front, copy_front, mark_changes};
+use row_words::{Patch, Row};
 
 /// Makes what a frame is a key frame of this row.
 pub(crate) fn make_whole(kind: &mut FrameKind, row: &Row, used: u32)
@@ -20,9 +20,12 @@ pub(crate) fn make_whole(kind: &mut FrameKind, row: &Row, used: u32)
     requires row { HasZerosBehind used row.now.words }
     ensures { kind.new ≡ FrameKind.Whole row.now }
 {
+    if !matches!(kind, FrameKind::Whole(_)) {
+        *kind = FrameKind::Whole(Row::opening());
+    }
     match kind {
         FrameKind::Whole(kept) => copy_front(row, used, kept),
-        _ => *kind = FrameKind::Whole(*row),
+        _ => unreachable!(),
     }
 }
 
@@ -39,10 +42,11 @@ pub(crate) fn make_change(kind: &mut FrameKind, meta: &Meta, old: &Row, new: &Ro
 {
     prove!(!meta.fields().is_empty());
     match kind {
-        FrameKind::Change(patch) => {
-            clear_front(patch, used);
-            mark_changes(meta, old, new, patch);
-        }
-        _ => *kind = FrameKind::Change(changed(meta, old, new)),
+        FrameKind::Change(patch) => clear_front(patch, used),
+        _ => *kind = FrameKind::Change(Patch::empty()),
+    }
+    match kind {
+        FrameKind::Change(patch) => mark_changes(meta, old, new, patch),
+        _ => unreachable!(),
     }
 }

@@ -9,7 +9,7 @@ ghost use Rattle.dataset_meta.specs.Rows.{differs};
 use crate::kept::{make_change, make_whole};
 use dataset_meta::Meta;
 use frame_codec::{Frame, FrameKind};
-use key_delta::{copy_front, wider};
+use key_delta::{copy_front, covering};
 use row_words::Row;
 use seq_number::Count;
 use std::alloc::Global;
@@ -71,7 +71,7 @@ impl Sends {
         ensures room { vec_capacity self.old.log ≤ vec_capacity self.new.log }
         ensures zeros { EndsInZeros self.new }
     {
-        self.used = wider(self.used, meta);
+        self.used = covering(self.used, meta);
         make_whole(&mut self.frame.kind, row, self.used);
         self.data(meta, versions, now, row, version);
     }
@@ -93,7 +93,7 @@ impl Sends {
         ensures room { vec_capacity self.old.log ≤ vec_capacity self.new.log }
         ensures zeros { EndsInZeros self.new }
     {
-        self.used = wider(self.used, meta);
+        self.used = covering(self.used, meta);
         make_change(&mut self.frame.kind, meta, &self.row, row, self.used);
         self.data(meta, versions, now, row, version);
     }

@@ -1,5 +1,6 @@
 -- The words of one field among those of two rows, and the words of whole rows.
-use Rattle.std.proofs.Common.{◌≡◌, ◌≢◌, ℕ, ◌+◌, ◌-◌, ◌<◌, Bool, true, false, not, ◌&&◌, ◌==◌, List, [], ◌∷◌, ◌++◌, length, take, drop, get_or, replicate, refl, sym, ap, ◌∙◌, subst, arith, ◌↔◌}
+use Rattle.std.proofs.Common.{◌≡◌, ℕ, ◌+◌, ◌-◌, ◌/◌, ◌%◌, ◌^◌, ◌<◌, Bool, true, false, not, ◌&&◌, ◌==◌, List, [], ◌∷◌, ◌++◌, length, take, drop, get_or, replicate, refl, sym, ap, ◌∙◌, subst, arith, ◌↔◌}
+use Rattle.std.specs.Prelude.{slice_index}
 use Rattle.std.specs.List.{HoldsAt}
 use Rattle.std.specs.Str.{bytes_eq}
 use Rattle.std.proofs.lemmas.Slice.Eq.{bytes_eq-Decides}
@@ -9,15 +10,16 @@ use Rattle.ua_values.specs.declared.value.Value.{Value}
 use Rattle.dataset_meta.specs.declared.field.Field.{Field}
 use Rattle.dataset_meta.specs.DataValues.{DataValue}
 use Rattle.dataset_meta.specs.Fields.{width_of}
-use Rattle.dataset_meta.specs.Metas.{start_of, words_of, IsMeta, MetaData}
+use Rattle.dataset_meta.specs.Metas.{start_of, value_words, words_of, IsMeta, MetaData}
 use Rattle.dataset_meta.specs.Rows.{IsRowOf}
 use Rattle.dataset_meta.specs.SameValues.{same_value, same_data_value}
 use Rattle.dataset_meta.proofs.SameLaws.{same_value-true, same_value-refl}
+use Rattle.row_words.specs.Digits.{digits_of}
 use Rattle.row_words.specs.Words.{spelled_value, value_in, scalar_in, IsWordOf}
 use Rattle.row_words.specs.Belonging.{spelled_parts, spelled_row, row_in, Belongs}
 use Rattle.row_words.specs.Setting.{HasValue}
 use Rattle.row_words.proofs.RowLaws.{Belongs-at, length-spelled_parts}
-use Rattle.row_words.proofs.FieldLaws.{StandsAt, stands, field_read}
+use Rattle.row_words.proofs.FieldLaws.{StandsAt, stands, field_read, status_read}
 use Rattle.row_words.proofs.ScalarLaws.{word_back}
 use Rattle.row_words.proofs.SettingLaws.{good_at}
 
@@ -97,19 +99,43 @@ good_case : (values statuses : Bool) → false ≡ not values → statuses ≡ t
 good_case true statuses same good = sym (ap not good)
 good_case false statuses same good = absurd (cc)
 
+-- a field's status is the same in both rows
+abbrev pub IsOneStatus : MetaData → List ℕ → List ℕ → ℕ → Type 0
+IsOneStatus meta old new index = (s : StandsAt (row_in meta.fields old) index) (t : StandsAt (row_in meta.fields new) index) → s.x.status ≡ t.x.status
+
+-- as without quality each is
+pub good_status : (meta : MetaData) (old new : List ℕ) (index : ℕ) → Belongs meta old → Belongs meta new → index < length meta.fields → meta.quality ≡ false → IsOneStatus meta old new index
+good_status meta old new index of_old of_new within none = λ s t.
+    let was : s.x.status ≡ 0 = good_at meta.fields (row_in meta.fields old) index s.x (subst (λ (q : Bool). IsRowOf q meta.fields (row_in meta.fields old)) none of_old.row) within (s.here s.x) in
+    let now : t.x.status ≡ 0 = good_at meta.fields (row_in meta.fields new) index t.x (subst (λ (q : Bool). IsRowOf q meta.fields (row_in meta.fields new)) none of_new.row) within (t.here t.x) in
+    was ∙ sym now
+
+-- and with quality where its word is the same
+pub word_status : (meta : MetaData) (old new : List ℕ) (index : ℕ) → Belongs meta old → Belongs meta new → index < length meta.fields
+    → get_or old (value_words meta.fields + index / 2) 0 ≡ get_or new (value_words meta.fields + index / 2) 0 → IsOneStatus meta old new index
+word_status meta old new index of_old of_new within same = λ s t.
+    let status_of = λ (x : DataValue). x.status in
+    let was = status_read meta old index (value_words meta.fields + index / 2) _ of_old within refl refl in
+    let now = status_read meta new index (value_words meta.fields + index / 2) _ of_new within refl refl in
+    sym (ap status_of (s.here s.x)) ∙ was s.x ∙ ap (λ (w : ℕ). slice_index (digits_of (2 ^ 32) 2 w) (index % 2)) same ∙ sym (now t.x) ∙ ap status_of (t.here t.x)
+
+-- then values tell
+pub status_tells : (meta : MetaData) (old new : List ℕ) (index : ℕ) (differs result : Bool) → Belongs meta old → Belongs meta new → index < length meta.fields → IsOneStatus meta old new index → result ≡ false → differs ≡ false
+    → Differ meta old new index (λ before after. differs ≡ not (same_value before.value after.value)) → Differ meta old new index (λ before after. result ≡ not (same_data_value before after))
+status_tells meta old new index differs result of_old of_new within one is same values =
+    let s = stands meta old index of_old within in
+    let t = stands meta new index of_new within in
+    λ d e.
+    let before = get_or (row_in meta.fields old) index d in
+    let after = get_or (row_in meta.fields new) index e in
+    let statuses : before.status ≡ after.status = ap (λ (x : DataValue). x.status) (s.here d) ∙ one s t ∙ sym (ap (λ (x : DataValue). x.status) (t.here e)) in
+    is ∙ good_case (same_value before.value after.value) (before.status == after.status) (sym same ∙ values d e) ((Decides-eqb before.status after.status).1 statuses)
+
 -- without quality no status differs
 pub good_tells : (meta : MetaData) (old new : List ℕ) (index : ℕ) (differs result : Bool) → Belongs meta old → Belongs meta new → index < length meta.fields → meta.quality ≡ false → result ≡ false → differs ≡ false
     → Differ meta old new index (λ before after. differs ≡ not (same_value before.value after.value)) → Differ meta old new index (λ before after. result ≡ not (same_data_value before after))
 good_tells meta old new index differs result of_old of_new within none is same values =
-    let s = stands meta old index of_old within in
-    let t = stands meta new index of_new within in
-    let was : s.x.status ≡ 0 = good_at meta.fields (row_in meta.fields old) index s.x (subst (λ (q : Bool). IsRowOf q meta.fields (row_in meta.fields old)) none of_old.row) within (s.here s.x) in
-    let now : t.x.status ≡ 0 = good_at meta.fields (row_in meta.fields new) index t.x (subst (λ (q : Bool). IsRowOf q meta.fields (row_in meta.fields new)) none of_new.row) within (t.here t.x) in
-    λ d e.
-    let before = get_or (row_in meta.fields old) index d in
-    let after = get_or (row_in meta.fields new) index e in
-    let statuses : before.status ≡ after.status = ap (λ (x : DataValue). x.status) (s.here d) ∙ was ∙ sym now ∙ sym (ap (λ (x : DataValue). x.status) (t.here e)) in
-    is ∙ good_case (same_value before.value after.value) (before.status == after.status) (sym same ∙ values d e) ((Decides-eqb before.status after.status).1 statuses)
+    status_tells meta old new index differs result of_old of_new within (good_status meta old new index of_old of_new within none) is same values
 
 -- the words of a row, and zeros behind them
 pub fronts : (meta : MetaData) (words : List ℕ) → Belongs meta words → words ≡ take (words_of meta.fields) words ++ replicate (125 - words_of meta.fields) 0
@@ -121,13 +147,3 @@ fronts meta words belongs =
     let front : take (words_of meta.fields) words ≡ spelled_parts meta.fields row =
     ap (take (words_of meta.fields)) belongs.spelled ∙ take_at (spelled_parts meta.fields row) zeros (words_of meta.fields) long in
     belongs.spelled ∙ ap (λ (ws : List ℕ). ws ++ zeros) (sym front) ∙ ap (λ (n : ℕ). take (words_of meta.fields) words ++ replicate (125 - n) 0) long
-
--- whether the first words differ
-pub record IsUpTo (one other : List ℕ) (count : ℕ) (differs : Bool) : Type 0 where
-  pub apart : differs ≡ true → one ≢ other
-  pub same : differs ≡ false → take count one ≡ take count other
-
-pub same_fronts : (meta : MetaData) (one other : List ℕ) (count : ℕ) → Belongs meta one → Belongs meta other → count ≡ words_of meta.fields → take count one ≡ take count other → one ≡ other
-same_fronts meta one other count of_one of_other all same =
-    let same_words = subst (λ (n : ℕ). take n one ≡ take n other) all same in
-    fronts meta one of_one ∙ ap (λ (ws : List ℕ). ws ++ replicate (125 - words_of meta.fields) 0) same_words ∙ sym (fronts meta other of_other)

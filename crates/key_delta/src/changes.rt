@@ -1,5 +1,5 @@
 //! Changes between rows.
-ghost use Rattle.std.specs.Prelude.{◌≡◌, ◌≢◌, ◌<◌, ◌≤◌, [], true, false, not, length};
+ghost use Rattle.std.specs.Prelude.{◌≡◌, ◌≢◌, ◌<◌, ◌≤◌, ◌+◌, [], true, false, not, length};
 ghost use Rattle.std.specs.List.{HoldsAt};
 ghost use Rattle.dataset_meta.specs.Rows.{patched, differs};
 ghost use Rattle.dataset_meta.specs.SameValues.{same_value, same_data_value};
@@ -7,6 +7,8 @@ ghost use Rattle.row_words.specs.Belonging.{Belongs, row_in};
 ghost use Rattle.row_words.specs.Patches.{IsPatchOf, patch_in, patched_words};
 ghost use Rattle.key_delta.specs.Changes.{changes_upto};
 
+use crate::copying::used_words;
+use crate::passing::{passed, same_front};
 use dataset_meta::Meta;
 use row_words::{Patch, Row, is_scalar};
 
@@ -35,34 +37,33 @@ pub fn mark_changes(meta: &Meta, old: &Row, new: &Row, patch: &mut Patch)
         ≡ differs (row_in meta.now.fields old.now.words) (row_in meta.now.fields new.now.words) }
 {
     let count = meta.fields().len();
-    let mut index = next_changed(meta, old, new, 0);
+    let mut index = 0;
     while index < count {
-        patch.mark(meta, index as u8, new);
-        index = next_changed(meta, old, new, index + 1);
+        let next = passed(meta, old, new, index);
+        if next == count {
+            return;
+        }
+        mark_changed(meta, next as u8, old, new, patch);
+        index = next + 1;
     }
 }
 
-/// The first field from this index on that differs, or how many there are. It writes nothing, so that the fields that don't
-/// differ are passed fast.
-fn next_changed(meta: &Meta, old: &Row, new: &Row, from: usize) -> usize
+/// Marks the field at this index, where it differs.
+#[inline(always)]
+fn mark_changed(meta: &Meta, index: u8, old: &Row, new: &Row, patch: &mut Patch)
     requires old { Belongs meta.now old.now.words }
     requires new { Belongs meta.now new.now.words }
-    requires from { from ≤ length meta.now.fields }
-    ensures within { result ≤ length meta.now.fields }
-    ensures ahead { from ≤ result }
-    ensures same { changes_upto result (row_in meta.now.fields old.now.words) (row_in meta.now.fields new.now.words)
-        ≡ changes_upto from (row_in meta.now.fields old.now.words) (row_in meta.now.fields new.now.words) }
-    ensures differs { result < length meta.now.fields
-        → HoldsAt (λ before. HoldsAt (λ after. true ≡ not (same_data_value before after))
-        (row_in meta.now.fields new.now.words) result) (row_in meta.now.fields old.now.words) result }
+    requires index { index < length meta.now.fields }
+    requires of { IsPatchOf meta.now patch.old }
+    requires marked { patch_in meta.now.fields patch.old
+        ≡ changes_upto index (row_in meta.now.fields old.now.words) (row_in meta.now.fields new.now.words) }
+    ensures of { IsPatchOf meta.now patch.new }
+    ensures marked { patch_in meta.now.fields patch.new
+        ≡ changes_upto (index + 1) (row_in meta.now.fields old.now.words) (row_in meta.now.fields new.now.words) }
 {
-    let fields = meta.fields();
-    for index in from..fields.len() {
-        if differs_at(meta, index as u8, old, new) {
-            return index;
-        }
+    if differs_at(meta, index, old, new) {
+        patch.mark(meta, index, new);
     }
-    fields.len()
 }
 
 /// Gives each field that the patch marks its new value and status, and leaves the others.
@@ -77,20 +78,15 @@ pub fn apply(meta: &Meta, row: &mut Row, patch: &Patch)
     patch.lay(meta, row);
 }
 
-/// Whether two rows differ in any field. Behind the words of the meta both have zeros. Each word is compared, with no branch, so
-/// that several are compared at a time.
+/// Whether two rows differ in any field. Behind the words that are compared both have zeros.
 pub fn is_changed(meta: &Meta, old: &Row, new: &Row) -> bool
     requires old { Belongs meta.now old.now.words }
     requires new { Belongs meta.now new.now.words }
     ensures changed { result ≡ true → old.now.words ≢ new.now.words }
     ensures same { result ≡ false → old.now.words ≡ new.now.words }
 {
-    prove!(meta.words() <= 125);
-    let mut differs = false;
-    for index in 0..meta.words() as usize {
-        differs |= old.words[index] != new.words[index];
-    }
-    differs
+    let count = used_words(meta) as usize;
+    same_front(&old.words[..count], &new.words[..count]) < count
 }
 
 #[inline(always)]

@@ -22,6 +22,32 @@ pub fn wider(used: u32, meta: &Meta) -> u32
     if used < words { words } else { used }
 }
 
+/// So many words, or those that a row of this meta uses, where they are more: without quality no more than those of its values.
+#[inline(always)]
+pub fn covering(used: u32, meta: &Meta) -> u32
+    requires { used ≤ 125 }
+    ensures grows { used ≤ result }
+    ensures narrow { result ≤ 125 }
+    ensures zeros { (words : List ℕ) → Belongs meta.now words → HasZerosBehind result words }
+{
+    let words = used_words(meta);
+    if used < words { words } else { used }
+}
+
+/// Behind how many words each row of this meta has zeros. Without quality its statuses are zero too.
+#[inline(always)]
+pub(crate) fn used_words(meta: &Meta) -> u32
+    ensures narrow { result ≤ 125 }
+    ensures zeros { (words : List ℕ) → Belongs meta.now words → HasZerosBehind result words }
+{
+    prove!(!meta.fields().is_empty());
+    if meta.quality() {
+        meta.words()
+    } else {
+        meta.value_words()
+    }
+}
+
 /// Makes a row another one, where both have zeros behind the first `count` words. No more than these are copied.
 pub fn copy_front(from: &Row, count: u32, to: &mut Row)
     requires count { count ≤ 125 }

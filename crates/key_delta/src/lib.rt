@@ -4,7 +4,8 @@
 mod changes;
 mod copying;
 mod laws;
+mod passing;
 
 pub use changes::{apply, changed, is_changed, mark_changes};
-pub use copying::{clear_front, copy_front, wider};
+pub use copying::{clear_front, copy_front, covering, wider};
 pub use laws::changes_give_the_new_row;
