@@ -488,7 +488,7 @@ fn read_patch_into(
 }
 
 /// So many changes are taken out of a patch one by one, and more at once.
-const FEW_CHANGES: u32 = 8;
+const FEW_CHANGES: u32 = 4;
 
 /// Takes all changes out of a patch.
 #[inline(always)]
