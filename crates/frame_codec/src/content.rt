@@ -1,5 +1,5 @@
 //! The fields of a DataSetMessage, read.
-ghost use Rattle.std.specs.Prelude.{◌≡◌, ◌<◌, ℕ, Bool, true, false, Some, length, slice_set, [], IfOk, if◌then◌else◌};
+ghost use Rattle.std.specs.Prelude.{◌≡◌, ◌≢◌, ◌<◌, ℕ, Bool, true, false, Some, length, slice_set, [], IfOk, if◌then◌else◌};
 ghost use Rattle.std.specs.List.{HoldsAt};
 ghost use Rattle.ua_values.specs.Values.{Fits};
 ghost use Rattle.ua_binary.specs.Reading.{ReadsAhead};
@@ -19,7 +19,7 @@ use crate::front::Front;
 use crate::length::field_count;
 use crate::scalar::{Own, read_own};
 use dataset_meta::{Field, Meta};
-use row_words::{Patch, Row};
+use row_words::{Patch, Row, is_scalar};
 use ua_binary::{Cursor, Measured, read_data_value, read_variant};
 use ua_values::{Value, fits};
 
@@ -44,7 +44,7 @@ pub(crate) fn read_content_into(
             read_whole(cursor, meta, newer, front.encoding, row)
         }
         FrameKind::Change(patch) if front.kind == DELTA => {
-            read_patch_into(cursor, meta, newer, front.encoding, patch)
+            read_patch_apart(cursor, meta, newer, front.encoding, patch)
         }
         _ => replace_content(cursor, meta, newer, front, kind),
     }
@@ -404,9 +404,21 @@ fn read_surpluses(cursor: &mut Cursor<'_>, encoding: u8, count: usize) -> Result
     Ok(())
 }
 
+/// One surplus value, by a copy of the cursor.
+#[inline(always)]
+fn read_surplus(cursor: &mut Cursor<'_>, encoding: u8) -> Result<(), FrameFault>
+    ensures { ReadsAhead result cursor.old cursor.new (surplus_at encoding) }
+{
+    let mut lent = *cursor;
+    read_lent_surplus(&mut lent, encoding)?;
+    *cursor = lent;
+    Ok(())
+}
+
+/// The same with a cursor that is lent.
 #[inline(never)]
 #[tactic(auto, unfolding(crate::specs::Contents::surplus_at))]
-fn read_surplus(cursor: &mut Cursor<'_>, encoding: u8) -> Result<(), FrameFault>
+fn read_lent_surplus(cursor: &mut Cursor<'_>, encoding: u8) -> Result<(), FrameFault>
     ensures { ReadsAhead result cursor.old cursor.new (surplus_at encoding) }
 {
     let measured = read_value(cursor, encoding)?;
@@ -434,8 +446,29 @@ fn read_patch(
     Ok(patch)
 }
 
-/// The same in place of another patch of this meta.
-#[inline(never)]
+/// The same in place of another patch of this meta. The cursor is kept apart until the last change is read, so that it need not
+/// be stored for each.
+#[inline(always)]
+fn read_patch_apart(
+    cursor: &mut Cursor<'_>,
+    meta: &Meta,
+    newer: bool,
+    encoding: u8,
+    patch: &mut Patch,
+) -> Result<(), FrameFault>
+    requires { IsPatchOf meta.now patch.old }
+    ensures of { IsPatchOf meta.now patch.new }
+    ensures answer { ReadsAhead (leaving result (patch_in meta.now.fields patch.new))
+        cursor.old cursor.new (patch_at meta.now newer encoding) }
+{
+    let mut lent = *cursor;
+    read_patch_into(&mut lent, meta, newer, encoding, patch)?;
+    *cursor = lent;
+    Ok(())
+}
+
+/// The same with a cursor that stands apart.
+#[inline(always)]
 #[tactic(auto, unfolding(crate::specs::Contents::patch_at))]
 fn read_patch_into(
     cursor: &mut Cursor<'_>,
@@ -454,12 +487,60 @@ fn read_patch_into(
     read_changes(cursor, meta, newer, encoding, count, patch)
 }
 
-/// Takes all changes out of a patch. Behind the words of the meta's rows stand zeros already.
+/// So many changes are taken out of a patch one by one, and more at once.
+const FEW_CHANGES: u32 = 4;
+
+/// Takes all changes out of a patch.
 #[inline(always)]
 fn clear_patch(meta: &Meta, patch: &mut Patch)
     requires { IsPatchOf meta.now patch.old }
     ensures of { IsPatchOf meta.now patch.new }
     ensures empty { patch_in meta.now.fields patch.new ≡ [] }
+{
+    if patch.mask.count_ones() <= FEW_CHANGES {
+        clear_changes(meta, patch);
+    } else {
+        clear_words(meta, patch);
+    }
+}
+
+/// Takes the changes out one by one.
+#[inline(always)]
+fn clear_changes(meta: &Meta, patch: &mut Patch)
+    requires { IsPatchOf meta.now patch.old }
+    ensures of { IsPatchOf meta.now patch.new }
+    ensures empty { patch_in meta.now.fields patch.new ≡ [] }
+{
+    while patch.mask != 0 {
+        clear_first(meta, patch);
+    }
+}
+
+/// Takes the first change out, or all where its value takes more than a word.
+#[inline(always)]
+fn clear_first(meta: &Meta, patch: &mut Patch)
+    requires of { IsPatchOf meta.now patch.old }
+    requires some { patch.old.mask ≢ 0 }
+    ensures of { IsPatchOf meta.now patch.new }
+    ensures fewer { patch.new.mask < patch.old.mask }
+{
+    let index = patch.mask.trailing_zeros();
+    if is_scalar(meta.fields()[index as usize].kind) {
+        let none = Own { word: 0, status: 0 };
+        set_word(meta, &mut patch.row, index as u8, none, meta.quality());
+        patch.mask &= !(1 << index);
+    } else {
+        clear_words(meta, patch);
+    }
+}
+
+/// Takes all changes out at once. Behind the words of the meta's rows stand zeros already.
+#[inline(never)]
+fn clear_words(meta: &Meta, patch: &mut Patch)
+    requires { IsPatchOf meta.now patch.old }
+    ensures of { IsPatchOf meta.now patch.new }
+    ensures empty { patch_in meta.now.fields patch.new ≡ [] }
+    ensures none { patch.new.mask ≡ 0 }
 {
     prove!(meta.fields().len() <= 64);
     let _ = Row::opening();
@@ -468,6 +549,7 @@ fn clear_patch(meta: &Meta, patch: &mut Patch)
 }
 
 /// So many changes, one after another. Of two of one field the later counts.
+#[inline(always)]
 #[tactic(auto, using(crate::proofs::RowReading::changes_refused))]
 fn read_changes(
     cursor: &mut Cursor<'_>,
@@ -490,6 +572,7 @@ fn read_changes(
 }
 
 /// A field's index and its value, which is put into the patch.
+#[inline(always)]
 #[tactic(auto, unfolding(crate::specs::Contents::change_at))]
 fn read_change(
     cursor: &mut Cursor<'_>,
@@ -537,8 +620,32 @@ fn read_put(
             put_word(meta, patch, index, own);
             Ok(())
         }
-        None => read_any_put(cursor, meta, index, encoding, patch),
+        None => read_lent_put(cursor, meta, index, encoding, patch),
     }
+}
+
+/// The same by a copy of the cursor, so that the cursor itself need not stand in memory.
+#[inline(always)]
+fn read_lent_put(
+    cursor: &mut Cursor<'_>,
+    meta: &Meta,
+    index: u8,
+    encoding: u8,
+    patch: &mut Patch,
+) -> Result<(), FrameFault>
+    requires patch { IsPatchOf meta.now patch.old }
+    requires index { index < length meta.now.fields }
+    ensures of { IsPatchOf meta.now patch.new }
+    ensures answer { HoldsAt (λ field. ReadsAhead (leaving result
+        (patch_in meta.now.fields patch.new))
+        cursor.old cursor.new
+        (put_at meta.now.quality false encoding (patch_in meta.now.fields patch.old) index
+        (Some field))) meta.now.fields index }
+{
+    let mut lent = *cursor;
+    read_any_put(&mut lent, meta, index, encoding, patch)?;
+    *cursor = lent;
+    Ok(())
 }
 
 /// The same of any value. It is a function of its own for the room that a value takes.

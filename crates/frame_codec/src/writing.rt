@@ -23,7 +23,6 @@ use crate::length::{MAX_LEN, field_count, frame_len, front_len};
 use crate::scalar::{has_eight_bytes, has_four_bytes};
 use dataset_meta::Meta;
 use row_words::{Patch, Row, is_scalar};
-use std::mem;
 use ua_binary::{Pen, Room, number_of, put_variant};
 use ua_values::Kind;
 
@@ -38,8 +37,7 @@ pub fn write_frame(pen: &mut Pen<'_>, meta: &Meta, frame: &Frame) -> Result<(), 
     if !has_room(pen, meta, frame) {
         return Err(Room);
     }
-    put_front(pen, frame, encoding_of(meta, &frame.kind));
-    put_content(pen, meta, &frame.kind);
+    pen.at = put_frame_at(&mut *pen.bytes, pen.at, meta, frame);
     Ok(())
 }
 
@@ -68,6 +66,37 @@ fn has_room(pen: &Pen<'_>, meta: &Meta, frame: &Frame) -> bool
 {
     prove!(!meta.fields().is_empty());
     pen.room() >= MAX_LEN || pen.room() >= frame_len(meta, frame)
+}
+
+/// Writes a frame that there is room for into these bytes, from `at` on. It answers where the frame ends. The bytes are lent, and
+/// not the pen, so that it need not stand in memory.
+#[inline(always)]
+fn put_frame_at(bytes: &mut [u8], at: usize, meta: &Meta, frame: &Frame) -> usize
+    requires of { IsFrameOf meta.now frame.now }
+    requires room { at + length (frame_bytes meta.now.quality
+        (frame_in meta.now.fields frame.now)) ≤ length bytes.old }
+    ensures written { bytes.new ≡ laid bytes.old at (frame_bytes meta.now.quality
+        (frame_in meta.now.fields frame.now)) }
+    ensures end { result ≡ at + length (frame_bytes meta.now.quality
+        (frame_in meta.now.fields frame.now)) }
+    ensures same_length { length bytes.new ≡ length bytes.old }
+{
+    let mut pen = Pen { bytes, at };
+    put_frame(&mut pen, meta, frame);
+    pen.at
+}
+
+/// The same by a pen over the bytes.
+#[inline(always)]
+fn put_frame(pen: &mut Pen<'_>, meta: &Meta, frame: &Frame)
+    requires of { IsFrameOf meta.now frame.now }
+    requires room { pen.old.at + length (frame_bytes meta.now.quality
+        (frame_in meta.now.fields frame.now)) ≤ length pen.old.bytes.now }
+    ensures { Puts pen.old pen.new (frame_bytes meta.now.quality
+        (frame_in meta.now.fields frame.now)) }
+{
+    put_front(pen, frame, encoding_of(meta, &frame.kind));
+    put_content(pen, meta, &frame.kind);
 }
 
 /// The field encoding of a frame. A keep-alive has no fields, and 0.
@@ -184,6 +213,7 @@ fn put_content(pen: &mut Pen<'_>, meta: &Meta, kind: &FrameKind)
 }
 
 /// Writes the values of a row one behind another. DataValues and Variants have a loop each.
+#[inline(always)]
 fn put_row(pen: &mut Pen<'_>, meta: &Meta, row: &Row)
     requires belongs { Belongs meta.now row.now.words }
     requires room { pen.old.at + length (values_bytes meta.now.quality
@@ -192,29 +222,13 @@ fn put_row(pen: &mut Pen<'_>, meta: &Meta, row: &Row)
         (row_in meta.now.fields row.now.words)) }
 {
     if meta.quality() {
-        put_apart(pen, meta, row, true);
+        put_values(pen, meta, row, true);
     } else {
-        put_apart(pen, meta, row, false);
+        put_values(pen, meta, row, false);
     }
 }
 
-/// The same where it is known whether the data set has statuses. The pen is taken out of its place until the last value is
-/// written, so that its place need not be stored for each.
-#[inline(always)]
-fn put_apart(pen: &mut Pen<'_>, meta: &Meta, row: &Row, quality: bool)
-    requires quality { quality ≡ meta.now.quality }
-    requires belongs { Belongs meta.now row.now.words }
-    requires room { pen.old.at + length (values_bytes meta.now.quality
-        (row_in meta.now.fields row.now.words)) ≤ length pen.old.bytes.now }
-    ensures { Puts pen.old pen.new (values_bytes meta.now.quality
-        (row_in meta.now.fields row.now.words)) }
-{
-    let mut apart = taken(pen);
-    put_values(&mut apart, meta, row, quality);
-    *pen = apart;
-}
-
-/// The same with a pen that stands apart.
+/// The same where it is known whether the data set has statuses.
 #[inline(always)]
 fn put_values(pen: &mut Pen<'_>, meta: &Meta, row: &Row, quality: bool)
     requires quality { quality ≡ meta.now.quality }
@@ -229,22 +243,8 @@ fn put_values(pen: &mut Pen<'_>, meta: &Meta, row: &Row, quality: bool)
     }
 }
 
-/// Takes the pen out of its place.
-#[inline(always)]
-fn taken<'a>(pen: &mut Pen<'a>) -> Pen<'a>
-    ensures { result ≡ pen.old }
-{
-    mem::replace(
-        pen,
-        Pen {
-            bytes: &mut [],
-            at: 0,
-        },
-    )
-}
-
 /// Writes each marked field with its index.
-#[inline(never)]
+#[inline(always)]
 fn put_patch(pen: &mut Pen<'_>, meta: &Meta, patch: &Patch)
     requires of { IsPatchOf meta.now patch.now }
     requires room { pen.old.at + length (changes_bytes meta.now.quality

@@ -5,7 +5,7 @@ use Rattle.dataset_meta.specs.Metas.{words_of}
 use Rattle.row_words.specs.Belonging.{Belongs, row_in}
 use Rattle.row_words.proofs.PatchLaws.{IsPatchOf-none, patch_in-none}
 use Rattle.frame_codec.proofs.Clearing.{all-zero}
-use Rattle.frame_codec.proofs.content.clear_patch.Goals as goal
+use Rattle.frame_codec.proofs.content.clear_words.Goals as goal
 
 pub returns-clause-of : goal.returns-clause-of
 returns-clause-of c =
