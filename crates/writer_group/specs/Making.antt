@@ -16,7 +16,8 @@ use Rattle.writer_group.specs.declared.spelled.Frames.{Frames}
 use Rattle.writer_group.specs.declared.load.Load.TheVariants as loads
 use Rattle.dataset_meta.specs.Metas.{MetaData}
 use Rattle.writer_group.specs.Answering.{AreAnswers}
-use Rattle.writer_group.specs.Envelopes.{frame_room}
+use Rattle.writer_group.specs.declared.settings.Rooms.{Rooms}
+use Rattle.writer_group.specs.Setup.{rooms_of}
 use Rattle.writer_group.specs.Payloads.{Spelled}
 use Rattle.writer_group.specs.Sealing.{AreWritten, envelope_with}
 use Rattle.writer_group.specs.Holding.{CargoValue, AreSpelledIn, frames_at, payload_in}
@@ -27,13 +28,19 @@ use Rattle.writer_group.specs.Standing.{IsReserved, IsMadeFor, IsSenderFor, data
 use Rattle.writer_group.specs.Limits.{frames_bytes, most_datagrams, datagrams_bytes, buffer_bytes}
 
 -- what a dynamic turn plans for frames of these sizes
+abbrev pub planned_in : Rooms → List ℕ → List Load
+planned_in rooms sizes = planned rooms.frame rooms.chunk sizes
+
 abbrev pub planned_for : Publisher → GroupPart → List ℕ → List Load
-planned_for publisher part sizes = planned (frame_room publisher part) (chunk_room publisher part) sizes
+planned_for publisher part sizes = planned_in (rooms_of publisher part) sizes
 
 -- what a turn plans, by the layout, for frames of these sizes
+abbrev pub loads_in : Layout → Rooms → GroupPart → List ℕ → List Load
+loads_in layout.Dynamic rooms part sizes = planned_in rooms sizes
+loads_in layout.Fixed rooms part sizes = if nat_lt 0 (length part.writer) then loads.Slots ∷ [] else []
+
 abbrev pub loads_by : Layout → Publisher → GroupPart → List ℕ → List Load
-loads_by layout.Dynamic publisher part sizes = planned_for publisher part sizes
-loads_by layout.Fixed publisher part sizes = if nat_lt 0 (length part.writer) then loads.Slots ∷ [] else []
+loads_by layout publisher part sizes = loads_in layout (rooms_of publisher part) part sizes
 
 abbrev pub loads_for : Publisher → GroupPart → List ℕ → List Load
 loads_for publisher part sizes = loads_by part.layout publisher part sizes
