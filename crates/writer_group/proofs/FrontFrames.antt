@@ -35,6 +35,7 @@ spelled-front bytes n frames most room are =
       sizes = are.sizes ∙ ap (map size_of) (sym same);
       ids = are.ids ∙ ap id_bytes (sym same);
       within = are.within;
+      stand = are.stand;
       short = are.short;
       end_within = omega (arith, length-take-le n bytes room);
     }

@@ -10,7 +10,7 @@ use Rattle.payload_layout.proofs.Laid.{length-sizes}
 use Rattle.payload_layout.specs.Payloads.{sizes_bytes}
 use Rattle.writer_group.specs.declared.spelled.Frames.{Frames}
 use Rattle.writer_group.specs.declared.spelled.SpelledFrame.{SpelledFrame}
-use Rattle.writer_group.specs.Holding.{AreSpelledIn, IsWithin, frames_at, id_bytes, no_frame, spelled_at}
+use Rattle.writer_group.specs.Holding.{AreSpelledIn, IsWithin, all_bytes, frames_at, id_bytes, no_frame, spelled_at}
 use Rattle.writer_group.specs.Payloads.{Spelled, frames_payload, size_of}
 
 abbrev pub no_spelled : SpelledFrame
@@ -98,12 +98,10 @@ sizes-read bytes frames read f n first count are is one two =
     ∙ ap (λ (m : ℕ). slice_range frames.sizes.items first (first + m)) two
     ∙ sizes-range bytes frames first count (first + count) are refl
 
-pub list-read : (list read : List SpelledFrame) (f n first count : ℕ) → read ≡ list → f ≡ first → n ≡ count → slice_range read f (f + n) ≡ take count (drop first list)
-list-read list read f n first count is one two =
-    ap (λ (l : List SpelledFrame). slice_range l f (f + n)) is
-    ∙ ap (λ (m : ℕ). slice_range list m (m + n)) one
-    ∙ ap (λ (m : ℕ). slice_range list first (first + m)) two
-    ∙ part-range list first count (first + count) refl
+pub texts-read : (bytes : List ℕ) (list : List SpelledFrame) (read : List ℕ) (f n first count : ℕ) → all_bytes bytes (take n (drop f list)) ≡ read → f ≡ first → n ≡ count
+    → read ≡ all_bytes bytes (take count (drop first list))
+texts-read bytes list read f n first count is one two =
+    sym is ∙ ap (λ (m : ℕ). all_bytes bytes (take n (drop m list))) one ∙ ap (λ (m : ℕ). all_bytes bytes (take m (drop first list))) two
 
 -- ---- one frame
 

@@ -10,7 +10,8 @@ use Rattle.ua_binary.specs.Writing.{laid}
 use Rattle.writer_group.specs.declared.spelled.SpelledFrame.{SpelledFrame}
 use Rattle.writer_group.specs.declared.spelled.Frames.{Frames}
 use Rattle.writer_group.specs.Payloads.{Spelled, size_of}
-use Rattle.writer_group.specs.Holding.{spelled_at, frames_at, IsWithin, AreSpelledIn, id_bytes}
+use Rattle.writer_group.specs.Holding.{spelled_at, frames_at, IsWithin, AreSpelledIn, StandFrom, id_bytes}
+use Rattle.writer_group.proofs.StandingFrames.{stand-push}
 use Rattle.writer_group.proofs.Ranges.{range-before, range-laid}
 
 pub spelled-same : (frame : SpelledFrame) (one other : List ℕ) → slice_range one frame.start frame.end ≡ slice_range other frame.start frame.end → spelled_at one frame ≡ spelled_at other frame
@@ -92,6 +93,8 @@ spelled-keeps bytes new frames after text frame long are on =
       sizes = sizes;
       ids = ids;
       within = within;
+      stand = subst (λ (n : ℕ). StandFrom 0 after.list.items n) (sym on.last)
+          (subst (λ (l : List SpelledFrame). StandFrom 0 l frame.end) (sym on.list_is) (stand-push 0 frames.list.items frame frames.end are.stand on.start_is));
       short = omega (arith, last, count, are.short, on.short);
       end_within = omega (arith, last, long, on.short, on.room);
     }

@@ -1,5 +1,5 @@
 //! Laying out one datagram without its signature.
-ghost use Rattle.std.specs.Prelude.{◌≡◌, ◌<◌, ◌≤◌, ◌+◌, ◌-◌, ◌*◌, ◌++◌, ℕ, List, All, length, take, drop};
+ghost use Rattle.std.specs.Prelude.{◌≡◌, ◌<◌, ◌≤◌, ◌+◌, ◌-◌, ◌*◌, ◌++◌, ℕ, List, length, slice_range, take, drop};
 ghost use Rattle.ua_binary.specs.Writing.{laid, Puts};
 ghost use Rattle.uadp_header.specs.Headers.{ChunkOf, header_in, ids_in};
 ghost use Rattle.uadp_header.specs.Spelling.{AreIds, IsIds, IsSenders, header_bytes};
@@ -112,6 +112,7 @@ impl<'a> Cargo<'a> {
     /// Writes the payload of frames that share a datagram.
     fn put_frames(&self, pen: &mut Pen<'_>, first: u8, count: u8)
         requires cargo { IsCargo self.now }
+        requires some { 0 < count }
         requires within { first + count ≤ length self.now.frames.now.list.items }
         requires few { count ≤ 16 }
         requires room { pen.old.at + length (frames_by self.now first count)
@@ -121,7 +122,23 @@ impl<'a> Cargo<'a> {
         let first = usize::from(first);
         let end = first + usize::from(count);
         put_sizes(pen, &self.frames.sizes.as_slice()[first..end]);
-        put_all(pen, self.bytes, &self.frames.list.as_slice()[first..end]);
+        let (start, behind) = self.range(first, usize::from(count));
+        pen.put_bytes(&self.bytes[start..behind]);
+    }
+
+    /// Where so many frames begin and end, from the one with this index on: they stand one behind another.
+    fn range(&self, first: usize, count: usize) -> (usize, usize)
+        requires cargo { IsCargo self.now }
+        requires some { 0 < count }
+        requires within { first + count ≤ length self.now.frames.now.list.items }
+        ensures bytes { all_bytes self.now.bytes.now
+            (take count (drop first self.now.frames.now.list.items))
+            ≡ slice_range self.now.bytes.now result.0 result.1 }
+        ensures rising { result.0 ≤ result.1 }
+        ensures within { result.1 ≤ length self.now.bytes.now }
+    {
+        let list = self.frames.list.as_slice();
+        (list[first].start, list[first + count - 1].end)
     }
 
     /// Writes the payload of a chunk.
@@ -186,16 +203,5 @@ fn put_chunk_payload(pen: &mut Pen<'_>, chunk: &ChunkPayload<'_>)
     match write_chunk(pen, chunk) {
         Ok(()) => {}
         Err(_) => unreachable!(),
-    }
-}
-
-/// Writes frames one behind another.
-fn put_all(pen: &mut Pen<'_>, bytes: &[u8], frames: &[SpelledFrame])
-    requires within { All (IsWithin (length bytes.now)) frames.now }
-    requires room { pen.old.at + length (all_bytes bytes.now frames.now) ≤ length pen.old.bytes.now }
-    ensures { Puts pen.old pen.new (all_bytes bytes.now frames.now) }
-{
-    for frame in frames {
-        pen.put_bytes(&bytes[frame.start..frame.end]);
     }
 }
