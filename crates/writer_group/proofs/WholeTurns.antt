@@ -15,7 +15,7 @@ use Rattle.writer_group.specs.declared.datagrams.Datagrams.{Datagrams}
 use Rattle.writer_group.specs.declared.group.Group.{Group}
 use Rattle.writer_group.specs.declared.sampled.Sampled.{Sampled}
 use Rattle.writer_group.specs.Answering.{HaveAnswered, MayGo, StandAfter, AreAnswers}
-use Rattle.writer_group.specs.Holding.{CargoValue, payload_in}
+use Rattle.writer_group.specs.Holding.{CargoValue, listed_sizes, payload_in}
 use Rattle.writer_group.specs.declared.load.Load.{Load}
 use Rattle.writer_group.specs.declared.settings.Rooms.{Rooms}
 use Rattle.writer_group.specs.Making.{AreSpelled, cargo_with, loads_for, loads_in, passed, spelled_in, IsPosted}
@@ -96,7 +96,7 @@ still-made config part metas rows on now closing before after out had made =
 
 -- the loads that were planned with the group's rooms
 pub has-loads : (config : Config) (part : GroupPart) (metas : List MetaData) (rows : List Sampled) (on : List Bool) (now : ℕ) (closing : Bool) (before after : Group) (out : Datagrams) (loads : Vec Load Global)
-    → HadTurns config part metas rows on now closing before after out → IsMadeFor config part before → loads.items ≡ loads_in part.layout after.rooms part out.frames.sizes.items → vec_capacity out.loads ≤ vec_capacity loads
+    → HadTurns config part metas rows on now closing before after out → IsMadeFor config part before → loads.items ≡ loads_in part.layout after.rooms part (listed_sizes out.frames) → vec_capacity out.loads ≤ vec_capacity loads
     → HasLoads config part out (record out { loads = loads })
 has-loads config part metas rows on now closing before after out loads had made planned left =
     let still = still-made config part metas rows on now closing before after out had made in
@@ -104,7 +104,7 @@ has-loads config part metas rows on now closing before after out loads had made 
       bytes = refl;
       frames = refl;
       ranges = refl;
-      loads = planned ∙ ap (λ (r : Rooms). loads_in part.layout r part out.frames.sizes.items) still.rooms;
+      loads = planned ∙ ap (λ (r : Rooms). loads_in part.layout r part (listed_sizes out.frames)) still.rooms;
       left = left;
     }
 

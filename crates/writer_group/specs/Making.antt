@@ -20,7 +20,7 @@ use Rattle.writer_group.specs.declared.settings.Rooms.{Rooms}
 use Rattle.writer_group.specs.Setup.{rooms_of}
 use Rattle.writer_group.specs.Payloads.{Spelled}
 use Rattle.writer_group.specs.Sealing.{AreWritten, envelope_with}
-use Rattle.writer_group.specs.Holding.{CargoValue, AreSpelledIn, frames_at, payload_in}
+use Rattle.writer_group.specs.Holding.{AreSpelledIn, CargoValue, frames_at, listed, payload_in}
 use Rattle.writer_group.specs.Loading.{IsLoad}
 use Rattle.writer_group.specs.Planning.{planned}
 use Rattle.writer_group.specs.Posting.{joined, ranges_of, made_of}
@@ -71,7 +71,7 @@ pub record AreSpelled (part : GroupPart) (metas : List MetaData) (out : Datagram
   pub no_loads : out.loads.items ≡ []
   pub no_ranges : out.ranges.items ≡ []
   pub spelled : AreSpelledIn (take frames_bytes out.bytes.items) out.frames
-  pub few : length out.frames.list.items ≤ length part.writer
+  pub few : length (listed out.frames) ≤ length part.writer
   pub answers : AreAnswers part metas (length part.writer) (spelled_in out)
 
 -- the datagrams that these loads make
@@ -85,7 +85,7 @@ pub record MayMakeOf (config : Config) (part : GroupPart) (sender : Option Sende
   pub few : length loads ≤ most_datagrams
   pub spelled : AreSpelledIn bytes frames
   pub small : length bytes ≤ frames_bytes
-  pub frames_few : length frames.list.items ≤ 16
+  pub frames_few : length (listed frames) ≤ 16
   pub sender_is : IsSenderFor part sender
 
 -- the planned datagrams have room, and the sender has numbers for them
@@ -96,7 +96,7 @@ pub record MayMake (config : Config) (part : GroupPart) (sender : Option SenderS
   pub loads_are : All (IsLoad (cargo_with config part group out)) out.loads.items
   pub few : length out.loads.items ≤ most_datagrams
   pub spelled : AreSpelledIn (take frames_bytes out.bytes.items) out.frames
-  pub frames_few : length out.frames.list.items ≤ 16
+  pub frames_few : length (listed out.frames) ≤ 16
   pub sender_is : IsSenderFor part sender
   pub room : length (joined (made_with config part sender group out)) ≤ datagrams_bytes
 

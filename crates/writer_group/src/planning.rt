@@ -3,6 +3,7 @@ ghost use Rattle.std.specs.Prelude.{◌≡◌, ◌<◌, ◌≤◌, ◌+◌, ◌+
 ghost use Rattle.payload_layout.specs.declared.packing.Pack.{Pack as AnyPack};
 ghost use Rattle.ps_config.specs.Rooms.{is_fixed};
 ghost use Rattle.writer_group.specs.Making.{loads_in, planned_in};
+ghost use Rattle.writer_group.specs.Holding.{listed_sizes};
 ghost use Rattle.writer_group.specs.Planning.{chunk_count, chunk_loads, pack_loads_of, planned};
 
 use crate::load::Load;
@@ -14,16 +15,16 @@ use ps_config::{GroupPart, Layout};
 /// Pushes what each datagram of a turn carries, whose frames are spelled.
 pub(crate) fn plan_loads(group: &GroupPart, rooms: Rooms, frames: &Frames, loads: &mut Vec<Load>)
     requires room { is_fixed group.now.layout ≡ false → 1 ≤ rooms.chunk }
-    requires few { length frames.now.sizes.items ≤ 16 }
+    requires few { length (listed_sizes frames.now) ≤ 16 }
     requires empty { loads.old.items ≡ [] }
-    requires left { length (loads_in group.now.layout rooms group.now frames.now.sizes.items)
+    requires left { length (loads_in group.now.layout rooms group.now (listed_sizes frames.now))
         ≤ vec_capacity loads.old }
     ensures planned { loads.new.items
-        ≡ loads_in group.now.layout rooms group.now frames.now.sizes.items }
+        ≡ loads_in group.now.layout rooms group.now (listed_sizes frames.now) }
     ensures capacity { vec_capacity loads.old ≤ vec_capacity loads.new }
 {
     match group.layout {
-        Layout::Dynamic => plan_frames(frames.sizes.as_slice(), rooms, loads),
+        Layout::Dynamic => plan_frames(frames.sizes(), rooms, loads),
         Layout::Fixed => {
             if !group.writer.as_slice().is_empty() {
                 push_load(Load::Slots, loads);

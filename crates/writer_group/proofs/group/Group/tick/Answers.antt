@@ -12,6 +12,7 @@ use Rattle.writer_group.specs.Standing.{IsMadeFor, IsSenderFor, MayTick}
 use Rattle.writer_group.proofs.TickSteps.{HasLoads, IsPartOf, at-part, few-sizes, loads-left, may-answer, may-make, of-part}
 use Rattle.writer_group.proofs.WholeTurns.{HadTurns, HasPosted, as-posted, few-posted, has-loads, loads-few, sender-stays, still-made, turned-few, turned-goes-on, turned-stands}
 use Rattle.writer_group.proofs.group.Group.tick.Goals as goal
+use Rattle.writer_group.specs.Holding.{listed_sizes}
 use Rattle.writer_group.proofs.group.Group.tick.Goals.{After-a_class_id_is_whole, After-answer, After-plan_loads, After-post, After-post_sealed}
 
 own : (c : After-a_class_id_is_whole) → IsPartOf c.args.config.now c.args.self.now.index c.part_of-group.result.now
@@ -68,7 +69,7 @@ plan_loads-requires-clause-left c =
     let rooms = (still g.After-answer (may r).made).rooms in
     omega (
       arith,
-      ap (λ (rooms : Rooms). length (loads_in c.part_of-group.result.now.layout rooms c.part_of-group.result.now c.answer.new.out.frames.sizes.items)) rooms,
+      ap (λ (rooms : Rooms). length (loads_in c.part_of-group.result.now.layout rooms c.part_of-group.result.now (listed_sizes c.answer.new.out.frames))) rooms,
       loads-left c.args.config.now c.args.self.now.index c.part_of-group.result.now c.args.metas.now (lent_in c.args.sender) c.answer.new.self c.answer.new.out (own r) (still g.After-answer (may r).made)
           (may r).metas_are (may r).sender_is c.answer.ensures.spelled,
       c.answer.ensures.spelled.reserved.loads,
