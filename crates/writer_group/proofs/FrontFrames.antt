@@ -6,7 +6,7 @@ use Rattle.std.proofs.lemmas.List.Elements.{All-head, All-tail}
 use Rattle.writer_group.specs.declared.spelled.SpelledFrame.{SpelledFrame}
 use Rattle.writer_group.specs.declared.spelled.Frames.{Frames}
 use Rattle.writer_group.specs.Payloads.{Spelled, size_of}
-use Rattle.writer_group.specs.Holding.{AreSpelledIn, IsWithin, frames_at, id_bytes, spelled_at}
+use Rattle.writer_group.specs.Holding.{AreSpelledIn, IsWithin, frames_at, id_bytes, listed, spelled_at}
 use Rattle.writer_group.proofs.SpelledLaws.{spelled-same}
 
 range-front : (bytes : List ℕ) (n start end : ℕ) → start ≤ end → end ≤ n → slice_range (take n bytes) start end ≡ slice_range bytes start end
@@ -26,7 +26,7 @@ list-front bytes n end (frame ∷ frames) most within =
     ap (λ (x : Spelled). x ∷ map (spelled_at (take n bytes)) frames) same ∙ ap (λ (l : List Spelled). spelled_at bytes frame ∷ l) rest
 
 pub frames-front : (bytes : List ℕ) (n : ℕ) (frames : Frames) → frames.end ≤ n → AreSpelledIn bytes frames → frames_at (take n bytes) frames ≡ frames_at bytes frames
-frames-front bytes n frames most are = list-front bytes n frames.end frames.list.items most are.within
+frames-front bytes n frames most are = list-front bytes n frames.end (listed frames) most are.within
 
 pub spelled-front : (bytes : List ℕ) (n : ℕ) (frames : Frames) → frames.end ≤ n → n ≤ length bytes → AreSpelledIn bytes frames → AreSpelledIn (take n bytes) frames
 spelled-front bytes n frames most room are =
@@ -35,6 +35,7 @@ spelled-front bytes n frames most room are =
       sizes = are.sizes ∙ ap (map size_of) (sym same);
       ids = are.ids ∙ ap id_bytes (sym same);
       within = are.within;
+      stand = are.stand;
       short = are.short;
       end_within = omega (arith, length-take-le n bytes room);
     }

@@ -29,6 +29,7 @@ pub mod Slottings
 pub mod SomeDatagrams
 pub mod SpelledLaws
 pub mod SpelledOut
+pub mod StandingFrames
 pub mod TickLaws
 pub mod TickSteps
 pub mod Totals

@@ -1,16 +1,18 @@
 -- The bytes of a turn's parts in memory: ids, sizes and frames from an index on.
 use Rattle.std.proofs.Common.{◌≡◌, ℕ, zero, suc, ◌+◌, ◌-◌, ◌*◌, ◌<◌, ◌≤◌, List, [], ◌∷◌, ◌++◌, length, map, take, drop, get_or, refl, sym, ap, subst, ◌∙◌, arith}
-use Rattle.std.specs.Prelude.{slice_range}
+use Rattle.std.specs.Prelude.{min, slice_range}
 use Rattle.std.specs.Int.{w16, to_le_bytes}
 use Rattle.std.specs.List.{flat_map}
-use Rattle.std.proofs.lemmas.List.{append-nil, drop-map, get_or-map, length-map, take-map, take_more}
+use Rattle.std.proofs.lemmas.List.{append-nil, drop-map, get_or-map, length-drop, length-map, take-map, take_min, take_more}
 use Rattle.std.proofs.lemmas.List.Concat.{flat_map-append}
 use Rattle.std.proofs.lemmas.List.Folds.{flat_map-map, length-flat_map-take}
+use Rattle.chunker.specs.Chunks.{cut_at}
+use Rattle.chunker.specs.Joining.{chunk_of}
 use Rattle.payload_layout.proofs.Laid.{length-sizes}
 use Rattle.payload_layout.specs.Payloads.{sizes_bytes}
 use Rattle.writer_group.specs.declared.spelled.Frames.{Frames}
 use Rattle.writer_group.specs.declared.spelled.SpelledFrame.{SpelledFrame}
-use Rattle.writer_group.specs.Holding.{AreSpelledIn, IsWithin, frames_at, id_bytes, no_frame, spelled_at}
+use Rattle.writer_group.specs.Holding.{AreSpelledIn, IsWithin, all_bytes, frames_at, id_bytes, listed, listed_ids, listed_sizes, no_frame, spelled_at}
 use Rattle.writer_group.specs.Payloads.{Spelled, frames_payload, size_of}
 
 abbrev pub no_spelled : SpelledFrame
@@ -60,50 +62,48 @@ part-range xs first count end is =
 
 -- ---- the ids and the sizes of frames
 
-pub length-ids : (bytes : List ℕ) (frames : Frames) → AreSpelledIn bytes frames → length frames.ids.items ≡ 2 * length frames.list.items
+pub length-ids : (bytes : List ℕ) (frames : Frames) → AreSpelledIn bytes frames → length (listed_ids frames) ≡ 2 * length (listed frames)
 length-ids bytes frames are =
     ap length are.ids ∙ length-sizes (map (λ (f : Spelled). f.id) (frames_at bytes frames))
-    ∙ ap (λ (n : ℕ). 2 * n) (length-map (frames_at bytes frames) (λ (f : Spelled). f.id) ∙ length-map frames.list.items (spelled_at bytes))
+    ∙ ap (λ (n : ℕ). 2 * n) (length-map (frames_at bytes frames) (λ (f : Spelled). f.id) ∙ length-map (listed frames) (spelled_at bytes))
 
 pub ids-range : (bytes : List ℕ) (frames : Frames) (first count : ℕ) → AreSpelledIn bytes frames
-    → slice_range frames.ids.items (2 * first) (2 * first + 2 * count) ≡ id_bytes (take count (drop first (frames_at bytes frames)))
+    → slice_range (listed_ids frames) (2 * first) (2 * first + 2 * count) ≡ id_bytes (take count (drop first (frames_at bytes frames)))
 ids-range bytes frames first count are =
     ap (λ (l : List ℕ). slice_range l (2 * first) (2 * first + 2 * count)) are.ids
     ∙ pairs-range (map (λ (f : Spelled). f.id) (frames_at bytes frames)) first count
     ∙ ap ids_in (part-map (λ (f : Spelled). f.id) (frames_at bytes frames) first count)
 
 -- what is read of them, by numbers that are these
-pub ids-read : (bytes : List ℕ) (frames : Frames) (read : List ℕ) (f n first count : ℕ) → AreSpelledIn bytes frames → read ≡ frames.ids.items → f ≡ first → n ≡ count
+pub ids-read : (bytes : List ℕ) (frames : Frames) (read : List ℕ) (f n first count : ℕ) → AreSpelledIn bytes frames → read ≡ (listed_ids frames) → f ≡ first → n ≡ count
     → slice_range read (2 * f) (2 * f + 2 * n) ≡ id_bytes (take count (drop first (frames_at bytes frames)))
 ids-read bytes frames read f n first count are is one two =
     ap (λ (l : List ℕ). slice_range l (2 * f) (2 * f + 2 * n)) is
-    ∙ ap (λ (m : ℕ). slice_range frames.ids.items (2 * m) (2 * m + 2 * n)) one
-    ∙ ap (λ (m : ℕ). slice_range frames.ids.items (2 * first) (2 * first + 2 * m)) two
+    ∙ ap (λ (m : ℕ). slice_range (listed_ids frames) (2 * m) (2 * m + 2 * n)) one
+    ∙ ap (λ (m : ℕ). slice_range (listed_ids frames) (2 * first) (2 * first + 2 * m)) two
     ∙ ids-range bytes frames first count are
 
 pub length-id_bytes : (frames : List Spelled) → length (id_bytes frames) ≡ 2 * length frames
 length-id_bytes frames = length-sizes (map (λ (f : Spelled). f.id) frames) ∙ ap (λ (n : ℕ). 2 * n) (length-map frames (λ (f : Spelled). f.id))
 
 pub sizes-range : (bytes : List ℕ) (frames : Frames) (first count end : ℕ) → AreSpelledIn bytes frames → end ≡ first + count
-    → slice_range frames.sizes.items first end ≡ map size_of (take count (drop first (frames_at bytes frames)))
+    → slice_range (listed_sizes frames) first end ≡ map size_of (take count (drop first (frames_at bytes frames)))
 sizes-range bytes frames first count end are is =
-    part-range frames.sizes.items first count end is ∙ ap (λ (l : List ℕ). take count (drop first l)) are.sizes
+    part-range (listed_sizes frames) first count end is ∙ ap (λ (l : List ℕ). take count (drop first l)) are.sizes
     ∙ part-map size_of (frames_at bytes frames) first count
 
-pub sizes-read : (bytes : List ℕ) (frames : Frames) (read : List ℕ) (f n first count : ℕ) → AreSpelledIn bytes frames → read ≡ frames.sizes.items → f ≡ first → n ≡ count
+pub sizes-read : (bytes : List ℕ) (frames : Frames) (read : List ℕ) (f n first count : ℕ) → AreSpelledIn bytes frames → read ≡ (listed_sizes frames) → f ≡ first → n ≡ count
     → slice_range read f (f + n) ≡ map size_of (take count (drop first (frames_at bytes frames)))
 sizes-read bytes frames read f n first count are is one two =
     ap (λ (l : List ℕ). slice_range l f (f + n)) is
-    ∙ ap (λ (m : ℕ). slice_range frames.sizes.items m (m + n)) one
-    ∙ ap (λ (m : ℕ). slice_range frames.sizes.items first (first + m)) two
+    ∙ ap (λ (m : ℕ). slice_range (listed_sizes frames) m (m + n)) one
+    ∙ ap (λ (m : ℕ). slice_range (listed_sizes frames) first (first + m)) two
     ∙ sizes-range bytes frames first count (first + count) are refl
 
-pub list-read : (list read : List SpelledFrame) (f n first count : ℕ) → read ≡ list → f ≡ first → n ≡ count → slice_range read f (f + n) ≡ take count (drop first list)
-list-read list read f n first count is one two =
-    ap (λ (l : List SpelledFrame). slice_range l f (f + n)) is
-    ∙ ap (λ (m : ℕ). slice_range list m (m + n)) one
-    ∙ ap (λ (m : ℕ). slice_range list first (first + m)) two
-    ∙ part-range list first count (first + count) refl
+pub texts-read : (bytes : List ℕ) (list : List SpelledFrame) (read : List ℕ) (f n first count : ℕ) → all_bytes bytes (take n (drop f list)) ≡ read → f ≡ first → n ≡ count
+    → read ≡ all_bytes bytes (take count (drop first list))
+texts-read bytes list read f n first count is one two =
+    sym is ∙ ap (λ (m : ℕ). all_bytes bytes (take n (drop m list))) one ∙ ap (λ (m : ℕ). all_bytes bytes (take m (drop first list))) two
 
 -- ---- one frame
 
@@ -111,10 +111,10 @@ pub frame-spelled : (bytes : List ℕ) (list : List SpelledFrame) (index : ℕ) 
     → spelled_at bytes frame ≡ get_or (map (spelled_at bytes) list) index no_frame
 frame-spelled bytes list index frame d within is = ap (spelled_at bytes) is ∙ sym (get_or-map (spelled_at bytes) list index d no_frame within)
 
-pub frame-within : (bytes : List ℕ) (frames : Frames) (index : ℕ) (frame d : SpelledFrame) → AreSpelledIn bytes frames → index < length frames.list.items → frame ≡ get_or frames.list.items index d
+pub frame-within : (bytes : List ℕ) (frames : Frames) (index : ℕ) (frame d : SpelledFrame) → AreSpelledIn bytes frames → index < length (listed frames) → frame ≡ get_or (listed frames) index d
     → IsWithin (length bytes) frame
 frame-within bytes frames index frame d are within is =
-    let at : IsWithin frames.end (get_or frames.list.items index d) = are.within index d within in
+    let at : IsWithin frames.end (get_or (listed frames) index d) = are.within index d within in
     let own : IsWithin frames.end frame = subst (IsWithin frames.end) (sym is) at in
     record { rising = own.rising; within = omega (arith, own.within, are.end_within) }
 
@@ -153,3 +153,17 @@ payload-is bytes list first count =
     twice : (xs : List Spelled) → map length (map (λ (f : Spelled). f.bytes) xs) ≡ map size_of xs
     twice [] = refl
     twice (x ∷ xs) = ap (λ (l : List ℕ). size_of x ∷ l) (twice xs)
+
+-- ---- a chunk
+
+pub chunk-read : (room number index offset len total : ℕ) (message part : List ℕ) → offset ≡ index * room → len ≡ min room (total - index * room) → total ≡ length message
+    → part ≡ slice_range message offset (offset + len) → chunk_of number offset total part ≡ cut_at room number message index
+chunk-read room number index offset len total message part first long all is =
+    let at : ℕ = index * room in
+    let size : offset + len - offset ≡ min room (total - at) = omega (arith, long) in
+    let left : total - at ≡ length (drop at message) = omega (arith, all, length-drop at message) in
+    let bytes : part ≡ take room (drop at message) =
+    is ∙ ap (λ (n : ℕ). take n (drop offset message)) size ∙ ap (λ (n : ℕ). take (min room (total - at)) (drop n message)) first
+    ∙ ap (λ (n : ℕ). take (min room n) (drop at message)) left ∙ take_min room (drop at message) in
+    ap (λ (n : ℕ). chunk_of number n total part) first ∙ ap (λ (n : ℕ). chunk_of number at n part) all
+    ∙ ap (λ (l : List ℕ). chunk_of number at (length message) l) bytes

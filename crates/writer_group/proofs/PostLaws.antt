@@ -1,13 +1,15 @@
 -- The datagrams of a turn in the buffer of its group.
-use Rattle.std.proofs.Common.{◌≡◌, ℕ, ◌≤◌, List, ◌++◌, length, map, take, drop, refl, sym, ap, subst, ◌∙◌, arith, All, Option, Vec}
-use Rattle.std.specs.Prelude.{vec_capacity}
-use Rattle.std.proofs.lemmas.List.{length-take, length-take-le, with_items_is}
+use Rattle.std.proofs.Common.{◌≡◌, ℕ, ◌≤◌, true, List, [], ◌∷◌, ◌++◌, length, map, take, drop, refl, sym, ap, subst, ◌∙◌, arith, All, Option, Vec}
+use Rattle.std.specs.Prelude.{◌==◌, vec_capacity}
+use Rattle.std.proofs.lemmas.Bool.Decides.{nat_tests}
+use Rattle.std.proofs.lemmas.List.{length-take, length-take-le, take-append-drop, with_items_is}
 use Rattle.std.specs.Vec.{with_items}
 use Rattle.std.specs.declared.alloc.Global.{Global}
 use Rattle.std.proofs.lemmas.List.Elements.{All-weaker}
 use Rattle.ua_binary.specs.Writing.{laid}
 use Rattle.uadp_header.specs.Headers.{PublisherValue, publisher_in}
 use Rattle.uadp_header.specs.Spelling.{header_len}
+use Rattle.message_guard.specs.declared.mode.Mode.{Mode}
 use Rattle.message_guard.specs.Senders.{SenderState}
 use Rattle.ps_config.specs.declared.parts.Config.{Config}
 use Rattle.ps_config.specs.declared.parts.GroupPart.{GroupPart}
@@ -27,7 +29,7 @@ use Rattle.writer_group.specs.Loading.{IsLoad}
 use Rattle.writer_group.specs.Making.{IsFilled, IsPosted, MayFill, MayMake, MayMakeOf, cargo_from, cargo_with, made_from, made_with}
 use Rattle.writer_group.specs.Payloads.{fixed_header}
 use Rattle.writer_group.specs.Posting.{MayPost, joined, made_of, ranges_of, slots_header}
-use Rattle.writer_group.specs.Sealing.{AreWritten, Envelope, envelope_with}
+use Rattle.writer_group.specs.Sealing.{AreWritten, Envelope, advanced_by, envelope_with}
 use Rattle.writer_group.specs.Standing.{IsWithinBuffer, datagram_in}
 use Rattle.writer_group.proofs.Joining.{IsRange, datagrams-stand, ranges-within}
 
@@ -136,6 +138,16 @@ is-filled config part sender group buffer bytes free after frames room loads ran
       ranges_are = ranges_are ∙ ap (ranges_of 0) (made-by config part sender group (take 32768 buffer) bytes frames room loads parts are);
       written = written-by config part sender group (take 32768 buffer) bytes frames room loads parts are written;
     }
+
+-- without loads nothing is filled, and no front is given
+pub nothing-filled : (config : Config) (part : GroupPart) (sender : Option SenderState) (group : Group) (buffer : List ℕ) (frames : Frames) (loads : List Load) (ranges : List Range)
+    → ranges ≡ [] → (length loads == 0) ≡ true → IsFilled config part sender group buffer frames loads buffer ranges
+nothing-filled config part sender group buffer frames [] ranges empty none = record { laid_is = sym (take-append-drop 32768 buffer); ranges_are = empty; written = tt }
+nothing-filled config part sender group buffer frames (load ∷ loads) ranges empty none = absurd (grind (arith, nat_tests))
+
+pub never-advanced : (mode : Mode) (s : SenderState) (loads : List Load) → (length loads == 0) ≡ true → s ≡ advanced_by mode s (length loads)
+never-advanced mode s [] none = refl
+never-advanced mode s (load ∷ loads) none = absurd (grind (arith, nat_tests))
 
 -- ---- the buffer
 

@@ -7,7 +7,7 @@ use Rattle.ps_config.specs.declared.parts.GroupPart.{GroupPart}
 use Rattle.writer_group.specs.declared.datagrams.Datagrams.{Datagrams}
 use Rattle.writer_group.specs.declared.spelled.Frames.{Frames}
 use Rattle.writer_group.specs.Answering.{AreAnswers}
-use Rattle.writer_group.specs.Holding.{AreSpelledIn, frames_at}
+use Rattle.writer_group.specs.Holding.{AreSpelledIn, frames_at, listed}
 use Rattle.writer_group.specs.Making.{AreSpelled, spelled_in}
 use Rattle.writer_group.specs.Standing.{IsReserved}
 use Rattle.writer_group.proofs.FrontFrames.{frames-front, spelled-front}
@@ -23,7 +23,7 @@ pub record WereSpelled (part : GroupPart) (metas : List MetaData) (on : List Boo
   pub long : length bytes ≡ length cleared.bytes.items
   pub on_are : length on ≡ length part.writer
   pub most : length part.writer ≤ 16
-  pub few : length frames.list.items ≤ length on
+  pub few : length (listed frames) ≤ length on
   pub spelled : AreSpelledIn bytes frames
   pub answers : AreAnswers part metas (length part.writer) (frames_at bytes frames)
 

@@ -21,7 +21,7 @@ use Rattle.writer_group.specs.declared.group.Group.{Group}
 use Rattle.writer_group.specs.declared.load.Load.{Load}
 use Rattle.writer_group.specs.declared.sampled.Sampled.{Sampled}
 use Rattle.writer_group.specs.Answering.{MayAnswer, AreAnswers}
-use Rattle.writer_group.specs.Holding.{CargoValue, payload_in, spelled_at, AreSpelledIn}
+use Rattle.writer_group.specs.Holding.{AreSpelledIn, CargoValue, listed, listed_sizes, payload_in, spelled_at}
 use Rattle.writer_group.specs.Loading.{IsLoad}
 use Rattle.writer_group.specs.Posting.{joined}
 use Rattle.writer_group.specs.Making.{AreSpelled, MayMake, cargo_with, loads_for, spelled_in, cargo_from}
@@ -90,7 +90,7 @@ is-ready config index part metas sender group out of made_for are_metas is_sende
       fixed_metas = are_metas.fixed;
       fixed = fixed;
       max_size = sound.max_size.1;
-      few = omega (arith, length-map out.frames.list.items (spelled_at (take 32768 out.bytes.items)), planned.few, few-writers config index part of.good.sound of.within of.is);
+      few = omega (arith, length-map (listed out.frames) (spelled_at (take 32768 out.bytes.items)), planned.few, few-writers config index part of.good.sound of.within of.is);
       brief = record { publisher = of.good.sound.publisher; class_id = of.class_id };
       sender_is = is_sender.sender_is;
     }
@@ -113,7 +113,7 @@ pub record HasLoads (config : Config) (part : GroupPart) (out then_out : Datagra
   pub bytes : then_out.bytes ≡ out.bytes
   pub frames : then_out.frames ≡ out.frames
   pub ranges : then_out.ranges ≡ out.ranges
-  pub loads : then_out.loads.items ≡ loads_for config.publisher.id part out.frames.sizes.items
+  pub loads : then_out.loads.items ≡ loads_for config.publisher.id part (listed_sizes out.frames)
   pub left : vec_capacity out.loads ≤ vec_capacity then_out.loads
 
 pub same-cargo : (config : Config) (part : GroupPart) (group : Group) (out then_out : Datagrams) → HasLoads config part out then_out → cargo_with config part group then_out ≡ cargo_with config part group out
@@ -131,7 +131,7 @@ may-make config index part metas sender group out then_out of made_for are_metas
     let plans = turn-plans config part metas cargo frames sender e (is-ready config index part metas sender group out of made_for are_metas is_sender planned) in
     let same : then_out.loads.items ≡ loads_for config.publisher.id part (map size_of frames) = has.loads ∙ ap (loads_for config.publisher.id part) planned.spelled.sizes in
     let cargos = same-cargo config part group out then_out has in
-    let few : length out.frames.list.items ≤ 16 = omega (arith, planned.few, few-writers config index part of.good.sound of.within of.is) in
+    let few : length (listed out.frames) ≤ 16 = omega (arith, planned.few, few-writers config index part of.good.sound of.within of.is) in
     let are : All (IsLoad cargo) then_out.loads.items = subst (All (IsLoad cargo)) (sym same) plans.loads_are in
     let room : length (joined (datagrams_from e sender 0 (map (payload_in cargo) then_out.loads.items))) ≤ 229376 =
     subst (λ (l : List Load). length (joined (datagrams_from e sender 0 (map (payload_in cargo) l))) ≤ 229376) (sym same) plans.room in
@@ -155,19 +155,19 @@ may-make config index part metas sender group out then_out of made_for are_metas
 
 -- as many as there is room to list
 pub loads-left : (config : Config) (index : ℕ) (part : GroupPart) (metas : List MetaData) (sender : Option SenderState) (group : Group) (out : Datagrams) → IsPartOf config index part
-    → IsMadeFor config part group → AreMetas config part metas → IsSenderFor part sender → AreSpelled part metas out → length (loads_for config.publisher.id part out.frames.sizes.items) ≤ 1024
+    → IsMadeFor config part group → AreMetas config part metas → IsSenderFor part sender → AreSpelled part metas out → length (loads_for config.publisher.id part (listed_sizes out.frames)) ≤ 1024
 loads-left config index part metas sender group out of made_for are_metas is_sender planned =
     let frames = spelled_in out in
     let plans = turn-plans config part metas (cargo_with config part group out) frames sender (envelope_with config part group.made) (is-ready config index part metas sender group out of made_for are_metas is_sender planned) in
     omega (arith, ap (λ (l : List ℕ). length (loads_for config.publisher.id part l)) planned.spelled.sizes, plans.few)
 
-pub few-sizes : (config : Config) (index : ℕ) (part : GroupPart) (metas : List MetaData) (out : Datagrams) → IsPartOf config index part → AreSpelled part metas out → length out.frames.sizes.items ≤ 16
+pub few-sizes : (config : Config) (index : ℕ) (part : GroupPart) (metas : List MetaData) (out : Datagrams) → IsPartOf config index part → AreSpelled part metas out → length (listed_sizes out.frames) ≤ 16
 few-sizes config index part metas out of planned =
     omega (
       arith,
       ap length planned.spelled.sizes,
       length-map (spelled_in out) size_of,
-      length-map out.frames.list.items (spelled_at (take 32768 out.bytes.items)),
+      length-map (listed out.frames) (spelled_at (take 32768 out.bytes.items)),
       planned.few,
       few-writers config index part of.good.sound of.within of.is,
     )

@@ -1,6 +1,7 @@
 -- A whole turn: its datagrams are those of the definition, and where it leaves the group and the sender.
-use Rattle.std.proofs.Common.{◌≡◌, ℕ, ◌+◌, ◌%◌, ◌≤◌, Bool, List, [], ◌∷◌, length, map, get_or, refl, sym, ap, subst, ◌∙◌, arith, Option, Some}
-use Rattle.std.specs.Prelude.{if◌then◌else◌}
+use Rattle.std.proofs.Common.{◌≡◌, ℕ, ◌+◌, ◌%◌, ◌≤◌, Bool, List, [], ◌∷◌, length, map, get_or, refl, sym, ap, subst, ◌∙◌, arith, Option, Some, Vec}
+use Rattle.std.specs.Prelude.{if◌then◌else◌, vec_capacity}
+use Rattle.std.specs.declared.alloc.Global.{Global}
 use Rattle.std.proofs.lemmas.List.{length-map}
 use Rattle.dataset_meta.specs.Metas.{MetaData}
 use Rattle.dataset_writer.specs.Standing.{IsWriter}
@@ -14,8 +15,10 @@ use Rattle.writer_group.specs.declared.datagrams.Datagrams.{Datagrams}
 use Rattle.writer_group.specs.declared.group.Group.{Group}
 use Rattle.writer_group.specs.declared.sampled.Sampled.{Sampled}
 use Rattle.writer_group.specs.Answering.{HaveAnswered, MayGo, StandAfter, AreAnswers}
-use Rattle.writer_group.specs.Holding.{CargoValue, payload_in}
-use Rattle.writer_group.specs.Making.{AreSpelled, cargo_with, loads_for, passed, spelled_in, IsPosted}
+use Rattle.writer_group.specs.Holding.{CargoValue, listed_sizes, payload_in}
+use Rattle.writer_group.specs.declared.load.Load.{Load}
+use Rattle.writer_group.specs.declared.settings.Rooms.{Rooms}
+use Rattle.writer_group.specs.Making.{AreSpelled, cargo_with, loads_for, loads_in, passed, spelled_in, IsPosted}
 use Rattle.writer_group.specs.Payloads.{meta_at, payloads_of, size_of, writer_at}
 use Rattle.writer_group.specs.Sealing.{datagrams_from, AreWritten, Payload, advanced_by, envelope_with}
 use Rattle.writer_group.specs.Standing.{HasTicked, IsGroup, IsMadeFor, MayGoOn, datagrams_in, input_of, metas_for, MayTick, IsSenderFor}
@@ -88,6 +91,21 @@ still-made config part metas rows on now closing before after out had made =
       start = ap (λ (g : Group). g.slots.start) had.rest ∙ made.start;
       writers = omega (arith, made.writers, had.goes_on.count, before.writers.ok.0, after.writers.ok.0);
       slots = λ fixed. ap (λ (g : Group). g.slots) had.rest ∙ made.slots fixed;
+      rooms = ap (λ (g : Group). g.rooms) had.rest ∙ made.rooms;
+    }
+
+-- the loads that were planned with the group's rooms
+pub has-loads : (config : Config) (part : GroupPart) (metas : List MetaData) (rows : List Sampled) (on : List Bool) (now : ℕ) (closing : Bool) (before after : Group) (out : Datagrams) (loads : Vec Load Global)
+    → HadTurns config part metas rows on now closing before after out → IsMadeFor config part before → loads.items ≡ loads_in part.layout after.rooms part (listed_sizes out.frames) → vec_capacity out.loads ≤ vec_capacity loads
+    → HasLoads config part out (record out { loads = loads })
+has-loads config part metas rows on now closing before after out loads had made planned left =
+    let still = still-made config part metas rows on now closing before after out had made in
+    record {
+      bytes = refl;
+      frames = refl;
+      ranges = refl;
+      loads = planned ∙ ap (λ (r : Rooms). loads_in part.layout r part (listed_sizes out.frames)) still.rooms;
+      left = left;
     }
 
 pub goes-on : (config : Config) (part : GroupPart) (metas : List MetaData) (rows : List Sampled) (on : List Bool) (now : ℕ) (closing : Bool) (before after last : Group) (out : Datagrams) (count : ℕ)

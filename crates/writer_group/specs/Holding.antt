@@ -1,5 +1,5 @@
 -- What the parts of a turn in memory stand for.
-use Rattle.std.specs.Prelude.{◌≡◌, ℕ, ◌+◌, ◌*◌, ◌≤◌, List, [], length, map, take, drop, All, Option, Some, None, slice_range, slice_index_or}
+use Rattle.std.specs.Prelude.{◌≡◌, ℕ, ◌+◌, ◌*◌, ◌≤◌, List, [], ◌∷◌, length, map, take, drop, All, Option, Some, None, slice_range, slice_index_or}
 use Rattle.std.specs.Int.{w16, to_le_bytes}
 use Rattle.std.specs.List.{flat_map}
 use Rattle.ua_binary.specs.declared.pen.Pen.{Pen}
@@ -58,8 +58,18 @@ spelled_at bytes frame = record {
 abbrev pub all_spelled : List ℕ → List SpelledFrame → List Spelled
 all_spelled bytes frames = map (spelled_at bytes) frames
 
+-- the frames that are kept, their sizes and their ids; behind these stand earlier ones
+abbrev pub listed : Frames → List SpelledFrame
+listed frames = take frames.count frames.list
+
+abbrev pub listed_sizes : Frames → List ℕ
+listed_sizes frames = take frames.count frames.sizes
+
+abbrev pub listed_ids : Frames → List ℕ
+listed_ids frames = take (2 * frames.count) frames.ids
+
 abbrev pub frames_at : List ℕ → Frames → List Spelled
-frames_at bytes frames = all_spelled bytes frames.list.items
+frames_at bytes frames = all_spelled bytes (listed frames)
 
 -- the bytes of frames one behind another
 abbrev pub all_bytes : List ℕ → List SpelledFrame → List ℕ
@@ -72,12 +82,18 @@ pub record IsWithin (end : ℕ) (frame : SpelledFrame) : Type 0 where
 abbrev pub id_bytes : List Spelled → List ℕ
 id_bytes frames = flat_map (to_le_bytes w16) (map (λ frame. frame.id) frames)
 
+-- they stand one behind another, the first from this byte on, and the last up to that one
+abbrev pub StandFrom : ℕ → List SpelledFrame → ℕ → Type 0
+StandFrom start [] end = start ≡ end
+StandFrom start (frame ∷ frames) end = (frame.start ≡ start) × StandFrom frame.end frames end
+
 -- their sizes and ids are those of what is spelled, and each has at most 2,048 bytes
 pub record AreSpelledIn (bytes : List ℕ) (frames : Frames) : Type 0 where
-  pub sizes : frames.sizes.items ≡ map size_of (frames_at bytes frames)
-  pub ids : frames.ids.items ≡ id_bytes (frames_at bytes frames)
-  pub within : All (IsWithin frames.end) frames.list.items
-  pub short : frames.end ≤ 2048 * length frames.list.items
+  pub sizes : listed_sizes frames ≡ map size_of (frames_at bytes frames)
+  pub ids : listed_ids frames ≡ id_bytes (frames_at bytes frames)
+  pub within : All (IsWithin frames.end) (listed frames)
+  pub stand : StandFrom 0 (listed frames) frames.end
+  pub short : frames.end ≤ 2048 * length (listed frames)
   pub end_within : frames.end ≤ length bytes
 
 abbrev pub number_or_zero : Option ℕ → ℕ

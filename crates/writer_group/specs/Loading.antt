@@ -6,12 +6,12 @@ use Rattle.writer_group.specs.declared.laying.Cargo.{Cargo}
 use Rattle.writer_group.specs.declared.load.Load.{Load}
 use Rattle.writer_group.specs.declared.load.Load.TheVariants as loads
 use Rattle.writer_group.specs.Payloads.{in_slots}
-use Rattle.writer_group.specs.Holding.{AreSpelledIn, CargoValue, frame_at}
+use Rattle.writer_group.specs.Holding.{AreSpelledIn, CargoValue, frame_at, listed}
 use Rattle.writer_group.specs.Limits.{frames_bytes}
 
 pub record IsCargo (cargo : Cargo) : Type 0 where
   pub spelled : AreSpelledIn cargo.bytes.now cargo.frames.now
-  pub few : length cargo.frames.now.list.items ≤ 16
+  pub few : length (listed cargo.frames.now) ≤ 16
   pub small : length cargo.bytes.now ≤ frames_bytes
 
 pub record AreSomeFrames (cargo : CargoValue) (first count : ℕ) : Type 0 where

@@ -16,10 +16,11 @@ use Rattle.writer_group.specs.declared.spelled.Frames.{Frames}
 use Rattle.writer_group.specs.declared.load.Load.TheVariants as loads
 use Rattle.dataset_meta.specs.Metas.{MetaData}
 use Rattle.writer_group.specs.Answering.{AreAnswers}
-use Rattle.writer_group.specs.Envelopes.{frame_room}
+use Rattle.writer_group.specs.declared.settings.Rooms.{Rooms}
+use Rattle.writer_group.specs.Setup.{rooms_of}
 use Rattle.writer_group.specs.Payloads.{Spelled}
 use Rattle.writer_group.specs.Sealing.{AreWritten, envelope_with}
-use Rattle.writer_group.specs.Holding.{CargoValue, AreSpelledIn, frames_at, payload_in}
+use Rattle.writer_group.specs.Holding.{AreSpelledIn, CargoValue, frames_at, listed, payload_in}
 use Rattle.writer_group.specs.Loading.{IsLoad}
 use Rattle.writer_group.specs.Planning.{planned}
 use Rattle.writer_group.specs.Posting.{joined, ranges_of, made_of}
@@ -27,13 +28,19 @@ use Rattle.writer_group.specs.Standing.{IsReserved, IsMadeFor, IsSenderFor, data
 use Rattle.writer_group.specs.Limits.{frames_bytes, most_datagrams, datagrams_bytes, buffer_bytes}
 
 -- what a dynamic turn plans for frames of these sizes
+abbrev pub planned_in : Rooms → List ℕ → List Load
+planned_in rooms sizes = planned rooms.frame rooms.chunk sizes
+
 abbrev pub planned_for : Publisher → GroupPart → List ℕ → List Load
-planned_for publisher part sizes = planned (frame_room publisher part) (chunk_room publisher part) sizes
+planned_for publisher part sizes = planned_in (rooms_of publisher part) sizes
 
 -- what a turn plans, by the layout, for frames of these sizes
+abbrev pub loads_in : Layout → Rooms → GroupPart → List ℕ → List Load
+loads_in layout.Dynamic rooms part sizes = planned_in rooms sizes
+loads_in layout.Fixed rooms part sizes = if nat_lt 0 (length part.writer) then loads.Slots ∷ [] else []
+
 abbrev pub loads_by : Layout → Publisher → GroupPart → List ℕ → List Load
-loads_by layout.Dynamic publisher part sizes = planned_for publisher part sizes
-loads_by layout.Fixed publisher part sizes = if nat_lt 0 (length part.writer) then loads.Slots ∷ [] else []
+loads_by layout publisher part sizes = loads_in layout (rooms_of publisher part) part sizes
 
 abbrev pub loads_for : Publisher → GroupPart → List ℕ → List Load
 loads_for publisher part sizes = loads_by part.layout publisher part sizes
@@ -64,7 +71,7 @@ pub record AreSpelled (part : GroupPart) (metas : List MetaData) (out : Datagram
   pub no_loads : out.loads.items ≡ []
   pub no_ranges : out.ranges.items ≡ []
   pub spelled : AreSpelledIn (take frames_bytes out.bytes.items) out.frames
-  pub few : length out.frames.list.items ≤ length part.writer
+  pub few : length (listed out.frames) ≤ length part.writer
   pub answers : AreAnswers part metas (length part.writer) (spelled_in out)
 
 -- the datagrams that these loads make
@@ -78,7 +85,7 @@ pub record MayMakeOf (config : Config) (part : GroupPart) (sender : Option Sende
   pub few : length loads ≤ most_datagrams
   pub spelled : AreSpelledIn bytes frames
   pub small : length bytes ≤ frames_bytes
-  pub frames_few : length frames.list.items ≤ 16
+  pub frames_few : length (listed frames) ≤ 16
   pub sender_is : IsSenderFor part sender
 
 -- the planned datagrams have room, and the sender has numbers for them
@@ -89,7 +96,7 @@ pub record MayMake (config : Config) (part : GroupPart) (sender : Option SenderS
   pub loads_are : All (IsLoad (cargo_with config part group out)) out.loads.items
   pub few : length out.loads.items ≤ most_datagrams
   pub spelled : AreSpelledIn (take frames_bytes out.bytes.items) out.frames
-  pub frames_few : length out.frames.list.items ≤ 16
+  pub frames_few : length (listed out.frames) ≤ 16
   pub sender_is : IsSenderFor part sender
   pub room : length (joined (made_with config part sender group out)) ≤ datagrams_bytes
 

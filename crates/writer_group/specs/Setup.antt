@@ -10,9 +10,16 @@ use Rattle.ps_config.specs.declared.parts.Config.{Config}
 use Rattle.ps_config.specs.declared.parts.GroupPart.{GroupPart}
 use Rattle.ps_config.specs.declared.parts.WriterPart.{WriterPart}
 use Rattle.ps_config.specs.Headers.{signature_len}
-use Rattle.ps_config.specs.Rooms.{is_fixed}
+use Rattle.ps_config.specs.Rooms.{chunk_room, is_fixed}
+use Rattle.config_tables.specs.declared.publisher.Publisher.{Publisher}
+use Rattle.writer_group.specs.declared.settings.Rooms.{Rooms}
+use Rattle.writer_group.specs.Envelopes.{frame_room}
 use Rattle.writer_group.specs.Payloads.{fixed_header, slots_of}
 use Rattle.writer_group.specs.Turns.{settings_of}
+
+-- what the datagrams of a group have room for
+abbrev pub rooms_of : Publisher → GroupPart → Rooms
+rooms_of publisher part = record { frame = frame_room publisher part; chunk = chunk_room publisher part }
 
 -- a fresh writer of this part of the configuration, which may have so many turns
 pub record IsNew (turns : ℕ) (part : WriterPart) (writer : Writer) : Type 0 where

@@ -20,7 +20,7 @@ use Rattle.writer_group.specs.declared.sampled.Sampled.{Sampled}
 use Rattle.writer_group.specs.Answering.{HasLived}
 use Rattle.writer_group.specs.Payloads.{meta_at, writer_at, fixed_header, payloads_of, IsFrameIf}
 use Rattle.writer_group.specs.Sealing.{AreWritten, advanced_by}
-use Rattle.writer_group.specs.Setup.{AreSlotsOf}
+use Rattle.writer_group.specs.Setup.{AreSlotsOf, rooms_of}
 use Rattle.writer_group.specs.Turns.{answer_by, GroupDeed, HadGroupTurn, RefreshedWriter, is_due, told_of, writer_past, settings_of, made_in, last_moment, TurnInput, envelope_of, frames_in, turn_datagrams, turned}
 use Rattle.writer_group.specs.Limits.{frames_bytes, most_datagrams, buffer_bytes}
 
@@ -48,6 +48,7 @@ pub record IsMadeFor (config : Config) (part : GroupPart) (group : Group) : Type
   pub start : group.slots.start ≡ fixed_header config.publisher.id part
   pub writers : vec_len group.writers ≡ length part.writer
   pub slots : AreSlotsOf config part group.slots
+  pub rooms : group.rooms ≡ rooms_of config.publisher.id part
 
 -- where these deeds leave it; `metas` has for the index of each writer the meta of its turns since its last refresh
 pub record IsGroup (metas : ℕ → MetaData) (part : GroupPart) (past : List GroupDeed) (group : Group) : Type 0 where

@@ -5,7 +5,7 @@ ghost use Rattle.dataset_writer.specs.Standing.{HoldsRowOf};
 ghost use Rattle.dataset_writer.specs.Turns.{turn_at};
 ghost use Rattle.pubsub_model.specs.Cadence.{WriterDeed};
 ghost use Rattle.writer_group.specs.Answering.{AddsFrame, AreAnswers, HasNarrowNumbers, HasAnswered, HasLived, HaveAnswered, MayAnswer, MayGo};
-ghost use Rattle.writer_group.specs.Holding.{AreSpelledIn, frames_at};
+ghost use Rattle.writer_group.specs.Holding.{AreSpelledIn, frames_at, listed};
 ghost use Rattle.dataset_meta.specs.Metas.{MetaData};
 ghost use Rattle.writer_group.specs.declared.sampled.Sampled.{Sampled as AnySampled};
 ghost use Rattle.writer_group.specs.Payloads.{writer_at};
@@ -41,7 +41,7 @@ pub(crate) fn answer_all(
     ensures answers { AreAnswers group.now metas.now (length group.now.writer)
         (frames_at bytes.new frames.new) }
     ensures spelled { AreSpelledIn bytes.new frames.new }
-    ensures few { length frames.new.list.items ≤ length on.now }
+    ensures few { length (listed frames.new) ≤ length on.now }
 {
     for index in 0..on.len() {
         let part = part_at(group, index);
@@ -105,7 +105,7 @@ fn answer_one(
     requires lived { HasLived meta.now (settings_of part.now) writer.old }
     requires row { Belongs meta.now sampled.now.row.words }
     requires spelled { AreSpelledIn bytes.old frames.old }
-    requires few { length frames.old.list.items < 16 }
+    requires few { length (listed frames.old) < 16 }
     requires room { FRAMES_BYTES ≤ length bytes.old }
     ensures answered { (deeds : List WriterDeed) → HasAnswered part.now index layout meta.now
         (if on then Some (turn_at meta.now.fields now sampled.now.row sampled.now.version closing) else None)
@@ -116,7 +116,7 @@ fn answer_one(
     ensures lived { HasLived meta.now (settings_of part.now) writer.new }
     ensures left { writer.old.left ≤ writer.new.left + 1 }
     ensures spelled { AreSpelledIn bytes.new frames.new }
-    ensures few { length frames.new.list.items ≤ length frames.old.list.items + 1 }
+    ensures few { length (listed frames.new) ≤ length (listed frames.old) + 1 }
 {
     if !on {
         return;

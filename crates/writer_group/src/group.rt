@@ -12,7 +12,7 @@ use crate::answering::answer_all;
 use crate::datagrams::Datagrams;
 use crate::planning::plan_loads;
 use crate::sampled::Sampled;
-use crate::settings::a_class_id_is_whole;
+use crate::settings::{Rooms, a_class_id_is_whole, rooms_of};
 use crate::setup::{slots_of, writers_of};
 use dataset_meta::Meta;
 use dataset_writer::Writer;
@@ -28,6 +28,7 @@ pub struct Group {
     index: u8,
     interval: u32,
     writers: Vec<Writer>,
+    pub(crate) rooms: Rooms,
     pub(crate) slots: Slots,
     // How many datagrams were made, modulo 65536.
     pub(crate) made: u16,
@@ -51,6 +52,7 @@ impl Group {
             index,
             interval: group.interval,
             writers,
+            rooms: rooms_of(&config.publisher.id, group),
             slots: slots_of(config, group),
             made: 0,
             turned_at: 0,
@@ -119,7 +121,7 @@ impl Group {
         let group = part_of(config, self.index);
         a_class_id_is_whole(group);
         self.answer(group, metas, now, rows, on, closing, out);
-        plan_loads(&config.publisher.id, group, &out.frames, &mut out.loads);
+        plan_loads(group, self.rooms, &out.frames, &mut out.loads);
         match sender {
             None => {
                 self.post(config, group, out);

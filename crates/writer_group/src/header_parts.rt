@@ -49,15 +49,17 @@ impl<'a> HeaderParts<'a> {
         ensures header { header_in result ≡ header_by self.now index security.entry ids.entry }
         ensures written { IsWritten (header_in result) }
     {
+        class_id_is_whole(self.settings.class_id);
+        security_is_narrow(security);
         Header {
             publisher: Some(self.publisher),
-            class_id: whole(self.settings.class_id),
+            class_id: self.settings.class_id,
             group: group_in(self.settings.id),
             version: version_in(self.settings.version),
             message_number: number_if(self.settings.message_number, index + 1),
             sequence: number_if(self.settings.sequence, self.made.wrapping_add(index)),
             ids,
-            security: narrow(security),
+            security,
         }
     }
 }
@@ -116,6 +118,20 @@ pub(crate) fn whole(id: Option<[u8; 16]>) -> Option<[u8; 16]>
         None => None,
         Some(guid) => Some(guid),
     }
+}
+
+/// A class id has 16 bytes. What this looks at isn't copied: the header takes the id from where it stands.
+fn class_id_is_whole(id: Option<[u8; 16]>)
+    ensures { IfSome id (λ guid. length guid ≡ 16) }
+{
+    let _id = whole(id);
+}
+
+/// A token has 32 bits; and so with the security header.
+fn security_is_narrow(security: Option<SecurityPart<'_>>)
+    ensures { IfSome (if_there security_in security.entry) (λ s. s.token < 2 ^ 32) }
+{
+    let _part = narrow(security);
 }
 
 /// The security header as it is, whose token has 32 bits.

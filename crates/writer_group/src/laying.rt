@@ -1,11 +1,11 @@
 //! Laying out one datagram without its signature.
-ghost use Rattle.std.specs.Prelude.{◌≡◌, ◌<◌, ◌≤◌, ◌+◌, ◌-◌, ◌*◌, ◌++◌, ℕ, List, All, length, take, drop};
+ghost use Rattle.std.specs.Prelude.{◌≡◌, ◌<◌, ◌≤◌, ◌+◌, ◌-◌, ◌*◌, ◌++◌, ℕ, List, length, slice_range, take, drop};
 ghost use Rattle.ua_binary.specs.Writing.{laid, Puts};
 ghost use Rattle.uadp_header.specs.Headers.{ChunkOf, header_in, ids_in};
 ghost use Rattle.uadp_header.specs.Spelling.{AreIds, IsIds, IsSenders, header_bytes};
 ghost use Rattle.payload_layout.specs.Payloads.{sizes_bytes};
 ghost use Rattle.chunker.specs.Spelling.{chunk_bytes, chunk_in};
-ghost use Rattle.writer_group.specs.Holding.{spelled_at, HasRoom, IsWithin, all_bytes, cargo_in, chunk_by, frame_at, frames_by, header_text, payload_by, payload_in};
+ghost use Rattle.writer_group.specs.Holding.{HasRoom, IsWithin, all_bytes, cargo_in, chunk_by, frame_at, frames_by, header_text, listed, payload_by, payload_in, spelled_at};
 ghost use Rattle.writer_group.specs.Loading.{IsCargo, IsLoad, HasHeaderOf};
 
 use crate::load::Load;
@@ -41,7 +41,7 @@ impl<'a> Cargo<'a> {
         match load {
             Load::Frames { first, count } => {
                 let first = 2 * usize::from(first);
-                Ids::List(&self.frames.ids.as_slice()[first..first + 2 * usize::from(count)])
+                Ids::List(&self.frames.ids()[first..first + 2 * usize::from(count)])
             }
             Load::Chunk { frame, .. } => chunk_ids(self.frame(frame).id),
             Load::Slots => Ids::None,
@@ -50,11 +50,11 @@ impl<'a> Cargo<'a> {
 
     fn frame(&self, index: u8) -> &SpelledFrame
         requires cargo { IsCargo self.now }
-        requires within { index < length self.now.frames.now.list.items }
+        requires within { index < length (listed self.now.frames.now) }
         ensures frame { spelled_at self.now.bytes.now result.now ≡ frame_at (cargo_in self.now) index }
         ensures within { IsWithin (length self.now.bytes.now) result.now }
     {
-        &self.frames.list.as_slice()[usize::from(index)]
+        &self.frames.list()[usize::from(index)]
     }
 
     /// Lays header and payload at a place of the free bytes. Tells where the payload begins, and where it ends.
@@ -112,7 +112,8 @@ impl<'a> Cargo<'a> {
     /// Writes the payload of frames that share a datagram.
     fn put_frames(&self, pen: &mut Pen<'_>, first: u8, count: u8)
         requires cargo { IsCargo self.now }
-        requires within { first + count ≤ length self.now.frames.now.list.items }
+        requires some { 0 < count }
+        requires within { first + count ≤ length (listed self.now.frames.now) }
         requires few { count ≤ 16 }
         requires room { pen.old.at + length (frames_by self.now first count)
             ≤ length pen.old.bytes.now }
@@ -120,14 +121,30 @@ impl<'a> Cargo<'a> {
     {
         let first = usize::from(first);
         let end = first + usize::from(count);
-        put_sizes(pen, &self.frames.sizes.as_slice()[first..end]);
-        put_all(pen, self.bytes, &self.frames.list.as_slice()[first..end]);
+        put_sizes(pen, &self.frames.sizes()[first..end]);
+        let (start, behind) = self.range(first, usize::from(count));
+        pen.put_bytes(&self.bytes[start..behind]);
+    }
+
+    /// Where so many frames begin and end, from the one with this index on: they stand one behind another.
+    fn range(&self, first: usize, count: usize) -> (usize, usize)
+        requires cargo { IsCargo self.now }
+        requires some { 0 < count }
+        requires within { first + count ≤ length (listed self.now.frames.now) }
+        ensures bytes { all_bytes self.now.bytes.now
+            (take count (drop first (listed self.now.frames.now)))
+            ≡ slice_range self.now.bytes.now result.0 result.1 }
+        ensures rising { result.0 ≤ result.1 }
+        ensures within { result.1 ≤ length self.now.bytes.now }
+    {
+        let list = self.frames.list();
+        (list[first].start, list[first + count - 1].end)
     }
 
     /// Writes the payload of a chunk.
     fn put_chunk(&self, pen: &mut Pen<'_>, frame: u8, index: u32)
         requires cargo { IsCargo self.now }
-        requires frame { frame < length self.now.frames.now.list.items }
+        requires frame { frame < length (listed self.now.frames.now) }
         requires some { 1 ≤ self.now.room }
         requires index { index * self.now.room < length (frame_at (cargo_in self.now) frame).bytes }
         requires room { pen.old.at + length (chunk_by self.now frame index)
@@ -186,16 +203,5 @@ fn put_chunk_payload(pen: &mut Pen<'_>, chunk: &ChunkPayload<'_>)
     match write_chunk(pen, chunk) {
         Ok(()) => {}
         Err(_) => unreachable!(),
-    }
-}
-
-/// Writes frames one behind another.
-fn put_all(pen: &mut Pen<'_>, bytes: &[u8], frames: &[SpelledFrame])
-    requires within { All (IsWithin (length bytes.now)) frames.now }
-    requires room { pen.old.at + length (all_bytes bytes.now frames.now) ≤ length pen.old.bytes.now }
-    ensures { Puts pen.old pen.new (all_bytes bytes.now frames.now) }
-{
-    for frame in frames {
-        pen.put_bytes(&bytes[frame.start..frame.end]);
     }
 }

@@ -12,7 +12,7 @@ use crate::load::Load;
 use crate::posting::{Range, post_open, post_secured};
 use crate::spelled::{FRAMES_BYTES, Frames};
 use message_guard::Sender;
-use ps_config::{Config, GroupPart, chunk_room, mode_of};
+use ps_config::{Config, GroupPart, mode_of};
 
 impl Group {
     /// Makes the datagrams that were planned, behind the frames, without security.
@@ -71,12 +71,15 @@ impl Group {
             buffer.new ranges.new.items }
         ensures capacity { vec_capacity ranges.old ≤ vec_capacity ranges.new }
     {
+        if loads.is_empty() {
+            return;
+        }
         let parts = HeaderParts::new(&config.publisher.id, group.header_settings(), self.made);
         let (bytes, free) = buffer.split_at_mut(FRAMES_BYTES);
         let cargo = Cargo {
             bytes,
             frames,
-            room: chunk_room(&config.publisher.id, group),
+            room: self.rooms.chunk,
             slots: &self.slots,
         };
         post_open(&parts, &cargo, loads, free, ranges);
@@ -103,12 +106,15 @@ impl Group {
         ensures sender { sender.new
             ≡ advanced_by (mode_of group.now.security) sender.old (length loads.now) }
     {
+        if loads.is_empty() {
+            return;
+        }
         let parts = HeaderParts::new(&config.publisher.id, group.header_settings(), self.made);
         let (bytes, free) = buffer.split_at_mut(FRAMES_BYTES);
         let cargo = Cargo {
             bytes,
             frames,
-            room: chunk_room(&config.publisher.id, group),
+            room: self.rooms.chunk,
             slots: &self.slots,
         };
         let mode = mode_of(group.security);

@@ -1,33 +1,30 @@
 //! Which datagrams a turn makes.
-ghost use Rattle.std.specs.Prelude.{◌≡◌, ◌<◌, ◌≤◌, ◌+◌, ◌++◌, ◌∷◌, [], false, length, slice_index_or, vec_len, vec_capacity};
+ghost use Rattle.std.specs.Prelude.{◌≡◌, ◌<◌, ◌≤◌, ◌+◌, ◌++◌, ◌∷◌, [], ℕ, true, false, length, slice_index_or, vec_len, vec_capacity};
 ghost use Rattle.payload_layout.specs.declared.packing.Pack.{Pack as AnyPack};
-ghost use Rattle.ps_config.specs.Rooms.{chunk_room, is_fixed};
-ghost use Rattle.writer_group.specs.Making.{loads_for, planned_for};
+ghost use Rattle.ps_config.specs.Rooms.{is_fixed};
+ghost use Rattle.writer_group.specs.Making.{loads_in, planned_in};
+ghost use Rattle.writer_group.specs.Holding.{listed_sizes};
 ghost use Rattle.writer_group.specs.Planning.{chunk_count, chunk_loads, pack_loads_of, planned};
 
 use crate::load::Load;
-use crate::settings::frame_room;
+use crate::settings::Rooms;
 use crate::spelled::Frames;
 use payload_layout::{Pack, Packs, plan};
-use ps_config::{GroupPart, Layout, Publisher, chunk_room};
+use ps_config::{GroupPart, Layout};
 
 /// Pushes what each datagram of a turn carries, whose frames are spelled.
-pub(crate) fn plan_loads(
-    publisher: &Publisher,
-    group: &GroupPart,
-    frames: &Frames,
-    loads: &mut Vec<Load>,
-)
-    requires room { is_fixed group.now.layout ≡ false → 1 ≤ chunk_room publisher.now group.now }
-    requires few { length frames.now.sizes.items ≤ 16 }
+pub(crate) fn plan_loads(group: &GroupPart, rooms: Rooms, frames: &Frames, loads: &mut Vec<Load>)
+    requires room { is_fixed group.now.layout ≡ false → 1 ≤ rooms.chunk }
+    requires few { length (listed_sizes frames.now) ≤ 16 }
     requires empty { loads.old.items ≡ [] }
-    requires left { length (loads_for publisher.now group.now frames.now.sizes.items)
+    requires left { length (loads_in group.now.layout rooms group.now (listed_sizes frames.now))
         ≤ vec_capacity loads.old }
-    ensures planned { loads.new.items ≡ loads_for publisher.now group.now frames.now.sizes.items }
+    ensures planned { loads.new.items
+        ≡ loads_in group.now.layout rooms group.now (listed_sizes frames.now) }
     ensures capacity { vec_capacity loads.old ≤ vec_capacity loads.new }
 {
     match group.layout {
-        Layout::Dynamic => plan_frames(publisher, group, frames.sizes.as_slice(), loads),
+        Layout::Dynamic => plan_frames(frames.sizes(), rooms, loads),
         Layout::Fixed => {
             if !group.writer.as_slice().is_empty() {
                 push_load(Load::Slots, loads);
@@ -36,38 +33,48 @@ pub(crate) fn plan_loads(
     }
 }
 
-/// Pushes what each datagram of a dynamic turn carries; without frames nothing is planned.
-fn plan_frames(publisher: &Publisher, group: &GroupPart, sizes: &[u16], loads: &mut Vec<Load>)
-    requires room { 1 ≤ chunk_room publisher.now group.now }
+/// Pushes what each datagram of a dynamic turn carries. Without frames nothing is planned, and little for one that fits.
+fn plan_frames(sizes: &[u16], rooms: Rooms, loads: &mut Vec<Load>)
+    requires room { 1 ≤ rooms.chunk }
     requires few { length sizes.now ≤ 16 }
     requires empty { loads.old.items ≡ [] }
-    requires left { length (planned_for publisher.now group.now sizes.now) ≤ vec_capacity loads.old }
-    ensures planned { loads.new.items ≡ planned_for publisher.now group.now sizes.now }
+    requires left { length (planned_in rooms sizes.now) ≤ vec_capacity loads.old }
+    ensures planned { loads.new.items ≡ planned_in rooms sizes.now }
     ensures capacity { vec_capacity loads.old ≤ vec_capacity loads.new }
 {
     if sizes.is_empty() {
         return;
     }
-    let frame_room = frame_room(publisher, group);
-    let chunk_room = chunk_room(publisher, group);
-    plan_dynamic(sizes, frame_room, chunk_room, loads);
+    if fits_alone(sizes, rooms.frame) {
+        push_load(Load::Frames { first: 0, count: 1 }, loads);
+        return;
+    }
+    plan_dynamic(sizes, rooms, loads);
+}
+
+/// Whether it is one frame, which fits a datagram.
+fn fits_alone(sizes: &[u16], frame_room: u32) -> bool
+    ensures { result ≡ true → (chunk_room : ℕ)
+        → planned frame_room chunk_room sizes.now ≡ Load.Frames 0 1 ∷ [] }
+{
+    sizes.len() == 1 && u32::from(sizes[0]) <= frame_room
 }
 
 /// Pushes what each datagram of a dynamic turn carries, whose frames have these sizes.
-fn plan_dynamic(sizes: &[u16], frame_room: u32, chunk_room: u32, loads: &mut Vec<Load>)
-    requires room { 1 ≤ chunk_room }
+fn plan_dynamic(sizes: &[u16], rooms: Rooms, loads: &mut Vec<Load>)
+    requires room { 1 ≤ rooms.chunk }
     requires few { length sizes.now ≤ 16 }
     requires empty { loads.old.items ≡ [] }
-    requires left { length (planned frame_room chunk_room sizes.now) ≤ vec_capacity loads.old }
-    ensures planned { loads.new.items ≡ planned frame_room chunk_room sizes.now }
+    requires left { length (planned_in rooms sizes.now) ≤ vec_capacity loads.old }
+    ensures planned { loads.new.items ≡ planned_in rooms sizes.now }
     ensures capacity { vec_capacity loads.old ≤ vec_capacity loads.new }
 {
     let mut packs = Packs::new();
-    plan(sizes, frame_room, &mut packs);
+    plan(sizes, rooms.frame, &mut packs);
     let mut first = 0;
     for index in 0..packs.len() {
         let pack = pack_at(&packs, index);
-        push_pack(pack, first, sizes, chunk_room, loads);
+        push_pack(pack, first, sizes, rooms.chunk, loads);
         first += pack.count;
     }
 }
@@ -129,8 +136,5 @@ fn push_load(load: Load, loads: &mut Vec<Load>)
     ensures pushed { loads.new.items ≡ loads.old.items ++ load ∷ [] }
     ensures capacity { vec_capacity loads.old ≤ vec_capacity loads.new }
 {
-    match loads.push(load) {
-        Ok(()) => {}
-        Err(_) => unreachable!(),
-    }
+    loads.push_reserved(load);
 }

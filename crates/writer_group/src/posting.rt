@@ -104,10 +104,7 @@ fn push_range(range: Range, ranges: &mut Vec<Range>)
     ensures pushed { ranges.new.items ≡ ranges.old.items ++ range ∷ [] }
     ensures capacity { vec_capacity ranges.old ≤ vec_capacity ranges.new }
 {
-    match ranges.push(range) {
-        Ok(()) => {}
-        Err(_) => unreachable!(),
-    }
+    ranges.push_reserved(range);
 }
 
 /// Lays a datagram at a place of the free bytes, and tells where it ends.

@@ -4,11 +4,12 @@ ghost use Rattle.ua_binary.specs.Wire.{flag};
 ghost use Rattle.uadp_header.specs.Spelling.{len_if};
 ghost use Rattle.writer_group.specs.Envelopes.{frame_room};
 ghost use Rattle.writer_group.specs.Payloads.{fixed_header};
+ghost use Rattle.writer_group.specs.Setup.{rooms_of};
 ghost use Rattle.writer_group.specs.Turns.{settings_of};
 
 use crate::header_parts::whole;
 use dataset_writer::WriterSettings;
-use ps_config::{GroupPart, Publisher, WriterPart, header_size, signature_size};
+use ps_config::{GroupPart, Publisher, WriterPart, chunk_room, header_size, signature_size};
 
 /// The bytes of a payload header that lists one writer: a count and an id.
 const ONE_WRITER_BYTES: u32 = 3;
@@ -25,8 +26,27 @@ pub(crate) fn settings_of(writer: &WriterPart) -> WriterSettings
     }
 }
 
+/// What the datagrams of a group have room for, in bytes.
+#[derive(Clone, Copy, Debug, PartialEq, Eq)]
+pub(crate) struct Rooms {
+    /// For their payload, with one writer id in the header.
+    pub frame: u32,
+    /// For a part of a frame that is cut into chunks.
+    pub chunk: u32,
+}
+
+/// The rooms of this group.
+pub(crate) fn rooms_of(publisher: &Publisher, group: &GroupPart) -> Rooms
+    ensures { result ≡ rooms_of publisher.now group.now }
+{
+    Rooms {
+        frame: frame_room(publisher, group),
+        chunk: chunk_room(publisher, group),
+    }
+}
+
 /// What a datagram has for its payload, with one writer id in its header.
-pub(crate) fn frame_room(publisher: &Publisher, group: &GroupPart) -> u32
+fn frame_room(publisher: &Publisher, group: &GroupPart) -> u32
     ensures { result ≡ frame_room publisher.now group.now }
 {
     let header = fixed_header(publisher, group) + ONE_WRITER_BYTES;

@@ -3,7 +3,7 @@ ghost use Rattle.std.specs.Prelude.{◌≡◌, ◌≤◌, ◌+◌, ◌-◌, ◌+
 ghost use Rattle.ua_binary.specs.Writing.{Puts};
 ghost use Rattle.fixed_layout.specs.Slots.{end_of, AreApart};
 ghost use Rattle.fixed_layout.specs.Datagrams.{last_end, AreFrames};
-ghost use Rattle.writer_group.specs.Holding.{all_spelled, frames_at, IsWithin};
+ghost use Rattle.writer_group.specs.Holding.{IsWithin, all_spelled, frames_at, listed};
 ghost use Rattle.writer_group.specs.Slotting.{placed_all, slots_by};
 ghost use Rattle.writer_group.specs.Payloads.{in_slots};
 
@@ -23,7 +23,7 @@ pub(crate) fn put_slots(
     requires header { pen.old.at ≡ start + slots.now.start }
     requires apart { AreApart slots.now.start slots.now.slots }
     requires frames { AreFrames slots.now.slots (in_slots (frames_at bytes.now frames.now)) }
-    requires within { All (IsWithin (length bytes.now)) frames.now.list.items }
+    requires within { All (IsWithin (length bytes.now)) (listed frames.now) }
     requires room { pen.old.at + (last_end slots.now.slots - slots.now.start) ≤ length pen.old.bytes.now }
     ensures { Puts pen.old pen.new (slots_by slots.now (frames_at bytes.now frames.now)) }
 {
@@ -34,7 +34,7 @@ pub(crate) fn put_slots(
         header,
         slots,
         bytes,
-        frames.list.as_slice(),
+        frames.list(),
     );
     pen.at = end;
 }

@@ -8,9 +8,7 @@ ghost use Rattle.dataset_meta.specs.declared.field.Field.{Field as AnyField};
 ghost use Rattle.fixed_layout.specs.Spelling.{raw_row};
 ghost use Rattle.frame_codec.specs.Words.{IsFrameOf, IsKindOf, content_in, frame_in};
 ghost use Rattle.writer_group.specs.Payloads.{laid_frame, raw_content, raw_frame};
-ghost use Rattle.writer_group.specs.Holding.{AreSpelledIn, frames_at, number_or_zero, spelled_words};
 
-use arrayvec::ArrayVec;
 use dataset_meta::Meta;
 use fixed_layout::write_raw;
 use frame_codec::{Frame, FrameKind, write_frame, write_front};
@@ -39,24 +37,30 @@ pub(crate) struct SpelledFrame {
 /// The frames of a turn, in the order of their writers.
 #[derive(Drop)]
 pub(crate) struct Frames {
-    pub list: ArrayVec<SpelledFrame, 16>,
-    /// Their sizes in bytes.
-    pub sizes: ArrayVec<u16, 16>,
-    /// Their writers' ids, two bytes each.
-    pub ids: ArrayVec<u8, 32>,
+    list: [SpelledFrame; 16],
+    // Their sizes in bytes.
+    sizes: [u16; 16],
+    // Their writers' ids, two bytes each.
+    ids: [u8; 32],
+    // How many frames there are. What stands behind them is of earlier turns.
+    count: usize,
     /// The byte behind the last frame.
     pub end: usize,
+    ghost few: { count ≤ 16 },
 }
 
 impl Frames {
+    ghost use Rattle.writer_group.specs.Holding.{AreSpelledIn, frames_at, listed, listed_ids, listed_sizes, number_or_zero, spelled_words};
+
     pub fn new() -> Frames
         ensures spelled { (bytes : List ℕ) → AreSpelledIn bytes result }
         ensures none { (bytes : List ℕ) → frames_at bytes result ≡ [] }
     {
         Frames {
-            list: ArrayVec::new(),
-            sizes: ArrayVec::new(),
-            ids: ArrayVec::new(),
+            list: [SpelledFrame::default(); 16],
+            sizes: [0; 16],
+            ids: [0; 32],
+            count: 0,
             end: 0,
         }
     }
@@ -65,10 +69,29 @@ impl Frames {
         ensures spelled { (bytes : List ℕ) → AreSpelledIn bytes self.new }
         ensures none { (bytes : List ℕ) → frames_at bytes self.new ≡ [] }
     {
-        self.list.clear();
-        self.sizes.clear();
-        self.ids.clear();
+        self.count = 0;
         self.end = 0;
+    }
+
+    /// The frames.
+    pub fn list(&self) -> &[SpelledFrame]
+        ensures { result.now ≡ listed self.now }
+    {
+        &self.list[..self.count]
+    }
+
+    /// Their sizes in bytes.
+    pub fn sizes(&self) -> &[u16]
+        ensures { result.now ≡ listed_sizes self.now }
+    {
+        &self.sizes[..self.count]
+    }
+
+    /// Their writers' ids, two bytes each.
+    pub fn ids(&self) -> &[u8]
+        ensures { result.now ≡ listed_ids self.now }
+    {
+        &self.ids[..2 * self.count]
     }
 
     /// Spells a frame behind the others.
@@ -83,12 +106,12 @@ impl Frames {
     )
         requires frame { IsFrameOf meta.now frame.now }
         requires spelled { AreSpelledIn bytes.old self.old }
-        requires few { length self.old.list.items < 16 }
+        requires few { length (listed self.old) < 16 }
         requires room { FRAMES_BYTES ≤ length bytes.old }
         ensures spelled { AreSpelledIn bytes.new self.new }
         ensures added { frames_at bytes.new self.new ≡ frames_at bytes.old self.old
             ++ spelled_words layout writer part.now meta.now frame.now ∷ [] }
-        ensures count { length self.new.list.items ≡ length self.old.list.items + 1 }
+        ensures count { length (listed self.new) ≡ length (listed self.old) + 1 }
         ensures short { length (laid_frame layout meta.now (frame_in meta.now.fields frame.now))
             ≤ 2048 }
     {
@@ -97,7 +120,7 @@ impl Frames {
         self.keep(SpelledFrame {
             writer,
             id: part.id,
-            number: number_in(frame),
+            number: Frames::number_in(frame),
             start,
             end,
         });
@@ -105,33 +128,36 @@ impl Frames {
 
     /// Keeps where a frame stands.
     fn keep(&mut self, frame: SpelledFrame)
-        requires few { length self.old.list.items < 16 }
-        requires sizes { length self.old.sizes.items ≡ length self.old.list.items }
-        requires ids { length self.old.ids.items ≡ 2 * length self.old.list.items }
+        requires few { length (listed self.old) < 16 }
+        requires sizes { length (listed_sizes self.old) ≡ length (listed self.old) }
+        requires ids { length (listed_ids self.old) ≡ 2 * length (listed self.old) }
         requires short { frame.start ≤ frame.end }
         requires small { frame.end < frame.start + 65536 }
-        ensures list { self.new.list.items ≡ self.old.list.items ++ frame ∷ [] }
-        ensures sizes { self.new.sizes.items ≡ self.old.sizes.items ++ (frame.end - frame.start) ∷ [] }
-        ensures ids { self.new.ids.items ≡ self.old.ids.items ++ to_le_bytes w16 frame.id }
-        ensures count { length self.new.list.items ≡ length self.old.list.items + 1 }
+        ensures list { listed self.new ≡ listed self.old ++ frame ∷ [] }
+        ensures sizes { listed_sizes self.new
+            ≡ listed_sizes self.old ++ (frame.end - frame.start) ∷ [] }
+        ensures ids { listed_ids self.new ≡ listed_ids self.old ++ to_le_bytes w16 frame.id }
+        ensures count { length (listed self.new) ≡ length (listed self.old) + 1 }
         ensures end { self.new.end ≡ frame.end }
     {
         let [low, high] = frame.id.to_le_bytes();
-        self.list.push(frame);
-        self.sizes.push((frame.end - frame.start) as u16);
-        self.ids.push(low);
-        self.ids.push(high);
+        let at = self.count;
+        self.list[at] = frame;
+        self.sizes[at] = (frame.end - frame.start) as u16;
+        self.ids[2 * at] = low;
+        self.ids[2 * at + 1] = high;
+        self.count = at + 1;
         self.end = frame.end;
     }
-}
 
-/// The number that a frame carries; each frame of a writer carries one.
-fn number_in(frame: &Frame) -> u16
-    ensures { result ≡ number_or_zero frame.now.number }
-{
-    match frame.number {
-        Some(number) => number,
-        None => 0,
+    /// The number that a frame carries; each frame of a writer carries one.
+    fn number_in(frame: &Frame) -> u16
+        ensures { result ≡ number_or_zero frame.now.number }
+    {
+        match frame.number {
+            Some(number) => number,
+            None => 0,
+        }
     }
 }
 

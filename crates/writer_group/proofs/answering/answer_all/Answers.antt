@@ -2,7 +2,7 @@ use Rattle.std.proofs.Common.{◌<◌, false, length, get_or, refl, ap, arith}
 use Rattle.std.proofs.lemmas.List.{get_or_default, length-map}
 use Rattle.std.proofs.lemmas.Slice.Zip.{AllZip-long}
 use Rattle.row_words.specs.Belonging.{Belongs}
-use Rattle.writer_group.specs.Holding.{frames_at, spelled_at}
+use Rattle.writer_group.specs.Holding.{frames_at, listed, spelled_at}
 use Rattle.writer_group.specs.Turns.{told_of, turns_from}
 use Rattle.writer_group.proofs.AnsweringLaws.{all-so-far, none-so-far}
 use Rattle.writer_group.proofs.KeptWriters.{kept-none, may-go, none-answers}
@@ -19,7 +19,7 @@ loop-index-init c =
       answers = none-answers part told.metas frames c.requires.none;
       goes_on = kept-none part told.metas told.rows c.args.on.now c.args.writers.now c.requires.may;
       spelled = c.requires.spelled;
-      few = omega (arith, ap length c.requires.none, length-map c.args.frames.now.list.items (spelled_at c.args.bytes.now));
+      few = omega (arith, ap length c.requires.none, length-map (listed c.args.frames.now) (spelled_at c.args.bytes.now));
     }
 
 pub part_at-part-requires : goal.part_at-part-requires

@@ -1,6 +1,6 @@
 use Rattle.std.proofs.Common.{◌≤◌, List, length}
 use Rattle.writer_group.specs.Answering.{AreAnswers}
-use Rattle.writer_group.specs.Holding.{AreSpelledIn, frames_at}
+use Rattle.writer_group.specs.Holding.{AreSpelledIn, frames_at, listed}
 use Rattle.writer_group.specs.Turns.{GroupDeed, told_of, turns_from}
 use Rattle.writer_group.proofs.AnsweringLaws.{HaveSoFar}
 use Rattle.writer_group.proofs.KeptWriters.{KeptSoFar}
@@ -12,5 +12,5 @@ invariant-loop-index l = record {
   answers : AreAnswers l.group l.metas l.index (frames_at l.bytes l.frames);
   goes_on : KeptSoFar l.group l.metas l.fn.writers l.writers l.index;
   spelled : AreSpelledIn l.bytes l.frames;
-  few : length l.frames.list.items ≤ l.index;
+  few : length (listed l.frames) ≤ l.index;
 }

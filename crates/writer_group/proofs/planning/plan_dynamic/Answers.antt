@@ -12,14 +12,14 @@ push_pack-requires-clause-first c =
     let pack = c.pack_at-pack.result in
     let is : pack ≡ get_or packs i pack = c.pack_at-pack.ensures pack in
     let below : i < length packs = omega arith in
-    let within = pack-within c.args.frame_room c.args.sizes.now packs i pack c.plan.ensures below in
+    let within = pack-within c.args.rooms.frame c.args.sizes.now packs i pack c.plan.ensures below in
     omega (arith, within.some, within.within, c.loop-index.invariant.first_is)
 
 pub push_pack-requires-clause-left : goal.push_pack-requires-clause-left
 push_pack-requires-clause-left c =
     let packs = c.plan.new.packs.items in
     let i = c.loop-index.index in
-    let room = c.args.chunk_room in
+    let room = c.args.rooms.chunk in
     let sizes = c.args.sizes.now in
     let pack = c.pack_at-pack.result in
     let is : pack ≡ get_or packs i pack = c.pack_at-pack.ensures pack in
@@ -47,14 +47,14 @@ overflow_add-first c =
     let pack = c.pack_at-pack.result in
     let is : pack ≡ get_or packs i pack = c.pack_at-pack.ensures pack in
     let below : i < length packs = omega arith in
-    let within = pack-within c.args.frame_room c.args.sizes.now packs i pack c.plan.ensures below in
+    let within = pack-within c.args.rooms.frame c.args.sizes.now packs i pack c.plan.ensures below in
     omega (arith, within.within, c.loop-index.invariant.first_is, ap (λ (p : Pack). p.count) is, c.requires.few)
 
 pub loop-index-preserved : goal.loop-index-preserved
 loop-index-preserved c =
     let packs = c.plan.new.packs.items in
     let i = c.loop-index.index in
-    let room = c.args.chunk_room in
+    let room = c.args.rooms.chunk in
     let sizes = c.args.sizes.now in
     let pack = c.pack_at-pack.result in
     let is : pack ≡ get_or packs i pack = c.pack_at-pack.ensures pack in

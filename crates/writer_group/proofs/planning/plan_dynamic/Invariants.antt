@@ -6,7 +6,7 @@ use Rattle.writer_group.proofs.planning.plan_dynamic.Given as goal
 
 abbrev pub invariant-loop-index : goal.invariant-loop-index
 invariant-loop-index l = record {
-  pushed : l.loads.items ≡ loads_from l.chunk_room l.sizes 0 (take l.index l.packs.items);
+  pushed : l.loads.items ≡ loads_from l.rooms.chunk l.sizes 0 (take l.index l.packs.items);
   first_is : l.first ≡ counted (take l.index l.packs.items);
   capacity : vec_capacity l.fn.loads ≤ vec_capacity l.loads;
 }

@@ -18,7 +18,7 @@ returns c =
     let same : start + count ≡ start + c.end.result = omega arith in
     let is : c.lay_slots.new.datagram ≡ take (at - start) part ++ payload =
     c.lay_slots.ensures
-    ∙ ap (λ (l : List SpelledFrame). take (at - start) part ++ fixed_payload slots.start slots.slots (in_slots (map (spelled_at c.args.bytes.now) l))) c.as_slice.ensures.value in
+    ∙ ap (λ (l : List SpelledFrame). take (at - start) part ++ fixed_payload slots.start slots.slots (in_slots (map (spelled_at c.args.bytes.now) l))) c.list.ensures in
     let put = part-laid bytes payload c.lay_slots.new.datagram at start count
     (omega (arith, c.requires.header)) (omega (arith, c.requires.header, c.end.ensures.end)) (omega (arith, c.requires.header, c.end.ensures.end, c.requires.room)) is c.lay_slots.auto.datagram in
     record { written = put.written; moved = omega (arith, put.moved, same); same_loan = refl; same_length = put.same }

@@ -1,5 +1,6 @@
-use Rattle.std.proofs.Common.{take, refl, ◌∙◌, arith, None}
-use Rattle.writer_group.proofs.PostLaws.{are-parts, is-filled, made-within, may-post}
+use Rattle.std.proofs.Common.{take, refl, sym, ap, ◌∙◌, arith, None}
+use Rattle.writer_group.specs.declared.settings.Rooms.{Rooms}
+use Rattle.writer_group.proofs.PostLaws.{are-parts, is-filled, made-within, may-post, nothing-filled}
 use Rattle.writer_group.proofs.group.Group.make.Goals as goal
 
 pub post_open-requires-clause-post : goal.post_open-requires-clause-post
@@ -8,8 +9,8 @@ post_open-requires-clause-post c =
     let part = c.args.group.now in
     let front = take 32768 c.args.buffer.now in
     let bytes = c.split_at_mut-bytes.result.0.now in
-    let are = are-parts config part c.args.self.now front bytes c.chunk_room.result c.new-parts.result
-    c.new-parts.ensures.publisher (c.new-parts.ensures.settings ∙ c.header_settings.ensures) c.new-parts.ensures.made c.new-parts.ensures.written c.chunk_room.ensures c.split_at_mut-bytes.ensures.front in
+    let are = are-parts config part c.args.self.now front bytes c.args.self.now.rooms.chunk c.new-parts.result
+    c.new-parts.ensures.publisher (c.new-parts.ensures.settings ∙ c.header_settings.ensures) c.new-parts.ensures.made c.new-parts.ensures.written (ap (λ (r : Rooms). r.chunk) c.requires.may.may.made_for.rooms) c.split_at_mut-bytes.ensures.front in
     may-post config part _ c.args.self.now front c.args.loads.now c.new-parts.result _ c.requires.may.may are refl
 
 pub post_open-requires-clause-room : goal.post_open-requires-clause-room
@@ -18,11 +19,11 @@ post_open-requires-clause-room c =
     let part = c.args.group.now in
     let front = take 32768 c.args.buffer.now in
     let bytes = c.split_at_mut-bytes.result.0.now in
-    let are = are-parts config part c.args.self.now front bytes c.chunk_room.result c.new-parts.result
-    c.new-parts.ensures.publisher (c.new-parts.ensures.settings ∙ c.header_settings.ensures) c.new-parts.ensures.made c.new-parts.ensures.written c.chunk_room.ensures c.split_at_mut-bytes.ensures.front in
+    let are = are-parts config part c.args.self.now front bytes c.args.self.now.rooms.chunk c.new-parts.result
+    c.new-parts.ensures.publisher (c.new-parts.ensures.settings ∙ c.header_settings.ensures) c.new-parts.ensures.made c.new-parts.ensures.written (ap (λ (r : Rooms). r.chunk) c.requires.may.may.made_for.rooms) c.split_at_mut-bytes.ensures.front in
     omega (
       arith,
-      made-within config part None c.args.self.now c.args.buffer.now bytes c.args.frames.now c.chunk_room.result c.args.loads.now c.new-parts.result are c.requires.may,
+      made-within config part None c.args.self.now c.args.buffer.now bytes c.args.frames.now c.args.self.now.rooms.chunk c.args.loads.now c.new-parts.result are c.requires.may,
       c.split_at_mut-bytes.ensures.back_len,
       c.requires.may.long,
     )
@@ -33,7 +34,12 @@ returns-clause-filled c =
     let part = c.args.group.now in
     let front = take 32768 c.args.buffer.now in
     let bytes = c.split_at_mut-bytes.result.0.now in
-    let are = are-parts config part c.args.self.now front bytes c.chunk_room.result c.new-parts.result
-    c.new-parts.ensures.publisher (c.new-parts.ensures.settings ∙ c.header_settings.ensures) c.new-parts.ensures.made c.new-parts.ensures.written c.chunk_room.ensures c.split_at_mut-bytes.ensures.front in
-    is-filled config part None c.args.self.now c.args.buffer.now bytes c.split_at_mut-bytes.result.1.now c.post_open.new.free c.args.frames.now c.chunk_room.result c.args.loads.now c.post_open.new.ranges.items
+    let are = are-parts config part c.args.self.now front bytes c.args.self.now.rooms.chunk c.new-parts.result
+    c.new-parts.ensures.publisher (c.new-parts.ensures.settings ∙ c.header_settings.ensures) c.new-parts.ensures.made c.new-parts.ensures.written (ap (λ (r : Rooms). r.chunk) c.requires.may.may.made_for.rooms) c.split_at_mut-bytes.ensures.front in
+    is-filled config part None c.args.self.now c.args.buffer.now bytes c.split_at_mut-bytes.result.1.now c.post_open.new.free c.args.frames.now c.args.self.now.rooms.chunk c.args.loads.now c.post_open.new.ranges.items
     c.new-parts.result are c.split_at_mut-bytes.ensures.back c.post_open.ensures.laid c.post_open.ensures.ranges c.post_open.ensures.written
+
+pub returns-then-is_empty-clause-filled : goal.returns-then-is_empty-clause-filled
+returns-then-is_empty-clause-filled c =
+    nothing-filled c.args.config.now c.args.group.now None c.args.self.now c.args.buffer.now c.args.frames.now c.args.loads.now c.args.ranges.now.items
+    c.requires.empty (sym c.is_empty.ensures ∙ c.if-is_empty.true)

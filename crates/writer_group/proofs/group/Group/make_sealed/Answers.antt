@@ -1,7 +1,8 @@
-use Rattle.std.proofs.Common.{length, take, refl, ap, ◌∙◌, arith, Some}
+use Rattle.std.proofs.Common.{length, take, refl, sym, ap, ◌∙◌, arith, Some}
 use Rattle.message_guard.specs.declared.mode.Mode.{Mode}
 use Rattle.writer_group.specs.Sealing.{advanced_by}
-use Rattle.writer_group.proofs.PostLaws.{are-parts, is-filled, made-within, may-post}
+use Rattle.writer_group.specs.declared.settings.Rooms.{Rooms}
+use Rattle.writer_group.proofs.PostLaws.{are-parts, is-filled, made-within, may-post, never-advanced, nothing-filled}
 use Rattle.writer_group.proofs.group.Group.make_sealed.Goals as goal
 
 pub post_secured-requires-clause-post : goal.post_secured-requires-clause-post
@@ -10,8 +11,8 @@ post_secured-requires-clause-post c =
     let part = c.args.group.now in
     let front = take 32768 c.args.buffer.now in
     let bytes = c.split_at_mut-bytes.result.0.now in
-    let are = are-parts config part c.args.self.now front bytes c.chunk_room.result c.new-parts.result
-    c.new-parts.ensures.publisher (c.new-parts.ensures.settings ∙ c.header_settings.ensures) c.new-parts.ensures.made c.new-parts.ensures.written c.chunk_room.ensures c.split_at_mut-bytes.ensures.front in
+    let are = are-parts config part c.args.self.now front bytes c.args.self.now.rooms.chunk c.new-parts.result
+    c.new-parts.ensures.publisher (c.new-parts.ensures.settings ∙ c.header_settings.ensures) c.new-parts.ensures.made c.new-parts.ensures.written (ap (λ (r : Rooms). r.chunk) c.requires.may.may.made_for.rooms) c.split_at_mut-bytes.ensures.front in
     may-post config part _ c.args.self.now front c.args.loads.now c.new-parts.result _ c.requires.may.may are refl
 
 pub post_secured-requires-clause-room : goal.post_secured-requires-clause-room
@@ -20,11 +21,11 @@ post_secured-requires-clause-room c =
     let part = c.args.group.now in
     let front = take 32768 c.args.buffer.now in
     let bytes = c.split_at_mut-bytes.result.0.now in
-    let are = are-parts config part c.args.self.now front bytes c.chunk_room.result c.new-parts.result
-    c.new-parts.ensures.publisher (c.new-parts.ensures.settings ∙ c.header_settings.ensures) c.new-parts.ensures.made c.new-parts.ensures.written c.chunk_room.ensures c.split_at_mut-bytes.ensures.front in
+    let are = are-parts config part c.args.self.now front bytes c.args.self.now.rooms.chunk c.new-parts.result
+    c.new-parts.ensures.publisher (c.new-parts.ensures.settings ∙ c.header_settings.ensures) c.new-parts.ensures.made c.new-parts.ensures.written (ap (λ (r : Rooms). r.chunk) c.requires.may.may.made_for.rooms) c.split_at_mut-bytes.ensures.front in
     omega (
       arith,
-      made-within config part (Some c.args.sender.now) c.args.self.now c.args.buffer.now bytes c.args.frames.now c.chunk_room.result c.args.loads.now c.new-parts.result are c.requires.may,
+      made-within config part (Some c.args.sender.now) c.args.self.now c.args.buffer.now bytes c.args.frames.now c.args.self.now.rooms.chunk c.args.loads.now c.new-parts.result are c.requires.may,
       c.split_at_mut-bytes.ensures.back_len,
       c.requires.may.long,
     )
@@ -35,11 +36,19 @@ returns-clause-filled c =
     let part = c.args.group.now in
     let front = take 32768 c.args.buffer.now in
     let bytes = c.split_at_mut-bytes.result.0.now in
-    let are = are-parts config part c.args.self.now front bytes c.chunk_room.result c.new-parts.result
-    c.new-parts.ensures.publisher (c.new-parts.ensures.settings ∙ c.header_settings.ensures) c.new-parts.ensures.made c.new-parts.ensures.written c.chunk_room.ensures c.split_at_mut-bytes.ensures.front in
-    is-filled config part (Some c.args.sender.now) c.args.self.now c.args.buffer.now bytes c.split_at_mut-bytes.result.1.now c.post_secured.new.free c.args.frames.now c.chunk_room.result c.args.loads.now c.post_secured.new.ranges.items
+    let are = are-parts config part c.args.self.now front bytes c.args.self.now.rooms.chunk c.new-parts.result
+    c.new-parts.ensures.publisher (c.new-parts.ensures.settings ∙ c.header_settings.ensures) c.new-parts.ensures.made c.new-parts.ensures.written (ap (λ (r : Rooms). r.chunk) c.requires.may.may.made_for.rooms) c.split_at_mut-bytes.ensures.front in
+    is-filled config part (Some c.args.sender.now) c.args.self.now c.args.buffer.now bytes c.split_at_mut-bytes.result.1.now c.post_secured.new.free c.args.frames.now c.args.self.now.rooms.chunk c.args.loads.now c.post_secured.new.ranges.items
     c.new-parts.result are c.split_at_mut-bytes.ensures.back c.post_secured.ensures.laid c.post_secured.ensures.ranges c.post_secured.ensures.written
 
 pub returns-clause-sender : goal.returns-clause-sender
 returns-clause-sender c =
     c.post_secured.ensures.sender ∙ ap (λ (mode : Mode). advanced_by mode c.args.sender.now (length c.args.loads.now)) c.mode_of-mode.ensures
+
+pub returns-then-is_empty-clause-filled : goal.returns-then-is_empty-clause-filled
+returns-then-is_empty-clause-filled c =
+    nothing-filled c.args.config.now c.args.group.now (Some c.args.sender.now) c.args.self.now c.args.buffer.now c.args.frames.now c.args.loads.now c.args.ranges.now.items
+    c.requires.empty (sym c.is_empty.ensures ∙ c.if-is_empty.true)
+
+pub returns-then-is_empty-clause-sender : goal.returns-then-is_empty-clause-sender
+returns-then-is_empty-clause-sender c = never-advanced _ c.args.sender.now c.args.loads.now (sym c.is_empty.ensures ∙ c.if-is_empty.true)

@@ -30,7 +30,7 @@ slots_of-requires-clause-fixed c =
     subst (λ part. is_fixed part.layout ≡ true → IsFixedGroup c.args.config.now part) (sym c.part_of-group.ensures) (c.requires.good.fixed.groups c.args.index c.part_of-group.result.now c.requires.index)
 
 abbrev made : After-slots_of → Group
-made c = record { index = c.args.index; interval = c.part_of-group.result.now.interval; writers = c.in_ok-writers.writers; slots = c.slots_of.result; made = 0; turned_at = 0 }
+made c = record { index = c.args.index; interval = c.part_of-group.result.now.interval; writers = c.in_ok-writers.writers; rooms = c.rooms_of.result; slots = c.slots_of.result; made = 0; turned_at = 0 }
 
 new : (c : After-slots_of) → IsNewGroup c.part_of-group.result.now c.args.turns (made c)
 new c = record { writers = c.in_ok-writers.ensures; made = refl; moment = refl }
@@ -41,6 +41,7 @@ made-for c = record {
   start = c.slots_of.ensures.start;
   writers = new-count c.part_of-group.result.now c.args.turns (made c) (new c);
   slots = c.slots_of.ensures.slots;
+  rooms = c.rooms_of.ensures;
 }
 
 pub returns-clause-made : goal.returns-clause-made

@@ -1,16 +1,18 @@
-use Rattle.std.proofs.Common.{◌≡◌, refl, sym, ap, subst, ◌∙◌, arith, length, Option, Some}
+use Rattle.std.proofs.Common.{◌≡◌, sym, ap, subst, ◌∙◌, arith, length, Option, Some}
 use Rattle.ps_config.proofs.Roomy.{chunk_roomy}
 use Rattle.ps_config.specs.declared.parts.GroupPart.{GroupPart}
 use Rattle.ps_config.specs.Headers.{mode_of}
 use Rattle.message_guard.specs.Senders.{SenderState}
 use Rattle.writer_group.specs.declared.datagrams.Datagrams.{Datagrams}
 use Rattle.writer_group.specs.Lending.{lent_in}
-use Rattle.writer_group.specs.Making.{IsPosted, MayMake}
+use Rattle.writer_group.specs.declared.settings.Rooms.{Rooms}
+use Rattle.writer_group.specs.Making.{IsPosted, MayMake, loads_in}
 use Rattle.writer_group.specs.Sealing.{advanced_by}
 use Rattle.writer_group.specs.Standing.{IsMadeFor, IsSenderFor, MayTick}
 use Rattle.writer_group.proofs.TickSteps.{HasLoads, IsPartOf, at-part, few-sizes, loads-left, may-answer, may-make, of-part}
-use Rattle.writer_group.proofs.WholeTurns.{HadTurns, HasPosted, as-posted, few-posted, loads-few, sender-stays, still-made, turned-few, turned-goes-on, turned-stands}
+use Rattle.writer_group.proofs.WholeTurns.{HadTurns, HasPosted, as-posted, few-posted, has-loads, loads-few, sender-stays, still-made, turned-few, turned-goes-on, turned-stands}
 use Rattle.writer_group.proofs.group.Group.tick.Goals as goal
+use Rattle.writer_group.specs.Holding.{listed_sizes}
 use Rattle.writer_group.proofs.group.Group.tick.Goals.{After-a_class_id_is_whole, After-answer, After-plan_loads, After-post, After-post_sealed}
 
 own : (c : After-a_class_id_is_whole) → IsPartOf c.args.config.now c.args.self.now.index c.part_of-group.result.now
@@ -31,8 +33,11 @@ still c made =
 abbrev planned : After-plan_loads → Datagrams
 planned c = record c.answer.new.out { loads = c.plan_loads.new.loads }
 
-has : (c : After-plan_loads) → HasLoads c.args.config.now c.part_of-group.result.now c.answer.new.out (planned c)
-has c = record { bytes = refl; frames = refl; ranges = refl; loads = c.plan_loads.ensures.planned; left = c.plan_loads.ensures.capacity }
+has : (c : After-plan_loads) → IsMadeFor c.args.config.now c.part_of-group.result.now c.args.self.now → HasLoads c.args.config.now c.part_of-group.result.now c.answer.new.out (planned c)
+has c made =
+    has-loads c.args.config.now c.part_of-group.result.now c.args.metas.now c.args.rows.now c.args.on.now c.args.now c.args.closing c.args.self.now c.answer.new.self c.answer.new.out c.plan_loads.new.loads
+    (record { answered = c.answer.ensures.answered; goes_on = c.answer.ensures.goes_on; rest = c.answer.ensures.rest; spelled = c.answer.ensures.spelled })
+    made c.plan_loads.ensures.planned c.plan_loads.ensures.capacity
 
 -- ---- the conditions of the steps
 
@@ -43,8 +48,14 @@ answer-requires-clause-may c =
 
 pub plan_loads-requires-clause-room : goal.plan_loads-requires-clause-room
 plan_loads-requires-clause-room c = λ dynamic.
-    let r = (goal.at.plan_loads-requires-clause-room c).After-a_class_id_is_whole in
-    chunk_roomy c.args.config.now.publisher.id c.args.metas.now c.part_of-group.result.now (record { dynamic = dynamic; room = (may r).metas_are.room })
+    let g = goal.at.plan_loads-requires-clause-room c in
+    let r = g.After-a_class_id_is_whole in
+    let rooms = (still g.After-answer (may r).made).rooms in
+    omega (
+      arith,
+      ap (λ (rooms : Rooms). rooms.chunk) rooms,
+      chunk_roomy c.args.config.now.publisher.id c.args.metas.now c.part_of-group.result.now (record { dynamic = dynamic; room = (may r).metas_are.room }),
+    )
 
 pub plan_loads-requires-clause-few : goal.plan_loads-requires-clause-few
 plan_loads-requires-clause-few c =
@@ -55,8 +66,10 @@ pub plan_loads-requires-clause-left : goal.plan_loads-requires-clause-left
 plan_loads-requires-clause-left c =
     let g = goal.at.plan_loads-requires-clause-left c in
     let r = g.After-a_class_id_is_whole in
+    let rooms = (still g.After-answer (may r).made).rooms in
     omega (
       arith,
+      ap (λ (rooms : Rooms). length (loads_in c.part_of-group.result.now.layout rooms c.part_of-group.result.now (listed_sizes c.answer.new.out.frames))) rooms,
       loads-left c.args.config.now c.args.self.now.index c.part_of-group.result.now c.args.metas.now (lent_in c.args.sender) c.answer.new.self c.answer.new.out (own r) (still g.After-answer (may r).made)
           (may r).metas_are (may r).sender_is c.answer.ensures.spelled,
       c.answer.ensures.spelled.reserved.loads,
@@ -69,7 +82,7 @@ post-requires c =
     let p = g.After-plan_loads in
     subst (λ (s : Option SenderState). MayMake c.args.config.now c.part_of-group.result.now s c.answer.new.self (planned p)) (ap lent_in c.in-None.is)
     (may-make c.args.config.now c.args.self.now.index c.part_of-group.result.now c.args.metas.now (lent_in c.args.sender) c.answer.new.self c.answer.new.out (planned p) (own r) (still g.After-answer (may r).made)
-    (may r).metas_are (may r).sender_is c.answer.ensures.spelled (has p))
+    (may r).metas_are (may r).sender_is c.answer.ensures.spelled (has p (may r).made))
 
 pub post_sealed-requires : goal.post_sealed-requires
 post_sealed-requires c =
@@ -78,7 +91,7 @@ post_sealed-requires c =
     let p = g.After-plan_loads in
     subst (λ (s : Option SenderState). MayMake c.args.config.now c.part_of-group.result.now s c.answer.new.self (planned p)) (ap lent_in c.in-Some.is)
     (may-make c.args.config.now c.args.self.now.index c.part_of-group.result.now c.args.metas.now (lent_in c.args.sender) c.answer.new.self c.answer.new.out (planned p) (own r) (still g.After-answer (may r).made)
-    (may r).metas_are (may r).sender_is c.answer.ensures.spelled (has p))
+    (may r).metas_are (may r).sender_is c.answer.ensures.spelled (has p (may r).made))
 
 -- ---- the datagrams
 
@@ -87,11 +100,15 @@ posted-open c =
     let part = c.part_of-group.result.now in
     let sender = lent_in c.args.sender in
     let own : IsPartOf c.args.config.now c.args.self.now.index part = record { good = c.requires.good; within = c.requires.index; is = c.part_of-group.ensures; class_id = c.a_class_id_is_whole.ensures } in
+    let may : MayTick c.args.config.now c.args.metas.now c.args.rows.now c.args.on.now sender c.args.self.now part =
+    of-part c.args.config.now c.args.self.now.index part (MayTick c.args.config.now c.args.metas.now c.args.rows.now c.args.on.now sender c.args.self.now) own c.requires.turn in
+    let had : HadTurns c.args.config.now part c.args.metas.now c.args.rows.now c.args.on.now c.args.now c.args.closing c.args.self.now c.answer.new.self c.answer.new.out =
+    record { answered = c.answer.ensures.answered; goes_on = c.answer.ensures.goes_on; rest = c.answer.ensures.rest; spelled = c.answer.ensures.spelled } in
     record {
       own = own;
-      may = of-part c.args.config.now c.args.self.now.index part (MayTick c.args.config.now c.args.metas.now c.args.rows.now c.args.on.now sender c.args.self.now) own c.requires.turn;
-      had = record { answered = c.answer.ensures.answered; goes_on = c.answer.ensures.goes_on; rest = c.answer.ensures.rest; spelled = c.answer.ensures.spelled };
-      has = record { bytes = refl; frames = refl; ranges = refl; loads = c.plan_loads.ensures.planned; left = c.plan_loads.ensures.capacity };
+      may = may;
+      had = had;
+      has = has-loads c.args.config.now part c.args.metas.now c.args.rows.now c.args.on.now c.args.now c.args.closing c.args.self.now c.answer.new.self c.answer.new.out c.plan_loads.new.loads had may.made c.plan_loads.ensures.planned c.plan_loads.ensures.capacity;
       posted = subst (λ (s : Option SenderState). IsPosted c.args.config.now part s c.answer.new.self (record c.answer.new.out { loads = c.plan_loads.new.loads }) c.post.new.out) (sym (ap lent_in c.in-None.is)) c.post.ensures;
     }
 
@@ -100,11 +117,15 @@ posted-sealed c =
     let part = c.part_of-group.result.now in
     let sender = lent_in c.args.sender in
     let own : IsPartOf c.args.config.now c.args.self.now.index part = record { good = c.requires.good; within = c.requires.index; is = c.part_of-group.ensures; class_id = c.a_class_id_is_whole.ensures } in
+    let may : MayTick c.args.config.now c.args.metas.now c.args.rows.now c.args.on.now sender c.args.self.now part =
+    of-part c.args.config.now c.args.self.now.index part (MayTick c.args.config.now c.args.metas.now c.args.rows.now c.args.on.now sender c.args.self.now) own c.requires.turn in
+    let had : HadTurns c.args.config.now part c.args.metas.now c.args.rows.now c.args.on.now c.args.now c.args.closing c.args.self.now c.answer.new.self c.answer.new.out =
+    record { answered = c.answer.ensures.answered; goes_on = c.answer.ensures.goes_on; rest = c.answer.ensures.rest; spelled = c.answer.ensures.spelled } in
     record {
       own = own;
-      may = of-part c.args.config.now c.args.self.now.index part (MayTick c.args.config.now c.args.metas.now c.args.rows.now c.args.on.now sender c.args.self.now) own c.requires.turn;
-      had = record { answered = c.answer.ensures.answered; goes_on = c.answer.ensures.goes_on; rest = c.answer.ensures.rest; spelled = c.answer.ensures.spelled };
-      has = record { bytes = refl; frames = refl; ranges = refl; loads = c.plan_loads.ensures.planned; left = c.plan_loads.ensures.capacity };
+      may = may;
+      had = had;
+      has = has-loads c.args.config.now part c.args.metas.now c.args.rows.now c.args.on.now c.args.now c.args.closing c.args.self.now c.answer.new.self c.answer.new.out c.plan_loads.new.loads had may.made c.plan_loads.ensures.planned c.plan_loads.ensures.capacity;
       posted = subst (λ (s : Option SenderState). IsPosted c.args.config.now part s c.answer.new.self (record c.answer.new.out { loads = c.plan_loads.new.loads }) c.post_sealed.new.out) (sym (ap lent_in c.in-Some.is)) c.post_sealed.ensures.posted;
     }
 
