@@ -1,6 +1,6 @@
 //! The frames of a dynamic payload (OPC 10000-14 7.2.4, UADP message mapping): a UInt16 size for each, little-endian, where they
 //! are more than one, and then the frames.
-ghost use Rattle.std.specs.Prelude.{◌≡◌, ◌<◌, ◌≤◌, ◌+◌, ◌*◌, ◌↔◌, [], length, take, drop, map, slice_range, sum, IsErr, IsTrue, OnOk, OnErr, All};
+ghost use Rattle.std.specs.Prelude.{◌≡◌, ◌<◌, ◌≤◌, ◌+◌, ◌*◌, ◌↔◌, ◌++◌, ◌∷◌, [], length, take, drop, map, slice_range, sum, IsErr, IsTrue, OnOk, OnErr, All};
 ghost use Rattle.std.specs.Int.{w16, from_le_bytes, to_le_bytes};
 ghost use Rattle.std.specs.List.{flat_map};
 ghost use Rattle.ua_binary.specs.Writing.{Puts, Writes};
@@ -75,15 +75,13 @@ pub fn split(payload: &[u8], count: u8, parts: &mut Parts) -> Result<(), BadSize
     if has_bad_sizes(payload, count) {
         return Err(BadSizes);
     }
-    parts.clear();
     if count == 1 {
-        parts.push(Part {
-            start: 0,
-            end: payload.len(),
-        });
+        let end = payload.len();
+        put_part(parts, 0, Part { start: 0, end });
     } else {
-        push_parts(payload, count, parts);
+        put_parts(payload, count, parts);
     }
+    parts.truncate(usize::from(count));
     Ok(())
 }
 
@@ -104,19 +102,35 @@ fn has_bad_sizes(payload: &[u8], count: u8) -> bool
     end > payload.len()
 }
 
-fn push_parts(payload: &[u8], count: u8, parts: &mut Parts)
-    requires empty { parts.old.items ≡ [] }
+// Parts of an earlier payload are written over: to clear them first would take as long again.
+#[inline(always)]
+fn put_parts(payload: &[u8], count: u8, parts: &mut Parts)
     requires good { 2 * count + sum (sizes_of count payload.now) ≤ length payload.now }
-    ensures frames { map (frame_at payload.now) parts.new.items
+    ensures frames { map (frame_at payload.now) (take count parts.new.items)
         ≡ cut_by (sizes_of count payload.now) (drop (2 * count) payload.now) }
-    ensures within { All (IsWithin payload.now) parts.new.items }
-    ensures in_order { StandBehind (2 * count) parts.new.items }
+    ensures within { All (IsWithin payload.now) (take count parts.new.items) }
+    ensures in_order { StandBehind (2 * count) (take count parts.new.items) }
 {
     let mut start = 2 * usize::from(count);
     for index in 0..usize::from(count) {
         let end = start + usize::from(size_at(payload, index));
-        parts.push(Part { start, end });
+        put_part(parts, index, Part { start, end });
         start = end;
+    }
+}
+
+/// Puts the part in this place, which is that of a part or the one behind the last.
+#[inline(always)]
+fn put_part(parts: &mut Parts, index: usize, part: Part)
+    requires place { index ≤ length parts.old.items }
+    requires room { index < 255 }
+    ensures put { take (index + 1) parts.new.items ≡ take index parts.old.items ++ part ∷ [] }
+    ensures many { index < length parts.new.items }
+{
+    if index < parts.len() {
+        parts.as_mut_slice()[index] = part;
+    } else {
+        parts.push(part);
     }
 }
 

@@ -1,11 +1,10 @@
 use Rattle.std.proofs.Common.{◌≡◌, ◌+◌, ◌*◌, ◌-◌, ◌<◌, ◌≤◌, ◌∷◌, ◌++◌, List, [], ℕ, length, take, drop, map, get_or, ap, sym, subst, ◌∙◌, arith}
 use Rattle.std.specs.Int.{w16, from_le_bytes}
-use Rattle.std.proofs.lemmas.List.{length-append}
 use Rattle.std.proofs.lemmas.List.Elements.{All-push}
 use Rattle.payload_layout.specs.declared.parts.Part.{Part}
 use Rattle.payload_layout.specs.Payloads.{sizes_of, cut_by, frame_at, IsWithin, StandBehind}
 use Rattle.payload_layout.proofs.Pieces.{sizes-step, piece-step, sum-step, end_of, end-push, behind-push}
-use Rattle.payload_layout.proofs.parts.push_parts.Goals as goal
+use Rattle.payload_layout.proofs.parts.put_parts.Goals as goal
 
 pub loop-index-preserved : goal.loop-index-preserved
 loop-index-preserved c =
@@ -18,12 +17,12 @@ loop-index-preserved c =
     let within : c.loop-index.start + c.from.result ≤ length payload = omega (arith, c.loop-index.invariant.sums, sums, c.requires.good) in
     record {
       found = c.loop-index.invariant.found
-          ∙ ap (λ (sizes : List ℕ). map (frame_at payload) c.loop-index.parts.items ++ cut_by sizes (drop c.loop-index.start payload)) (sizes-step c.args.count c.loop-index.index payload below ∙ ap (λ (n : ℕ). n ∷ later) (sym size))
-          ∙ piece-step payload c.loop-index.start c.from.result later c.loop-index.parts.items
-          ∙ ap (λ (parts : List Part). map (frame_at payload) parts ++ cut_by later (drop (c.loop-index.start + c.from.result) payload)) (sym c.push.ensures.items);
+          ∙ ap (λ (sizes : List ℕ). map (frame_at payload) (take c.loop-index.index c.loop-index.parts.items) ++ cut_by sizes (drop c.loop-index.start payload)) (sizes-step c.args.count c.loop-index.index payload below ∙ ap (λ (n : ℕ). n ∷ later) (sym size))
+          ∙ piece-step payload c.loop-index.start c.from.result later (take c.loop-index.index c.loop-index.parts.items)
+          ∙ ap (λ (parts : List Part). map (frame_at payload) parts ++ cut_by later (drop (c.loop-index.start + c.from.result) payload)) (sym c.put_part.ensures.put);
       sums = omega (arith, c.loop-index.invariant.sums, sums);
-      each = subst (λ (parts : List Part). (k : ℕ) (d : Part) → k < length parts → IsWithin payload (get_or parts k d)) (sym c.push.ensures.items) (All-push (IsWithin payload) c.loop-index.parts.items part c.loop-index.invariant.each (record { rising = omega arith; within = within }));
-      order = subst (StandBehind (2 * c.args.count)) (sym c.push.ensures.items) (behind-push (2 * c.args.count) c.loop-index.parts.items part c.loop-index.invariant.order (sym c.loop-index.invariant.ends));
-      ends = ap (end_of (2 * c.args.count)) c.push.ensures.items ∙ end-push (2 * c.args.count) c.loop-index.parts.items part;
-      few = omega (arith, ap length c.push.ensures.items, length-append c.loop-index.parts.items (part ∷ []), c.loop-index.invariant.few);
+      each = subst (λ (parts : List Part). (k : ℕ) (d : Part) → k < length parts → IsWithin payload (get_or parts k d)) (sym c.put_part.ensures.put) (All-push (IsWithin payload) (take c.loop-index.index c.loop-index.parts.items) part c.loop-index.invariant.each (record { rising = omega arith; within = within }));
+      order = subst (StandBehind (2 * c.args.count)) (sym c.put_part.ensures.put) (behind-push (2 * c.args.count) (take c.loop-index.index c.loop-index.parts.items) part c.loop-index.invariant.order (sym c.loop-index.invariant.ends));
+      ends = ap (end_of (2 * c.args.count)) c.put_part.ensures.put ∙ end-push (2 * c.args.count) (take c.loop-index.index c.loop-index.parts.items) part;
+      many = omega (arith, c.put_part.ensures.many);
     }
