@@ -1,6 +1,6 @@
 //! The frames of a dynamic payload (OPC 10000-14 7.2.4, UADP message mapping): a UInt16 size for each, little-endian, where they
 //! are more than one, and then the frames.
-ghost use Rattle.std.specs.Prelude.{◌≡◌, ◌<◌, ◌≤◌, ◌+◌, ◌*◌, ◌↔◌, ◌++◌, ◌∷◌, [], length, take, drop, map, slice_range, sum, IsErr, IsTrue, OnOk, OnErr, All};
+ghost use Rattle.std.specs.Prelude.{◌≡◌, ◌<◌, ◌≤◌, ◌+◌, ◌*◌, ◌↔◌, [], length, take, drop, map, slice_range, sum, IsErr, IsTrue, OnOk, OnErr, All};
 ghost use Rattle.std.specs.Int.{w16, from_le_bytes, to_le_bytes};
 ghost use Rattle.std.specs.List.{flat_map};
 ghost use Rattle.ua_binary.specs.Writing.{Puts, Writes};
@@ -75,14 +75,38 @@ pub fn split(payload: &[u8], count: u8, parts: &mut Parts) -> Result<(), BadSize
     if has_bad_sizes(payload, count) {
         return Err(BadSizes);
     }
-    if count == 1 {
-        let end = payload.len();
-        put_part(parts, 0, Part { start: 0, end });
-    } else {
-        put_parts(payload, count, parts);
-    }
+    fill(parts, count);
+    find(payload, count, parts.as_mut_slice());
     parts.truncate(usize::from(count));
     Ok(())
+}
+
+// So many places at least. Parts of an earlier payload stay, to be written over: to clear them takes
+// as long as to find others.
+#[inline(always)]
+fn fill(parts: &mut Parts, count: u8)
+    ensures { count ≤ length parts.new.items }
+{
+    for _ in parts.len()..usize::from(count) {
+        parts.push(Part::default());
+    }
+}
+
+/// Finds the frames, whose sizes are good, and puts them into the first of these places.
+#[inline(always)]
+fn find(payload: &[u8], count: u8, places: &mut [Part])
+    requires good { ¬ HasBadSizes count payload.now }
+    requires places { count ≤ length places.old }
+    ensures frames { map (frame_at payload.now) (take count places.new) ≡ frames_of count payload.now }
+    ensures within { All (IsWithin payload.now) (take count places.new) }
+    ensures in_order { 1 < count → StandBehind (2 * count) (take count places.new) }
+{
+    if count == 1 {
+        let end = payload.len();
+        places[0] = Part { start: 0, end };
+    } else {
+        find_each(payload, count, places);
+    }
 }
 
 // The sizes are judged before any part is found, so that a refusal leaves no part of its own.
@@ -102,35 +126,20 @@ fn has_bad_sizes(payload: &[u8], count: u8) -> bool
     end > payload.len()
 }
 
-// Parts of an earlier payload are written over: to clear them first would take as long again.
 #[inline(always)]
-fn put_parts(payload: &[u8], count: u8, parts: &mut Parts)
+fn find_each(payload: &[u8], count: u8, places: &mut [Part])
     requires good { 2 * count + sum (sizes_of count payload.now) ≤ length payload.now }
-    ensures frames { map (frame_at payload.now) (take count parts.new.items)
+    requires places { count ≤ length places.old }
+    ensures frames { map (frame_at payload.now) (take count places.new)
         ≡ cut_by (sizes_of count payload.now) (drop (2 * count) payload.now) }
-    ensures within { All (IsWithin payload.now) (take count parts.new.items) }
-    ensures in_order { StandBehind (2 * count) (take count parts.new.items) }
+    ensures within { All (IsWithin payload.now) (take count places.new) }
+    ensures in_order { StandBehind (2 * count) (take count places.new) }
 {
     let mut start = 2 * usize::from(count);
     for index in 0..usize::from(count) {
         let end = start + usize::from(size_at(payload, index));
-        put_part(parts, index, Part { start, end });
+        places[index] = Part { start, end };
         start = end;
-    }
-}
-
-/// Puts the part in this place, which is that of a part or the one behind the last.
-#[inline(always)]
-fn put_part(parts: &mut Parts, index: usize, part: Part)
-    requires place { index ≤ length parts.old.items }
-    requires room { index < 255 }
-    ensures put { take (index + 1) parts.new.items ≡ take index parts.old.items ++ part ∷ [] }
-    ensures many { index < length parts.new.items }
-{
-    if index < parts.len() {
-        parts.as_mut_slice()[index] = part;
-    } else {
-        parts.push(part);
     }
 }
 
