@@ -3,7 +3,7 @@
 ghost use Rattle.std.specs.Prelude.{◌≡◌, ◌<◌, ◌≤◌, ◌+◌, ◌*◌, ◌↔◌, [], length, take, drop, map, slice_range, sum, IsErr, IsTrue, OnOk, OnErr, All};
 ghost use Rattle.std.specs.Int.{w16, from_le_bytes, to_le_bytes};
 ghost use Rattle.std.specs.List.{flat_map};
-ghost use Rattle.ua_binary.specs.Writing.{Puts, Writes};
+ghost use Rattle.ua_binary.specs.Writing.{laid, Puts, Writes};
 ghost use Rattle.payload_layout.specs.Payloads.{sizes_bytes, sizes_of, cut_by, frames_of, frame_at, HasBadSizes, IsWithin, StandBehind};
 
 use arrayvec::ArrayVec;
@@ -50,10 +50,26 @@ pub fn write_sizes(pen: &mut Pen<'_>, sizes: &[u16]) -> Result<(), Room>
     if pen.room() < 2 * sizes.len() {
         return Err(Room);
     }
-    put_sizes(pen, sizes);
+    pen.at = put_sizes_at(&mut *pen.bytes, pen.at, sizes);
     Ok(())
 }
 
+/// Writes the sizes into these bytes from `at` on, and answers where they end. The bytes are lent, and not the pen, so that the
+/// place stays in a register.
+#[inline(always)]
+fn put_sizes_at(bytes: &mut [u8], at: usize, sizes: &[u16]) -> usize
+    requires { at + 2 * length sizes.now ≤ length bytes.old }
+    ensures written { bytes.new ≡ laid bytes.old at (flat_map (to_le_bytes w16) sizes.now) }
+    ensures end { result ≡ at + length (flat_map (to_le_bytes w16) sizes.now) }
+    ensures within { result ≤ length bytes.new }
+    ensures same_length { length bytes.new ≡ length bytes.old }
+{
+    let mut pen = Pen { bytes, at };
+    put_sizes(&mut pen, sizes);
+    pen.at
+}
+
+#[inline(always)]
 fn put_sizes(pen: &mut Pen<'_>, sizes: &[u16])
     requires { pen.old.at + 2 * length sizes.now ≤ length pen.old.bytes.now }
     ensures { Puts pen.old pen.new (flat_map (to_le_bytes w16) sizes.now) }
