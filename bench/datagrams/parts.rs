@@ -6,7 +6,7 @@ use std::time::Instant;
 unsafe extern "C" {
     fn bench_write_header(parts: u8, turns: u32, bytes: *mut u8, length: usize) -> usize;
     fn bench_read_header(place: usize, turns: u32, bytes: *mut u8, length: usize) -> u64;
-    fn bench_split(turns: u32, payload: *const u8, length: usize) -> u64;
+    fn bench_split(count: u8, turns: u32, payload: *const u8, length: usize) -> u64;
     fn bench_join(turns: u32, message: *const u8, length: usize) -> u64;
 }
 
@@ -379,7 +379,7 @@ fn payloads() {
     payload.resize(32 + 16 * 20 + 120, 7);
     let mut parts = plain::Parts { ranges: [(0, 0); 255], count: 0 };
     for _ in 0..ROUNDS {
-        let sum = timed(&mut ours, || unsafe { bench_split(TURNS, payload.as_ptr(), payload.len()) });
+        let sum = timed(&mut ours, || unsafe { bench_split(16, TURNS, payload.as_ptr(), payload.len()) });
         let other = timed(&mut theirs, || {
             let mut sum = 0u64;
             for _ in 0..TURNS {

@@ -104,17 +104,17 @@ pub extern "C" fn bench_read_header(place: usize, turns: u32, bytes: &mut [u8]) 
 }
 
 #[inline(never)]
-fn split_once(payload: &[u8], parts: &mut Parts) -> bool {
-    split(payload, 16, parts).is_ok()
+fn split_once(payload: &[u8], count: u8, parts: &mut Parts) -> bool {
+    split(payload, count, parts).is_ok()
 }
 
-/// Splits a payload of 16 frames, `turns` times, and adds up where the last one ends.
+/// Splits a payload of `count` frames, `turns` times, and adds up where the last one ends.
 #[unsafe(no_mangle)]
-pub extern "C" fn bench_split(turns: u32, payload: &[u8]) -> u64 {
+pub extern "C" fn bench_split(count: u8, turns: u32, payload: &[u8]) -> u64 {
     let mut parts = Parts::new();
     let mut sum: u64 = 0;
     for _ in 0..turns {
-        if split_once(payload, &mut parts) {
+        if split_once(payload, count, &mut parts) {
             sum = sum.wrapping_add(parts.last().map_or(0, |part| part.end as u64));
         }
     }

@@ -3,7 +3,7 @@
 ghost use Rattle.std.specs.Prelude.{◌≡◌, ◌<◌, ◌≤◌, ◌+◌, ◌*◌, ◌↔◌, [], length, take, drop, map, slice_range, sum, IsErr, IsTrue, OnOk, OnErr, All};
 ghost use Rattle.std.specs.Int.{w16, from_le_bytes, to_le_bytes};
 ghost use Rattle.std.specs.List.{flat_map};
-ghost use Rattle.ua_binary.specs.Writing.{Puts, Writes};
+ghost use Rattle.ua_binary.specs.Writing.{laid, Puts, Writes};
 ghost use Rattle.payload_layout.specs.Payloads.{sizes_bytes, sizes_of, cut_by, frames_of, frame_at, HasBadSizes, IsWithin, StandBehind};
 
 use arrayvec::ArrayVec;
@@ -50,10 +50,26 @@ pub fn write_sizes(pen: &mut Pen<'_>, sizes: &[u16]) -> Result<(), Room>
     if pen.room() < 2 * sizes.len() {
         return Err(Room);
     }
-    put_sizes(pen, sizes);
+    pen.at = put_sizes_at(&mut *pen.bytes, pen.at, sizes);
     Ok(())
 }
 
+/// Writes the sizes into these bytes from `at` on, and answers where they end. The bytes are lent, and not the pen, so that the
+/// place stays in a register.
+#[inline(always)]
+fn put_sizes_at(bytes: &mut [u8], at: usize, sizes: &[u16]) -> usize
+    requires { at + 2 * length sizes.now ≤ length bytes.old }
+    ensures written { bytes.new ≡ laid bytes.old at (flat_map (to_le_bytes w16) sizes.now) }
+    ensures end { result ≡ at + length (flat_map (to_le_bytes w16) sizes.now) }
+    ensures within { result ≤ length bytes.new }
+    ensures same_length { length bytes.new ≡ length bytes.old }
+{
+    let mut pen = Pen { bytes, at };
+    put_sizes(&mut pen, sizes);
+    pen.at
+}
+
+#[inline(always)]
 fn put_sizes(pen: &mut Pen<'_>, sizes: &[u16])
     requires { pen.old.at + 2 * length sizes.now ≤ length pen.old.bytes.now }
     ensures { Puts pen.old pen.new (flat_map (to_le_bytes w16) sizes.now) }
@@ -75,16 +91,38 @@ pub fn split(payload: &[u8], count: u8, parts: &mut Parts) -> Result<(), BadSize
     if has_bad_sizes(payload, count) {
         return Err(BadSizes);
     }
-    parts.clear();
-    if count == 1 {
-        parts.push(Part {
-            start: 0,
-            end: payload.len(),
-        });
-    } else {
-        push_parts(payload, count, parts);
-    }
+    fill(parts, count);
+    find(payload, count, parts.as_mut_slice());
+    parts.truncate(usize::from(count));
     Ok(())
+}
+
+// So many places at least. Parts of an earlier payload stay, to be written over: to clear them takes
+// as long as to find others.
+#[inline(always)]
+fn fill(parts: &mut Parts, count: u8)
+    ensures { count ≤ length parts.new.items }
+{
+    for _ in parts.len()..usize::from(count) {
+        parts.push(Part::default());
+    }
+}
+
+/// Finds the frames, whose sizes are good, and puts them into the first of these places.
+#[inline(always)]
+fn find(payload: &[u8], count: u8, places: &mut [Part])
+    requires good { ¬ HasBadSizes count payload.now }
+    requires places { count ≤ length places.old }
+    ensures frames { map (frame_at payload.now) (take count places.new) ≡ frames_of count payload.now }
+    ensures within { All (IsWithin payload.now) (take count places.new) }
+    ensures in_order { 1 < count → StandBehind (2 * count) (take count places.new) }
+{
+    if count == 1 {
+        let end = payload.len();
+        places[0] = Part { start: 0, end };
+    } else {
+        find_each(payload, count, places);
+    }
 }
 
 // The sizes are judged before any part is found, so that a refusal leaves no part of its own.
@@ -104,18 +142,19 @@ fn has_bad_sizes(payload: &[u8], count: u8) -> bool
     end > payload.len()
 }
 
-fn push_parts(payload: &[u8], count: u8, parts: &mut Parts)
-    requires empty { parts.old.items ≡ [] }
+#[inline(always)]
+fn find_each(payload: &[u8], count: u8, places: &mut [Part])
     requires good { 2 * count + sum (sizes_of count payload.now) ≤ length payload.now }
-    ensures frames { map (frame_at payload.now) parts.new.items
+    requires places { count ≤ length places.old }
+    ensures frames { map (frame_at payload.now) (take count places.new)
         ≡ cut_by (sizes_of count payload.now) (drop (2 * count) payload.now) }
-    ensures within { All (IsWithin payload.now) parts.new.items }
-    ensures in_order { StandBehind (2 * count) parts.new.items }
+    ensures within { All (IsWithin payload.now) (take count places.new) }
+    ensures in_order { StandBehind (2 * count) (take count places.new) }
 {
     let mut start = 2 * usize::from(count);
     for index in 0..usize::from(count) {
         let end = start + usize::from(size_at(payload, index));
-        parts.push(Part { start, end });
+        places[index] = Part { start, end };
         start = end;
     }
 }

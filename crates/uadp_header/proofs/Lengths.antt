@@ -1,12 +1,12 @@
 -- How long a written header is.
-use Rattle.std.proofs.Common.{◌≡◌, ℕ, ◌+◌, ◌<◌, Bool, true, false, List, [], ◌∷◌, ◌++◌, length, Option, Some, None, refl, arith}
+use Rattle.std.proofs.Common.{◌≡◌, ℕ, ◌+◌, ◌<◌, ◌≤◌, Bool, true, false, List, [], ◌∷◌, ◌++◌, length, Option, Some, None, refl, arith}
 use Rattle.std.specs.Prelude.{nat_lt, is_some, IfSome, if◌then◌else◌}
 use Rattle.std.specs.Int.{w16, w32, to_le_bytes}
 use Rattle.std.proofs.lemmas.Bool.{lt-ltb}
 use Rattle.std.proofs.lemmas.List.{length-append}
 use Rattle.ua_binary.specs.Wire.{flag, optional}
 use Rattle.uadp_header.specs.Headers.{PublisherValue, U8, U16, U32, U64, Text, IdsValue, NoIds, ListOf, ChunkOf, SecurityValue, HeaderValue}
-use Rattle.uadp_header.specs.Spelling.{type_in, is_chunk, publisher_bytes, ids_bytes, extended1_in, extended_bytes, flags_bytes, group_flags, group_bytes, security_flags, security_bytes, header_bytes, publisher_len, ids_len, len_if, extended_len, group_len, security_len, header_len, IsAlike, IsHeader}
+use Rattle.uadp_header.specs.Spelling.{type_in, is_chunk, publisher_bytes, ids_bytes, extended1_in, extended_bytes, flags_bytes, group_flags, group_bytes, security_flags, security_bytes, header_bytes, publisher_len, ids_len, len_if, extended_len, group_len, security_len, header_len, IsAlike, IsHeader, IsSendersSecurity}
 
 -- part after part
 pub length-parts : (h : HeaderValue) → length (header_bytes h)
@@ -110,6 +110,32 @@ sixteen (Some guid) there = there
 
 pub length-is_header : (h : HeaderValue) → IsHeader h → length (header_bytes h) ≡ header_len h
 length-is_header h is = length-header h (sixteen h.class_id is.class_id)
+
+-- a sender's header is no longer than it would be with all flags, all numbers of a group and a security header
+flag-most : (there : Bool) (n : ℕ) → flag there n ≤ n
+flag-most true n = omega arith
+flag-most false n = omega arith
+
+security-most : (security : Option SecurityValue) → IfSome security IsSendersSecurity → len_if security_len security ≤ 14
+security-most None senders = omega arith
+security-most (Some s) senders = omega (arith, senders.nonce)
+
+pub length-most : (h : HeaderValue) → len_if length h.class_id ≡ flag (is_some h.class_id) 16 → IfSome h.security IsSendersSecurity
+    → length (header_bytes h) ≤ 28 + len_if publisher_len h.publisher + len_if length h.class_id + ids_len h.ids
+unfolding header_len
+length-most h guid senders =
+    omega (
+      arith,
+      length-header h guid,
+      guid,
+      flag-most (nat_lt 0 (extended1_in h)) 1,
+      flag-most (is_chunk h.ids) 1,
+      flag-most (is_some h.group) 2,
+      flag-most (is_some h.version) 4,
+      flag-most (is_some h.message_number) 2,
+      flag-most (is_some h.sequence) 2,
+      security-most h.security senders,
+    )
 
 -- no number counts
 pub alike-len : (one other : HeaderValue) → IsAlike one other → header_len one ≡ header_len other

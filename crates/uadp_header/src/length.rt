@@ -24,6 +24,56 @@ pub fn header_len(header: &Header<'_>) -> usize
         + security_len(&header.security)
 }
 
+// The flags, the group header and the security header of a sender's header, each of their parts
+// there.
+const MOST_FLAGS: usize = 3;
+
+const MOST_GROUP: usize = 11;
+
+const MOST_SECURITY: usize = 14;
+
+/// The header is no longer than this, which goes by fewer parts than its length: most are counted as
+/// if they were there.
+#[inline(always)]
+pub(crate) fn most_len(header: &Header<'_>) -> usize
+    requires { IsSenders (header_in header.now) }
+    ensures { length (header_bytes (header_in header.now)) ≤ result }
+{
+    MOST_FLAGS
+        + most_publisher_len(&header.publisher)
+        + guid_len(&header.class_id)
+        + MOST_GROUP
+        + most_ids_len(&header.ids)
+        + MOST_SECURITY
+}
+
+#[inline(always)]
+fn most_publisher_len(publisher: &Option<PublisherId<'_>>) -> usize
+    requires { IfSome (if_there publisher_in publisher.now) IsShortText }
+    ensures most { len_if publisher_len (if_there publisher_in publisher.now) ≤ result }
+    ensures small { result < 2 ^ 32 }
+{
+    match publisher {
+        Some(PublisherId::Text(text)) => 4 + text.len(),
+        None
+        | Some(
+            PublisherId::U8(_) | PublisherId::U16(_) | PublisherId::U32(_) | PublisherId::U64(_),
+        ) => 8,
+    }
+}
+
+#[inline(always)]
+fn most_ids_len(ids: &Ids<'_>) -> usize
+    requires { AreIds (ids_in ids.now) }
+    ensures most { ids_len (ids_in ids.now) ≤ result }
+    ensures small { result ≤ 511 }
+{
+    match ids {
+        Ids::List(bytes) => 1 + bytes.len(),
+        Ids::None | Ids::Chunk(_) => 2,
+    }
+}
+
 #[inline(always)]
 fn part_len(present: bool, len: usize) -> usize
     ensures { result ≡ flag present len }

@@ -1,7 +1,7 @@
 //! Reading headers.
 ghost use Rattle.std.specs.Prelude.{◌≡◌, ◌%◌, ◌<◌, ◌≤◌, ◌^◌, IfOk};
 ghost use Rattle.std.specs.Int.{w16, w32};
-ghost use Rattle.ua_binary.specs.Reading.{Reads, ReadsAhead, lent, part_at, bytes_at, number_at};
+ghost use Rattle.ua_binary.specs.Reading.{Reads, ReadsAhead, lent, short, part_at, bytes_at, number_at};
 ghost use Rattle.ua_binary.specs.ReadingValues.{has};
 ghost use Rattle.uadp_header.specs.declared.fault.HeaderFault.TheVariants as faults;
 ghost use Rattle.uadp_header.specs.Headers.{publisher_in, ids_in, security_in, header_in, if_there};
@@ -18,7 +18,7 @@ use crate::flags::{
     check_extended2, check_flags, check_reserved, id_type,
 };
 use crate::header::{Header, Ids, PublisherId, SecurityPart};
-use ua_binary::Cursor;
+use ua_binary::{Cursor, Short};
 
 /// The header that the bytes begin with (OPC 10000-14 7.2.4.4, UADP NetworkMessage), and where the
 /// payload begins.
@@ -141,6 +141,7 @@ fn read_publisher<'a>(cursor: &mut Cursor<'a>, id_type: u8) -> Result<PublisherI
 }
 
 /// A String (OPC 10000-6 section 5.2.2.4). The length -1 stands for null, which is read as empty.
+#[inline(always)]
 #[tactic(auto, unfolding(crate::specs::Steps::text_at))]
 fn read_text<'a>(cursor: &mut Cursor<'a>) -> Result<&'a str, HeaderFault>
     ensures { ReadsAhead (lent result) cursor.old cursor.new text_at }
@@ -153,6 +154,8 @@ fn read_text<'a>(cursor: &mut Cursor<'a>) -> Result<&'a str, HeaderFault>
     as_text(cursor.read_bytes(len)?)
 }
 
+// A call that is given no cursor, so that the cursor may stay in registers.
+#[inline(never)]
 fn as_text(bytes: &[u8]) -> Result<&str, HeaderFault>
     ensures { lent result ≡ as_text bytes.now }
 {
@@ -162,9 +165,10 @@ fn as_text(bytes: &[u8]) -> Result<&str, HeaderFault>
     }
 }
 
+// Beside a fault that has bytes, the compiler would copy the Guid in pieces that overlap.
 #[inline(always)]
-fn read_guid_if(cursor: &mut Cursor<'_>, present: bool) -> Result<Option<[u8; 16]>, HeaderFault>
-    ensures { ReadsAhead result cursor.old cursor.new (part_at present (bytes_at faults.Short 16)) }
+fn read_guid_if(cursor: &mut Cursor<'_>, present: bool) -> Result<Option<[u8; 16]>, Short>
+    ensures { ReadsAhead result cursor.old cursor.new (part_at present (bytes_at short 16)) }
 {
     if !present {
         return Ok(None);

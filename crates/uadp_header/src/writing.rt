@@ -1,8 +1,8 @@
 //! Writing headers.
-ghost use Rattle.std.specs.Prelude.{◌≡◌, ◌+◌, ◌/◌, ◌^◌, ◌<◌, ◌≤◌, ◌∷◌, length, IfSome};
+ghost use Rattle.std.specs.Prelude.{◌≡◌, ◌+◌, ◌/◌, ◌^◌, ◌<◌, ◌≤◌, ◌∷◌, length, nat_lt, IfSome};
 ghost use Rattle.std.specs.Int.{w16, w32, to_le_bytes};
 ghost use Rattle.ua_binary.specs.Spelling.{block};
-ghost use Rattle.ua_binary.specs.Writing.{Puts, Writes};
+ghost use Rattle.ua_binary.specs.Writing.{laid, Puts, Writes};
 ghost use Rattle.ua_binary.specs.Wire.{flag, optional};
 ghost use Rattle.uadp_header.specs.Headers.{publisher_in, ids_in, security_in, header_in, if_there};
 ghost use Rattle.uadp_header.specs.Spelling.{type_in, has_ids, is_chunk, publisher_bytes, ids_bytes, extended1_in, extended_bytes, flags_byte, flags_bytes, group_flags, group_bytes, security_flags, security_bytes, header_bytes, IsShortText, AreIds, IsSendersSecurity, IsSenders};
@@ -14,7 +14,7 @@ use crate::flags::{
     SEQUENCE, SIGNED, VERSION,
 };
 use crate::header::{Header, Ids, PublisherId, SecurityPart};
-use crate::length::header_len;
+use crate::length::{header_len, most_len};
 use ua_binary::{Pen, Room};
 
 /// Writes a sender's header (OPC 10000-14 7.2.4.4, UADP NetworkMessage). Extended flags that aren't
@@ -23,11 +23,36 @@ pub fn write_header(pen: &mut Pen<'_>, header: &Header<'_>) -> Result<(), Room>
     requires { IsSenders (header_in header.now) }
     ensures { Writes result pen.old pen.new (header_bytes (header_in header.now)) }
 {
-    if pen.room() < header_len(header) {
+    if pen.room() < most_len(header) && is_past(pen.room(), header) {
         return Err(Room);
     }
-    put_header(pen, header);
+    pen.at = put_header_at(&mut *pen.bytes, pen.at, header);
     Ok(())
+}
+
+/// Whether the header is longer than this. A call, since it is seldom asked.
+#[inline(never)]
+fn is_past(room: usize, header: &Header<'_>) -> bool
+    requires { IsSenders (header_in header.now) }
+    ensures { result ≡ nat_lt room (length (header_bytes (header_in header.now))) }
+{
+    room < header_len(header)
+}
+
+/// Writes the header into these bytes from `at` on, and answers where it ends. The bytes are lent, and
+/// not the pen, so that the place stays in a register.
+#[inline(always)]
+fn put_header_at(bytes: &mut [u8], at: usize, header: &Header<'_>) -> usize
+    requires senders { IsSenders (header_in header.now) }
+    requires room { at + length (header_bytes (header_in header.now)) ≤ length bytes.old }
+    ensures written { bytes.new ≡ laid bytes.old at (header_bytes (header_in header.now)) }
+    ensures end { result ≡ at + length (header_bytes (header_in header.now)) }
+    ensures within { result ≤ length bytes.new }
+    ensures same_length { length bytes.new ≡ length bytes.old }
+{
+    let mut pen = Pen { bytes, at };
+    put_header(&mut pen, header);
+    pen.at
 }
 
 #[inline(always)]
@@ -244,7 +269,35 @@ fn put_counted(pen: &mut Pen<'_>, ids: &[u8])
     ensures { Puts pen.old pen.new ((length ids.now / 2) ∷ ids.now) }
 {
     pen.put_u8((ids.len() / 2) as u8);
-    pen.put_bytes(ids);
+    put_few(pen, ids);
+}
+
+/// Writes the bytes: those of one, two or four ids in one store, and others by a call.
+#[inline(always)]
+fn put_few(pen: &mut Pen<'_>, bytes: &[u8])
+    requires { HasRoom pen.old bytes.now }
+    ensures { Puts pen.old pen.new bytes.now }
+{
+    match bytes.len() {
+        2 => put_all::<2>(pen, bytes),
+        4 => put_all::<4>(pen, bytes),
+        8 => put_all::<8>(pen, bytes),
+        _ => pen.put_bytes(bytes),
+    }
+}
+
+/// Writes the bytes, which are `N`, so that the compiler knows how many.
+#[inline(always)]
+fn put_all<const N: usize>(pen: &mut Pen<'_>, bytes: &[u8])
+    requires all { length bytes.now ≡ N }
+    requires room { HasRoom pen.old bytes.now }
+    ensures { Puts pen.old pen.new bytes.now }
+{
+    let Some((bytes, _)) = bytes.split_first_chunk::<N>() else {
+        unreachable!();
+    };
+    let bytes = *bytes;
+    pen.put_bytes(&bytes);
 }
 
 #[inline(always)]
@@ -279,10 +332,10 @@ fn security_flags(security: &SecurityPart<'_>) -> u8
 
 #[inline(always)]
 fn put_nonce(pen: &mut Pen<'_>, nonce: &[u8])
-    requires short { length nonce.now ≤ 255 }
+    requires eight { length nonce.now ≡ 8 }
     requires room { HasRoom pen.old (length nonce.now ∷ nonce.now) }
     ensures { Puts pen.old pen.new (length nonce.now ∷ nonce.now) }
 {
     pen.put_u8(nonce.len() as u8);
-    pen.put_bytes(nonce);
+    put_all::<8>(pen, nonce);
 }
