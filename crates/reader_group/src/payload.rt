@@ -28,9 +28,28 @@ pub(crate) enum Payload<'a> {
 }
 
 impl<'a> Messages<'a> {
-    ghost use Rattle.std.specs.Prelude.{◌≡◌, ◌<◌, length, map, Some, slice_get};
+    ghost use Rattle.std.specs.Prelude.{◌≡◌, ◌<◌, ◌≤◌, length, map, Some, slice_get};
     ghost use Rattle.uadp_header.specs.Headers.{ids_of};
     ghost use Rattle.payload_layout.specs.Payloads.{frame_at};
+    ghost use Rattle.reader_group.specs.Held.{listed_at, listed_upto};
+
+    /// The first message from this index on that is of this writer, or how many messages there are. It reads nothing but ids, so
+    /// that those of other writers are passed fast.
+    pub fn next_of(&self, writer: u16, from: usize) -> usize
+        requires { from ≤ length self.now.parts.now }
+        ensures within { result ≤ length self.now.parts.now }
+        ensures ahead { from ≤ result }
+        ensures passed { listed_upto writer result self.now ≡ listed_upto writer from self.now }
+        ensures own { result < length self.now.parts.now → (listed_at self.now result).0 ≡ writer }
+    {
+        let count = self.parts.len();
+        for index in from..count {
+            if self.id(index) == writer {
+                return index;
+            }
+        }
+        count
+    }
 
     /// The id of the writer of the message with this index.
     pub fn id(&self, index: usize) -> u16
