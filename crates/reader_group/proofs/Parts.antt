@@ -1,6 +1,6 @@
 -- The messages of a dynamic datagram, one after another.
 use Rattle.std.proofs.Common.{◌≡◌, ◌≢◌, refl, sym, ap, ◌∙◌, subst, arith, ℕ, ◌+◌, ◌*◌, ◌<◌, Bool, true, false, List, [], ◌∷◌, ◌++◌, length, take, map, Some}
-use Rattle.std.specs.Prelude.{◌==◌, cond, filter, fold, slice_get}
+use Rattle.std.specs.Prelude.{◌==◌, not, cond, filter, fold, slice_get}
 use Rattle.std.proofs.lemmas.Bool.Decides.{nat_tests}
 use Rattle.std.proofs.lemmas.List.{append-nil, length-map}
 use Rattle.std.proofs.lemmas.List.Elements.{filter_more}
@@ -105,6 +105,9 @@ other_eqb a b other = grind (arith, nat_tests)
 same_eqb : (a b : ℕ) → a ≡ b → (a == b) ≡ true
 same_eqb a b same = grind (arith, nat_tests)
 
+not-same : (a b : ℕ) → not (a == b) ≡ true → a ≢ b
+not-same a b other same = absurd (grind (arith, nat_tests))
+
 -- a message of another writer is passed
 pub passed-more : (writer : ℕ) (messages : MessagesWords) (index id : ℕ) → length messages.ids.now ≡ 2 * length messages.parts.now → index < length messages.parts.now
     → slice_get (ids_of messages.ids.now) index ≡ Some id → id ≢ writer → listed_upto writer (index + 1) messages ≡ listed_upto writer index messages
@@ -116,6 +119,10 @@ passed-more writer messages index id count within id_is other =
     filter_more is_own (listed messages) index (0, []) (omega (arith, listed-length messages count))
     ∙ ap (λ (b : Bool). before ++ cond b (here ∷ []) []) is_other
     ∙ append-nil before
+
+pub passed-other : (writer : ℕ) (messages : MessagesWords) (index id : ℕ) → length messages.ids.now ≡ 2 * length messages.parts.now → index < length messages.parts.now
+    → slice_get (ids_of messages.ids.now) index ≡ Some id → not (id == writer) ≡ true → listed_upto writer (index + 1) messages ≡ listed_upto writer index messages
+passed-other writer messages index id count within id_is other = passed-more writer messages index id count within id_is (not-same id writer other)
 
 -- a message of the reader's writer is given to it
 pub offered-own : (seat : Seat) (receipt : Receipt) (writer id : ℕ) (fed : Fed) (part : ℕ × List ℕ) (bytes : List ℕ) (member : Member) (old tally : Tally) (is_bad : Bool)
