@@ -10,3 +10,4 @@ mod AnswerLaws
 mod CountLaws
 mod PassedLaws
 mod Rows
+mod Places

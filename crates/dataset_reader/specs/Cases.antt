@@ -85,6 +85,21 @@ placed_case kept content number place (Some last) =
     then following_case kept content number place last (breaks_run content number last)
     else (kept, unbroken (older content))
 
+-- a frame that stands here isn't newer than the last record
+abbrev pub has_passed : ℕ → Option ℕ → Bool
+has_passed place None = false
+has_passed place (Some last) = not (newer place last)
+
+-- the break at a record behind the last one, where it breaks
+abbrev pub break_at : Content → ℕ → Option ℕ → Option Break
+break_at content number None = None
+break_at content number (Some last) =
+    if breaks_run content number last then Some (record { expected = due last; got = number }) else None
+
+abbrev pub noted_if : Kept → Option Break → Kept
+noted_if kept None = kept
+noted_if kept (Some broke) = noted kept broke
+
 -- whether a stamp is 16,384 or more above the greatest one
 abbrev pub is_jump : Option ℕ → ℕ → Bool
 is_jump greatest stamp = option_map_or (λ high. nat_le (high + 16384) stamp) greatest false

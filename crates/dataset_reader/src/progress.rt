@@ -5,7 +5,7 @@ ghost use Rattle.dataset_meta.specs.Metas.{MetaData};
 ghost use Rattle.row_words.specs.Belonging.{Belongs, row_in};
 ghost use Rattle.frame_codec.specs.Words.{IsFrameOf, IsKindOf, frame_in, content_in};
 ghost use Rattle.dataset_reader.specs.Kept.{fresh, cut_kept};
-ghost use Rattle.dataset_reader.specs.Cases.{frame_case, unnumbered_case, numbered_case, stamped, placed_case, record_number, record_case, noted, unbroken, is_alive, older};
+ghost use Rattle.dataset_reader.specs.Cases.{frame_case, unnumbered_case, numbered_case, stamped, placed_case, placed_at, has_passed, break_at, noted_if, record_number, record_case, noted, unbroken, is_alive, older};
 
 use crate::held::Held;
 use crate::took::{Numbering, Outcome, Took};
@@ -189,27 +189,46 @@ impl Progress {
             result ≡ (placed_case old content number (record_number content number) old.last).1 }
     {
         let here = record_number(kind, number);
-        let Some(last) = self.last else {
-            self.last = Some(here);
-            return unbroken(self.record(meta, kind, number, false));
-        };
-        if !newer(here, last) {
+        if self.has_passed(here) {
             return unbroken(older(kind));
         }
+        let broke = self.go_on(kind, number, here);
+        Took {
+            outcome: self.record(meta, kind, number, broke.is_some()),
+            broke,
+        }
+    }
+
+    // Whether a frame that stands here isn't newer than the last record.
+    fn has_passed(&self, here: u16) -> bool
+        ensures { result ≡ has_passed here self.now.last }
+    {
+        match self.last {
+            None => false,
+            Some(last) => !newer(here, last),
+        }
+    }
+
+    // Goes on to the record that stands here, and tells whether the run of messages breaks at it. A break is counted and shown.
+    fn go_on(&mut self, kind: &FrameKind, number: u16, here: u16) -> Option<Break>
+        ensures kept { (fields : List Field) → let old = kept_in fields self.old in
+            kept_in fields self.new ≡ noted_if (placed_at old here) result }
+        ensures broke { (fields : List Field)
+            → result ≡ break_at (content_in fields kind.now) number self.old.last }
+        ensures state { (meta : MetaData) → IsStateOf meta self.old → IsStateOf meta self.new }
+    {
+        let last = self.last;
         self.last = Some(here);
-        let due = last.wrapping_add(1);
+        let due = last?.wrapping_add(1);
         if !is_alive(kind) && number == due {
-            return unbroken(self.record(meta, kind, number, false));
+            return None;
         }
         let broke = Break {
             expected: due,
             got: number,
         };
         self.note(broke);
-        Took {
-            outcome: self.record(meta, kind, number, true),
-            broke: Some(broke),
-        }
+        Some(broke)
     }
 
     fn note(&mut self, found: Break)

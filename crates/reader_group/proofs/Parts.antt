@@ -1,8 +1,9 @@
 -- The messages of a dynamic datagram, one after another.
-use Rattle.std.proofs.Common.{◌≡◌, ◌≢◌, refl, sym, ap, ◌∙◌, subst, arith, ℕ, ◌+◌, ◌*◌, ◌<◌, Bool, true, false, List, [], ◌∷◌, length, take, map, Some}
-use Rattle.std.specs.Prelude.{◌==◌, fold, slice_get}
+use Rattle.std.proofs.Common.{◌≡◌, ◌≢◌, refl, sym, ap, ◌∙◌, subst, arith, ℕ, ◌+◌, ◌*◌, ◌<◌, Bool, true, false, List, [], ◌∷◌, ◌++◌, length, take, map, Some}
+use Rattle.std.specs.Prelude.{◌==◌, not, cond, filter, fold, slice_get}
 use Rattle.std.proofs.lemmas.Bool.Decides.{nat_tests}
-use Rattle.std.proofs.lemmas.List.{length-map}
+use Rattle.std.proofs.lemmas.List.{append-nil, length-map}
+use Rattle.std.proofs.lemmas.List.Elements.{filter_more}
 use Rattle.std.proofs.lemmas.List.Sums.{fold_more}
 use Rattle.std.proofs.lemmas.Option.{get_or_from_slice_get, slice_get_within}
 use Rattle.std.proofs.lemmas.Slice.Zip.{get_or-zip, length-zip}
@@ -15,11 +16,11 @@ use Rattle.reader_group.specs.declared.payload.Messages.{Messages as MessagesWor
 use Rattle.reader_group.specs.declared.receipt.Receipt.{Receipt}
 use Rattle.reader_group.specs.declared.member.Member.{Member}
 use Rattle.reader_group.specs.declared.tally.Tally.{Tally}
-use Rattle.reader_group.specs.Members.{Seat}
-use Rattle.reader_group.specs.MemberWords.{Follows, IsFed}
+use Rattle.reader_group.specs.Members.{MemberValue, Seat}
+use Rattle.reader_group.specs.MemberWords.{Follows, IsFed, IsMemberOf}
 use Rattle.reader_group.specs.Payloads.{Message, Messages, pieces}
-use Rattle.reader_group.specs.Held.{listed, listed_at}
-use Rattle.reader_group.specs.Plain.{Fed, fed_on, fed_if, count_if, piece_case}
+use Rattle.reader_group.specs.Held.{listed, listed_at, listed_upto}
+use Rattle.reader_group.specs.Plain.{Fed, fed_on, fed_if, count_if, piece_case, unfed}
 
 -- a message for the reader of this writer, or for another
 abbrev pub offered : Seat → Receipt → ℕ → Fed → ℕ × List ℕ → Fed
@@ -79,6 +80,23 @@ listed-bytes messages index bytes count within bytes_are =
     (get_or-zip ids frames index (0, []) (omega (arith, ids-count messages.ids.now, count, within)) (slice_get_within frames index bytes bytes_are))
     ∙ get_or_from_slice_get frames index bytes [] bytes_are
 
+-- messages between which all are of other writers bring the reader nothing
+pub offered-passed : (seat : Seat) (receipt : Receipt) (reader : ReaderPart) (fed : Fed) (messages : MessagesWords) (from to : ℕ)
+    → listed_upto reader.writer to messages ≡ listed_upto reader.writer from messages
+    → fold (offered seat receipt reader.writer) fed (take to (listed messages)) ≡ fold (offered seat receipt reader.writer) fed (take from (listed messages))
+offered-passed seat receipt reader fed messages from to passed =
+    offered-all seat receipt reader fed (take to (listed messages))
+    ∙ ap (λ (own : List (ℕ × List ℕ)). fold (fed_on seat receipt) fed (map (λ (part : ℕ × List ℕ). Message part.1) own)) passed
+    ∙ sym (offered-all seat receipt reader fed (take from (listed messages)))
+
+-- so it has been given nothing where all before are
+pub unfed-passed : (seat : Seat) (receipt : Receipt) (reader : ReaderPart) (value : MemberValue) (messages : MessagesWords) (to : ℕ) (member : Member) (tally : Tally)
+    → listed_upto reader.writer to messages ≡ listed_upto reader.writer 0 messages → IsMemberOf seat value member → tally.matched ≡ 0 → tally.bad ≡ 0
+    → IsFed seat (fold (offered seat receipt reader.writer) (unfed value) (take to (listed messages))) member tally
+unfed-passed seat receipt reader value messages to member tally passed is matched bad =
+    subst (λ (fed : Fed). IsFed seat fed member tally) (sym (offered-passed seat receipt reader (unfed value) messages 0 to passed))
+    (record { member_is = is; matched = matched; bad = bad })
+
 -- ---- one message
 
 other_eqb : (a b : ℕ) → a ≢ b → (a == b) ≡ false
@@ -87,12 +105,24 @@ other_eqb a b other = grind (arith, nat_tests)
 same_eqb : (a b : ℕ) → a ≡ b → (a == b) ≡ true
 same_eqb a b same = grind (arith, nat_tests)
 
--- a message of another writer leaves all
-pub offered-other : (seat : Seat) (receipt : Receipt) (writer id : ℕ) (fed : Fed) (part : ℕ × List ℕ) (member : Member) (tally : Tally) → part.0 ≡ id → id ≢ writer
-    → IsFed seat fed member tally → IsFed seat (fed_if seat receipt (part.0 == writer) fed (Message part.1)) member tally
-offered-other seat receipt writer id fed part member tally is other h =
-    let other_is : (part.0 == writer) ≡ false = ap (λ (n : ℕ). n == writer) is ∙ other_eqb id writer other in
-    subst (λ (b : Bool). IsFed seat (fed_if seat receipt b fed (Message part.1)) member tally) (sym other_is) h
+not-same : (a b : ℕ) → not (a == b) ≡ true → a ≢ b
+not-same a b other same = absurd (grind (arith, nat_tests))
+
+-- a message of another writer is passed
+pub passed-more : (writer : ℕ) (messages : MessagesWords) (index id : ℕ) → length messages.ids.now ≡ 2 * length messages.parts.now → index < length messages.parts.now
+    → slice_get (ids_of messages.ids.now) index ≡ Some id → id ≢ writer → listed_upto writer (index + 1) messages ≡ listed_upto writer index messages
+passed-more writer messages index id count within id_is other =
+    let is_own : ℕ × List ℕ → Bool = λ part. part.0 == writer in
+    let before = filter is_own (take index (listed messages)) in
+    let here = listed_at messages index in
+    let is_other : is_own here ≡ false = ap (λ (n : ℕ). n == writer) (listed-id messages index id count within id_is) ∙ other_eqb id writer other in
+    filter_more is_own (listed messages) index (0, []) (omega (arith, listed-length messages count))
+    ∙ ap (λ (b : Bool). before ++ cond b (here ∷ []) []) is_other
+    ∙ append-nil before
+
+pub passed-other : (writer : ℕ) (messages : MessagesWords) (index id : ℕ) → length messages.ids.now ≡ 2 * length messages.parts.now → index < length messages.parts.now
+    → slice_get (ids_of messages.ids.now) index ≡ Some id → not (id == writer) ≡ true → listed_upto writer (index + 1) messages ≡ listed_upto writer index messages
+passed-other writer messages index id count within id_is other = passed-more writer messages index id count within id_is (not-same id writer other)
 
 -- a message of the reader's writer is given to it
 pub offered-own : (seat : Seat) (receipt : Receipt) (writer id : ℕ) (fed : Fed) (part : ℕ × List ℕ) (bytes : List ℕ) (member : Member) (old tally : Tally) (is_bad : Bool)

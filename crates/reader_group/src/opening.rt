@@ -84,13 +84,39 @@ fn carried_by(ids: &Ids<'_>, kept: &mut ArrayVec<u8, 510>) -> Carried
         Ids::None => Carried::None,
         Ids::Chunk(writer) => Carried::Chunk(*writer),
         Ids::List(bytes) => {
-            kept.clear();
-            match kept.try_extend_from_slice(bytes) {
-                Ok(()) => Carried::List,
-                // there is room for 255 ids
-                Err(_) => unreachable!(),
-            }
+            keep(bytes, kept);
+            Carried::List
         }
+    }
+}
+
+/// Keeps these bytes in place of others. As many as those are written over them, which aren't cleared first.
+fn keep(bytes: &[u8], kept: &mut ArrayVec<u8, 510>)
+    requires { length bytes.now ≤ 510 }
+    ensures { kept.new.items ≡ bytes.now }
+{
+    if kept.len() == bytes.len() {
+        write_over(kept.as_mut_slice(), bytes);
+        return;
+    }
+    kept.clear();
+    match kept.try_extend_from_slice(bytes) {
+        Ok(()) => {}
+        // there is room for 255 ids
+        Err(_) => unreachable!(),
+    }
+}
+
+/// Writes these bytes over as many others. One id, the commonest, is copied without a call, by its known length.
+#[inline(always)]
+fn write_over(kept: &mut [u8], bytes: &[u8])
+    requires { length kept.old ≡ length bytes.now }
+    ensures { kept.new ≡ bytes.now }
+{
+    if bytes.len() == 2 {
+        kept[..2].copy_from_slice(&bytes[..2]);
+    } else {
+        kept.copy_from_slice(bytes);
     }
 }
 

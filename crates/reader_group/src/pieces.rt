@@ -93,14 +93,17 @@ impl Member {
         ensures matched { result.matched ≤ 255 }
         ensures bad { result.bad ≤ 255 }
     {
+        let count = messages.parts.len();
         let mut tally = Tally::NONE;
-        for index in 0..messages.parts.len() {
+        let mut index = messages.next_of(part.writer, 0);
+        while index < count {
             self.offer(part, meta, receipt, messages, index, &mut tally);
+            index = messages.next_of(part.writer, index + 1);
         }
         tally
     }
 
-    // One of the messages, which is the reader's where it has its writer's id.
+    // One of the messages, which is of the reader's writer.
     fn offer(
         &mut self,
         part: &ReaderPart,
@@ -112,6 +115,7 @@ impl Member {
     )
         requires reader { HoldsRowsOf meta.now self.old }
         requires index { index < length messages.now.parts.now }
+        requires own { (listed_at messages.now index).0 ≡ part.now.writer }
         requires matched { tally.old.matched < 255 }
         requires bad { tally.old.bad < 255 }
         ensures fed { IsOffered part.now meta.now receipt.now (listed_at messages.now index)
@@ -120,9 +124,6 @@ impl Member {
         ensures matched { tally.new.matched ≤ tally.old.matched + 1 }
         ensures bad { tally.new.bad ≤ tally.old.bad + 1 }
     {
-        if messages.id(index) != part.writer {
-            return;
-        }
         let is_bad = self.message(meta, receipt, messages.message(index));
         tally.count(is_bad);
     }

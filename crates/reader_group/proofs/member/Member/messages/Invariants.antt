@@ -1,8 +1,8 @@
-use Rattle.std.proofs.Common.{◌≤◌, take}
+use Rattle.std.proofs.Common.{◌≡◌, ◌<◌, ◌≤◌, ◌-◌, length, take}
 use Rattle.std.specs.Prelude.{fold}
 use Rattle.reader_group.specs.Members.{MemberValue, seat_of}
 use Rattle.reader_group.specs.MemberWords.{IsMemberOf, HoldsRowsOf, IsFed}
-use Rattle.reader_group.specs.Held.{listed}
+use Rattle.reader_group.specs.Held.{listed, listed_at}
 use Rattle.reader_group.specs.Plain.{unfed}
 use Rattle.reader_group.proofs.Parts.{offered}
 use Rattle.reader_group.proofs.member.Member.messages.Given as goal
@@ -14,4 +14,9 @@ invariant-loop-index l = record {
   reader : HoldsRowsOf l.meta l.self;
   matched : l.tally.matched ≤ l.index;
   bad : l.tally.bad ≤ l.index;
+  within : l.index ≤ length l.messages.parts.now;
+  own : l.index < length l.messages.parts.now → (listed_at l.messages l.index).0 ≡ l.part.writer;
 }
+
+abbrev pub decreases-loop-index : goal.decreases-loop-index
+decreases-loop-index l = length l.messages.parts.now - l.index
