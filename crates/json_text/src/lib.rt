@@ -7,7 +7,6 @@ mod matching;
 mod put;
 mod reading;
 mod records;
-mod row;
 mod sets;
 mod text;
 

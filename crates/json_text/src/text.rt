@@ -7,15 +7,15 @@ ghost use Rattle.json_text.specs.Matching.{is_matched, readers_in, json_readers}
 ghost use Rattle.json_text.specs.Texts.{lines_text, kept_text, reader_line, readers_text, TellsLines};
 
 use crate::matching::{is_matched, is_plain};
-use crate::put::{put, put_count, put_end, put_number, put_waits};
+use crate::put::{put_count, put_number};
 use crate::reading::parts_of;
 use crate::records::{meta_of, reader_over};
-use crate::row::put_row;
 use dataset_meta::Meta;
 use dataset_reader::Reader;
 use json_frames::JsonPart;
 use json_tap::JsonLine;
 use ps_config::{Config, ReadGroupPart, ReaderPart};
+use ps_report::{put, put_end, put_feed, put_row, put_waits};
 use std::alloc::Global;
 use ua_base::NoMemory;
 
@@ -43,7 +43,7 @@ fn put_lines(out: &mut Vec<u8>, lines: &[JsonLine]) -> Result<(), NoMemory>
 {
     for line in lines {
         put(out, line.as_bytes())?;
-        put(out, b"\n")?;
+        put_feed(out)?;
     }
     Ok(())
 }
@@ -115,7 +115,7 @@ fn put_reader(
     put(out, b"jsonreader ")?;
     put(out, part.name.as_bytes())?;
     put_kept(out, meta, &reader)?;
-    put(out, b"\n")
+    put_feed(out)
 }
 
 /// The row that a reader holds, or why it waits.

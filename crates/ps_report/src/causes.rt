@@ -3,7 +3,7 @@ ghost use Rattle.std.specs.Prelude.{◌≡◌, ◌<◌, ◌++◌, OnOk, Some, sl
 ghost use Rattle.ps_report.specs.Words.{cause_words};
 ghost use Rattle.ps_report.specs.Lines.{cause_text, causes_text};
 
-use crate::put::{put, put_named};
+use crate::pieces::{put, put_named};
 use ua_base::NoMemory;
 
 /// Each cause with a count above 0, and a space before it.

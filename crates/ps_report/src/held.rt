@@ -7,7 +7,7 @@ ghost use Rattle.ps_report.specs.Words.{why_word};
 ghost use Rattle.ps_report.specs.Reports.{held_text};
 
 use crate::closed::{HeldEnd, ReaderEnd};
-use crate::put::{put, put_number_or_dash};
+use crate::pieces::{put, put_number_or_dash};
 use dataset_meta::{Meta, Name32};
 use ps_config::ReaderPart;
 use pubsub_model::Why;
@@ -36,6 +36,7 @@ pub fn put_held(
     }
 }
 
+/// Why a reader waits.
 #[tactic(auto, unfolding(crate::specs::Lines::waits_text))]
 pub fn put_waits(out: &mut Vec<u8>, why: Why) -> Result<(), NoMemory>
     ensures { OnOk result (out.new.items ≡ out.old.items ++ waits_text why) }

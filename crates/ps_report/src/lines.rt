@@ -7,9 +7,7 @@ ghost use Rattle.ps_report.specs.Reports.{reader_line, end_line};
 use crate::causes::put_causes;
 use crate::closed::{GroupEnd, LinkEnd, ReadGroupEnd, ReaderEnd, WriterEnd};
 use crate::held::put_held;
-use crate::put::{
-    put, put_component, put_count, put_feed, put_named, put_number, put_numbers, put_threads,
-};
+use crate::pieces::{put, put_component, put_count, put_feed, put_named, put_numbers, put_threads};
 use dataset_meta::{Meta, Name32};
 use ps_config::ReaderPart;
 use pubsub_model::Break;
@@ -47,7 +45,7 @@ pub fn put_writer(out: &mut Vec<u8>, name: &Name32, end: &WriterEnd) -> Result<(
 }
 
 /// Place and version of each data frame.
-fn put_log(out: &mut Vec<u8>, log: &[(u64, u64)]) -> Result<(), NoMemory>
+pub fn put_log(out: &mut Vec<u8>, log: &[(u64, u64)]) -> Result<(), NoMemory>
     ensures { OnOk result (out.new.items ≡ out.old.items ++ log_text log.now) }
 {
     for (place, version) in log {
@@ -141,6 +139,7 @@ pub fn put_link(out: &mut Vec<u8>, link: &LinkEnd) -> Result<(), NoMemory>
     put_feed(out)
 }
 
+/// The last line.
 #[tactic(auto, unfolding(crate::specs::Reports::end_line))]
 pub fn put_end(out: &mut Vec<u8>) -> Result<(), NoMemory>
     ensures { OnOk result (out.new.items ≡ out.old.items ++ end_line) }

@@ -6,7 +6,7 @@ ghost use Rattle.ps_report.specs.Reports.{load_versions, load_held_text, load_re
 use crate::closed::{Closed, History, ReaderEnd};
 use crate::held::{put_row, put_waits};
 use crate::lines::put_end;
-use crate::put::{put, put_feed, put_named};
+use crate::pieces::{put, put_feed, put_named};
 use crate::readers::reader_at;
 use dataset_meta::Meta;
 use ps_config::{Config, ReadGroupPart, ReaderPart};

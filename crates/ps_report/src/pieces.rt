@@ -8,6 +8,7 @@ use itoa::Buffer;
 use pubsub_states::State;
 use ua_base::NoMemory;
 
+/// The bytes.
 pub fn put(out: &mut Vec<u8>, text: &[u8]) -> Result<(), NoMemory>
     ensures { OnOk result (out.new.items ≡ out.old.items ++ text.now) }
 {
@@ -15,12 +16,14 @@ pub fn put(out: &mut Vec<u8>, text: &[u8]) -> Result<(), NoMemory>
     Ok(())
 }
 
+/// The end of a line.
 pub fn put_feed(out: &mut Vec<u8>) -> Result<(), NoMemory>
     ensures { OnOk result (out.new.items ≡ out.old.items ++ feed) }
 {
     put(out, b"\n")
 }
 
+/// A number in decimal.
 pub fn put_number(out: &mut Vec<u8>, number: u64) -> Result<(), NoMemory>
     ensures { OnOk result (out.new.items ≡ out.old.items ++ decimal number) }
 {

@@ -1,6 +1,6 @@
 use Rattle.std.proofs.Common.{◌≡◌, ◌++◌, take}
 use Rattle.ps_report.specs.Lines.{numbers_text}
-use Rattle.ps_report.proofs.put.put_numbers.Given as goal
+use Rattle.ps_report.proofs.pieces.put_numbers.Given as goal
 
 abbrev pub invariant-loop-number : goal.invariant-loop-number
 invariant-loop-number l = l.out.items ≡ l.fn.out.items ++ numbers_text (take l.number-index l.numbers)
