@@ -1,6 +1,6 @@
 -- A reader that isn't cut never holds an older version than before.
-use Rattle.std.proofs.Common.{◌≡◌, refl, sym, ap, ◌∙◌, subst, arith, ℕ, zero, suc, ◌+◌, ◌<◌, ◌≤◌, Bool, true, false, List, [], ◌∷◌, ◌++◌, map, Option, Some, None, All, Contains}
-use Rattle.std.specs.Prelude.{◌%◌, ◌&&◌, ◌==◌, nat_lt, option_map, if◌then◌else◌}
+use Rattle.std.proofs.Common.{◌≡◌, refl, sym, ap, ◌∙◌, subst, arith, ℕ, zero, suc, ◌+◌, ◌<◌, ◌≤◌, Bool, true, false, List, [], ◌∷◌, ◌++◌, Option, Some, None, All, Contains}
+use Rattle.std.specs.Prelude.{◌&&◌, ◌==◌, nat_lt, option_map, if◌then◌else◌}
 use Rattle.std.specs.List.{cons_option, list_all, list_any}
 use Rattle.std.proofs.lemmas.Bool.Decides.{nat_tests}
 use Rattle.std.proofs.lemmas.List.Elements.{All-nil, All-cons, All-head, All-tail, Contains-append_right}
@@ -10,7 +10,7 @@ use Rattle.dataset_meta.specs.Metas.{MetaData}
 use Rattle.dataset_meta.specs.Rows.{cons_if}
 use Rattle.pubsub_model.specs.Frames.{is_whole}
 use Rattle.pubsub_model.specs.Cadence.{Settings, Answered, WriterDeed, WriterTurn, Refreshed, HadTurn, HasRowsOf, cadence, next_place, answer, is_fresh}
-use Rattle.pubsub_model.specs.Records.{Item, Arrival, Came, Held, held, held_in, records, is_record, since_cut, place_in, from_whole, last_with, is_nothing, breaks_of}
+use Rattle.pubsub_model.specs.Records.{Item, Arrival, Held, held, held_in, records, is_record, since_cut, place_in, from_whole, last_with, is_nothing, breaks_of}
 use Rattle.config_tables.specs.declared.words.NumberingWord.{NumberingWord}
 use Rattle.config_tables.specs.declared.words.NumberingWord.TheVariants as words
 use Rattle.dataset_reader.specs.Kept.{Kept}
@@ -35,6 +35,7 @@ use Rattle.session_model.specs.Turns.{TurnsHold}
 use Rattle.session_laws.specs.Headline.{InSession, ComesFrom, meta_of}
 use Rattle.session_laws.specs.Pasts.{settings_at}
 use Rattle.session_laws.specs.Plays.{ItemsAre, IsAnswerBy}
+use Rattle.session_laws.proofs.BareHeld.{since-more}
 use Rattle.session_laws.proofs.Deeds.{TickKeeps, tick-keeps, refreshed-keeps}
 use Rattle.pubsub_model.proofs.HeldRows.{all-records}
 use Rattle.session_laws.proofs.Living.{past-of}
@@ -101,10 +102,6 @@ held-head h (item ∷ before) true e =
 
 head-at : (h : Held) (rs : List Item) → held_in rs ≡ Some h → IsHeadAt h.place rs
 head-at h rs e = held-head h rs (list_any (λ (item : Item). is_whole item.frame) rs && is_nothing (breaks_of (from_whole rs))) e
-
-since-more : (items : List Item) (old : List Arrival) → since_cut (map Came items ++ old) ≡ items ++ since_cut old
-since-more [] old = refl
-since-more (item ∷ items) old = ap (λ (l : List Item). item ∷ l) (since-more items old)
 
 pub places-rise : (old new : List Arrival) (h g : Held) → IsUncut old new → held old ≡ Some h → held new ≡ Some g → h.place ≤ g.place
 places-rise old new h g uncut e f =
@@ -248,13 +245,23 @@ cut-by : (word : NumberingWord) (meta : MetaData) (answered : List Answered) (ar
 cut-by words.Message meta answered arrivals is items = items-since (IsAnswerCut meta answered) arrivals items
 cut-by words.None meta answered arrivals is items = absurd (cc)
 
-pub holds-at : Laws → (p : Plan) (r i g w : ℕ) (now : List Step) (version : ℕ) → InSession p r i g w now → (seat_at (setting_of p.config r).seats i).part.numbering ≡ words.Message → HoldsVersionAt p r i g w now version → Holds p r i g w now version
-holds-at laws p r i g w now version is numbering holds =
+-- the number that is held names the version of the turn that sent it
+pub record HoldsTurn (p : Plan) (r i g w : ℕ) (now : List Step) (number : ℕ) : Type 0 where
+  pub at : Held
+  pub is : held (arrivals_at p.config r i (first_number_of p.config g w) now) ≡ Some at
+  pub turn : Answered
+  pub has : Contains (cadence (settings_at (group_at p.config g) w) (writer_deeds p g w now)) turn
+  pub place : is_data_at at.place turn ≡ true
+  pub named : version_of (log_at p g w now) number ≡ Some turn.turn.version
+
+pub holds-turn : Laws → (p : Plan) (r i g w : ℕ) (now : List Step) (number : ℕ) → InSession p r i g w now → (seat_at (setting_of p.config r).seats i).part.numbering ≡ words.Message → (reader_at p.config r i now).kept.number ≡ Some number
+    → HoldsTurn p r i g w now number
+holds-turn laws p r i g w now number is numbering number_is =
     let arrivals = arrivals_at p.config r i (first_number_of p.config g w) now in
     let s = settings_at (group_at p.config g) w in
     let past = writer_deeds p g w now in
     let word = (seat_at (setting_of p.config r).seats i).part.numbering in
-    let kept = kept-held word arrivals (reader_at p.config r i now).kept holds.number numbering (laws.reads p r i g w now is).keeps holds.number_is in
+    let kept = kept-held word arrivals (reader_at p.config r i now).kept number numbering (laws.reads p r i g w now is).keeps number_is in
     let life = (past-of laws.words laws.ring p g now is.plan is.steps_are (laws.turns p now is.plan is.steps_are) is.rise).lives w is.matched.reads.within in
     let sent = laws.sent _ (meta_of p r i) s past arrivals kept.at life.rows (cut-by word (meta_of p r i) (cadence s past) arrivals numbering (laws.comes p r i g w now is)) kept.is in
     let span = span-of s past sent.turn kept.at.place sent.one_of sent.place in
@@ -262,9 +269,20 @@ holds-at laws p r i g w now version is numbering holds =
     (let most : ticks_in now ≤ 4097 = laws.few p now is.steps_are in let ticks = log-few p g w now in let count = length-log_of s past in omega (arith, most, ticks, count)) in
     let found = version-is s past kept.at.place span.0 span.1 few in
     let turn = turn-at s past sent.turn kept.at.place sent.one_of sent.place in
-    let named : version_of (log_at p g w now) (kept.at.place % 65536) ≡ Some version = ap (version_of (log_at p g w now)) (sym kept.number_is) ∙ holds.named in
-    let same : Some version ≡ Some sent.turn.turn.version = sym named ∙ found ∙ ap (λ (t : WriterTurn). Some t.version) turn in
-    record { at = kept.at; is = kept.is; turn = sent.turn; has = sent.one_of; place = sent.place; version_is = cc }
+    record {
+      at = kept.at;
+      is = kept.is;
+      turn = sent.turn;
+      has = sent.one_of;
+      place = sent.place;
+      named = ap (version_of (log_at p g w now)) kept.number_is ∙ found ∙ ap (λ (t : WriterTurn). Some t.version) turn;
+    }
+
+pub holds-at : Laws → (p : Plan) (r i g w : ℕ) (now : List Step) (version : ℕ) → InSession p r i g w now → (seat_at (setting_of p.config r).seats i).part.numbering ≡ words.Message → HoldsVersionAt p r i g w now version → Holds p r i g w now version
+holds-at laws p r i g w now version is numbering holds =
+    let h = holds-turn laws p r i g w now holds.number is numbering holds.number_is in
+    let same : Some version ≡ Some h.turn.turn.version = sym holds.named ∙ h.named in
+    record { at = h.at; is = h.is; turn = h.turn; has = h.has; place = h.place; version_is = cc }
 
 -- THE LAW
 pub never-older-held : Laws → (p : Plan) (r i g w : ℕ) (later now : List Step) (one other : ℕ) → InSession p r i g w (later ++ now) → (seat_at (setting_of p.config r).seats i).part.numbering ≡ words.Message

@@ -28,8 +28,8 @@ told-later p source step before store version (inr is) = inr (record {
   version_is = is.version_is;
 })
 
-record Keeps (p : Plan) (source : Source) (now : List Step) (kept : List StoreVersion) : Type 0 where
-  last : last_store kept ≡ length (stores p.config source.read_group source.reader now)
+pub record Keeps (p : Plan) (source : Source) (now : List Step) (kept : List StoreVersion) : Type 0 where
+  pub last : last_store kept ≡ length (stores p.config source.read_group source.reader now)
   told : (store version : ℕ) → version_in kept store ≡ Some version → IsTold p source now store version
 
 keeps-later : (p : Plan) (source : Source) (step : Step) (before : List Step) (kept : List StoreVersion) → length (stores p.config source.read_group source.reader (step ∷ before)) ≡ length (stores p.config source.read_group source.reader before) → Keeps p source before kept
@@ -39,14 +39,14 @@ keeps-later p source step before kept same is = record {
   told = λ store version e. told-later p source step before store version (is.told store version e);
 }
 
-origin-count : (p : Plan) (source : Source) (now : List Step) (list : List Store) → (origin_by p source now list).store ≡ length list
+pub origin-count : (p : Plan) (source : Source) (now : List Step) (list : List Store) → (origin_by p source now list).store ≡ length list
 origin-count p source now [] = refl
 origin-count p source now (last ∷ before) = omega arith
 
-same-store : (kept : List StoreVersion) (now : StoreVersion) → now.store ≡ last_store kept → kept_on kept now ≡ kept
+pub same-store : (kept : List StoreVersion) (now : StoreVersion) → now.store ≡ last_store kept → kept_on kept now ≡ kept
 same-store kept now e = let test : (now.store == last_store kept) ≡ true = grind (arith, nat_tests, e) in ap (λ (b : Bool). if b then kept else now ∷ kept) test
 
-other-store : (kept : List StoreVersion) (now : StoreVersion) → last_store kept < now.store → kept_on kept now ≡ now ∷ kept
+pub other-store : (kept : List StoreVersion) (now : StoreVersion) → last_store kept < now.store → kept_on kept now ≡ now ∷ kept
 other-store kept now lt = let test : (now.store == last_store kept) ≡ false = grind (arith, nat_tests, lt) in ap (λ (b : Bool). if b then kept else now ∷ kept) test
 
 found-on : (p : Plan) (source : Source) (now : List Step) (kept : List StoreVersion) (one : StoreVersion) (store version : ℕ) (b : Bool) → (one.store == store) ≡ b → (one.store ≡ store → one.version ≡ Some version → IsTold p source now store version)
@@ -91,7 +91,7 @@ none-told : (p : Plan) (source : Source) (store version : ℕ) (b : Bool) → (0
 none-told p source store version true e f = inl ((let a : store ≡ 0 = grind (arith, nat_tests) in a), (let same : Path (Option ℕ) (Some 0) (Some version) = f in cc))
 none-told p source store version false e f = absurd (cc)
 
-keeps-at : (p : Plan) (source : Source) (relay : List RelayStep) → Keeps p source (firsts relay) (versions_kept p source relay)
+pub keeps-at : (p : Plan) (source : Source) (relay : List RelayStep) → Keeps p source (firsts relay) (versions_kept p source relay)
 keeps-at p source [] = record { last = refl; told = λ store version e. none-told p source store version (0 == store) refl e }
 keeps-at p source (Enable id ∷ before) = keeps-later p source (steps.Enable id) (firsts before) (versions_kept p source before) refl (keeps-at p source before)
 keeps-at p source (Disable id ∷ before) = keeps-later p source (steps.Disable id) (firsts before) (versions_kept p source before) refl (keeps-at p source before)

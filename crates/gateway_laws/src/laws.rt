@@ -178,12 +178,24 @@ pub fn passes_show_what_is_collected()
 }
 
 /// The version that a gateway keeps of a store is that of the store's origin at the end of the pump that made it; that of store 0
-/// is 0.
+/// is 0. Of each store of an honest source it keeps one: at each round of the relay it collects what the pump before it stored.
 pub fn a_kept_version_is_of_its_store()
-    ensures { (p : Plan) (source : Source) (relay : List RelayStep) (store version : ℕ)
+    ensures of_origin { (p : Plan) (source : Source) (relay : List RelayStep) (store version : ℕ)
         → version_in (versions_kept p source relay) store ≡ Some version
         → ((store ≡ 0) × (version ≡ 0)) ⊎ CameWith p source (firsts relay) store version }
-{}
+    ensures known { (p : Plan) (second : Config) (sources : List Source) (relay : List RelayStep) (set store : ℕ)
+        → IsRelay p second sources relay → set < length second.dataset
+        → IsHonestSource p (source_at sources set) (firsts relay)
+        → store ≤ length (stores_of p.config sources set (firsts relay))
+        → (version : ℕ) × (version_in (versions_kept p (source_at sources set) relay) store ≡ Some version) }
+{
+    matched_readers_hold_published_versions();
+    a_held_row_was_sent();
+    cut_rows_have_words();
+    a_ring_makes_senders_of_its_key_group();
+    each_turn_of_a_session_holds();
+    a_session_has_at_most_4097_ticks();
+}
 
 /// In a gateway nothing is ever switched: its groups and writers are Operational unless their sender is spent, whatever sends failed,
 /// and its read groups always are. So it needs no tree of states.

@@ -1,5 +1,5 @@
 -- A closing frame all of whose datagrams came is an item of the reader since its last cut.
-use Rattle.std.proofs.Common.{◌≡◌, ◌≢◌, refl, sym, ap, ◌∙◌, subst, arith, ℕ, zero, suc, ◌+◌, ◌<◌, ◌≤◌, ◌⊎◌, inl, inr, Bool, true, false, not, List, [], ◌∷◌, map, length, get_or, Option, Some, None, Contains, Result, Ok}
+use Rattle.std.proofs.Common.{◌≡◌, ◌≢◌, refl, sym, ap, ◌∙◌, subst, arith, ℕ, zero, suc, ◌+◌, ◌<◌, ◌≤◌, ◌⊎◌, inl, inr, Bool, true, false, not, List, [], ◌∷◌, ◌++◌, map, length, get_or, Option, Some, None, Contains, Result, Ok}
 use Rattle.std.specs.Prelude.{◌||◌, count_by, nat_le, option_map, slice_get, if◌then◌else◌}
 use Rattle.std.specs.List.{flat_map, cons_option}
 use Rattle.std.proofs.lemmas.List.Elements.{Contains-append_cases}
@@ -8,6 +8,7 @@ use Rattle.seq_number.specs.Numbers.{number_of_place, place_from}
 use Rattle.seq_number.proofs.NumberLaws.{place_from-number}
 use Rattle.dataset_meta.specs.DataValues.{DataValue}
 use Rattle.dataset_meta.specs.Metas.{MetaData}
+use Rattle.dataset_meta.specs.Rows.{row_cut}
 use Rattle.ua_base.specs.Journal.{Entry}
 use Rattle.pubsub_model.specs.Answers.{IsAnswer}
 use Rattle.pubsub_model.specs.Cadence.{Answered, Settings, WriterDeed, WriterTurn, HadTurn, cadence, is_data, is_fresh, next_place}
@@ -69,7 +70,7 @@ use Rattle.session_laws.proofs.Marks.{its_bytes, source, turns}
 use Rattle.session_laws.proofs.Newest.{closing-answer}
 use Rattle.session_laws.proofs.Pieces.{TurnLaws, own-major}
 use Rattle.session_laws.proofs.Published.{Laws, is-play, play_of}
-use Rattle.session_laws.proofs.Sources.{AreSent, IsLaidOf, IsOfAnswer, chunk-laid, frame-gives}
+use Rattle.session_laws.proofs.Sources.{AreSent, IsLaidOf, IsOfAnswer, chunk-laid, frame-bare, frame-gives}
 
 -- ---- lists
 
@@ -81,10 +82,40 @@ in-flat {X} {Y} f (x ∷ xs) y has = on (in-flat f xs y) (Contains-append_cases 
     on rest (inl here) = (x, (0, omega arith, refl), here)
     on rest (inr more) = let found = rest more in let at = found.1 in (found.0, (suc at.0, let lt = at.1 in omega (arith, lt), at.2), found.2)
 
+empty-left : {Y : Type 0} (vs more : List Y) → vs ++ more ≡ [] → vs ≡ []
+empty-left [] more e = refl
+empty-left (v ∷ vs) more e = absurd (let size = ap length e in omega (arith, size))
+
+empty-right : {Y : Type 0} (vs more : List Y) → vs ++ more ≡ [] → more ≡ []
+empty-right [] more e = e
+empty-right (v ∷ vs) more e = absurd (let size = ap length e in omega (arith, size))
+
+empty-of : {X Y : Type 0} (f : X → List Y) (xs : List X) (x : X) → flat_map f xs ≡ [] → Contains xs x → f x ≡ []
+empty-of f [] x e has = absurd (let below = has.1 in omega (arith, below))
+empty-of f (z ∷ xs) x e (zero, below, same) = ap f (sym same) ∙ empty-left (f z) (flat_map f xs) e
+empty-of f (z ∷ xs) x e (suc k, below, same) = empty-of f xs x (empty-right (f z) (flat_map f xs) e) (k, omega (arith, below), same)
+
+single : {Y : Type 0} (v y : Y) (vs more : List Y) → v ∷ vs ++ more ≡ y ∷ [] → (v ∷ vs ≡ y ∷ []) × (more ≡ [])
+single v y [] [] e = (e, refl)
+single v y [] (m ∷ more) e = absurd (let size = ap length e in omega (arith, size))
+single v y (u ∷ vs) more e = absurd (let size = ap length e in omega (arith, size))
+
+one-of : {X Y : Type 0} (f : X → List Y) (z : X) (xs : List X) (x : X) (y : Y) (vs : List Y) → f z ≡ vs → f z ++ flat_map f xs ≡ y ∷ [] → Contains (z ∷ xs) x → f x ≢ [] → (flat_map f xs ≡ y ∷ [] → Contains xs x → f x ≡ y ∷ []) → f x ≡ y ∷ []
+one-of f z xs x y [] is e (zero, below, same) some rest = absurd (some (ap f (sym same) ∙ is))
+one-of {X} {Y} f z xs x y [] is e (suc k, below, same) some rest = rest (sym (ap (λ (l : List Y). l ++ flat_map f xs) is) ∙ e) (k, omega (arith, below), same)
+one-of {X} {Y} f z xs x y (v ∷ vs) is e (zero, below, same) some rest = ap f (sym same) ∙ is ∙ (single v y vs (flat_map f xs) (sym (ap (λ (l : List Y). l ++ flat_map f xs) is) ∙ e)).0
+one-of {X} {Y} f z xs x y (v ∷ vs) is e (suc k, below, same) some rest =
+    absurd (some (empty-of f xs x (single v y vs (flat_map f xs) (sym (ap (λ (l : List Y). l ++ flat_map f xs) is) ∙ e)).1 (k, omega (arith, below), same)))
+
+-- of a list of one only one makes it
+pub flat-one : {X Y : Type 0} (f : X → List Y) (xs : List X) (x : X) (y : Y) → flat_map f xs ≡ y ∷ [] → Contains xs x → f x ≢ [] → f x ≡ y ∷ []
+flat-one f [] x y e has some = absurd (let below = has.1 in omega (arith, below))
+flat-one f (z ∷ xs) x y e has some = one-of f z xs x y (f z) refl e has some (λ rest more. flat-one f xs x y rest more some)
+
 pub not-empty : {X : Type 0} (xs : List X) (x : X) → Contains xs x → xs ≢ []
 not-empty xs x has none = let below = has.1 in let size = ap length none in absurd (omega (arith, below, size))
 
-mapped-has : {X Y : Type 0} (f : X → Y) (xs : List X) (x : X) → Contains xs x → Contains (map f xs) (f x)
+pub mapped-has : {X Y : Type 0} (f : X → Y) (xs : List X) (x : X) → Contains xs x → Contains (map f xs) (f x)
 mapped-has f [] x has = absurd (let below = has.1 in omega (arith, below))
 mapped-has f (y ∷ xs) x (zero, below, same) = (0, omega arith, ap f same)
 mapped-has f (y ∷ xs) x (suc k, below, same) = let rest = mapped-has f xs x (k, omega (arith, below), same) in (suc rest.0, let lt = rest.1 in omega (arith, lt), rest.2)
@@ -103,19 +134,19 @@ SpellsLast config group writer past are last =
     (frame : PlacedFrame) → answer_by group last.before last.of.input writer ≡ Some frame → is_silent frame ≡ false
     → spelled_at config group writer past are (place_of frame) ≡ (spelled_by group last.of.input.told.metas writer frame).bytes
 
-last-turn : (config : Config) (group : GroupPart) (writer : ℕ) (past : List GroupDeed) (are : AreTurns config group past) (turn : GroupTurn) (before : List GroupDeed) → past ≡ HadGroupTurn turn ∷ before
+pub last-turn : (config : Config) (group : GroupPart) (writer : ℕ) (past : List GroupDeed) (are : AreTurns config group past) (turn : GroupTurn) (before : List GroupDeed) → past ≡ HadGroupTurn turn ∷ before
     → (last : LastTurn config group past) × SpellsLast config group writer past are last
 last-turn config group writer [] are turn before e = absurd (cc)
 last-turn config group writer (RefreshedWriter other ∷ past) are turn before e = absurd (cc)
 last-turn config group writer (HadGroupTurn own ∷ past) are turn before e =
     (record { turn = own; before = past; past_is = refl; of = are.0 }, λ frame is loud. spelled-now config group writer own past are frame is loud)
 
-same-turn : (one other : GroupTurn) (before past : List GroupDeed) → HadGroupTurn one ∷ before ≡ HadGroupTurn other ∷ past → (one ≡ other) × (before ≡ past)
+pub same-turn : (one other : GroupTurn) (before past : List GroupDeed) → HadGroupTurn one ∷ before ≡ HadGroupTurn other ∷ past → (one ≡ other) × (before ≡ past)
 same-turn one other before past e = (cc, cc)
 
 -- ---- what a datagram of it has
 
-module _ (laws : TurnLaws) (law : TakesSignedAlone) (p : Play) (is : IsPlay 16385 p) (numbered : (its_way p).seat.part.numbering ≡ words.Message)
+module _ (laws : TurnLaws) (law : TakesSignedAlone) (p : Play) (is : IsPlay 16385 p)
     (own : WriterTurn) (closing : own.closing ≡ true) (le : 16385 ≤ 65536) where
   abbrev group : GroupPart
   group = p.group
@@ -196,8 +227,15 @@ module _ (laws : TurnLaws) (law : TakesSignedAlone) (p : Play) (is : IsPlay 1638
       content = refl;
     }
 
-    pub gives : frame_of (its_way p) (place_from first) frame ≡ Some (placed_cut (its_meta p) closing_frame)
-    gives = frame-gives (its_way p) (its_answers p) first (next_place s (its_answers p)) frame numbered (source laws law 16385 p le is) frame-of-answer
+    abbrev pub Numbered : Type 0
+    Numbered = (its_way p).seat.part.numbering ≡ words.Message
+
+    pub gives : Numbered → frame_of (its_way p) (place_from first) frame ≡ Some (placed_cut (its_meta p) closing_frame)
+    gives numbered = frame-gives (its_way p) (its_answers p) first (next_place s (its_answers p)) frame numbered (source laws law 16385 p le is) frame-of-answer
+
+    -- to a reader with no numbering it comes without its place
+    pub gives-bare : (its_way p).seat.part.numbering ≡ words.None → frame_of (its_way p) (place_from first) frame ≡ Some (Whole 0 (row_cut (its_meta p) own.row))
+    gives-bare bare = frame-bare (its_way p) (its_answers p) first frame bare frame-of-answer
 
     abbrev pub message : List ℕ
     message = (spelled_by group input.told.metas writer closing_frame).bytes
@@ -256,13 +294,14 @@ module _ (laws : TurnLaws) (law : TakesSignedAlone) (p : Play) (is : IsPlay 1638
     pub record OnePart : Type 0 where
       pub piece : Piece
       pub same : its_pieces ≡ piece ∷ []
-      pub reads_as : (now : ℕ) (o : Option ℕ) (list : List Mark) → piece_on (its_way p) (place_from first) now o list piece ≡ item_on (its_way p) now o list (Some (placed_cut (its_meta p) closing_frame))
+      pub reads_as : (now : ℕ) (o : Option ℕ) (list : List Mark) → piece_on (its_way p) (place_from first) now o list piece ≡ item_on (its_way p) now o list (frame_of (its_way p) (place_from first) frame)
 
     abbrev AllUncut : Type 0
     AllUncut = (o : Opened) (piece : Piece) → Contains opened_all o → Contains (pieces (its_way p).seat.part o.payload) piece → IsUncut piece
 
-    read-ok : (now : ℕ) (o : Option ℕ) (list : List Mark) (answer : Result Frame FrameFault) → answer ≡ Ok frame → read_on (its_way p) (place_from first) now o list answer ≡ item_on (its_way p) now o list (Some (placed_cut (its_meta p) closing_frame))
-    read-ok now o list answer e = ap (λ (a : Result Frame FrameFault). read_on (its_way p) (place_from first) now o list a) e ∙ ap (λ (f : Option PlacedFrame). item_on (its_way p) now o list f) gives
+    read-ok : (now : ℕ) (o : Option ℕ) (list : List Mark) (answer : Result Frame FrameFault) → answer ≡ Ok frame
+        → read_on (its_way p) (place_from first) now o list answer ≡ item_on (its_way p) now o list (frame_of (its_way p) (place_from first) frame)
+    read-ok now o list answer e = ap (λ (a : Result Frame FrameFault). read_on (its_way p) (place_from first) now o list a) e
 
     no-chunks : (room : ℕ) → IsMessage (its_way p).seat room (carried closing_frame) message frame → (list : List Chunk) → cuts room (carried closing_frame) message ≡ list → its_pieces ≡ map (λ chunk. Chunked (chunk_bytes chunk)) list → AllUncut → ⊥
     no-chunks room cut_up [] e same uncut =
@@ -285,9 +324,9 @@ module _ (laws : TurnLaws) (law : TakesSignedAlone) (p : Play) (is : IsPlay 1638
     one-part uncut layouts.Dynamic e = one-dynamic e uncut fits refl
     one-part uncut layouts.Fixed e = record { piece = Slotted slot_bytes; same = same-fixed e; reads_as = λ now o list. read-ok now o list (slot_frame_at (its_meta p) slot_bytes) (read-fixed e) }
 
-    module _ (unsecured : is_secured (its_setting p).setup.mode ≡ false) (bytes-are : bytes place ≡ message) where
-      opens-all : (accepted : Accepted) (opened : Opened) → Contains opened_all opened → (datagram : List ℕ) × Contains last.turn.made datagram × ((accepted : Accepted) → verdict (its_setting p).group (its_setting p).setup accepted datagram ≡ Ok opened)
-      opens-all accepted opened has =
+    module _ (unsecured : is_secured (its_setting p).setup.mode ≡ false) where
+      pub opens-all : (opened : Opened) → Contains opened_all opened → (datagram : List ℕ) × Contains last.turn.made datagram × ((accepted : Accepted) → verdict (its_setting p).group (its_setting p).setup accepted datagram ≡ Ok opened)
+      opens-all opened has =
           let sent = turn_datagrams p.config group last.before input in
           let k = has.0 in
           let below : k < length sent = subst (λ (n : ℕ). k < n) (laws.many p.config group last.before input) has.1 in
@@ -304,6 +343,7 @@ module _ (laws : TurnLaws) (law : TakesSignedAlone) (p : Play) (is : IsPlay 1638
           get_or-any : (xs : List (List ℕ)) (k : ℕ) (d : List ℕ) → k < length xs → get_or xs k d ≡ get_or xs k []
           get_or-any xs k d below = Rattle.std.proofs.lemmas.List.get_or_default xs k d [] below
 
+    module _ (numbered : Numbered) (unsecured : is_secured (its_setting p).setup.mode ≡ false) (bytes-are : bytes place ≡ message) where
       -- the datagram of a part
       record Brings (piece : Piece) : Type 0 where
         datagram : List ℕ
@@ -315,7 +355,7 @@ module _ (laws : TurnLaws) (law : TakesSignedAlone) (p : Play) (is : IsPlay 1638
       brings-of : (list : List Piece) (piece : Piece) → flat_map (λ (o : Opened). pieces (its_way p).seat.part o.payload) opened_all ≡ list → Contains list piece → Brings piece
       brings-of list piece same has =
           let found = in-flat (λ (o : Opened). pieces (its_way p).seat.part o.payload) opened_all piece (subst (λ (l : List Piece). Contains l piece) (sym same) has) in
-          let one = opens-all [] found.0 found.1 in
+          let one = opens-all unsecured found.0 found.1 in
           record { datagram = one.0; opened = found.0; made = one.1; opens = one.2; has = found.2 }
 
       -- ---- where its datagrams came
@@ -334,7 +374,7 @@ module _ (laws : TurnLaws) (law : TakesSignedAlone) (p : Play) (is : IsPlay 1638
             brought b.datagram (λ befell. Stands place (marks (its_setting p) (its_way p) befell))
             (record {
               brings = λ now on before enabled came.
-                  brings-frame laws law 16385 p le is unsecured place is-last frame (placed_cut (its_meta p) closing_frame) gives refl piece piece_reads now on b.datagram before b.opened enabled
+                  brings-frame laws law 16385 p le is unsecured place is-last frame (placed_cut (its_meta p) closing_frame) (gives numbered) refl piece piece_reads now on b.datagram before b.opened enabled
                   (b.opens (Rattle.reader_group.specs.Arrivals.accepted (its_setting p) before)) b.has;
               keeps = λ now on other before h. stands-got laws law 16385 p le is unsecured place now on other before h;
             }) (came-of piece b)
@@ -344,7 +384,7 @@ module _ (laws : TurnLaws) (law : TakesSignedAlone) (p : Play) (is : IsPlay 1638
         reads-now now list answer e =
             subst (λ (r : Result Frame FrameFault). Stands place (read_on (its_way p) (place_from first) now None list r)) (sym e)
             (reads-frame (its_way p).seat.part.numbering (its_way p) (its_answers p) bytes first (next_place s (its_answers p)) place (source laws law 16385 p le is) is-last frame
-            (placed_cut (its_meta p) closing_frame) gives refl now None list)
+            (placed_cut (its_meta p) closing_frame) (gives numbered) refl now None list)
 
         -- in chunks
         module _ (room : ℕ) (cut_up : IsMessage (its_way p).seat room (carried closing_frame) message frame)
@@ -370,7 +410,7 @@ module _ (laws : TurnLaws) (law : TakesSignedAlone) (p : Play) (is : IsPlay 1638
               let size = cut-size room (carried closing_frame) message chunk cut_up.has_room cut_up.some has in
               let of_number = (cut-of room (carried closing_frame) message chunk has).0 in
               let short : length (bytes place) ≤ longest_message = let long = ap length bytes-are in let most = cut_up.short in omega (arith, long, most) in
-              proper (its_way p).seat.part.numbering (its_way p) (its_answers p) bytes first (next_place s (its_answers p)) place (source laws law 16385 p le is) is-last frame (placed_cut (its_meta p) closing_frame) gives refl
+              proper (its_way p).seat.part.numbering (its_way p) (its_answers p) bytes first (next_place s (its_answers p)) place (source laws law 16385 p le is) is-last frame (placed_cut (its_meta p) closing_frame) (gives numbered) refl
               list (placed (place_from first) chunk) are (laid-of chunk has) (ap (place_from first) of_number ∙ back) size.some size.within short
 
           lies : (chunk : Chunk) → Contains (cuts room (carried closing_frame) message) chunk → Lies (placed (place_from first) chunk) (its_marks p)
@@ -380,7 +420,7 @@ module _ (laws : TurnLaws) (law : TakesSignedAlone) (p : Play) (is : IsPlay 1638
               brought b.datagram (λ befell. Lies (placed (place_from first) chunk) (marks (its_setting p) (its_way p) befell))
               (record {
                 brings = λ now on before enabled came.
-                    brings-chunk laws law 16385 p le is unsecured place is-last frame (placed_cut (its_meta p) closing_frame) gives refl (chunk_bytes chunk) chunk
+                    brings-chunk laws law 16385 p le is unsecured place is-last frame (placed_cut (its_meta p) closing_frame) (gives numbered) refl (chunk_bytes chunk) chunk
                     (chunk-read (its_way p).seat room (carried closing_frame) message frame cut_up chunk has) (counts chunk has) now on b.datagram before b.opened enabled
                     (b.opens (Rattle.reader_group.specs.Arrivals.accepted (its_setting p) before)) came b.has;
                 keeps = λ now on other before h. lies-got laws law 16385 p le is unsecured (placed (place_from first) chunk) now on other before h;
@@ -401,7 +441,7 @@ module _ (laws : TurnLaws) (law : TakesSignedAlone) (p : Play) (is : IsPlay 1638
               let covers : cover (chunks_in (its_marks p)) place (length message) ≡ true =
               cuts-cover room place message (chunks_in (its_marks p)) cut_up.has_room (λ k d below. each-lies (get_or (cuts room place message) k d) (k, below, Rattle.std.proofs.lemmas.List.get_or_default (cuts room place message) k (get_or (cuts room place message) k d) d below)) in
               let some : 0 < length (bytes place) = let long = ap length bytes-are in let least = cut_up.some in omega (arith, long, least) in
-              covered-events laws law 16385 p le is unsecured place is-last frame (placed_cut (its_meta p) closing_frame) gives refl read_is p.events some restarts is.came
+              covered-events laws law 16385 p le is unsecured place is-last frame (placed_cut (its_meta p) closing_frame) (gives numbered) refl read_is p.events some restarts is.came
               (ap (λ (b : List ℕ). cover (chunks_in (its_marks p)) place (length b)) bytes-are ∙ covers)
 
         -- ---- in either layout
@@ -446,8 +486,8 @@ closing-came laws p r i g w steps before turn own is c =
     (brought-by-pumps (setting_of p.config r) p.config (pasts_at p steps) i datagram K b r c.pumps c.earlier has c.operational is.matched.within c.enabled
     (subst (λ (l : List Step). CameAsMade (setting_of p.config r) p.config (pasts_at p steps) (events p.config r l)) c.split is_play.came)) in
     let bytes = had.1 (Whole (next_place (settings_at (group_at p.config g) w) (cadence (settings_at (group_at p.config g) w) (writer_past w last.before))) own.row)
-    (answer-is laws.turns laws.passed play is_play c.numbered own c.closing le last took) refl in
-    let stands = stands-closing laws.turns laws.passed play is_play c.numbered own c.closing le last took c.unsecured bytes c.pumps c.earlier r
+    (answer-is laws.turns laws.passed play is_play own c.closing le last took) refl in
+    let stands = stands-closing laws.turns laws.passed play is_play own c.closing le last took c.numbered c.unsecured bytes c.pumps c.earlier r
     (λ datagram made. c.came datagram (subst (λ (t : GroupTurn). Contains t.made datagram) same.0 made)) brought (group_at p.config g).layout refl in
     let s = settings_at (group_at p.config g) w in
     let found = item-of (next_place s (cadence s (writer_past w last.before))) (since_cut (arrivals_at p.config r i (first_number_of p.config g w) steps)) stands in

@@ -196,6 +196,50 @@ enabled-behind config r i pumps earlier within on =
     get_or-map-range_with_len (λ i. is_on config (map Pump pumps ++ earlier) (Reader r i)) 0 (length (read_group_at config r).reader) i i false within (omega arith)
     ∙ ap (λ (l : List Change). is_enabled l (id_of (counts_of config) (Reader r i))) (switches-behind pumps earlier) ∙ on
 
+-- what came so far is of what came with it
+module _ (setting : Setting) (config : Config) (pasts : ℕ → List GroupDeed) where
+  abbrev CameSo : List Event → Type 0
+  CameSo befell = CameAsMade setting config pasts befell
+
+  pub came-one : (now : ℕ) (on : List Bool) (befell : List Event) (entry : Entry) → CameSo (got_on now on befell entry) → CameSo befell
+  came-one now on befell (entries_of.Sent d) came = came
+  came-one now on befell entries_of.SendFailed came = came
+  came-one now on befell (entries_of.Got d) came = came.1
+  came-one now on befell entries_of.Empty came = came
+  came-one now on befell (entries_of.Long len) came = came
+  came-one now on befell entries_of.ReceiveFailed came = came
+
+  pub came-before : (now : ℕ) (on : List Bool) (entries : List Entry) (befell : List Event) → CameSo (fold (got_on now on) befell entries) → CameSo befell
+  came-before now on [] befell came = came
+  came-before now on (entry ∷ entries) befell came = came-one now on befell entry (came-before now on entries (got_on now on befell entry) came)
+
+-- what each datagram keeps of what befell a read group, the pumps keep
+module _ (setting : Setting) (config : Config) (pasts : ℕ → List GroupDeed) (P : List Event → Type 0)
+    (keeps : (now : ℕ) (on : List Bool) (other : List ℕ) (before : List Event) → CameAsMade setting config pasts (Got now on other ∷ before) → P before → P (Got now on other ∷ before)) where
+  keeps-one : (now : ℕ) (on : List Bool) (befell : List Event) (entry : Entry) → CameAsMade setting config pasts (got_on now on befell entry) → P befell → P (got_on now on befell entry)
+  keeps-one now on befell (entries_of.Sent d) came h = h
+  keeps-one now on befell entries_of.SendFailed came h = h
+  keeps-one now on befell (entries_of.Got d) came h = keeps now on d befell came h
+  keeps-one now on befell entries_of.Empty came h = h
+  keeps-one now on befell (entries_of.Long len) came h = h
+  keeps-one now on befell entries_of.ReceiveFailed came h = h
+
+  pub keeps-entries : (now : ℕ) (on : List Bool) (entries : List Entry) (befell : List Event) → CameAsMade setting config pasts (fold (got_on now on) befell entries) → P befell → P (fold (got_on now on) befell entries)
+  keeps-entries now on [] befell came h = h
+  keeps-entries now on (entry ∷ entries) befell came h =
+      keeps-entries now on entries (got_on now on befell entry) came (keeps-one now on befell entry (came-before setting config pasts now on entries (got_on now on befell entry) came) h)
+
+  keeps-pump : (now : ℕ) (on : List Bool) (entries : List Entry) (befell : List Event) (b : Bool) → (CameAsMade setting config pasts befell → P befell) → CameAsMade setting config pasts (if b then fold (got_on now on) befell entries else befell)
+      → P (if b then fold (got_on now on) befell entries else befell)
+  keeps-pump now on entries befell true rest came = keeps-entries now on entries befell came (rest (came-before setting config pasts now on entries befell came))
+  keeps-pump now on entries befell false rest came = rest came
+
+  pub keeps-pumps : (r : ℕ) (pumps : List (List Entry)) (earlier : List Step) → CameAsMade setting config pasts (events config r (map Pump pumps ++ earlier)) → P (events config r earlier) → P (events config r (map Pump pumps ++ earlier))
+  keeps-pumps r [] earlier came h = h
+  keeps-pumps r (entries ∷ pumps) earlier came h =
+      let before = map Pump pumps ++ earlier in
+      keeps-pump (moment_of before) (readers_on config before r) entries (events config r before) (receives config before r) (λ so_far. keeps-pumps r pumps earlier so_far h) came
+
 -- what a datagram brings, and each one more keeps
 pub record Brought (setting : Setting) (config : Config) (pasts : ℕ → List GroupDeed) (i : ℕ) (datagram : List ℕ) (K : List Event → Type 0) : Type 0 where
   pub brings : (now : ℕ) (on : List Bool) (before : List Event) → slice_index_or on i false ≡ true → CameAsMade setting config pasts (Got now on datagram ∷ before) → K (Got now on datagram ∷ before)
@@ -204,18 +248,6 @@ pub record Brought (setting : Setting) (config : Config) (pasts : ℕ → List G
 module _ (setting : Setting) (config : Config) (pasts : ℕ → List GroupDeed) (i : ℕ) (datagram : List ℕ) (K : List Event → Type 0) (b : Brought setting config pasts i datagram K) where
   abbrev Came : List Event → Type 0
   Came befell = CameAsMade setting config pasts befell
-
-  pub came-one : (now : ℕ) (on : List Bool) (befell : List Event) (entry : Entry) → Came (got_on now on befell entry) → Came befell
-  came-one now on befell (entries_of.Sent d) came = came
-  came-one now on befell entries_of.SendFailed came = came
-  came-one now on befell (entries_of.Got d) came = came.1
-  came-one now on befell entries_of.Empty came = came
-  came-one now on befell (entries_of.Long len) came = came
-  came-one now on befell entries_of.ReceiveFailed came = came
-
-  pub came-before : (now : ℕ) (on : List Bool) (entries : List Entry) (befell : List Event) → Came (fold (got_on now on) befell entries) → Came befell
-  came-before now on [] befell came = came
-  came-before now on (entry ∷ entries) befell came = came-one now on befell entry (came-before now on entries (got_on now on befell entry) came)
 
   kept-one : (now : ℕ) (on : List Bool) (befell : List Event) (entry : Entry) → K befell → K (got_on now on befell entry)
   kept-one now on befell (entries_of.Sent d) h = h
@@ -232,7 +264,7 @@ module _ (setting : Setting) (config : Config) (pasts : ℕ → List GroupDeed) 
   brought-in : (now : ℕ) (on : List Bool) (entries : List Entry) (befell : List Event) → slice_index_or on i false ≡ true → Contains entries (entries_of.Got datagram) → Came (fold (got_on now on) befell entries) → K (fold (got_on now on) befell entries)
   brought-in now on [] befell enabled has came = absurd (let below = has.1 in omega (arith, below))
   brought-in now on (entry ∷ entries) befell enabled (zero, below, same) came =
-      let one : Came (got_on now on befell entry) = came-before now on entries (got_on now on befell entry) came in
+      let one : Came (got_on now on befell entry) = came-before setting config pasts now on entries (got_on now on befell entry) came in
       kept-all now on entries (got_on now on befell entry)
       (subst (λ (e : Entry). K (got_on now on befell e)) (sym same) (b.brings now on befell enabled (subst (λ (e : Entry). Came (got_on now on befell e)) same one)))
   brought-in now on (entry ∷ entries) befell enabled (suc k, below, same) came = brought-in now on entries (got_on now on befell entry) enabled (k, omega (arith, below), same) came
@@ -254,4 +286,4 @@ module _ (setting : Setting) (config : Config) (pasts : ℕ → List GroupDeed) 
       let came_all : Came (fold (got_on now on) (events config r before) entries) = subst Came whole came in
       subst K (sym whole)
       (one-pump pumps now on entries (events config r before) (enabled-behind config r i pumps earlier within enabled)
-      (λ older. brought-by-pumps r pumps earlier older operational within enabled (came-before now on entries (events config r before) came_all)) has came_all)
+      (λ older. brought-by-pumps r pumps earlier older operational within enabled (came-before setting config pasts now on entries (events config r before) came_all)) has came_all)

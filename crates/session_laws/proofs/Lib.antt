@@ -41,3 +41,7 @@ mod SignedGot
 mod ClosingSigned
 mod SignedEnd
 mod Further
+pub mod BareHeld
+mod BareGot
+mod BareTrace
+mod BareEnd

@@ -101,6 +101,30 @@ turn-in P s (Refreshed ∷ before) a are has = turn-in P s before a are has
 turn-in P s (HadTurn turn ∷ before) a are (zero, below, same) = subst (λ (x : Answered). P x.turn) same are.0
 turn-in P s (HadTurn turn ∷ before) a are (suc k, below, same) = turn-in P s before a are.1 (k, omega (arith, below), same)
 
+-- the row of a turn, cut to the fields of a reader that is matched to its writer, is that of its version
+pub turn-row : (laws : Laws) (p : Plan) (r i g w : ℕ) (steps : List Step) (rows : ℕ → ℕ → List DataValue) (turn : WriterTurn) → InSession p r i g w steps → AreVersions p steps rows
+    → IsVersionTurn p (HasSample p steps) (meta_at (group_at p.config g) p.config.dataset w) (writer_at (group_at p.config g) w).dataset turn
+    → row_cut (meta_of p r i) turn.row ≡ row_cut (meta_of p r i) (rows (writer_at (group_at p.config g) w).dataset turn.version)
+turn-row laws p r i g w steps rows turn is versions of =
+    let group = group_at p.config g in
+    let index = (writer_at group w).dataset in
+    let meta : meta_of p r i ≡ meta_at group p.config.dataset w = laws.turns.meta p.config (read_group_at p.config r) i group w is.matched in
+    let full = row_in (meta_in p.full index).fields of.sample.row.words in
+    let cut : row_cut (meta_of p r i) turn.row ≡ row_cut (meta_of p r i) full = subst (λ (m : MetaData). row_cut m turn.row ≡ row_cut m full) (sym meta) of.row in
+    let version : full ≡ rows index turn.version = versions index of.now of.sample of.sampled ∙ ap (rows index) (sym of.version) in
+    cut ∙ ap (row_cut (meta_of p r i)) version
+
+life-of : (laws : Laws) (p : Plan) (r i g w : ℕ) (steps : List Step) → InSession p r i g w steps
+    → TurnsAre (IsVersionTurn p (HasSample p steps) (meta_at (group_at p.config g) p.config.dataset w) (writer_at (group_at p.config g) w).dataset) (writer_past w (pasts_at p steps g))
+life-of laws p r i g w steps is = ((past-of laws.words laws.ring p g steps is.plan is.steps_are (laws.hold p steps is.plan is.steps_are) is.rise).lives w is.matched.reads.within).turns
+
+-- also that of the last turn
+pub turn-published : (laws : Laws) (p : Plan) (r i g w : ℕ) (steps : List Step) (rows : ℕ → ℕ → List DataValue) (before : List WriterDeed) (turn : WriterTurn) → InSession p r i g w steps → AreVersions p steps rows
+    → writer_deeds p g w steps ≡ HadTurn turn ∷ before → row_cut (meta_of p r i) turn.row ≡ row_cut (meta_of p r i) (rows (writer_at (group_at p.config g) w).dataset turn.version)
+turn-published laws p r i g w steps rows before turn is versions last =
+    let P = IsVersionTurn p (HasSample p steps) (meta_at (group_at p.config g) p.config.dataset w) (writer_at (group_at p.config g) w).dataset in
+    turn-row laws p r i g w steps rows turn is versions (subst (TurnsAre P) last (life-of laws p r i g w steps is)).0
+
 -- what a reader holds is a published version
 pub published : (laws : Laws) (p : Plan) (r i g w : ℕ) (steps : List Step) (rows : ℕ → ℕ → List DataValue) (row : List DataValue) → InSession p r i g w steps → AreVersions p steps rows → (reader_at p.config r i steps).kept.row ≡ Some row
     → IsPublished p r i g w steps rows (reader_at p.config r i steps).kept.number row
@@ -108,19 +132,14 @@ published laws p r i g w steps rows row is versions e =
     let group = group_at p.config g in
     let index = (writer_at group w).dataset in
     let h = holds-version laws.turns laws.passed laws.agrees (play_of p r i g w steps) row (is-play laws p r i g w steps is) e in
-    let life = (past-of laws.words laws.ring p g steps is.plan is.steps_are (laws.hold p steps is.plan is.steps_are) is.rise).lives w is.matched.reads.within in
-    let turn = turn-in (IsVersionTurn p (HasSample p steps) (meta_at group p.config.dataset w) index) (settings_at group w) (writer_past w (pasts_at p steps g)) h.sent.turn life.turns h.sent.one_of in
-    let meta : meta_of p r i ≡ meta_at group p.config.dataset w = laws.turns.meta p.config (read_group_at p.config r) i group w is.matched in
-    let full = row_in (meta_in p.full index).fields turn.sample.row.words in
-    let cut : row_cut (meta_of p r i) h.sent.turn.turn.row ≡ row_cut (meta_of p r i) full = subst (λ (m : MetaData). row_cut m h.sent.turn.turn.row ≡ row_cut m full) (sym meta) turn.row in
-    let version : full ≡ rows index h.sent.turn.turn.version = versions index turn.now turn.sample turn.sampled ∙ ap (rows index) (sym turn.version) in
+    let turn = turn-in (IsVersionTurn p (HasSample p steps) (meta_at group p.config.dataset w) index) (settings_at group w) (writer_past w (pasts_at p steps g)) h.sent.turn (life-of laws p r i g w steps is) h.sent.one_of in
     record {
       place = h.place;
       version = h.sent.turn.turn.version;
       logged = h.logged.entry;
       named = h.logged.named;
       number_is = h.number_is;
-      row_is = h.sent.row ∙ cut ∙ ap (row_cut (meta_of p r i)) version;
+      row_is = h.sent.row ∙ turn-row laws p r i g w steps rows h.sent.turn.turn is versions turn;
     }
 
 -- and its versions never fall

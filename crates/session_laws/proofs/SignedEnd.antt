@@ -1,5 +1,5 @@
 -- A session that ends with a closing tick and its pumps: where the closing frame's datagram came to a secured read group, the frame stands in the reader's list.
-use Rattle.std.proofs.Common.{◌≡◌, ◌≢◌, refl, sym, ap, ◌∙◌, subst, arith, ℕ, zero, suc, ◌+◌, ◌<◌, ◌≤◌, ◌⊎◌, inl, inr, Bool, true, not, List, [], ◌∷◌, ◌++◌, map, length, get_or, Option, Some, All, Contains, Ok}
+use Rattle.std.proofs.Common.{◌≡◌, ◌≢◌, refl, sym, ap, ◌∙◌, subst, arith, ℕ, zero, suc, ◌+◌, ◌<◌, ◌≤◌, ◌⊎◌, inl, inr, Bool, true, false, not, List, [], ◌∷◌, ◌++◌, map, length, get_or, Option, Some, All, Contains, Result, Ok}
 use Rattle.std.specs.Prelude.{◌||◌, option_map, slice_get, ⊤}
 use Rattle.std.specs.List.{cons_option}
 use Rattle.std.proofs.lemmas.List.{get_or_default}
@@ -9,7 +9,7 @@ use Rattle.ua_base.specs.Journal.{Entry}
 use Rattle.pubsub_model.specs.Cadence.{WriterTurn, HadTurn}
 use Rattle.pubsub_model.specs.Frames.{Whole, placed_cut}
 use Rattle.pubsub_model.specs.Records.{Item, place_in, since_cut}
-use Rattle.message_guard.specs.Acceptance.{Accepted, is_acceptable}
+use Rattle.message_guard.specs.Acceptance.{Accepted, is_acceptable, raises}
 use Rattle.message_guard.specs.Modes.{is_secured}
 use Rattle.message_guard.specs.Protection.{keys_with}
 use Rattle.message_guard.specs.Senders.{SenderState}
@@ -18,10 +18,11 @@ use Rattle.ps_config.specs.declared.parts.Config.{Config}
 use Rattle.ps_config.specs.declared.parts.GroupPart.{GroupPart}
 use Rattle.ps_config.specs.declared.parts.ReadGroupPart.{ReadGroupPart}
 use Rattle.ps_config.specs.Headers.{is_secured as is_secured_group, mode_of}
-use Rattle.reader_group.specs.Arrivals.{accepted, Way, marks}
+use Rattle.reader_group.specs.Arrivals.{Mark, Way, accepted, accepted_with, is_numbered, item_on, marks, piece_on}
+use Rattle.reader_group.specs.declared.refusal.Refusal.{Refusal}
 use Rattle.reader_group.specs.Opening.{Opened, verdict}
 use Rattle.reader_group.specs.Payloads.{Piece, pieces}
-use Rattle.reader_group.specs.Plain.{Event, Got, Setting}
+use Rattle.reader_group.specs.Plain.{Event, Got, Setting, is_raised}
 use Rattle.reader_group.specs.Settings.{group_at as read_group_at, keygroup_at, setting_of}
 use Rattle.writer_group.specs.declared.sampled.Sampled.{Sampled}
 use Rattle.writer_group.specs.Parts.{group_at}
@@ -30,33 +31,38 @@ use Rattle.group_laws.specs.Matching.{IsSenderOf}
 use Rattle.group_laws.specs.TurnOpened.{turn_opened}
 use Rattle.session_model.specs.Deeds.{Deed, deeds, group_past, has_turn, sender_after}
 use Rattle.session_model.specs.Steps.{Plan, Step, Pump, Tick, moment_of, is_on}
-use Rattle.session_laws.specs.Headline.{InSession}
+use Rattle.session_laws.specs.Bare.{CameLast, ClosingCameLast, ClosingGotSignedLast, NoOtherBehind}
+use Rattle.session_laws.specs.Headline.{InSession, meta_of}
 use Rattle.session_laws.specs.Pasts.{AreTurns, CameAsMade, WasMade}
 use Rattle.session_laws.specs.Plays.{IsPlay, Play, its_way}
 use Rattle.writer_group.specs.Payloads.{writer_at, payloads_of}
 use Rattle.session_laws.proofs.Distinct.{IsAt, at-sound}
 use Rattle.session_laws.proofs.Pieces.{opened-at}
 use Rattle.dataset_meta.specs.DataValues.{DataValue}
+use Rattle.dataset_meta.specs.Rows.{row_cut}
+use Rattle.seq_number.specs.Numbers.{place_from}
 use Rattle.pubsub_states.specs.declared.component.Component.TheVariants.{Reader}
 use Rattle.config_tables.specs.declared.words.Layout.TheVariants as layouts
 use Rattle.config_tables.specs.declared.words.NumberingWord.TheVariants as words
 use Rattle.group_laws.specs.TurnItems.{IsUncut}
-use Rattle.reader_group.specs.Members.{seat_at}
 use Rattle.session_model.specs.Events.{events, receives}
 use Rattle.session_model.specs.Turns.{TurnsHold}
 use Rattle.session_laws.specs.Newest.{CameIn, ClosingCame, ClosingGotSigned, HasPartFor, HoldsRowOf, closing_deeds, closing_opened, closing_turn}
 use Rattle.session_laws.specs.Reading.{arrivals_at, first_number_of}
 use Rattle.session_laws.specs.Sessions.{AreVersions, pasts_at}
 use Rattle.session_laws.proofs.ClosingGot as ClosingGot
-use Rattle.session_laws.proofs.ClosingGot.{HeldLaw, LastTurn, OnePart, in-flat, not-empty, one-part}
+use Rattle.session_laws.proofs.BareEnd.{LastHeldLaw}
+use Rattle.session_laws.proofs.BareGot.{TakenAt, came-last}
+use Rattle.session_laws.proofs.BareTrace.{trace-pumps}
+use Rattle.session_laws.proofs.ClosingGot.{HeldLaw, LastTurn, OnePart, flat-one, in-flat, not-empty, one-part}
 use Rattle.session_laws.proofs.Deeds.{HoldsTick}
 use Rattle.session_laws.proofs.GotParts.{brought-by-pumps}
 use Rattle.session_laws.proofs.Passing.{AreUnder, IsPassOf, IsUnder, own-pass, turn-pass, under-before, use-under}
 use Rattle.session_laws.proofs.Published.{Laws, is-play, play_of}
 use Rattle.session_laws.proofs.Rowing.{turn-is}
 use Rattle.session_laws.proofs.Senders.{SendHolds, send-to, turn-at}
-use Rattle.session_laws.proofs.SignedGot.{Closes, had-brought, held-by-pumps}
-use Rattle.session_laws.proofs.SignedParts.{HasItemFrom, HasPair, StandsFrom, TakesUpTo, acceptable-or-had, from-new, none-above, upto-all}
+use Rattle.session_laws.proofs.SignedGot.{Closes, Comes, had-brought, had-kept, held-by-pumps, near-number}
+use Rattle.session_laws.proofs.SignedParts.{HasItemFrom, HasPair, StandsFrom, TakesUpTo, acceptable-or-had, from-new, late-none, none-above, not-raised, pair-added, upto-all}
 use Rattle.session_laws.proofs.ClosingSigned.{before-pumps, before-tick, deeds-behind, known-by, last-of-tick, made-acceptable, mode-by, mode-group, named-made, sender-by, some-of}
 
 -- ---- the frame's item
@@ -74,8 +80,7 @@ less-by (suc a) (suc b) lt = let rest = less-by a b (omega (arith, lt)) in let s
 -- ---- a session that ends with a closing tick and its pumps
 
 module _ (laws : Laws) (p : Plan) (r i g w ms : ℕ) (samples : List Sampled) (done : List Bool) (start : List Step) (pumps : List (List Entry)) (own : WriterTurn)
-    (is : InSession p r i g w (map Pump pumps ++ Tick ms true samples done ∷ start)) (numbered : (seat_at (setting_of p.config r).seats i).part.numbering ≡ words.Message)
-    (secured : is_secured (setting_of p.config r).setup.mode ≡ true) (named : (setting_of p.config r).group.group ≢ 0)
+    (is : InSession p r i g w (map Pump pumps ++ Tick ms true samples done ∷ start)) (secured : is_secured (setting_of p.config r).setup.mode ≡ true) (named : (setting_of p.config r).group.group ≢ 0)
     (had : has_turn p start (moment_of start + ms) true (closing_deeds p start ms samples g) g ≡ true) (took : took_by w (closing_turn p start ms samples g) ≡ Some own) (closing : own.closing ≡ true) where
   abbrev config : Config
   config = p.config
@@ -248,7 +253,7 @@ module _ (laws : Laws) (p : Plan) (r i g w ms : ℕ) (samples : List Sampled) (d
     le = omega arith
 
     abbrev place : ℕ
-    place = ClosingGot.place laws.turns laws.passed play is_play numbered own closing le last took
+    place = ClosingGot.place laws.turns laws.passed play is_play own closing le last took
 
     abbrev first : ℕ
     first = (writer_at group w).first_number
@@ -292,7 +297,7 @@ module _ (laws : Laws) (p : Plan) (r i g w ms : ℕ) (samples : List Sampled) (d
       has-part : (piece : Piece) → Contains (pieces way.seat.part one.payload) piece → HasPartFor setting i its_datagram
       has-part piece there = record { opened = one; opens = opens-first; part = not-empty (pieces way.seat.part one.payload) piece there }
 
-    module _ (part : OnePart laws.turns laws.passed play is_play numbered own closing le last took) where
+    module _ (part : OnePart laws.turns laws.passed play is_play own closing le last took) where
       abbrev piece : Piece
       piece = part.piece
 
@@ -302,41 +307,54 @@ module _ (laws : Laws) (p : Plan) (r i g w ms : ℕ) (samples : List Sampled) (d
       abbrev datagram : List ℕ
       datagram = its_datagram found.0 found.1
 
-      own-part : (now : ℕ) (on : List Bool) (other : List ℕ) (befell : List Event) (opened : Opened) → CameAsMade setting config (pasts_at p steps) (Got now on other ∷ befell)
-          → verdict setting.group setting.setup (accepted setting befell) other ≡ Ok opened → opened.pass.token ≡ token → opened.pass.number ≡ used + suc found.1.0 → Contains (pieces way.seat.part opened.payload) piece
-      own-part now on other befell opened came e its_token its_number = by (made-now now on other befell opened came e)
+      -- it alone has its number
+      own-is : (now : ℕ) (on : List Bool) (other : List ℕ) (befell : List Event) (opened : Opened) → CameAsMade setting config (pasts_at p steps) (Got now on other ∷ befell)
+          → verdict setting.group setting.setup (accepted setting befell) other ≡ Ok opened → opened.pass.token ≡ token → opened.pass.number ≡ used + suc found.1.0 → (other ≡ datagram) × (found.0 ≡ opened)
+      own-is now on other befell opened came e its_token its_number = by (made-now now on other befell opened came e)
         where
-          by : WasMade (HadGroupTurn turn ∷ before) other → Contains (pieces way.seat.part opened.payload) piece
+          by : WasMade (HadGroupTurn turn ∷ before) other → (other ≡ datagram) × (found.0 ≡ opened)
           by (inl has) =
               let pass = pass-of (accepted setting befell) other opened has e in
               let number = pass.0.number in
               let same : has.0 ≡ found.1.0 = omega (arith, number, its_number) in
               let here : slice_get all found.1.0 ≡ Some opened = subst (λ (n : ℕ). slice_get all n ≡ Some opened) same pass.1 in
               let there : slice_get all found.1.0 ≡ Some found.0 = one-at found.0 found.1 in
-              let opened_is : Path (Option Opened) (Some found.0) (Some opened) = sym there ∙ here in
-              let alike : found.0 ≡ opened = cc in
-              subst (λ (o : Opened). Contains (pieces way.seat.part o.payload) piece) alike found.2
+              let opened_is : Path (Option Opened) (Some found.0) (Some opened) = sym there ∙ here in (
+                sym has.2 ∙ ap (λ (n : ℕ). get_or turn.made n other) same ∙ get_or_default turn.made found.1.0 other [] (below-made found.0 found.1),
+                cc,
+              )
           by (inr was) = up (under-of (accepted setting befell) other opened (inl was) e)
             where
-              up : IsUnder s opened.pass → Contains (pieces way.seat.part opened.payload) piece
+              up : IsUnder s opened.pass → (other ≡ datagram) × (found.0 ≡ opened)
               up (inl lower) = absurd (omega (arith, lower, its_token))
               up (inr upto) = let most = upto.1 in absurd (omega (arith, most, its_number))
 
-      closes : Closes setting config (pasts_at p steps) way first place token used found.1.0 datagram piece
-      closes = record {
+      own-part : (now : ℕ) (on : List Bool) (other : List ℕ) (befell : List Event) (opened : Opened) → CameAsMade setting config (pasts_at p steps) (Got now on other ∷ befell)
+          → verdict setting.group setting.setup (accepted setting befell) other ≡ Ok opened → opened.pass.token ≡ token → opened.pass.number ≡ used + suc found.1.0 → Contains (pieces way.seat.part opened.payload) piece
+      own-part now on other befell opened came e its_token its_number =
+          subst (λ (o : Opened). Contains (pieces way.seat.part o.payload) piece) (own-is now on other befell opened came e its_token its_number).1 found.2
+
+      comes : Comes setting config (pasts_at p steps) token used found.1.0 datagram
+      comes = record {
         few = let below = below-made found.0 found.1 in let few = few-made in omega (arith, below, few);
         upto = now-upto;
         acceptable = now-acceptable;
-        own = own-part;
         opened = λ pairs acceptable. (found.0, opens found.0 found.1 pairs acceptable, (one-pass found.0 found.1).token, (one-pass found.0 found.1).number);
         key = s.keys;
         known = keys-known;
+      }
+
+      closes : way.seat.part.numbering ≡ words.Message → Closes setting config (pasts_at p steps) way first place token used found.1.0 datagram piece
+      closes numbered = record {
+        comes = comes;
+        own = own-part;
         reads = λ now n list above.
-            subst (StandsFrom (used + 1) place) (sym (part.reads_as now (Some n) list)) (from-new (used + 1) place way now n list (placed_cut way.seat.meta (Whole place own.row)) refl above);
+            subst (StandsFrom (used + 1) place) (sym (part.reads_as now (Some n) list ∙ ap (item_on way now (Some n) list) (ClosingGot.gives laws.turns laws.passed play is_play own closing le last took numbered)))
+            (from-new (used + 1) place way now n list (placed_cut way.seat.meta (Whole place own.row)) refl above);
         places = λ t n. refl;
       }
 
-      module _ (operational : receives config start r ≡ true) (enabled : is_on config start (Reader r i) ≡ true)
+      module _ (numbered : way.seat.part.numbering ≡ words.Message) (operational : receives config start r ≡ true) (enabled : is_on config start (Reader r i) ≡ true)
           (came : (datagram : List ℕ) → Contains turn.made datagram → HasPartFor setting i datagram → CameIn pumps datagram) where
         abbrev number : ℕ
         number = used + suc found.1.0
@@ -346,9 +364,9 @@ module _ (laws : Laws) (p : Plan) (r i g w ms : ℕ) (samples : List Sampled) (d
             let came_here = came datagram (made-one found.0 found.1) (has-part found.0 found.1 piece found.2) in
             let none_yet : HasPair token number (accepted setting (events config r ticked)) → StandsFrom (used + 1) place (marks setting way (events config r ticked)) =
             λ had. absurd (none-before number (omega arith) had) in
-            held-by-pumps setting config (pasts_at p steps) way first place token used found.1.0 datagram piece closes secured r pumps ticked operational is.matched.within enabled is_play.came none_yet
+            held-by-pumps setting config (pasts_at p steps) way first place token used found.1.0 datagram piece (closes numbered) secured r pumps ticked operational is.matched.within enabled is_play.came none_yet
             (brought-by-pumps setting config (pasts_at p steps) i datagram (λ befell. HasPair token number (accepted setting befell))
-            (had-brought setting config (pasts_at p steps) way first place token used found.1.0 datagram piece closes secured i) r pumps ticked came_here operational is.matched.within enabled is_play.came)
+            (had-brought setting config (pasts_at p steps) token used found.1.0 datagram comes secured i) r pumps ticked came_here operational is.matched.within enabled is_play.came)
 
         signed-came : ClosingCame p r i g w steps (writer_past w before) own
         signed-came =
@@ -360,13 +378,71 @@ module _ (laws : Laws) (p : Plan) (r i g w ms : ℕ) (samples : List Sampled) (d
               came = record { item = item.0; came = item.1; stands = item.2 };
             }
 
+      -- ---- to a reader with no numbering
+
+      module _ (bare : way.seat.part.numbering ≡ words.None) (operational : receives config start r ≡ true) (enabled : is_on config start (Reader r i) ≡ true)
+          (came : (datagram : List ℕ) → Contains turn.made datagram → HasPartFor setting i datagram → CameIn pumps datagram × NoOtherBehind p r i g w pumps ticked datagram (row_cut (meta_of p r i) own.row)) where
+        abbrev row : List DataValue
+        row = row_cut (meta_of p r i) own.row
+
+        abbrev Had : List Event → Type 0
+        Had befell = HasPair token (used + suc found.1.0) (accepted setting befell)
+
+        first-taken : Had (events config r ticked) ⊎ TakenAt config r ticked datagram found.0 pumps → TakenAt config r ticked datagram found.0 pumps
+        first-taken (inl old) = absurd (none-before (used + suc found.1.0) (omega arith) old)
+        first-taken (inr t) = t
+
+        reads-bare : (now : ℕ) (o : Option ℕ) (list : List Mark) → piece_on way (place_from first) now o list piece ≡ item_on way now o list (Some (Whole 0 row))
+        reads-bare now o list = part.reads_as now o list ∙ ap (item_on way now o list) (ClosingGot.gives-bare laws.turns laws.passed play is_play own closing le last took bare)
+
+        calm-begins : (now : ℕ) (on : List Bool) (befell : List Event) → verdict setting.group setting.setup (accepted setting befell) datagram ≡ Ok found.0 → Had (Got now on datagram ∷ befell)
+        calm-begins now on befell e =
+            subst (λ (a : Result Opened Refusal). HasPair token (used + suc found.1.0) (accepted_with setting (accepted setting befell) a)) (sym e)
+            (subst (HasPair token (used + suc found.1.0)) (sym (pair-added setting config (pasts_at p steps) secured (accepted setting befell) found.0)) (inl ((one-pass found.0 found.1).token, (one-pass found.0 found.1).number)))
+
+        calm-now : (now : ℕ) (on : List Bool) (other : List ℕ) (befell : List Event) (opened : Opened) → CameAsMade setting config (pasts_at p steps) (Got now on other ∷ befell) → Had befell
+            → verdict setting.group setting.setup (accepted setting befell) other ≡ Ok opened → is_raised setting (accepted setting befell) opened ≡ false
+        calm-now now on other befell opened so_far had e =
+            let pairs = accepted setting befell in
+            let near = near-number setting config (pasts_at p steps) token used found.1.0 datagram comes secured pairs opened (now-upto now on other befell opened so_far e) (now-acceptable now on other befell opened so_far e) had in
+            late-none (is_secured setting.setup.mode) (raises pairs opened.pass.token) (not-raised pairs token (used + suc found.1.0) opened.pass.token had near.1)
+
+        came-bare : CameLast (arrivals_at config r i (first_number_of config g w) steps) row
+        came-bare =
+            let here = came datagram (made-one found.0 found.1) (has-part found.0 found.1 piece found.2) in
+            let had = brought-by-pumps setting config (pasts_at p steps) i datagram Had (had-brought setting config (pasts_at p steps) token used found.1.0 datagram comes secured i) r pumps ticked here.0 operational is.matched.within enabled is_play.came in
+            let taken = first-taken (trace-pumps config r ticked datagram found.0 (pasts_at p steps) token (used + suc found.1.0) secured own-is pumps is_play.came had) in
+            came-last config r i (first_number_of config g w) ticked datagram found.0 (pasts_at p steps) operational is.matched.within enabled row (ap is_numbered bare) piece
+            (flat-one (λ (o : Opened). pieces way.seat.part o.payload) all found.0 piece part.same found.1 (not-empty (pieces way.seat.part found.0.payload) piece found.2)) reads-bare Had calm-begins
+            (had-kept setting config (pasts_at p steps) token used found.1.0 datagram comes secured) calm-now pumps taken is_play.came
+            (λ newer e. here.1 taken.later taken.before taken.earlier taken.behind newer taken.is e)
+
+        bare-came : ClosingCameLast p r i g w steps (writer_past w before) own
+        bare-came = record {
+          bare = bare;
+          last = ap (writer_past w) past-is ∙ ap (λ (o : Option WriterTurn). cons_option (option_map HadTurn o) (writer_past w before)) took;
+          closing = closing;
+          came = came-bare;
+        }
+
+    uncut-parts : ((datagram : List ℕ) → Contains turn.made datagram → (part : HasPartFor setting i datagram) → All IsUncut (pieces way.seat.part part.opened.payload)) → (o : Opened) (x : Piece) → Contains all o → Contains (pieces way.seat.part o.payload) x → IsUncut x
+    unfolding has-part
+    uncut-parts whole o x has there = All-contains IsUncut (pieces way.seat.part o.payload) x (whole (its_datagram o has) (made-one o has) (has-part o has x there)) there
+
+    pub closing-bare : way.seat.part.numbering ≡ words.None → receives config start r ≡ true → is_on config start (Reader r i) ≡ true
+        → ((datagram : List ℕ) → Contains turn.made datagram → (part : HasPartFor setting i datagram) → All IsUncut (pieces way.seat.part part.opened.payload))
+        → ((datagram : List ℕ) → Contains turn.made datagram → HasPartFor setting i datagram → CameIn pumps datagram × NoOtherBehind p r i g w pumps ticked datagram (row_cut (meta_of p r i) own.row))
+        → ClosingCameLast p r i g w steps (writer_past w before) own
+    closing-bare bare operational enabled whole came =
+        bare-came (one-part laws.turns laws.passed play is_play own closing le last took (uncut-parts whole) group.layout refl) bare operational enabled came
+
     uncut : ((opened : Opened) → Contains (closing_opened p start ms samples g) opened → All IsUncut (pieces way.seat.part opened.payload)) → (o : Opened) (x : Piece) → Contains all o → Contains (pieces way.seat.part o.payload) x → IsUncut x
     uncut whole o x has there = All-contains IsUncut (pieces way.seat.part o.payload) x (whole o has) there
 
-    pub closing-signed : receives config start r ≡ true → is_on config start (Reader r i) ≡ true → ((opened : Opened) → Contains (closing_opened p start ms samples g) opened → All IsUncut (pieces way.seat.part opened.payload))
+    pub closing-signed : way.seat.part.numbering ≡ words.Message → receives config start r ≡ true → is_on config start (Reader r i) ≡ true → ((opened : Opened) → Contains (closing_opened p start ms samples g) opened → All IsUncut (pieces way.seat.part opened.payload))
         → ((datagram : List ℕ) → Contains turn.made datagram → HasPartFor setting i datagram → CameIn pumps datagram) → ClosingCame p r i g w steps (writer_past w before) own
-    closing-signed operational enabled whole came =
-        signed-came (one-part laws.turns laws.passed play is_play numbered own closing le last took (uncut whole) group.layout refl) operational enabled came
+    closing-signed numbered operational enabled whole came =
+        signed-came (one-part laws.turns laws.passed play is_play own closing le last took (uncut whole) group.layout refl) numbered operational enabled came
 
   pub keyed-is : (k : ℕ) × (group.keygroup ≡ Some k)
   keyed-is = some-of group.keygroup (sym (at-sound config g group is.plan.good.sound is_play.there).keys.keyed ∙ group-secured)
@@ -377,7 +453,17 @@ pub signed-held : Laws → HeldLaw → (p : Plan) (r i g w : ℕ) (list : List S
 signed-held laws held p r i g w list rows own is versions c =
     let ended = map Pump c.pumps ++ Tick c.ms true c.samples c.done ∷ c.start in
     let here : InSession p r i g w ended = subst (InSession p r i g w) c.split is in
-    let keyed = keyed-is laws p r i g w c.ms c.samples c.done c.start c.pumps own here c.numbered c.secured c.named c.had c.took c.closing in
+    let keyed = keyed-is laws p r i g w c.ms c.samples c.done c.start c.pumps own here c.secured c.named c.had c.took c.closing in
     subst (λ (l : List Step). HoldsRowOf p r i g w l rows own.version) (sym c.split)
     (held p r i g w ended rows (writer_past w (group_past p.config g (closing_deeds p c.start c.ms c.samples g))) own here (subst (λ (l : List Step). AreVersions p l rows) c.split versions)
-    (closing-signed laws p r i g w c.ms c.samples c.done c.start c.pumps own here c.numbered c.secured c.named c.had c.took c.closing keyed.0 keyed.1 c.operational c.enabled c.whole c.came))
+    (closing-signed laws p r i g w c.ms c.samples c.done c.start c.pumps own here c.secured c.named c.had c.took c.closing keyed.0 keyed.1 c.numbered c.operational c.enabled c.whole c.came))
+
+pub signed-last-held : Laws → LastHeldLaw → (p : Plan) (r i g w : ℕ) (list : List Step) (rows : ℕ → ℕ → List DataValue) (own : WriterTurn) → InSession p r i g w list → AreVersions p list rows → ClosingGotSignedLast p r i g w list own
+    → HoldsRowOf p r i g w list rows own.version
+signed-last-held laws held p r i g w list rows own is versions c =
+    let ended = map Pump c.pumps ++ Tick c.ms true c.samples c.done ∷ c.start in
+    let here : InSession p r i g w ended = subst (InSession p r i g w) c.split is in
+    let keyed = keyed-is laws p r i g w c.ms c.samples c.done c.start c.pumps own here c.secured c.named c.had c.took c.closing in
+    subst (λ (l : List Step). HoldsRowOf p r i g w l rows own.version) (sym c.split)
+    (held p r i g w ended rows (writer_past w (group_past p.config g (closing_deeds p c.start c.ms c.samples g))) own here (subst (λ (l : List Step). AreVersions p l rows) c.split versions)
+    (closing-bare laws p r i g w c.ms c.samples c.done c.start c.pumps own here c.secured c.named c.had c.took c.closing keyed.0 keyed.1 c.bare c.operational c.enabled c.whole c.came))

@@ -25,21 +25,63 @@ use Rattle.session_laws.proofs.GotParts.{Brought, came-before, enabled-behind, r
 use Rattle.session_laws.proofs.SignedParts.{HasPair, StandsFrom, acceptable-least, acceptable-or-had, from-among, from-parts, not-raised, pair-added, upto-all}
 
 -- What is known of the datagrams that come to a group, by what it finds of them: each is of the closing turn's token with a number up to 1,024 above that which was
--- used before, or of a lower token; the one with this number has this part, which is read as the frame.
-pub record Closes (setting : Setting) (config : Config) (pasts : ℕ → List GroupDeed) (way : Way) (first place token used k : ℕ) (datagram : List ℕ) (piece : Piece) : Type 0 where
+-- used before, or of a lower token; one with this number is opened once it is accepted.
+pub record Comes (setting : Setting) (config : Config) (pasts : ℕ → List GroupDeed) (token used k : ℕ) (datagram : List ℕ) : Type 0 where
   pub few : k < 1024
   pub upto : (now : ℕ) (on : List Bool) (other : List ℕ) (before : List Event) (opened : Opened) → CameAsMade setting config pasts (Got now on other ∷ before) → verdict setting.group setting.setup (accepted setting before) other ≡ Ok opened
       → (opened.pass.token < token) ⊎ ((opened.pass.token ≡ token) × (opened.pass.number ≤ used + 1024))
   pub acceptable : (now : ℕ) (on : List Bool) (other : List ℕ) (before : List Event) (opened : Opened) → CameAsMade setting config pasts (Got now on other ∷ before) → verdict setting.group setting.setup (accepted setting before) other ≡ Ok opened
       → is_acceptable setting.setup.keys (accepted setting before) opened.pass.token opened.pass.number ≡ true
-  pub own : (now : ℕ) (on : List Bool) (other : List ℕ) (before : List Event) (opened : Opened) → CameAsMade setting config pasts (Got now on other ∷ before) → verdict setting.group setting.setup (accepted setting before) other ≡ Ok opened
-      → opened.pass.token ≡ token → opened.pass.number ≡ used + suc k → Contains (pieces way.seat.part opened.payload) piece
   pub opened : (pairs : Accepted) → is_acceptable setting.setup.keys pairs token (used + suc k) ≡ true
       → (o : Opened) × (verdict setting.group setting.setup pairs datagram ≡ Ok o) × (o.pass.token ≡ token) × (o.pass.number ≡ used + suc k)
   pub key : TokenKeys
   pub known : keys_with setting.setup.keys token ≡ Some key
+
+-- and it has this part, which is read as the frame
+pub record Closes (setting : Setting) (config : Config) (pasts : ℕ → List GroupDeed) (way : Way) (first place token used k : ℕ) (datagram : List ℕ) (piece : Piece) : Type 0 where
+  pub comes : Comes setting config pasts token used k datagram
+  pub own : (now : ℕ) (on : List Bool) (other : List ℕ) (before : List Event) (opened : Opened) → CameAsMade setting config pasts (Got now on other ∷ before) → verdict setting.group setting.setup (accepted setting before) other ≡ Ok opened
+      → opened.pass.token ≡ token → opened.pass.number ≡ used + suc k → Contains (pieces way.seat.part opened.payload) piece
   pub reads : (now n : ℕ) (list : List Mark) → used + 1 ≤ n → StandsFrom (used + 1) place (piece_on way (place_from first) now (Some n) list piece)
   pub places : (t n : ℕ) → way.place t n ≡ place_from first
+
+module _ (setting : Setting) (config : Config) (pasts : ℕ → List GroupDeed) (token used k : ℕ) (datagram : List ℕ) (c : Comes setting config pasts token used k datagram) (secured : is_secured setting.setup.mode ≡ true) where
+  -- ---- the datagram is accepted, when it first comes
+
+  abbrev pub HasCome : List Event → Type 0
+  HasCome befell = HasPair token (used + suc k) (accepted setting befell)
+
+  had-on : (pairs : Accepted) (answer : Result Opened Refusal) → HasPair token (used + suc k) pairs → HasPair token (used + suc k) (accepted_with setting pairs answer)
+  had-on pairs (Err refusal) h = h
+  had-on pairs (Ok opened) h = subst (HasPair token (used + suc k)) (sym (pair-added setting config pasts secured pairs opened)) (inr h)
+
+  had-now : (pairs : Accepted) → is_acceptable setting.setup.keys pairs token (used + suc k) ≡ true → HasPair token (used + suc k) (accepted_with setting pairs (verdict setting.group setting.setup pairs datagram))
+  had-now pairs is =
+      let o = c.opened pairs is in
+      subst (λ (a : Result Opened Refusal). HasPair token (used + suc k) (accepted_with setting pairs a)) (sym o.1)
+      (subst (HasPair token (used + suc k)) (sym (pair-added setting config pasts secured pairs o.0)) (inl (o.2, o.3)))
+
+  had-either : (pairs : Accepted) → (is_acceptable setting.setup.keys pairs token (used + suc k) ≡ true) ⊎ HasPair token (used + suc k) pairs
+      → HasPair token (used + suc k) (accepted_with setting pairs (verdict setting.group setting.setup pairs datagram))
+  had-either pairs (inl is) = had-now pairs is
+  had-either pairs (inr had) = had-on pairs (verdict setting.group setting.setup pairs datagram) had
+
+  pub had-kept : (now : ℕ) (on : List Bool) (other : List ℕ) (before : List Event) → HasCome before → HasCome (Got now on other ∷ before)
+  had-kept now on other before h = had-on (accepted setting before) (verdict setting.group setting.setup (accepted setting before) other) h
+
+  pub had-brought : (i : ℕ) → Brought setting config pasts i datagram HasCome
+  had-brought i = record {
+    brings = λ now on before enabled came.
+        had-either (accepted setting before)
+        (acceptable-or-had setting.setup.keys (accepted setting before) token (used + 1024) (used + suc k) c.key c.known (upto-all setting config pasts secured token (used + 1024) c.upto before came.1) (omega arith));
+    keeps = λ now on other before h. had-kept now on other before h;
+  }
+
+  -- what is accepted behind it is near, and of no higher token
+  pub near-number : (pairs : Accepted) (opened : Opened) → (opened.pass.token < token) ⊎ ((opened.pass.token ≡ token) × (opened.pass.number ≤ used + 1024)) → is_acceptable setting.setup.keys pairs opened.pass.token opened.pass.number ≡ true
+      → HasPair token (used + suc k) pairs → (opened.pass.number < used + 1 + 16384) × (opened.pass.token ≤ token)
+  near-number pairs opened (inl lower) is had = let least = acceptable-least setting.setup.keys pairs opened.pass.token opened.pass.number token (used + suc k) is had in absurd (omega (arith, lower, least))
+  near-number pairs opened (inr upto) is had = (let le = upto.1 in omega (arith, le), let same = upto.0 in omega (arith, same))
 
 module _ (setting : Setting) (config : Config) (pasts : ℕ → List GroupDeed) (way : Way) (first place token used k : ℕ) (datagram : List ℕ) (piece : Piece) (c : Closes setting config pasts way first place token used k datagram piece)
     (secured : is_secured setting.setup.mode ≡ true) where
@@ -52,32 +94,8 @@ module _ (setting : Setting) (config : Config) (pasts : ℕ → List GroupDeed) 
   abbrev number : ℕ
   number = used + suc k
 
-  -- ---- the datagram is accepted, when it first comes
-
   abbrev Had : List Event → Type 0
   Had befell = HasPair token number (accepted setting befell)
-
-  had-on : (pairs : Accepted) (answer : Result Opened Refusal) → HasPair token number pairs → HasPair token number (accepted_with setting pairs answer)
-  had-on pairs (Err refusal) h = h
-  had-on pairs (Ok opened) h = subst (HasPair token number) (sym (pair-added setting config pasts secured pairs opened)) (inr h)
-
-  had-now : (pairs : Accepted) → is_acceptable setting.setup.keys pairs token number ≡ true → HasPair token number (accepted_with setting pairs (verdict setting.group setting.setup pairs datagram))
-  had-now pairs is =
-      let o = c.opened pairs is in
-      subst (λ (a : Result Opened Refusal). HasPair token number (accepted_with setting pairs a)) (sym o.1)
-      (subst (HasPair token number) (sym (pair-added setting config pasts secured pairs o.0)) (inl (o.2, o.3)))
-
-  had-either : (pairs : Accepted) → (is_acceptable setting.setup.keys pairs token number ≡ true) ⊎ HasPair token number pairs → HasPair token number (accepted_with setting pairs (verdict setting.group setting.setup pairs datagram))
-  had-either pairs (inl is) = had-now pairs is
-  had-either pairs (inr had) = had-on pairs (verdict setting.group setting.setup pairs datagram) had
-
-  pub had-brought : (i : ℕ) → Brought setting config pasts i datagram Had
-  had-brought i = record {
-    brings = λ now on before enabled came.
-        had-either (accepted setting before)
-        (acceptable-or-had setting.setup.keys (accepted setting before) token (used + 1024) number c.key c.known (upto-all setting config pasts secured token (used + 1024) c.upto before came.1) (omega arith));
-    keeps = λ now on other before h. had-on (accepted setting before) (judged before other) h;
-  }
 
   -- ---- where its pair is accepted, the frame stands there
 
@@ -92,22 +110,17 @@ module _ (setting : Setting) (config : Config) (pasts : ℕ → List GroupDeed) 
       ∙ ap (λ (b : Bool). fold (piece_on way (way.place opened.pass.token opened.pass.number) now (Some opened.pass.number)) (cut_on (raises pairs opened.pass.token) NewToken list) (if b then pieces way.seat.part opened.payload else [])) on
       ∙ ap (λ (at : ℕ → ℕ). fold (piece_on way at now (Some opened.pass.number)) (cut_on (raises pairs opened.pass.token) NewToken list) (pieces way.seat.part opened.payload)) (c.places opened.pass.token opened.pass.number)
 
-  near-number : (pairs : Accepted) (opened : Opened) → (opened.pass.token < token) ⊎ ((opened.pass.token ≡ token) × (opened.pass.number ≤ used + 1024)) → is_acceptable setting.setup.keys pairs opened.pass.token opened.pass.number ≡ true
-      → HasPair token number pairs → (opened.pass.number < used + 1 + 16384) × (opened.pass.token ≤ token)
-  near-number pairs opened (inl lower) is had = let least = acceptable-least setting.setup.keys pairs opened.pass.token opened.pass.number token number is had in absurd (omega (arith, lower, least))
-  near-number pairs opened (inr upto) is had = (let le = upto.1 in omega (arith, le), let same = upto.0 in omega (arith, same))
-
   held-taken : (now : ℕ) (on : List Bool) (other : List ℕ) (before : List Event) (opened : Opened) → slice_index_or on way.index false ≡ true → Came (Got now on other ∷ before) → judged before other ≡ Ok opened → Held before
       → ((opened.pass.token ≡ token) × (opened.pass.number ≡ number)) ⊎ HasPair token number (accepted setting before)
       → StandsFrom (used + 1) place (fold (piece_on way (place_from first) now (Some opened.pass.number)) (cut_on (raises (accepted setting before) opened.pass.token) NewToken (marks setting way before)) (pieces way.seat.part opened.payload))
   held-taken now on other before opened enabled came e h (inl same) =
       let n = same.1 in
-      let few = c.few in
+      let few = c.comes.few in
       from-among (used + 1) place way (place_from first) now opened.pass.number (omega (arith, n, few)) piece (λ list. c.reads now opened.pass.number list (omega (arith, n))) (pieces way.seat.part opened.payload)
       (cut_on (raises (accepted setting before) opened.pass.token) NewToken (marks setting way before)) (c.own now on other before opened came e same.0 same.1)
   held-taken now on other before opened enabled came e h (inr had) =
       let pairs = accepted setting before in
-      let near = near-number pairs opened (c.upto now on other before opened came e) (c.acceptable now on other before opened came e) had in
+      let near = near-number setting config pasts token used k datagram c.comes secured pairs opened (c.comes.upto now on other before opened came e) (c.comes.acceptable now on other before opened came e) had in
       let raised : raises pairs opened.pass.token ≡ false = not-raised pairs token number opened.pass.token had near.1 in
       subst (λ (b : Bool). StandsFrom (used + 1) place (fold (piece_on way (place_from first) now (Some opened.pass.number)) (cut_on b NewToken (marks setting way before)) (pieces way.seat.part opened.payload))) (sym raised)
       (from-parts (used + 1) place way (place_from first) now opened.pass.number near.0 (pieces way.seat.part opened.payload) (marks setting way before) (h had))
@@ -138,7 +151,7 @@ module _ (setting : Setting) (config : Config) (pasts : ℕ → List GroupDeed) 
   held-entries now on [] befell enabled came h = h
   held-entries now on (entry ∷ entries) befell enabled came h =
       held-entries now on entries (got_on now on befell entry) enabled came
-      (held-one now on befell entry enabled (came-before setting config pasts way.index datagram Had (had-brought way.index) now on entries (got_on now on befell entry) came) h)
+      (held-one now on befell entry enabled (came-before setting config pasts now on entries (got_on now on befell entry) came) h)
 
   pub held-by-pumps : (r : ℕ) (pumps : List (List Entry)) (earlier : List Step) → receives config earlier r ≡ true → way.index < length (read_group_at config r).reader → is_on config earlier (Reader r way.index) ≡ true
       → Came (events config r (map Pump pumps ++ earlier)) → Held (events config r earlier) → Held (events config r (map Pump pumps ++ earlier))
@@ -152,4 +165,4 @@ module _ (setting : Setting) (config : Config) (pasts : ℕ → List GroupDeed) 
       let came_all : Came (fold (got_on now on) (events config r before) entries) = subst Came whole came in
       subst Held (sym whole)
       (held-entries now on entries (events config r before) (enabled-behind config r way.index pumps earlier within enabled) came_all
-      (held-by-pumps r pumps earlier operational within enabled (came-before setting config pasts way.index datagram Had (had-brought way.index) now on entries (events config r before) came_all) h))
+      (held-by-pumps r pumps earlier operational within enabled (came-before setting config pasts now on entries (events config r before) came_all) h))

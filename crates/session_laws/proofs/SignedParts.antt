@@ -47,7 +47,7 @@ stamps-from : (low place : ℕ) (items : List Item) → HasItemFrom low place it
 stamps-from low place [] none = absurd none
 stamps-from low place (item ∷ items) h = stamps-step low place item items item.stamp (stamps-from low place items) h
 
-late-none : (a b : Bool) → b ≡ false → (a && b) ≡ false
+pub late-none : (a b : Bool) → b ≡ false → (a && b) ≡ false
 late-none true b e = e
 late-none false b e = refl
 

@@ -128,14 +128,19 @@ frame-gives way answered first next frame by source is =
     by-number way (place_from first) frame (carried is.placed) (content_of (placed_cut way.seat.meta is.placed)) true (ap is_numbered by) is.own is.number is.content
     ∙ ap (λ (f : PlacedFrame). Some f) (framed-back first next way.seat.meta is.placed source.few (source.spans is.placed is.answer))
 
+-- with no numbering it is the answer's without its place
+pub frame-bare : (way : Way) (answered : List Answered) (first : ℕ) (frame : Frame) → way.seat.part.numbering ≡ words.None → (is : IsOfAnswer way.seat.meta answered frame)
+    → frame_of way (place_from first) frame ≡ without_place (placed_cut way.seat.meta is.placed)
+frame-bare way answered first frame by is =
+    let cut = placed_cut way.seat.meta is.placed in
+    by-number way (place_from first) frame (carried is.placed) (content_of cut) false (ap is_numbered by) is.own is.number is.content ∙ unnumbered-is cut
+
 item-is : (word : NumberingWord) (way : Way) (answered : List Answered) (first next : ℕ) (frame : Frame) → way.seat.part.numbering ≡ word → Source way answered first next → IsOfAnswer way.seat.meta answered frame
     → IsItem word way.seat.meta answered (frame_of way (place_from first) frame)
 item-is words.Message way answered first next frame by source is =
     subst (IsItem words.Message way.seat.meta answered) (sym (frame-gives way answered first next frame by source is)) (λ now s. record { frame = is.placed; answer = is.answer; cut = refl })
 item-is words.None way answered first next frame by source is =
-    let cut = placed_cut way.seat.meta is.placed in
-    let e = by-number way (place_from first) frame (carried is.placed) (content_of cut) false (ap is_numbered by) is.own is.number is.content ∙ unnumbered-is cut in
-    subst (IsItem words.None way.seat.meta answered) (sym e) (bare-item way.seat.meta answered is.placed (without_place cut) is.answer refl)
+    subst (IsItem words.None way.seat.meta answered) (sym (frame-bare way answered first frame by is)) (bare-item way.seat.meta answered is.placed (without_place (placed_cut way.seat.meta is.placed)) is.answer refl)
 
 item-marked : (word : NumberingWord) (meta : MetaData) (answered : List Answered) (bytes : ℕ → List ℕ) (j : Bool) (before : List Mark) (item : Item) → IsAnswerBy word meta answered item → AreSent word meta answered bytes before
     → AreSent word meta answered bytes (if j then Arrived (Came item) ∷ Arrived (Cut Jump) ∷ before else Arrived (Came item) ∷ before)

@@ -10,4 +10,5 @@ pub mod Fresh
 pub mod Twins
 pub mod Courses
 pub mod Newest
+pub mod Bare
 pub mod Delivered

@@ -25,6 +25,7 @@ ghost use Rattle.session_model.specs.Sends.{IsRun, journal, sent_by};
 ghost use Rattle.session_model.specs.States.{state_at};
 ghost use Rattle.session_model.specs.Stores.{stores};
 ghost use Rattle.session_model.specs.Turns.{deeds_before};
+ghost use Rattle.session_laws.specs.Bare.{ClosingCameLast, ClosingGotLast, ClosingGotSignedLast};
 ghost use Rattle.session_laws.specs.Courses.{HaveOneCourse};
 ghost use Rattle.session_laws.specs.Fresh.{BeginWithKeys, keyed_turns, protected_by};
 ghost use Rattle.session_laws.specs.Headline.{InSession, ComesFrom, IsPublished, PublishesVersion, answered_turn};
@@ -137,6 +138,8 @@ pub fn a_key_frame_that_comes_last_is_held()
 /// reader is one that the journal has as received in the pumps behind it, whole or in chunks, in whichever order. It came likewise
 /// to a secured read group that names the writer's group, with a frame that isn't cut into chunks, whatever the read group has
 /// accepted before.
+/// A reader with no numbering holds it likewise, where no other key frame came behind it; there, with or without security, it
+/// came with a frame that isn't cut.
 pub fn a_closing_frame_that_came_is_held()
     ensures received { (p : Plan) (r i g w : ℕ) (steps : List Step) (rows : ℕ → ℕ → List DataValue)
         (before : List GroupDeed) (turn : GroupTurn) (own : WriterTurn) → InSession p r i g w steps
@@ -148,6 +151,16 @@ pub fn a_closing_frame_that_came_is_held()
     ensures came { (p : Plan) (r i g w : ℕ) (steps : List Step) (rows : ℕ → ℕ → List DataValue)
         (before : List WriterDeed) (turn : WriterTurn) → InSession p r i g w steps → AreVersions p steps rows
         → ClosingCame p r i g w steps before turn → HoldsRowOf p r i g w steps rows turn.version }
+    ensures received_last { (p : Plan) (r i g w : ℕ) (steps : List Step) (rows : ℕ → ℕ → List DataValue)
+        (before : List GroupDeed) (turn : GroupTurn) (own : WriterTurn) → InSession p r i g w steps
+        → AreVersions p steps rows → ClosingGotLast p r i g w steps before turn own
+        → HoldsRowOf p r i g w steps rows own.version }
+    ensures signed_last { (p : Plan) (r i g w : ℕ) (steps : List Step) (rows : ℕ → ℕ → List DataValue)
+        (own : WriterTurn) → InSession p r i g w steps → AreVersions p steps rows
+        → ClosingGotSignedLast p r i g w steps own → HoldsRowOf p r i g w steps rows own.version }
+    ensures came_last { (p : Plan) (r i g w : ℕ) (steps : List Step) (rows : ℕ → ℕ → List DataValue)
+        (before : List WriterDeed) (turn : WriterTurn) → InSession p r i g w steps → AreVersions p steps rows
+        → ClosingCameLast p r i g w steps before turn → HoldsRowOf p r i g w steps rows turn.version }
 {
     each_datagram_is_taken_as_it_was_sent();
     each_part_is_of_what_was_answered();

@@ -21,4 +21,4 @@ returns-clause-held c =
     λ first second script lab wire text is r i g w row line low matched honest message line_is row_is.
     held (plan_by first script) second is.sources is.relay r i g w row line low matched line_is row_is
     (c.a_relayed_row_is_of_the_first_history.ensures (plan_by first script) second is.sources is.relay r i g w row is.is_relay matched low honest message row_is)
-    (λ store version. c.a_kept_version_is_of_its_store.ensures (plan_by first script) (source_at is.sources (set_of second g w)) is.relay store version)
+    (λ store version. c.a_kept_version_is_of_its_store.ensures.of_origin (plan_by first script) (source_at is.sources (set_of second g w)) is.relay store version)

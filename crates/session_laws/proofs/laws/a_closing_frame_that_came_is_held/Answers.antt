@@ -1,6 +1,8 @@
+use Rattle.session_laws.proofs.BareEnd.{got-last-held}
+use Rattle.session_laws.proofs.BareHeld.{bare-held}
 use Rattle.session_laws.proofs.ClosingGot.{got-held}
 use Rattle.session_laws.proofs.ClosingHeld.{closing-held}
-use Rattle.session_laws.proofs.SignedEnd.{signed-held}
+use Rattle.session_laws.proofs.SignedEnd.{signed-held, signed-last-held}
 use Rattle.session_laws.proofs.Published.{Laws}
 use Rattle.session_laws.proofs.laws.a_closing_frame_that_came_is_held.Goals as goal
 
@@ -26,4 +28,12 @@ returns c =
     } in
     let laws = c.matched_readers_hold_published_versions.ensures in
     let held = closing-held c.answers_have_places_of_their_span.ensures.each laws.comes laws.reads laws.holds in
-    record { received = got-held below held; signed = signed-held below held; came = held }
+    let last = bare-held below laws.reads in
+    record {
+      received = got-held below held;
+      signed = signed-held below held;
+      came = held;
+      received_last = got-last-held below last;
+      signed_last = signed-last-held below last;
+      came_last = last;
+    }
