@@ -75,7 +75,7 @@ ids-range bytes frames first count are =
     ∙ ap ids_in (part-map (λ (f : Spelled). f.id) (frames_at bytes frames) first count)
 
 -- what is read of them, by numbers that are these
-pub ids-read : (bytes : List ℕ) (frames : Frames) (read : List ℕ) (f n first count : ℕ) → AreSpelledIn bytes frames → read ≡ (listed_ids frames) → f ≡ first → n ≡ count
+pub ids-read : (bytes : List ℕ) (frames : Frames) (read : List ℕ) (f n first count : ℕ) → AreSpelledIn bytes frames → read ≡ listed_ids frames → f ≡ first → n ≡ count
     → slice_range read (2 * f) (2 * f + 2 * n) ≡ id_bytes (take count (drop first (frames_at bytes frames)))
 ids-read bytes frames read f n first count are is one two =
     ap (λ (l : List ℕ). slice_range l (2 * f) (2 * f + 2 * n)) is
@@ -92,7 +92,7 @@ sizes-range bytes frames first count end are is =
     part-range (listed_sizes frames) first count end is ∙ ap (λ (l : List ℕ). take count (drop first l)) are.sizes
     ∙ part-map size_of (frames_at bytes frames) first count
 
-pub sizes-read : (bytes : List ℕ) (frames : Frames) (read : List ℕ) (f n first count : ℕ) → AreSpelledIn bytes frames → read ≡ (listed_sizes frames) → f ≡ first → n ≡ count
+pub sizes-read : (bytes : List ℕ) (frames : Frames) (read : List ℕ) (f n first count : ℕ) → AreSpelledIn bytes frames → read ≡ listed_sizes frames → f ≡ first → n ≡ count
     → slice_range read f (f + n) ≡ map size_of (take count (drop first (frames_at bytes frames)))
 sizes-read bytes frames read f n first count are is one two =
     ap (λ (l : List ℕ). slice_range l f (f + n)) is

@@ -24,7 +24,7 @@ use Rattle.writer_group.specs.declared.laying.Cargo.{Cargo}
 use Rattle.writer_group.specs.declared.load.Load.{Load}
 use Rattle.writer_group.specs.declared.posting.Range.{Range}
 use Rattle.writer_group.specs.declared.spelled.Frames.{Frames}
-use Rattle.writer_group.specs.Holding.{AreSpelledIn, CanBeWritten, CargoValue, cargo_in, envelope_in, frames_at, payload_in}
+use Rattle.writer_group.specs.Holding.{AreSpelledIn, CanBeWritten, CargoValue, cargo_in, envelope_in, frames_at, payload_in, settings_in}
 use Rattle.writer_group.specs.Loading.{IsLoad}
 use Rattle.writer_group.specs.Making.{IsFilled, IsPosted, MayFill, MayMake, MayMakeOf, cargo_from, cargo_with, made_from, made_with}
 use Rattle.writer_group.specs.Payloads.{fixed_header}
@@ -63,7 +63,7 @@ pub record AreParts (config : Config) (part : GroupPart) (group : Group) (front 
   pub written : CanBeWritten (publisher_in parts.publisher)
 
 pub are-parts : (config : Config) (part : GroupPart) (group : Group) (front bytes : List ℕ) (room : ℕ) (parts : HeaderParts) → publisher_in parts.publisher ≡ publisher_value config.publisher.id
-    → parts.settings ≡ header_settings part → parts.made ≡ group.made → CanBeWritten (publisher_in parts.publisher) → room ≡ chunk_room config.publisher.id part → bytes ≡ front
+    → settings_in parts ≡ header_settings part → parts.made ≡ group.made → CanBeWritten (publisher_in parts.publisher) → room ≡ chunk_room config.publisher.id part → bytes ≡ front
     → AreParts config part group front bytes room parts
 are-parts config part group front bytes room parts publisher settings made written room_is bytes_are =
     record { envelope = envelope-same _ _ _ _ _ _ publisher settings made; room_is = room_is; bytes_are = bytes_are; written = written }

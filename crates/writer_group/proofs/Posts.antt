@@ -14,7 +14,7 @@ use Rattle.message_guard.proofs.Carrying.{front_is_senders}
 use Rattle.config_tables.specs.declared.words.Security.{Security}
 use Rattle.config_tables.specs.declared.words.Security.TheVariants as security
 use Rattle.ps_config.specs.declared.header.HeaderSettings.{HeaderSettings}
-use Rattle.ps_config.specs.Headers.{security_value, mode_of}
+use Rattle.ps_config.specs.Headers.{security_value, mode_of, is_secured as is_kind_secured}
 use Rattle.writer_group.specs.declared.laying.Cargo.{Cargo}
 use Rattle.writer_group.specs.declared.load.Load.{Load}
 use Rattle.writer_group.specs.declared.posting.Range.{Range}
@@ -146,6 +146,11 @@ header-at e mode s now index cargo load same is written =
     (subst (λ (t : SenderState). IsWritten (secured_header e (advanced mode t) index (payload_in cargo load).0)) is written)
 
 -- ---- a security header as the group's settings say
+
+pub secured-mode : (kind : Security) → true ≡ is_kind_secured kind → is_secured (mode_of kind) ≡ true
+secured-mode security.None there = absurd (false≢true (sym there))
+secured-mode security.Sign there = refl
+secured-mode security.Encrypt there = refl
 
 secured-there : (kind : Security) → is_secured (mode_of kind) ≡ true → is_some (security_value kind) ≡ true
 secured-there security.None secured = absurd (false≢true secured)

@@ -38,12 +38,12 @@ within-more end later (frame ∷ frames) more within =
 -- one more frame, spelled behind the others
 pub record IsSpelledOn (bytes new : List ℕ) (frames after : Frames) (text : List ℕ) (frame : SpelledFrame) : Type 0 where
   pub laid_is : new ≡ laid bytes frames.end text
-  pub list_is : (listed after) ≡ (listed frames) ++ frame ∷ []
+  pub list_is : listed after ≡ listed frames ++ frame ∷ []
   pub start_is : frame.start ≡ frames.end
   pub end_is : frame.end ≡ frames.end + length text
   pub last : after.end ≡ frame.end
-  pub sizes_is : (listed_sizes after) ≡ (listed_sizes frames) ++ (frame.end - frame.start) ∷ []
-  pub ids_is : (listed_ids after) ≡ (listed_ids frames) ++ to_le_bytes w16 frame.id
+  pub sizes_is : listed_sizes after ≡ listed_sizes frames ++ (frame.end - frame.start) ∷ []
+  pub ids_is : listed_ids after ≡ listed_ids frames ++ to_le_bytes w16 frame.id
   pub short : length text ≤ 2048
   pub room : frames.end + 2048 ≤ length bytes
 
@@ -71,11 +71,11 @@ spelled-keeps bytes new frames after text frame long are on =
     let more = spelled-on bytes new frames after text frame are on in
     let size : frame.end - frame.start ≡ length text = omega (arith, on.start_is, on.end_is) in
     let old = frames_at bytes frames in
-    let sizes : (listed_sizes after) ≡ map size_of (frames_at new after) =
+    let sizes : listed_sizes after ≡ map size_of (frames_at new after) =
     on.sizes_is ∙ ap (λ (n : ℕ). (listed_sizes frames) ++ n ∷ []) size ∙ ap (λ (l : List ℕ). l ++ length text ∷ []) are.sizes
     ∙ sym (map_push size_of old (spelled_with frame text)) ∙ ap (λ (l : List Spelled). map size_of l) (sym more) in
     let id_of : Spelled → ℕ = λ (x : Spelled). x.id in
-    let ids : (listed_ids after) ≡ id_bytes (frames_at new after) =
+    let ids : listed_ids after ≡ id_bytes (frames_at new after) =
     on.ids_is ∙ ap (λ (l : List ℕ). l ++ to_le_bytes w16 frame.id) are.ids
     ∙ ap (λ (l : List ℕ). id_bytes old ++ l) (sym (append-nil (to_le_bytes w16 frame.id)))
     ∙ sym (flat_map-append (to_le_bytes w16) (map id_of old) (frame.id ∷ []))

@@ -15,7 +15,9 @@ use Rattle.chunker.specs.Chunks.{cut_at}
 use Rattle.fixed_layout.specs.declared.slot.Slot.{Slot}
 use Rattle.fixed_layout.specs.Datagrams.{fixed_payload}
 use Rattle.config_tables.specs.declared.words.Layout.{Layout}
+use Rattle.ps_config.specs.declared.header.HeaderSettings.{HeaderSettings}
 use Rattle.ps_config.specs.declared.parts.WriterPart.{WriterPart}
+use Rattle.ps_config.specs.Rooms.{header_settings}
 use Rattle.writer_group.specs.declared.header_parts.HeaderParts.{HeaderParts}
 use Rattle.writer_group.specs.declared.spelled.SpelledFrame.{SpelledFrame}
 use Rattle.writer_group.specs.declared.spelled.Frames.{Frames}
@@ -28,8 +30,11 @@ use Rattle.writer_group.specs.Payloads.{Spelled, size_of, laid_frame, frames_pay
 
 -- ---- headers
 
+abbrev pub settings_in : HeaderParts → HeaderSettings
+settings_in parts = header_settings parts.group.now
+
 abbrev pub envelope_in : HeaderParts → Envelope
-envelope_in parts = record { publisher = publisher_in parts.publisher; settings = parts.settings; made = parts.made }
+envelope_in parts = record { publisher = publisher_in parts.publisher; settings = settings_in parts; made = parts.made }
 
 abbrev pub numbering_of : Envelope → ℕ → Option SecurityValue → Numbering
 numbering_of envelope index security = record { sequence = envelope.made + index; message = index + 1; security = security }
@@ -37,7 +42,7 @@ numbering_of envelope index security = record { sequence = envelope.made + index
 -- the header of the turn's datagram with this index, these ids and this security header
 abbrev pub header_by : HeaderParts → ℕ → Option SecurityPart → Ids → HeaderValue
 header_by parts index security ids =
-    numbered_header (publisher_in parts.publisher) parts.settings (numbering_of (envelope_in parts) index (if_there security_in security)) (ids_in ids)
+    numbered_header (publisher_in parts.publisher) (settings_in parts) (numbering_of (envelope_in parts) index (if_there security_in security)) (ids_in ids)
 
 -- a publisher's id that can be written
 pub record CanBeWritten (publisher : PublisherValue) : Type 0 where

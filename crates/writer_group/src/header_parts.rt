@@ -8,28 +8,28 @@ ghost use Rattle.writer_group.specs.Limits.{most_datagrams};
 ghost use Rattle.writer_group.specs.Envelopes.{number_if};
 ghost use Rattle.writer_group.specs.Holding.{header_by, CanBeWritten};
 
-use ps_config::{HeaderSettings, Publisher, publisher_id};
+use ps_config::{GroupPart, Publisher, publisher_id};
 use uadp_header::{Header, Ids, PublisherId, SecurityPart};
 
 /// What the headers of a turn's datagrams share.
 #[derive(Clone, Copy, Debug)]
 pub(crate) struct HeaderParts<'a> {
     pub publisher: PublisherId<'a>,
-    pub settings: HeaderSettings,
+    pub group: &'a GroupPart,
     /// How many datagrams the group made before the turn, modulo 65536.
     pub made: u16,
 }
 
 impl<'a> HeaderParts<'a> {
-    pub fn new(publisher: &'a Publisher, settings: HeaderSettings, made: u16) -> HeaderParts<'a>
+    pub fn new(publisher: &'a Publisher, group: &'a GroupPart, made: u16) -> HeaderParts<'a>
         ensures publisher { publisher_in result.publisher ≡ publisher_value publisher.now }
-        ensures settings { result.settings ≡ settings }
+        ensures group { result.group.now ≡ group.now }
         ensures made { result.made ≡ made }
         ensures written { CanBeWritten (publisher_in result.publisher) }
     {
         HeaderParts {
             publisher: judged(publisher_id(publisher)),
-            settings,
+            group,
             made,
         }
     }
@@ -49,15 +49,15 @@ impl<'a> HeaderParts<'a> {
         ensures header { header_in result ≡ header_by self.now index security.entry ids.entry }
         ensures written { IsWritten (header_in result) }
     {
-        class_id_is_whole(self.settings.class_id);
+        class_id_is_whole(self.group.class_id);
         security_is_narrow(security);
         Header {
             publisher: Some(self.publisher),
-            class_id: self.settings.class_id,
-            group: group_in(self.settings.id),
-            version: version_in(self.settings.version),
-            message_number: number_if(self.settings.message_number, index + 1),
-            sequence: number_if(self.settings.sequence, self.made.wrapping_add(index)),
+            class_id: self.group.class_id,
+            group: group_in(self.group.id),
+            version: version_in(self.group.version),
+            message_number: number_if(self.group.message_number, index + 1),
+            sequence: number_if(self.group.sequence, self.made.wrapping_add(index)),
             ids,
             security,
         }

@@ -74,7 +74,7 @@ impl Group {
         if loads.is_empty() {
             return;
         }
-        let parts = HeaderParts::new(&config.publisher.id, group.header_settings(), self.made);
+        let parts = HeaderParts::new(&config.publisher.id, group, self.made);
         let (bytes, free) = buffer.split_at_mut(FRAMES_BYTES);
         let cargo = Cargo {
             bytes,
@@ -109,7 +109,7 @@ impl Group {
         if loads.is_empty() {
             return;
         }
-        let parts = HeaderParts::new(&config.publisher.id, group.header_settings(), self.made);
+        let parts = HeaderParts::new(&config.publisher.id, group, self.made);
         let (bytes, free) = buffer.split_at_mut(FRAMES_BYTES);
         let cargo = Cargo {
             bytes,

@@ -8,7 +8,7 @@ ghost use Rattle.ps_config.specs.Headers.{mode_of};
 ghost use Rattle.writer_group.specs.Limits.{most_datagrams};
 ghost use Rattle.writer_group.specs.declared.load.Load.{Load as AnyLoad};
 ghost use Rattle.writer_group.specs.Envelopes.{IsSecuredAs};
-ghost use Rattle.writer_group.specs.Holding.{envelope_in, cargo_in, payload_in, payloads_in};
+ghost use Rattle.writer_group.specs.Holding.{envelope_in, cargo_in, payload_in, payloads_in, settings_in};
 ghost use Rattle.writer_group.specs.Numbers.{front_in};
 ghost use Rattle.writer_group.specs.Posting.{MayPost, front_of, head_by, joined, laid_by, load_header_by, made_by, open_load, ranges_of, secured_by, secured_header_by, security_of};
 ghost use Rattle.writer_group.specs.Sealing.{AreWritten, advanced_by, open_header};
@@ -39,7 +39,7 @@ pub(crate) fn post_open<'a>(
     ranges: &mut Vec<Range>,
 )
     requires post { MayPost (envelope_in parts.now) cargo.now loads.now }
-    requires unsecured { is_secured (mode_of parts.now.settings.security) ≡ false }
+    requires unsecured { is_secured (mode_of (settings_in parts.now).security) ≡ false }
     requires empty { ranges.old.items ≡ [] }
     requires left { length loads.now ≤ vec_capacity ranges.old }
     requires room { length (joined (made_by parts.now None cargo.now loads.now)) ≤ length free.old }
@@ -68,7 +68,7 @@ pub(crate) fn post_secured<'a>(
     ranges: &mut Vec<Range>,
 )
     requires post { MayPost (envelope_in parts.now) cargo.now loads.now }
-    requires mode { mode ≡ mode_of parts.now.settings.security }
+    requires mode { mode ≡ mode_of (settings_in parts.now).security }
     requires secured { is_secured mode ≡ true }
     requires numbers { sender.old.used + length loads.now ≤ 4294967295 }
     requires sender { IsSender sender.old }
@@ -118,7 +118,7 @@ fn open_datagram<'a>(
 ) -> usize
     requires few { index < most_datagrams }
     requires post { MayPost (envelope_in parts.now) cargo.now (load ∷ []) }
-    requires unsecured { is_secured (mode_of parts.now.settings.security) ≡ false }
+    requires unsecured { is_secured (mode_of (settings_in parts.now).security) ≡ false }
     requires room { start + length (open_load (envelope_in parts.now) index (cargo_in cargo.now) load)
         ≤ length free.old }
     ensures laid { free.new ≡ laid free.old start
@@ -145,7 +145,7 @@ fn secured_datagram<'a>(
 ) -> usize
     requires few { index < most_datagrams }
     requires post { MayPost (envelope_in parts.now) cargo.now (load ∷ []) }
-    requires mode { mode ≡ mode_of parts.now.settings.security }
+    requires mode { mode ≡ mode_of (settings_in parts.now).security }
     requires secured { is_secured mode ≡ true }
     requires numbers { sender.old.used < 4294967295 }
     requires sender { IsSender sender.old }
@@ -178,7 +178,7 @@ fn lay_fronted<'a>(
 ) -> (usize, usize)
     requires few { index < most_datagrams }
     requires post { MayPost (envelope_in parts.now) cargo.now (load ∷ []) }
-    requires secured { IsSecuredAs parts.now.settings (front_of front.now) }
+    requires secured { IsSecuredAs (settings_in parts.now) (front_of front.now) }
     requires senders { IsSendersSecurity (front_in front.now) }
     requires room { start + length (laid_by parts.now index cargo.now load (front_of front.now))
         ≤ length free.old }
@@ -205,7 +205,7 @@ fn lay_out<'a>(
 ) -> (usize, usize)
     requires few { index < most_datagrams }
     requires post { MayPost (envelope_in parts.now) cargo.now (load ∷ []) }
-    requires secured { IsSecuredAs parts.now.settings (security_of security) }
+    requires secured { IsSecuredAs (settings_in parts.now) (security_of security) }
     requires senders { IfSome (security_of security) IsSendersSecurity }
     requires room { start + length (laid_by parts.now index cargo.now load (security_of security))
         ≤ length free.old }

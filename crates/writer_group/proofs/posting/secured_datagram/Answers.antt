@@ -6,7 +6,7 @@ use Rattle.message_guard.specs.Modes.{is_secured}
 use Rattle.message_guard.specs.Senders.{MayProtect, SenderState, advanced, front_value, made_of as sealed_of}
 use Rattle.ps_config.specs.Headers.{mode_of}
 use Rattle.writer_group.specs.Envelopes.{IsSecuredAs}
-use Rattle.writer_group.specs.Holding.{cargo_in, envelope_in}
+use Rattle.writer_group.specs.Holding.{cargo_in, envelope_in, settings_in}
 use Rattle.writer_group.specs.Numbers.{front_in}
 use Rattle.writer_group.specs.Posting.{laid_load}
 use Rattle.writer_group.proofs.Posts.{front-senders, fronted-as}
@@ -16,7 +16,7 @@ use Rattle.writer_group.proofs.posting.secured_datagram.Goals as goal
 pub lay_fronted-laid-requires-clause-secured : goal.lay_fronted-laid-requires-clause-secured
 lay_fronted-laid-requires-clause-secured c =
     let mode = c.args.mode in
-    let settings = c.args.parts.now.settings in
+    let settings = settings_in c.args.parts.now in
     let is : front_in c.next-front.result ≡ front_value mode (advanced mode c.args.sender.now) = c.next-front.ensures.front ∙ ap (front_value mode) c.next-front.ensures.sender in
     let secured : is_secured (mode_of settings.security) ≡ true = ap is_secured (sym c.requires.mode) ∙ c.requires.secured in
     subst (λ (f : SecurityValue). IsSecuredAs settings (Some f)) (sym is)

@@ -1,4 +1,5 @@
 use Rattle.std.proofs.Common.{take, refl, sym, ap, ◌∙◌, arith, None}
+use Rattle.ps_config.specs.Rooms.{header_settings}
 use Rattle.writer_group.specs.declared.settings.Rooms.{Rooms}
 use Rattle.writer_group.proofs.PostLaws.{are-parts, is-filled, made-within, may-post, nothing-filled}
 use Rattle.writer_group.proofs.group.Group.make.Goals as goal
@@ -10,7 +11,7 @@ post_open-requires-clause-post c =
     let front = take 32768 c.args.buffer.now in
     let bytes = c.split_at_mut-bytes.result.0.now in
     let are = are-parts config part c.args.self.now front bytes c.args.self.now.rooms.chunk c.new-parts.result
-    c.new-parts.ensures.publisher (c.new-parts.ensures.settings ∙ c.header_settings.ensures) c.new-parts.ensures.made c.new-parts.ensures.written (ap (λ (r : Rooms). r.chunk) c.requires.may.may.made_for.rooms) c.split_at_mut-bytes.ensures.front in
+    c.new-parts.ensures.publisher (ap header_settings c.new-parts.ensures.group) c.new-parts.ensures.made c.new-parts.ensures.written (ap (λ (r : Rooms). r.chunk) c.requires.may.may.made_for.rooms) c.split_at_mut-bytes.ensures.front in
     may-post config part _ c.args.self.now front c.args.loads.now c.new-parts.result _ c.requires.may.may are refl
 
 pub post_open-requires-clause-room : goal.post_open-requires-clause-room
@@ -20,7 +21,7 @@ post_open-requires-clause-room c =
     let front = take 32768 c.args.buffer.now in
     let bytes = c.split_at_mut-bytes.result.0.now in
     let are = are-parts config part c.args.self.now front bytes c.args.self.now.rooms.chunk c.new-parts.result
-    c.new-parts.ensures.publisher (c.new-parts.ensures.settings ∙ c.header_settings.ensures) c.new-parts.ensures.made c.new-parts.ensures.written (ap (λ (r : Rooms). r.chunk) c.requires.may.may.made_for.rooms) c.split_at_mut-bytes.ensures.front in
+    c.new-parts.ensures.publisher (ap header_settings c.new-parts.ensures.group) c.new-parts.ensures.made c.new-parts.ensures.written (ap (λ (r : Rooms). r.chunk) c.requires.may.may.made_for.rooms) c.split_at_mut-bytes.ensures.front in
     omega (
       arith,
       made-within config part None c.args.self.now c.args.buffer.now bytes c.args.frames.now c.args.self.now.rooms.chunk c.args.loads.now c.new-parts.result are c.requires.may,
@@ -35,7 +36,7 @@ returns-clause-filled c =
     let front = take 32768 c.args.buffer.now in
     let bytes = c.split_at_mut-bytes.result.0.now in
     let are = are-parts config part c.args.self.now front bytes c.args.self.now.rooms.chunk c.new-parts.result
-    c.new-parts.ensures.publisher (c.new-parts.ensures.settings ∙ c.header_settings.ensures) c.new-parts.ensures.made c.new-parts.ensures.written (ap (λ (r : Rooms). r.chunk) c.requires.may.may.made_for.rooms) c.split_at_mut-bytes.ensures.front in
+    c.new-parts.ensures.publisher (ap header_settings c.new-parts.ensures.group) c.new-parts.ensures.made c.new-parts.ensures.written (ap (λ (r : Rooms). r.chunk) c.requires.may.may.made_for.rooms) c.split_at_mut-bytes.ensures.front in
     is-filled config part None c.args.self.now c.args.buffer.now bytes c.split_at_mut-bytes.result.1.now c.post_open.new.free c.args.frames.now c.args.self.now.rooms.chunk c.args.loads.now c.post_open.new.ranges.items
     c.new-parts.result are c.split_at_mut-bytes.ensures.back c.post_open.ensures.laid c.post_open.ensures.ranges c.post_open.ensures.written
 

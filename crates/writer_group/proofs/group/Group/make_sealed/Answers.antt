@@ -1,8 +1,11 @@
 use Rattle.std.proofs.Common.{length, take, refl, sym, ap, ◌∙◌, arith, Some}
 use Rattle.message_guard.specs.declared.mode.Mode.{Mode}
+use Rattle.message_guard.specs.Modes.{is_secured}
 use Rattle.writer_group.specs.Sealing.{advanced_by}
+use Rattle.ps_config.specs.Rooms.{header_settings}
 use Rattle.writer_group.specs.declared.settings.Rooms.{Rooms}
 use Rattle.writer_group.proofs.PostLaws.{are-parts, is-filled, made-within, may-post, never-advanced, nothing-filled}
+use Rattle.writer_group.proofs.Posts.{secured-mode}
 use Rattle.writer_group.proofs.group.Group.make_sealed.Goals as goal
 
 pub post_secured-requires-clause-post : goal.post_secured-requires-clause-post
@@ -12,7 +15,7 @@ post_secured-requires-clause-post c =
     let front = take 32768 c.args.buffer.now in
     let bytes = c.split_at_mut-bytes.result.0.now in
     let are = are-parts config part c.args.self.now front bytes c.args.self.now.rooms.chunk c.new-parts.result
-    c.new-parts.ensures.publisher (c.new-parts.ensures.settings ∙ c.header_settings.ensures) c.new-parts.ensures.made c.new-parts.ensures.written (ap (λ (r : Rooms). r.chunk) c.requires.may.may.made_for.rooms) c.split_at_mut-bytes.ensures.front in
+    c.new-parts.ensures.publisher (ap header_settings c.new-parts.ensures.group) c.new-parts.ensures.made c.new-parts.ensures.written (ap (λ (r : Rooms). r.chunk) c.requires.may.may.made_for.rooms) c.split_at_mut-bytes.ensures.front in
     may-post config part _ c.args.self.now front c.args.loads.now c.new-parts.result _ c.requires.may.may are refl
 
 pub post_secured-requires-clause-room : goal.post_secured-requires-clause-room
@@ -22,7 +25,7 @@ post_secured-requires-clause-room c =
     let front = take 32768 c.args.buffer.now in
     let bytes = c.split_at_mut-bytes.result.0.now in
     let are = are-parts config part c.args.self.now front bytes c.args.self.now.rooms.chunk c.new-parts.result
-    c.new-parts.ensures.publisher (c.new-parts.ensures.settings ∙ c.header_settings.ensures) c.new-parts.ensures.made c.new-parts.ensures.written (ap (λ (r : Rooms). r.chunk) c.requires.may.may.made_for.rooms) c.split_at_mut-bytes.ensures.front in
+    c.new-parts.ensures.publisher (ap header_settings c.new-parts.ensures.group) c.new-parts.ensures.made c.new-parts.ensures.written (ap (λ (r : Rooms). r.chunk) c.requires.may.may.made_for.rooms) c.split_at_mut-bytes.ensures.front in
     omega (
       arith,
       made-within config part (Some c.args.sender.now) c.args.self.now c.args.buffer.now bytes c.args.frames.now c.args.self.now.rooms.chunk c.args.loads.now c.new-parts.result are c.requires.may,
@@ -37,7 +40,7 @@ returns-clause-filled c =
     let front = take 32768 c.args.buffer.now in
     let bytes = c.split_at_mut-bytes.result.0.now in
     let are = are-parts config part c.args.self.now front bytes c.args.self.now.rooms.chunk c.new-parts.result
-    c.new-parts.ensures.publisher (c.new-parts.ensures.settings ∙ c.header_settings.ensures) c.new-parts.ensures.made c.new-parts.ensures.written (ap (λ (r : Rooms). r.chunk) c.requires.may.may.made_for.rooms) c.split_at_mut-bytes.ensures.front in
+    c.new-parts.ensures.publisher (ap header_settings c.new-parts.ensures.group) c.new-parts.ensures.made c.new-parts.ensures.written (ap (λ (r : Rooms). r.chunk) c.requires.may.may.made_for.rooms) c.split_at_mut-bytes.ensures.front in
     is-filled config part (Some c.args.sender.now) c.args.self.now c.args.buffer.now bytes c.split_at_mut-bytes.result.1.now c.post_secured.new.free c.args.frames.now c.args.self.now.rooms.chunk c.args.loads.now c.post_secured.new.ranges.items
     c.new-parts.result are c.split_at_mut-bytes.ensures.back c.post_secured.ensures.laid c.post_secured.ensures.ranges c.post_secured.ensures.written
 
@@ -52,3 +55,6 @@ returns-then-is_empty-clause-filled c =
 
 pub returns-then-is_empty-clause-sender : goal.returns-then-is_empty-clause-sender
 returns-then-is_empty-clause-sender c = never-advanced _ c.args.sender.now c.args.loads.now (sym c.is_empty.ensures ∙ c.if-is_empty.true)
+
+pub post_secured-requires-clause-secured : goal.post_secured-requires-clause-secured
+post_secured-requires-clause-secured c = ap is_secured c.mode_of-mode.ensures ∙ secured-mode c.args.group.now.security c.requires.may.may.sender_is.there
