@@ -194,7 +194,7 @@ module _ (laws : TurnLaws) (law : TakesSignedAlone) (p : Play) (is : IsPlay 1638
     pub is-answer : IsAnswer (its_answers p) closing_frame
     is-answer = subst (λ (a : List Answered). IsAnswer a closing_frame) (sym answered-is) (inl refl)
 
-    next-is : next_place s (its_answers p) ≡ place + 1
+    pub next-is : next_place s (its_answers p) ≡ place + 1
     next-is =
         let now : Answered = record { turn = own; answer = Some closing_frame } in
         let count = count-append is_data (now ∷ []) earlier in
@@ -207,7 +207,7 @@ module _ (laws : TurnLaws) (law : TakesSignedAlone) (p : Play) (is : IsPlay 1638
     pub is-last : (frame : PlacedFrame) → IsAnswer (its_answers p) frame → is_silent frame ≡ false → place_of frame ≤ place
     is-last frame answer loud = let lt = (span frame answer).1 in let next = next-is in omega (arith, lt, next)
 
-    back : place_from first (number_of_place place) ≡ place
+    pub back : place_from first (number_of_place place) ≡ place
     back = let at = span closing_frame is-answer in let low = at.0 in let high = at.1 in let few = is.few in place_from-number first place (omega (arith, low)) (omega (arith, high, few))
 
     -- ---- as it is read
@@ -314,15 +314,26 @@ module _ (laws : TurnLaws) (law : TakesSignedAlone) (p : Play) (is : IsPlay 1638
         let found = in-flat (λ (o : Opened). pieces (its_way p).seat.part o.payload) opened_all piece (subst (λ (l : List Piece). Contains l piece) (sym same) (0, omega arith, refl)) in
         uncut found.0 piece found.1 found.2
 
-    one-dynamic : group.layout ≡ layouts.Dynamic → AllUncut → (b : Bool) → fits ≡ b → OnePart
-    one-dynamic layout uncut true e = record { piece = Message message; same = same-dynamic layout ∙ ap pieces_by e; reads_as = λ now o list. read-ok now o list (frame_at (its_meta p) message) (read-dynamic layout) }
-    one-dynamic layout uncut false e =
-        let room = chunk_room p.config.publisher.id group in
-        absurd (no-chunks room (cut-dynamic layout e) (cuts room (carried closing_frame) message) refl (same-dynamic layout ∙ ap pieces_by e) uncut)
+    -- several parts, its chunks
+    pub record InChunks : Type 0 where
+      pub room : ℕ
+      pub cut_up : IsMessage (its_way p).seat room (carried closing_frame) message frame
+      pub same : its_pieces ≡ map (λ chunk. Chunked (chunk_bytes chunk)) (cuts room (carried closing_frame) message)
+
+    case-dynamic : group.layout ≡ layouts.Dynamic → (b : Bool) → fits ≡ b → OnePart ⊎ InChunks
+    case-dynamic layout true e = inl (record { piece = Message message; same = same-dynamic layout ∙ ap pieces_by e; reads_as = λ now o list. read-ok now o list (frame_at (its_meta p) message) (read-dynamic layout) })
+    case-dynamic layout false e = inr (record { room = chunk_room p.config.publisher.id group; cut_up = cut-dynamic layout e; same = same-dynamic layout ∙ ap pieces_by e })
+
+    pub part-case : (layout : Layout) → group.layout ≡ layout → OnePart ⊎ InChunks
+    part-case layouts.Dynamic e = case-dynamic e fits refl
+    part-case layouts.Fixed e = inl (record { piece = Slotted slot_bytes; same = same-fixed e; reads_as = λ now o list. read-ok now o list (slot_frame_at (its_meta p) slot_bytes) (read-fixed e) })
+
+    one-of-case : AllUncut → OnePart ⊎ InChunks → OnePart
+    one-of-case uncut (inl part) = part
+    one-of-case uncut (inr chunks) = absurd (no-chunks chunks.room chunks.cut_up (cuts chunks.room (carried closing_frame) message) refl chunks.same uncut)
 
     pub one-part : AllUncut → (layout : Layout) → group.layout ≡ layout → OnePart
-    one-part uncut layouts.Dynamic e = one-dynamic e uncut fits refl
-    one-part uncut layouts.Fixed e = record { piece = Slotted slot_bytes; same = same-fixed e; reads_as = λ now o list. read-ok now o list (slot_frame_at (its_meta p) slot_bytes) (read-fixed e) }
+    one-part uncut layout e = one-of-case uncut (part-case layout e)
 
     module _ (unsecured : is_secured (its_setting p).setup.mode ≡ false) where
       pub opens-all : (opened : Opened) → Contains opened_all opened → (datagram : List ℕ) × Contains last.turn.made datagram × ((accepted : Accepted) → verdict (its_setting p).group (its_setting p).setup accepted datagram ≡ Ok opened)

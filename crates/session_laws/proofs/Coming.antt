@@ -47,7 +47,7 @@ stays-behind : (place : ℕ) (item : Item) (before : List Mark) (jump : Bool) �
 stays-behind place item before true e h = absurd (cc)
 stays-behind place item before false e h = inr h
 
-stands-behind : (place : ℕ) (way : Way) (now : ℕ) (before : List Mark) (frame : PlacedFrame) → Stands place before → Stands place (comes way before (item_of now None frame))
+pub stands-behind : (place : ℕ) (way : Way) (now : ℕ) (before : List Mark) (frame : PlacedFrame) → Stands place before → Stands place (comes way before (item_of now None frame))
 stands-behind place way now before frame h =
     stays-behind place (item_of now None frame) before (goes_by_numbers way && jumps (since_cut (arrivals_in before)) None) (none-jumps (goes_by_numbers way) (since_cut (arrivals_in before))) h
 
@@ -56,7 +56,7 @@ stays-new : (place : ℕ) (item : Item) (before : List Mark) (jump : Bool) → p
 stays-new place item before true at = inl at
 stays-new place item before false at = inl at
 
-stands-new : (place : ℕ) (way : Way) (now : ℕ) (s : Option ℕ) (before : List Mark) (frame : PlacedFrame) → place_of frame ≡ place → Stands place (comes way before (item_of now s frame))
+pub stands-new : (place : ℕ) (way : Way) (now : ℕ) (s : Option ℕ) (before : List Mark) (frame : PlacedFrame) → place_of frame ≡ place → Stands place (comes way before (item_of now s frame))
 stands-new place way now s before frame at = stays-new place (item_of now s frame) before (goes_by_numbers way && jumps (since_cut (arrivals_in before)) s) at
 
 -- parts behind it leave it there
@@ -85,7 +85,7 @@ same-if : (item : Item) (before : List Mark) (jump : Bool) → chunks_in (cut_if
 same-if item before true = refl
 same-if item before false = refl
 
-same-chunks : (way : Way) (before : List Mark) (item : Item) → chunks_in (comes way before item) ≡ chunks_in before
+pub same-chunks : (way : Way) (before : List Mark) (item : Item) → chunks_in (comes way before item) ≡ chunks_in before
 same-chunks way before item = same-if item before (goes_by_numbers way && jumps (since_cut (arrivals_in before)) item.stamp)
 
 lies-kept : (chunk : Chunk) (way : Way) (now : ℕ) (s : Option ℕ) → IsKept (Lies chunk) way now s
@@ -126,26 +126,9 @@ module _ (word : NumberingWord) (way : Way) (answered : List Answered) (bytes : 
   abbrev of_chunk : Chunk → Type 0
   of_chunk c = IsChunkOf way.seat.meta answered bytes c
 
-  -- where the chunks cover the message, its item stands in the list
-  abbrev Covered : List Mark → Type 0
-  Covered list = cover (chunks_in list) place total ≡ true → Stands place list
-
   -- the frame is read
   pub reads-frame : (now : ℕ) (s : Option ℕ) (before : List Mark) → Stands place (read_on way (place_from first) now s before (Ok frame))
   reads-frame now s before = subst (λ (o : Option PlacedFrame). Stands place (item_on way now s before o)) (sym gives) (stands-new place way now s before given at)
-
-  covered-item : (now : ℕ) (before : List Mark) (o : Option PlacedFrame) → Covered before → Covered (item_on way now None before o)
-  covered-item now before None h = h
-  covered-item now before (Some f) h = λ e.
-      stands-behind place way now before f (h (ap (λ (l : List Chunk). cover l place total) (sym (same-chunks way before (item_of now None f))) ∙ e))
-
-  covered-read : (now : ℕ) (before : List Mark) (r : Result Frame FrameFault) → Covered before → Covered (read_on way (place_from first) now None before r)
-  covered-read now before (Err fault) h = h
-  covered-read now before (Ok f) h = covered-item now before (frame_of way (place_from first) f) h
-
-  -- a chunk at another place
-  covered-other : (before : List Mark) (c : Chunk) → c.place ≢ place → Covered before → Covered (Laid c ∷ before)
-  covered-other before c differ h = λ e. h (sym (cover-other c (chunks_in before) place total differ) ∙ e)
 
   low : (before : List Mark) → AreAll before → All (λ c. c.place ≤ place) (chunks_in before)
   low before are =
@@ -165,62 +148,83 @@ module _ (word : NumberingWord) (way : Way) (answered : List Answered) (bytes : 
   not-whole true false c ea eb e = absurd (cc)
   not-whole false b c ea eb e = absurd (cc)
 
-  -- a chunk at the place that doesn't make the message whole
-  covered-part : (before : List Mark) (c : Chunk) → AreAll before → c.place ≡ place → c.total ≡ total → is_whole_at (chunks_in before) c ≡ false → Covered before → Covered (Laid c ∷ before)
-  covered-part before c are own whole e h = λ covers.
-      let chunks = chunks_in before in
-      let lows : list_all (λ x. nat_le x.place c.place) chunks ≡ true = ap (λ (n : ℕ). list_all (λ x. nat_le x.place n) chunks) own ∙ all-low chunks (low before are) in
-      let full : cover (c ∷ chunks) c.place c.total ≡ true = ap (λ (n : ℕ). cover (c ∷ chunks) n c.total) own ∙ ap (λ (n : ℕ). cover (c ∷ chunks) place n) whole ∙ covers in
-      let was = not-whole (list_all (λ x. nat_le x.place c.place) chunks) (cover (c ∷ chunks) c.place c.total) (cover chunks c.place c.total) lows full e in
-      h (sym (ap (λ (n : ℕ). cover chunks n c.total) own ∙ ap (λ (n : ℕ). cover chunks place n) whole) ∙ was)
-
   same-total : (c : Chunk) → IsLaidOf way.seat.meta answered bytes c → c.place ≡ place → c.total ≡ total
   same-total c laid own = laid.cut.total ∙ ap (λ (n : ℕ). length (bytes n)) own
 
   abbrev of_piece : Piece → Type 0
   of_piece piece = IsPieceOf of_frame of_chunk way.seat.meta piece
 
-  -- whose message is read as it
-  module _ (read : frame_at way.seat.meta (bytes place) ≡ Ok frame) where
-    -- one that does
-    whole-stands : (now : ℕ) (s : Option ℕ) (before : List Mark) (c : Chunk) → AreAll before → IsLaidOf way.seat.meta answered bytes c → c.place ≡ place → is_whole_at (chunks_in before) c ≡ true
-        → Stands place (read_on way (place_from first) now s (Laid c ∷ before) (frame_at way.seat.meta (message_of (c ∷ chunks_in before) c.place c.total)))
-    whole-stands now s before c are laid own e =
-        let message : message_of (c ∷ chunks_in before) c.place c.total ≡ bytes place =
-        whole-is way.seat.meta answered bytes c (chunks_in before) laid (chunks-are (IsLaidOf way.seat.meta answered bytes) before are.chunks) e ∙ ap bytes own in
-        subst (λ (r : Result Frame FrameFault). Stands place (read_on way (place_from first) now s (Laid c ∷ before) r)) (sym (ap (frame_at way.seat.meta) message ∙ read)) (reads-frame now s (Laid c ∷ before))
+  -- what an item with this stamp leaves, and what the frame brings, stands where the chunks cover the message
+  module _ (now : ℕ) (s : Option ℕ) (Q : List Mark → Type 0) (behind : (before : List Mark) (f : PlacedFrame) → Q before → Q (comes way before (item_of now s f))) (laid : (before : List Mark) (c : Chunk) → Q before → Q (Laid c ∷ before))
+      (new : (before : List Mark) → Q (comes way before (item_of now s given))) where
+    abbrev Covered : List Mark → Type 0
+    Covered list = cover (chunks_in list) place total ≡ true → Q list
 
-    covered-laid : (now : ℕ) (before : List Mark) (c : Chunk) (proper whole own : Bool) → is_whole_at (chunks_in before) c ≡ whole → (c.place == place) ≡ own → AreAll before → IsLaidOf way.seat.meta answered bytes c → Covered before
-        → Covered (if not proper then before
-        else if whole then read_on way (place_from first) now None (Laid c ∷ before) (frame_at way.seat.meta (message_of (c ∷ chunks_in before) c.place c.total))
-        else Laid c ∷ before)
-    covered-laid now before c false whole own e is are laid h = h
-    covered-laid now before c true true true e is are laid h = λ covers. whole-stands now None before c are laid (grind (arith, nat_tests)) e
-    covered-laid now before c true true false e is are laid h =
-        covered-read now (Laid c ∷ before) (frame_at way.seat.meta (message_of (c ∷ chunks_in before) c.place c.total)) (covered-other before c (grind (arith, nat_tests)) h)
-    covered-laid now before c true false true e is are laid h = let same : c.place ≡ place = grind (arith, nat_tests) in covered-part before c are same (same-total c laid same) e h
-    covered-laid now before c true false false e is are laid h = covered-other before c (grind (arith, nat_tests)) h
+    reads-new : (before : List Mark) → Q (read_on way (place_from first) now s before (Ok frame))
+    reads-new before = subst (λ (o : Option PlacedFrame). Q (item_on way now s before o)) (sym gives) (new before)
 
-    covered-chunk : (now : ℕ) (before : List Mark) (r : Result Chunk ChunkFault) → OfRead of_chunk r → AreAll before → Covered before → Covered (chunk_on way (place_from first) now None before r)
-    covered-chunk now before (Err fault) of are h = h
-    covered-chunk now before (Ok chunk) of are h =
-        let c = placed (place_from first) chunk in
-        covered-laid now before c (is_proper (chunks_in before) c) (is_whole_at (chunks_in before) c) (c.place == place) refl refl are (chunk-laid way answered bytes first next chunk source of) h
+    covered-item : (before : List Mark) (o : Option PlacedFrame) → Covered before → Covered (item_on way now s before o)
+    covered-item before None h = h
+    covered-item before (Some f) h = λ e. behind before f (h (ap (λ (l : List Chunk). cover l place total) (sym (same-chunks way before (item_of now s f))) ∙ e))
 
-    pub covered-piece : (now : ℕ) (before : List Mark) (piece : Piece) → IsPieceOf of_frame of_chunk way.seat.meta piece → AreAll before → Covered before → Covered (piece_on way (place_from first) now None before piece)
-    covered-piece now before (Message b) of are h = covered-read now before (frame_at way.seat.meta b) h
-    covered-piece now before (Chunked b) of are h = covered-chunk now before (without_rest (chunk_at b)) of are h
-    covered-piece now before (Slotted b) of are h = covered-read now before (slot_frame_at way.seat.meta b) h
-    covered-piece now before Missing of are h = h
+    covered-read : (before : List Mark) (r : Result Frame FrameFault) → Covered before → Covered (read_on way (place_from first) now s before r)
+    covered-read before (Err fault) h = h
+    covered-read before (Ok f) h = covered-item before (frame_of way (place_from first) f) h
 
-    pub covered-parts : (now : ℕ) → Keep AreAll of_frame of_chunk way (place_from first) now None → (parts : List Piece) (before : List Mark) → All of_piece parts → AreAll before → Covered before
-        → Covered (fold (piece_on way (place_from first) now None) before parts)
-    covered-parts now keep [] before of are h = h
-    covered-parts now keep (piece ∷ parts) before of are h =
-        let head = All-head of_piece piece parts of in
-        covered-parts now keep parts (piece_on way (place_from first) now None before piece) (All-tail of_piece piece parts of)
-        (keep-parts AreAll of_frame of_chunk way (place_from first) now None keep (piece ∷ []) before (All-cons of_piece piece [] head (All-nil of_piece)) are)
-        (covered-piece now before piece head are h)
+    -- a chunk at another place
+    covered-other : (before : List Mark) (c : Chunk) → c.place ≢ place → Covered before → Covered (Laid c ∷ before)
+    covered-other before c differ h = λ e. laid before c (h (sym (cover-other c (chunks_in before) place total differ) ∙ e))
+
+    -- a chunk at the place that doesn't make the message whole
+    covered-part : (before : List Mark) (c : Chunk) → AreAll before → c.place ≡ place → c.total ≡ total → is_whole_at (chunks_in before) c ≡ false → Covered before → Covered (Laid c ∷ before)
+    covered-part before c are own whole e h = λ covers.
+        let chunks = chunks_in before in
+        let lows : list_all (λ x. nat_le x.place c.place) chunks ≡ true = ap (λ (n : ℕ). list_all (λ x. nat_le x.place n) chunks) own ∙ all-low chunks (low before are) in
+        let full : cover (c ∷ chunks) c.place c.total ≡ true = ap (λ (n : ℕ). cover (c ∷ chunks) n c.total) own ∙ ap (λ (n : ℕ). cover (c ∷ chunks) place n) whole ∙ covers in
+        let was = not-whole (list_all (λ x. nat_le x.place c.place) chunks) (cover (c ∷ chunks) c.place c.total) (cover chunks c.place c.total) lows full e in
+        laid before c (h (sym (ap (λ (n : ℕ). cover chunks n c.total) own ∙ ap (λ (n : ℕ). cover chunks place n) whole) ∙ was))
+
+    -- whose message is read as it
+    module _ (read : frame_at way.seat.meta (bytes place) ≡ Ok frame) where
+      -- one that does
+      whole-stands : (before : List Mark) (c : Chunk) → AreAll before → IsLaidOf way.seat.meta answered bytes c → c.place ≡ place → is_whole_at (chunks_in before) c ≡ true
+          → Q (read_on way (place_from first) now s (Laid c ∷ before) (frame_at way.seat.meta (message_of (c ∷ chunks_in before) c.place c.total)))
+      whole-stands before c are laid own e =
+          let message : message_of (c ∷ chunks_in before) c.place c.total ≡ bytes place =
+          whole-is way.seat.meta answered bytes c (chunks_in before) laid (chunks-are (IsLaidOf way.seat.meta answered bytes) before are.chunks) e ∙ ap bytes own in
+          subst (λ (r : Result Frame FrameFault). Q (read_on way (place_from first) now s (Laid c ∷ before) r)) (sym (ap (frame_at way.seat.meta) message ∙ read)) (reads-new (Laid c ∷ before))
+
+      covered-laid : (before : List Mark) (c : Chunk) (proper whole own : Bool) → is_whole_at (chunks_in before) c ≡ whole → (c.place == place) ≡ own → AreAll before → IsLaidOf way.seat.meta answered bytes c → Covered before
+          → Covered (if not proper then before
+          else if whole then read_on way (place_from first) now s (Laid c ∷ before) (frame_at way.seat.meta (message_of (c ∷ chunks_in before) c.place c.total))
+          else Laid c ∷ before)
+      covered-laid before c false whole own e is are laid h = h
+      covered-laid before c true true true e is are laid h = λ covers. whole-stands before c are laid (grind (arith, nat_tests)) e
+      covered-laid before c true true false e is are laid h =
+          covered-read (Laid c ∷ before) (frame_at way.seat.meta (message_of (c ∷ chunks_in before) c.place c.total)) (covered-other before c (grind (arith, nat_tests)) h)
+      covered-laid before c true false true e is are laid h = let same : c.place ≡ place = grind (arith, nat_tests) in covered-part before c are same (same-total c laid same) e h
+      covered-laid before c true false false e is are laid h = covered-other before c (grind (arith, nat_tests)) h
+
+      covered-chunk : (before : List Mark) (r : Result Chunk ChunkFault) → OfRead of_chunk r → AreAll before → Covered before → Covered (chunk_on way (place_from first) now s before r)
+      covered-chunk before (Err fault) of are h = h
+      covered-chunk before (Ok chunk) of are h =
+          let c = placed (place_from first) chunk in
+          covered-laid before c (is_proper (chunks_in before) c) (is_whole_at (chunks_in before) c) (c.place == place) refl refl are (chunk-laid way answered bytes first next chunk source of) h
+
+      pub covered-piece : (before : List Mark) (piece : Piece) → IsPieceOf of_frame of_chunk way.seat.meta piece → AreAll before → Covered before → Covered (piece_on way (place_from first) now s before piece)
+      covered-piece before (Message b) of are h = covered-read before (frame_at way.seat.meta b) h
+      covered-piece before (Chunked b) of are h = covered-chunk before (without_rest (chunk_at b)) of are h
+      covered-piece before (Slotted b) of are h = covered-read before (slot_frame_at way.seat.meta b) h
+      covered-piece before Missing of are h = h
+
+      pub covered-parts : Keep AreAll of_frame of_chunk way (place_from first) now s → (parts : List Piece) (before : List Mark) → All of_piece parts → AreAll before → Covered before
+          → Covered (fold (piece_on way (place_from first) now s) before parts)
+      covered-parts keep [] before of are h = h
+      covered-parts keep (piece ∷ parts) before of are h =
+          let head = All-head of_piece piece parts of in
+          covered-parts keep parts (piece_on way (place_from first) now s before piece) (All-tail of_piece piece parts of)
+          (keep-parts AreAll of_frame of_chunk way (place_from first) now s keep (piece ∷ []) before (All-cons of_piece piece [] head (All-nil of_piece)) are)
+          (covered-piece before piece head are h)
 
   -- one of the parts is read as the frame
   pub reads-among : (now : ℕ) (piece : Piece) → ((before : List Mark) → Stands place (piece_on way (place_from first) now None before piece)) → (parts : List Piece) (before : List Mark) → Contains parts piece
@@ -298,16 +302,16 @@ module _ (word : NumberingWord) (way : Way) (answered : List Answered) (bytes : 
       (lies-laid now s before c (is_proper (chunks_in before) c) (is_whole_at (chunks_in before) c) counts)
 
   -- one of the parts is a chunk of the message
-  pub lies-among : (now : ℕ) (b : List ℕ) (chunk : Chunk) → Keep AreAll of_frame of_chunk way (place_from first) now None → without_rest (chunk_at b) ≡ Ok chunk
+  pub lies-among : (now : ℕ) (s : Option ℕ) (b : List ℕ) (chunk : Chunk) → Keep AreAll of_frame of_chunk way (place_from first) now s → without_rest (chunk_at b) ≡ Ok chunk
       → ((before : List Mark) → AreAll before → is_proper (chunks_in before) (placed (place_from first) chunk) ≡ true)
       → (parts : List Piece) (before : List Mark) → All of_piece parts → AreAll before → Contains parts (Chunked b)
-      → Lies (placed (place_from first) chunk) (fold (piece_on way (place_from first) now None) before parts)
-  lies-among now b chunk keep is counts [] before of are has = absurd (let below = has.1 in omega (arith, below))
-  lies-among now b chunk keep is counts (x ∷ parts) before of are (zero, below, same) =
-      lies-parts (placed (place_from first) chunk) way (place_from first) now None parts (piece_on way (place_from first) now None before x)
-      (subst (λ (y : Piece). Lies (placed (place_from first) chunk) (piece_on way (place_from first) now None before y)) (sym same) (lies-chunk now None before b chunk is (counts before are)))
-  lies-among now b chunk keep is counts (x ∷ parts) before of are (suc k, below, same) =
+      → Lies (placed (place_from first) chunk) (fold (piece_on way (place_from first) now s) before parts)
+  lies-among now s b chunk keep is counts [] before of are has = absurd (let below = has.1 in omega (arith, below))
+  lies-among now s b chunk keep is counts (x ∷ parts) before of are (zero, below, same) =
+      lies-parts (placed (place_from first) chunk) way (place_from first) now s parts (piece_on way (place_from first) now s before x)
+      (subst (λ (y : Piece). Lies (placed (place_from first) chunk) (piece_on way (place_from first) now s before y)) (sym same) (lies-chunk now s before b chunk is (counts before are)))
+  lies-among now s b chunk keep is counts (x ∷ parts) before of are (suc k, below, same) =
       let head = All-head of_piece x parts of in
-      lies-among now b chunk keep is counts parts (piece_on way (place_from first) now None before x) (All-tail of_piece x parts of)
-      (keep-parts AreAll of_frame of_chunk way (place_from first) now None keep (x ∷ []) before (All-cons of_piece x [] head (All-nil of_piece)) are)
+      lies-among now s b chunk keep is counts parts (piece_on way (place_from first) now s before x) (All-tail of_piece x parts of)
+      (keep-parts AreAll of_frame of_chunk way (place_from first) now s keep (x ∷ []) before (All-cons of_piece x [] head (All-nil of_piece)) are)
       (k, omega (arith, below), same)

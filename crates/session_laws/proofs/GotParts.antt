@@ -1,7 +1,6 @@
 -- What befalls a read group without security: a frame stands in a reader's list once a datagram brought it, and its chunks once theirs did.
 use Rattle.std.proofs.Common.{◌≡◌, refl, sym, ap, ◌∙◌, subst, arith, ℕ, zero, suc, ◌<◌, ◌≤◌, ◌⊎◌, inl, inr, Bool, true, false, List, [], ◌∷◌, ◌++◌, map, length, Some, None, All, Contains, Result, Ok, Err}
 use Rattle.std.specs.Prelude.{◌&&◌, ◌==◌, fold, slice_index_or, if◌then◌else◌}
-use Rattle.std.proofs.lemmas.List.Elements.{All-nil}
 use Rattle.std.proofs.lemmas.List.FromFn.{get_or-map-range_with_len}
 use Rattle.seq_number.specs.Numbers.{place_from}
 use Rattle.ua_base.specs.Journal as entries_of
@@ -39,14 +38,10 @@ use Rattle.session_model.specs.Steps.{Step, Pump, is_on, moment_of, switches_in}
 use Rattle.session_laws.specs.Newest.{CameIn}
 use Rattle.session_laws.specs.Pasts.{CameAsMade, settings_at}
 use Rattle.session_laws.specs.Plays.{Play, IsPlay, its_answers, its_meta, its_setting, its_way}
-use Rattle.session_laws.proofs.Coming.{Lies, Stands, covered-parts, lies-among, lies-parts, reads-among, stands-parts}
-use Rattle.session_laws.proofs.Marks.{events-sent, its_bytes, source, turns}
-use Rattle.session_laws.proofs.Pieces.{TurnLaws, made-pieces}
+use Rattle.session_laws.proofs.Coming.{Lies, Stands, covered-parts, lies-among, lies-parts, reads-among, stands-behind, stands-new, stands-parts}
+use Rattle.session_laws.proofs.Marks.{all-on, events-sent, its_bytes, parts-sent, source}
+use Rattle.session_laws.proofs.Pieces.{TurnLaws}
 use Rattle.session_laws.proofs.Sources.{AreSent, IsChunkOf, IsOfAnswer, sent-kept}
-
-all-if : (P : Piece → Type 0) (on : Bool) (parts : List Piece) → All P parts → All P (if on then parts else [])
-all-if P true parts h = h
-all-if P false parts h = All-nil P
 
 module _ (laws : TurnLaws) (law : TakesSignedAlone) (most : ℕ) (p : Play) (le : most ≤ 65536) (is : IsPlay most p) (unsecured : is_secured (its_setting p).setup.mode ≡ false) where
   abbrev way : Way
@@ -111,15 +106,6 @@ module _ (laws : TurnLaws) (law : TakesSignedAlone) (most : ℕ) (p : Play) (le 
     keep-now : (now : ℕ) → Keep AreAll (IsOfAnswer (its_meta p) (its_answers p)) (IsChunkOf (its_meta p) (its_answers p) bytes) way (place_from first) now None
     keep-now now = sent-kept way.seat.part.numbering way (its_answers p) bytes first next now None refl (source laws law most p le is)
 
-    -- the parts of a datagram that came
-    parts-of : (now : ℕ) (on : List Bool) (datagram : List ℕ) (before : List Event) (opened : Opened) → CameAsMade (its_setting p) p.config p.pasts (Got now on datagram ∷ before)
-        → verdict (its_setting p).group (its_setting p).setup (accepted (its_setting p) before) datagram ≡ Ok opened → All of_piece (pieces way.seat.part opened.payload)
-    parts-of now on datagram before opened came e =
-        let setting = its_setting p in
-        let pairs = accepted setting before in
-        made-pieces laws p.config p.group p.readers p.reader p.writer is.matched p.index p.pasts is.sound is.there is.pasts (turns laws law most p le is) pairs datagram opened
-        (came.0 (λ secured. law setting.group setting.setup pairs datagram opened e secured)) e
-
     module _ (read : frame_at (its_meta p) (bytes place) ≡ Ok frame) where
       -- ---- where its chunks cover it, it stands there
 
@@ -128,8 +114,9 @@ module _ (laws : TurnLaws) (law : TakesSignedAlone) (most : ℕ) (p : Play) (le 
       covered-taken now enabled pairs list (Err refusal) of are h = h
       covered-taken now enabled pairs list (Ok opened) of are h =
           subst Covered (sym (taken-open now enabled pairs list opened))
-          (covered-parts way.seat.part.numbering way (its_answers p) bytes first next place (source laws law most p le is) last frame given gives at read now (keep-now now) (if enabled then pieces way.seat.part opened.payload else []) list
-          (all-if of_piece enabled (pieces way.seat.part opened.payload) (of opened refl)) are h)
+          (covered-parts way.seat.part.numbering way (its_answers p) bytes first next place (source laws law most p le is) last frame given gives at now None (Stands place) (λ before f stands. stands-behind place way now before f stands)
+          (λ before c stands. stands) (λ before. stands-new place way now None before given at) read (keep-now now) (if enabled then pieces way.seat.part opened.payload else []) list
+          (all-on of_piece enabled (pieces way.seat.part opened.payload) (of opened refl)) are h)
 
       covered-none : (list : List Mark) → 0 < length (bytes place) → chunks_in list ≡ [] → Covered list
       covered-none list some none = λ e.
@@ -144,7 +131,7 @@ module _ (laws : TurnLaws) (law : TakesSignedAlone) (most : ℕ) (p : Play) (le 
       covered-events (Got now on datagram ∷ before) some restarts came =
           let setting = its_setting p in
           let pairs = accepted setting before in
-          covered-taken now (slice_index_or on way.index false) pairs (list_after before) (verdict setting.group setting.setup pairs datagram) (λ opened e. parts-of now on datagram before opened came e)
+          covered-taken now (slice_index_or on way.index false) pairs (list_after before) (verdict setting.group setting.setup pairs datagram) (λ opened e. parts-sent laws law most p le is now on datagram before opened came e)
           (events-sent laws law most p le is before came.1) (covered-events before some restarts came.1)
       covered-events (Expired now ∷ before) some restarts came =
           covered-cut (runs_out way now (arrivals_in (list_after before))) Timeout (list_after before) some (λ list. refl) (covered-events before some restarts came)
@@ -177,8 +164,8 @@ module _ (laws : TurnLaws) (law : TakesSignedAlone) (most : ℕ) (p : Play) (le 
         → Lies (placed (place_from first) chunk) (list_after (Got now on datagram ∷ before))
     brings-chunk b chunk is_read counts now on datagram before opened enabled e came has =
         subst (Lies (placed (place_from first) chunk)) (sym (taken-now now on datagram before opened enabled e))
-        (lies-among way.seat.part.numbering way (its_answers p) bytes first next place (source laws law most p le is) last frame given gives at now b chunk (keep-now now) is_read counts
-        (pieces way.seat.part opened.payload) (list_after before) (parts-of now on datagram before opened came e) (events-sent laws law most p le is before came.1) has)
+        (lies-among way.seat.part.numbering way (its_answers p) bytes first next place (source laws law most p le is) last frame given gives at now None b chunk (keep-now now) is_read counts
+        (pieces way.seat.part opened.payload) (list_after before) (parts-sent laws law most p le is now on datagram before opened came e) (events-sent laws law most p le is before came.1) has)
 
 -- ---- the pumps that a session ends with
 

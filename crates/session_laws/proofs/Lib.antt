@@ -45,3 +45,4 @@ pub mod BareHeld
 mod BareGot
 mod BareTrace
 mod BareEnd
+mod SignedChunks

@@ -26,11 +26,11 @@ use Rattle.pubsub_model.proofs.AnswerPlaces.{answers-span}
 use Rattle.reader_group.specs.Signed.{TakesSignedAlone}
 use Rattle.session_laws.proofs.Sources.{IsOfAnswer, IsChunkOf, AreSent, Source, sent-kept}
 
-sent-cut : (word : NumberingWord) (meta : MetaData) (answered : List Answered) (bytes : ℕ → List ℕ) (cuts : Bool) (why : Why) (list : List Mark) → AreSent word meta answered bytes list → AreSent word meta answered bytes (cut_on cuts why list)
+pub sent-cut : (word : NumberingWord) (meta : MetaData) (answered : List Answered) (bytes : ℕ → List ℕ) (cuts : Bool) (why : Why) (list : List Mark) → AreSent word meta answered bytes list → AreSent word meta answered bytes (cut_on cuts why list)
 sent-cut word meta answered bytes true why list h = record { items = h.items; chunks = h.chunks }
 sent-cut word meta answered bytes false why list h = h
 
-all-on : (P : Piece → Type 0) (on : Bool) (parts : List Piece) → All P parts → All P (if on then parts else [])
+pub all-on : (P : Piece → Type 0) (on : Bool) (parts : List Piece) → All P parts → All P (if on then parts else [])
 all-on P true parts h = h
 all-on P false parts h = All-nil P
 
@@ -64,6 +64,16 @@ module _ (laws : TurnLaws) (law : TakesSignedAlone) (most : ℕ) (p : Play) (le 
       (all-on (IsPieceOf (IsOfAnswer (its_meta p) (its_answers p)) (IsChunkOf (its_meta p) (its_answers p) its_bytes) (its_meta p)) enabled (pieces way.seat.part opened.payload) (are opened refl))
       (sent-cut word (its_meta p) (its_answers p) its_bytes (is_raised (its_setting p) pairs opened) NewToken list h)
 
+  -- the parts of a datagram that came
+  pub parts-sent : (now : ℕ) (on : List Bool) (datagram : List ℕ) (before : List Event) (opened : Opened) → CameAsMade (its_setting p) p.config p.pasts (Got now on datagram ∷ before)
+      → verdict (its_setting p).group (its_setting p).setup (accepted (its_setting p) before) datagram ≡ Ok opened
+      → All (IsPieceOf (IsOfAnswer (its_meta p) (its_answers p)) (IsChunkOf (its_meta p) (its_answers p) its_bytes) (its_meta p)) (pieces way.seat.part opened.payload)
+  parts-sent now on datagram before opened came e =
+      let setting = its_setting p in
+      let pairs = accepted setting before in
+      made-pieces laws p.config p.group p.readers p.reader p.writer is.matched p.index p.pasts is.sound is.there is.pasts turns pairs datagram opened
+      (came.0 (λ secured. law setting.group setting.setup pairs datagram opened e secured)) e
+
   -- whatever befell it so far
   pub events-sent : (events : List Event) → CameAsMade (its_setting p) p.config p.pasts events → AreSent word (its_meta p) (its_answers p) its_bytes (marks (its_setting p) way events)
   events-sent [] came = record { items = tt; chunks = tt }
@@ -71,9 +81,7 @@ module _ (laws : TurnLaws) (law : TakesSignedAlone) (most : ℕ) (p : Play) (le 
       let setting = its_setting p in
       let pairs = accepted setting before in
       taken-sent now (slice_index_or on way.index false) pairs (marks setting way before) (verdict setting.group setting.setup pairs datagram)
-      (λ opened e.
-      made-pieces laws p.config p.group p.readers p.reader p.writer is.matched p.index p.pasts is.sound is.there is.pasts turns pairs datagram opened
-      (came.0 (λ secured. law setting.group setting.setup pairs datagram opened e secured)) e)
+      (λ opened e. parts-sent now on datagram before opened came e)
       (events-sent before came.1)
   events-sent (Expired now ∷ before) came =
       let list = marks (its_setting p) way before in

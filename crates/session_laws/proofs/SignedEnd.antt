@@ -1,13 +1,14 @@
 -- A session that ends with a closing tick and its pumps: where the closing frame's datagram came to a secured read group, the frame stands in the reader's list.
 use Rattle.std.proofs.Common.{◌≡◌, ◌≢◌, refl, sym, ap, ◌∙◌, subst, arith, ℕ, zero, suc, ◌+◌, ◌<◌, ◌≤◌, ◌⊎◌, inl, inr, Bool, true, false, not, List, [], ◌∷◌, ◌++◌, map, length, get_or, Option, Some, All, Contains, Result, Ok}
-use Rattle.std.specs.Prelude.{◌||◌, option_map, slice_get, ⊤}
+use Rattle.std.specs.Prelude.{◌||◌, option_map, slice_get, slice_index_or, if◌then◌else◌, ⊤}
 use Rattle.std.specs.List.{cons_option}
 use Rattle.std.proofs.lemmas.List.{get_or_default}
 use Rattle.std.proofs.lemmas.List.Elements.{All-contains}
 use Rattle.std.proofs.lemmas.Option.{slice_get-get_or}
 use Rattle.ua_base.specs.Journal.{Entry}
-use Rattle.pubsub_model.specs.Cadence.{WriterTurn, HadTurn}
-use Rattle.pubsub_model.specs.Frames.{Whole, placed_cut}
+use Rattle.pubsub_model.specs.declared.reading.Why.TheVariants.{NewToken}
+use Rattle.pubsub_model.specs.Cadence.{WriterTurn, HadTurn, next_place}
+use Rattle.pubsub_model.specs.Frames.{PlacedFrame, Whole, is_silent, place_of, placed_cut}
 use Rattle.pubsub_model.specs.Records.{Item, place_in, since_cut}
 use Rattle.message_guard.specs.Acceptance.{Accepted, is_acceptable, raises}
 use Rattle.message_guard.specs.Modes.{is_secured}
@@ -18,10 +19,10 @@ use Rattle.ps_config.specs.declared.parts.Config.{Config}
 use Rattle.ps_config.specs.declared.parts.GroupPart.{GroupPart}
 use Rattle.ps_config.specs.declared.parts.ReadGroupPart.{ReadGroupPart}
 use Rattle.ps_config.specs.Headers.{is_secured as is_secured_group, mode_of}
-use Rattle.reader_group.specs.Arrivals.{Mark, Way, accepted, accepted_with, is_numbered, item_on, marks, piece_on}
+use Rattle.reader_group.specs.Arrivals.{Mark, Way, accepted, accepted_with, chunks_in, cut_on, frame_of, is_numbered, item_on, marks, piece_on, placed}
 use Rattle.reader_group.specs.declared.refusal.Refusal.{Refusal}
 use Rattle.reader_group.specs.Opening.{Opened, verdict}
-use Rattle.reader_group.specs.Payloads.{Piece, pieces}
+use Rattle.reader_group.specs.Payloads.{Piece, Chunked, pieces}
 use Rattle.reader_group.specs.Plain.{Event, Got, Setting, is_raised}
 use Rattle.reader_group.specs.Settings.{group_at as read_group_at, keygroup_at, setting_of}
 use Rattle.writer_group.specs.declared.sampled.Sampled.{Sampled}
@@ -33,28 +34,45 @@ use Rattle.session_model.specs.Deeds.{Deed, deeds, group_past, has_turn, sender_
 use Rattle.session_model.specs.Steps.{Plan, Step, Pump, Tick, moment_of, is_on}
 use Rattle.session_laws.specs.Bare.{CameLast, ClosingCameLast, ClosingGotSignedLast, NoOtherBehind}
 use Rattle.session_laws.specs.Headline.{InSession, meta_of}
-use Rattle.session_laws.specs.Pasts.{AreTurns, CameAsMade, WasMade}
-use Rattle.session_laws.specs.Plays.{IsPlay, Play, its_way}
+use Rattle.session_laws.specs.Pasts.{AreTurns, CameAsMade, WasMade, answered_by, settings_at}
+use Rattle.session_laws.specs.Plays.{IsPlay, Play, its_answers, its_way}
 use Rattle.writer_group.specs.Payloads.{writer_at, payloads_of}
 use Rattle.session_laws.proofs.Distinct.{IsAt, at-sound}
-use Rattle.session_laws.proofs.Pieces.{opened-at}
+use Rattle.session_laws.proofs.Pieces.{opened-at, own-pieces}
 use Rattle.dataset_meta.specs.DataValues.{DataValue}
 use Rattle.dataset_meta.specs.Rows.{row_cut}
-use Rattle.seq_number.specs.Numbers.{place_from}
+use Rattle.seq_number.specs.Numbers.{number_of_place, place_from}
 use Rattle.pubsub_states.specs.declared.component.Component.TheVariants.{Reader}
 use Rattle.config_tables.specs.declared.words.Layout.TheVariants as layouts
 use Rattle.config_tables.specs.declared.words.NumberingWord.TheVariants as words
 use Rattle.group_laws.specs.TurnItems.{IsUncut}
 use Rattle.session_model.specs.Events.{events, receives}
 use Rattle.session_model.specs.Turns.{TurnsHold}
-use Rattle.session_laws.specs.Newest.{CameIn, ClosingCame, ClosingGotSigned, HasPartFor, HoldsRowOf, closing_deeds, closing_opened, closing_turn}
+use Rattle.session_laws.specs.Newest.{CameIn, ClosingCame, ClosingGotSecured, ClosingGotSigned, HasPartFor, HoldsRowOf, closing_deeds, closing_turn}
 use Rattle.session_laws.specs.Reading.{arrivals_at, first_number_of}
 use Rattle.session_laws.specs.Sessions.{AreVersions, pasts_at}
 use Rattle.session_laws.proofs.ClosingGot as ClosingGot
 use Rattle.session_laws.proofs.BareEnd.{LastHeldLaw}
 use Rattle.session_laws.proofs.BareGot.{TakenAt, came-last}
 use Rattle.session_laws.proofs.BareTrace.{trace-pumps}
-use Rattle.session_laws.proofs.ClosingGot.{HeldLaw, LastTurn, OnePart, flat-one, in-flat, not-empty, one-part}
+use Rattle.session_laws.proofs.ClosingGot.{HeldLaw, InChunks, LastTurn, OnePart, flat-one, in-flat, mapped-has, not-empty, one-part, part-case}
+use Rattle.session_laws.proofs.Answering.{spelled_at}
+use Rattle.session_laws.proofs.Coming.{Lies, covered-parts, has-contains, lies-among, lies-parts, proper}
+use Rattle.session_laws.proofs.Marks.{all-on, events-sent, parts-sent, sent-cut, source, turns}
+use Rattle.session_laws.proofs.SignedChunks.{IsClosing, IsOlder, covered-all, older-parts}
+use Rattle.session_laws.proofs.Sources.{AreSent, IsChunkOf, IsLaidOf, IsOfAnswer, Source, chunk-laid, sent-kept}
+use Rattle.reader_group.proofs.KeptParts.{IsPieceOf, OfRead}
+use Rattle.chunker.specs.Chunks.{Chunk, cover, cut_at, cuts, is_proper, longest_message, message_of}
+use Rattle.chunker.specs.Joins.{IsCutOf}
+use Rattle.chunker.specs.Spelling.{chunk_at, chunk_bytes, without_rest}
+use Rattle.chunker.specs.declared.payload.ChunkFault.{ChunkFault}
+use Rattle.chunker.proofs.ChunkLaws.{cover_none}
+use Rattle.chunker.proofs.CutLaws.{cut-at, cut-contains, cut-of, cut-size, cuts-cover, message-back}
+use Rattle.frame_codec.specs.Frames.{Frame}
+use Rattle.frame_codec.specs.Reading.{frame_at}
+use Rattle.group_laws.proofs.ChunkReading.{chunk-read}
+use Rattle.pubsub_model.specs.Answers.{IsAnswer}
+use Rattle.pubsub_model.proofs.AnswerPlaces.{answers-span}
 use Rattle.session_laws.proofs.Deeds.{HoldsTick}
 use Rattle.session_laws.proofs.GotParts.{brought-by-pumps}
 use Rattle.session_laws.proofs.Passing.{AreUnder, IsPassOf, IsUnder, own-pass, turn-pass, under-before, use-under}
@@ -62,7 +80,7 @@ use Rattle.session_laws.proofs.Published.{Laws, is-play, play_of}
 use Rattle.session_laws.proofs.Rowing.{turn-is}
 use Rattle.session_laws.proofs.Senders.{SendHolds, send-to, turn-at}
 use Rattle.session_laws.proofs.SignedGot.{Closes, Comes, had-brought, had-kept, held-by-pumps, near-number}
-use Rattle.session_laws.proofs.SignedParts.{HasItemFrom, HasPair, StandsFrom, TakesUpTo, acceptable-or-had, from-new, late-none, none-above, not-raised, pair-added, upto-all}
+use Rattle.session_laws.proofs.SignedParts.{HasItemFrom, HasPair, StandsFrom, TakesUpTo, acceptable-least, acceptable-or-had, from-among, from-kept, from-new, from-parts, late-none, none-above, not-raised, pair-added, upto-all}
 use Rattle.session_laws.proofs.ClosingSigned.{before-pumps, before-tick, deeds-behind, known-by, last-of-tick, made-acceptable, mode-by, mode-group, named-made, sender-by, some-of}
 
 -- ---- the frame's item
@@ -297,6 +315,49 @@ module _ (laws : Laws) (p : Plan) (r i g w ms : ℕ) (samples : List Sampled) (d
       has-part : (piece : Piece) → Contains (pieces way.seat.part one.payload) piece → HasPartFor setting i its_datagram
       has-part piece there = record { opened = one; opens = opens-first; part = not-empty (pieces way.seat.part one.payload) piece there }
 
+      -- it alone has its number
+      own-is : (now : ℕ) (on : List Bool) (other : List ℕ) (befell : List Event) (opened : Opened) → CameAsMade setting config (pasts_at p steps) (Got now on other ∷ befell)
+          → verdict setting.group setting.setup (accepted setting befell) other ≡ Ok opened → opened.pass.token ≡ token → opened.pass.number ≡ used + suc index → (other ≡ its_datagram) × (one ≡ opened)
+      own-is now on other befell opened came e its_token its_number = by (made-now now on other befell opened came e)
+        where
+          by : WasMade (HadGroupTurn turn ∷ before) other → (other ≡ its_datagram) × (one ≡ opened)
+          by (inl has) =
+              let pass = pass-of (accepted setting befell) other opened has e in
+              let number = pass.0.number in
+              let same : has.0 ≡ index = omega (arith, number, its_number) in
+              let here : slice_get all index ≡ Some opened = subst (λ (n : ℕ). slice_get all n ≡ Some opened) same pass.1 in
+              let there : slice_get all index ≡ Some one = one-at in
+              let opened_is : Path (Option Opened) (Some one) (Some opened) = sym there ∙ here in (
+                sym has.2 ∙ ap (λ (n : ℕ). get_or turn.made n other) same ∙ get_or_default turn.made index other [] below-made,
+                cc,
+              )
+          by (inr was) = up (under-of (accepted setting befell) other opened (inl was) e)
+            where
+              up : IsUnder s opened.pass → (other ≡ its_datagram) × (one ≡ opened)
+              up (inl lower) = absurd (omega (arith, lower, its_token))
+              up (inr upto) = let most = upto.1 in absurd (omega (arith, most, its_number))
+
+      comes : Comes setting config (pasts_at p steps) token used index its_datagram
+      comes = record {
+        few = let below = below-made in let few = few-made in omega (arith, below, few);
+        upto = now-upto;
+        acceptable = now-acceptable;
+        opened = λ pairs acceptable. (one, opens pairs acceptable, one-pass.token, one-pass.number);
+        key = s.keys;
+        known = keys-known;
+      }
+
+    -- where it stands in the list
+    stood-came : way.seat.part.numbering ≡ words.Message → StandsFrom (used + 1) place (marks setting way (events config r steps)) → ClosingCame p r i g w steps (writer_past w before) own
+    stood-came numbered stands =
+        let item = item-from (used + 1) place (since_cut (arrivals_at config r i (first_number_of config g w) steps)) stands in
+        record {
+          numbered = numbered;
+          last = ap (writer_past w) past-is ∙ ap (λ (o : Option WriterTurn). cons_option (option_map HadTurn o) (writer_past w before)) took;
+          closing = closing;
+          came = record { item = item.0; came = item.1; stands = item.2 };
+        }
+
     module _ (part : OnePart laws.turns laws.passed play is_play own closing le last took) where
       abbrev piece : Piece
       piece = part.piece
@@ -307,50 +368,25 @@ module _ (laws : Laws) (p : Plan) (r i g w ms : ℕ) (samples : List Sampled) (d
       abbrev datagram : List ℕ
       datagram = its_datagram found.0 found.1
 
-      -- it alone has its number
-      own-is : (now : ℕ) (on : List Bool) (other : List ℕ) (befell : List Event) (opened : Opened) → CameAsMade setting config (pasts_at p steps) (Got now on other ∷ befell)
-          → verdict setting.group setting.setup (accepted setting befell) other ≡ Ok opened → opened.pass.token ≡ token → opened.pass.number ≡ used + suc found.1.0 → (other ≡ datagram) × (found.0 ≡ opened)
-      own-is now on other befell opened came e its_token its_number = by (made-now now on other befell opened came e)
-        where
-          by : WasMade (HadGroupTurn turn ∷ before) other → (other ≡ datagram) × (found.0 ≡ opened)
-          by (inl has) =
-              let pass = pass-of (accepted setting befell) other opened has e in
-              let number = pass.0.number in
-              let same : has.0 ≡ found.1.0 = omega (arith, number, its_number) in
-              let here : slice_get all found.1.0 ≡ Some opened = subst (λ (n : ℕ). slice_get all n ≡ Some opened) same pass.1 in
-              let there : slice_get all found.1.0 ≡ Some found.0 = one-at found.0 found.1 in
-              let opened_is : Path (Option Opened) (Some found.0) (Some opened) = sym there ∙ here in (
-                sym has.2 ∙ ap (λ (n : ℕ). get_or turn.made n other) same ∙ get_or_default turn.made found.1.0 other [] (below-made found.0 found.1),
-                cc,
-              )
-          by (inr was) = up (under-of (accepted setting befell) other opened (inl was) e)
-            where
-              up : IsUnder s opened.pass → (other ≡ datagram) × (found.0 ≡ opened)
-              up (inl lower) = absurd (omega (arith, lower, its_token))
-              up (inr upto) = let most = upto.1 in absurd (omega (arith, most, its_number))
-
       own-part : (now : ℕ) (on : List Bool) (other : List ℕ) (befell : List Event) (opened : Opened) → CameAsMade setting config (pasts_at p steps) (Got now on other ∷ befell)
           → verdict setting.group setting.setup (accepted setting befell) other ≡ Ok opened → opened.pass.token ≡ token → opened.pass.number ≡ used + suc found.1.0 → Contains (pieces way.seat.part opened.payload) piece
       own-part now on other befell opened came e its_token its_number =
-          subst (λ (o : Opened). Contains (pieces way.seat.part o.payload) piece) (own-is now on other befell opened came e its_token its_number).1 found.2
+          subst (λ (o : Opened). Contains (pieces way.seat.part o.payload) piece) (own-is found.0 found.1 now on other befell opened came e its_token its_number).1 found.2
 
-      comes : Comes setting config (pasts_at p steps) token used found.1.0 datagram
-      comes = record {
-        few = let below = below-made found.0 found.1 in let few = few-made in omega (arith, below, few);
-        upto = now-upto;
-        acceptable = now-acceptable;
-        opened = λ pairs acceptable. (found.0, opens found.0 found.1 pairs acceptable, (one-pass found.0 found.1).token, (one-pass found.0 found.1).number);
-        key = s.keys;
-        known = keys-known;
-      }
-
-      closes : way.seat.part.numbering ≡ words.Message → Closes setting config (pasts_at p steps) way first place token used found.1.0 datagram piece
+      closes : way.seat.part.numbering ≡ words.Message → Closes setting config (pasts_at p steps) way first token used found.1.0 datagram (StandsFrom (used + 1) place)
       closes numbered = record {
-        comes = comes;
-        own = own-part;
-        reads = λ now n list above.
-            subst (StandsFrom (used + 1) place) (sym (part.reads_as now (Some n) list ∙ ap (item_on way now (Some n) list) (ClosingGot.gives laws.turns laws.passed play is_play own closing le last took numbered)))
-            (from-new (used + 1) place way now n list (placed_cut way.seat.meta (Whole place own.row)) refl above);
+        comes = comes found.0 found.1;
+        own = λ now on other befell opened came e its_token its_number raised.
+            let below = below-made found.0 found.1 in
+            let few = few-made in
+            let reads : (list : List Mark) → StandsFrom (used + 1) place (piece_on way (place_from first) now (Some opened.pass.number) list piece) =
+            λ list.
+            subst (StandsFrom (used + 1) place)
+            (sym (part.reads_as now (Some opened.pass.number) list ∙ ap (item_on way now (Some opened.pass.number) list) (ClosingGot.gives laws.turns laws.passed play is_play own closing le last took numbered)))
+            (from-new (used + 1) place way now opened.pass.number list (placed_cut way.seat.meta (Whole place own.row)) refl (omega (arith, its_number))) in
+            from-among (used + 1) place way (place_from first) now opened.pass.number (omega (arith, its_number, below, few)) piece reads (pieces way.seat.part opened.payload)
+            (cut_on raised NewToken (marks setting way befell)) (own-part now on other befell opened came e its_token its_number);
+        keeps = λ now n near parts list h. from-parts (used + 1) place way (place_from first) now n near parts list h;
         places = λ t n. refl;
       }
 
@@ -364,19 +400,12 @@ module _ (laws : Laws) (p : Plan) (r i g w ms : ℕ) (samples : List Sampled) (d
             let came_here = came datagram (made-one found.0 found.1) (has-part found.0 found.1 piece found.2) in
             let none_yet : HasPair token number (accepted setting (events config r ticked)) → StandsFrom (used + 1) place (marks setting way (events config r ticked)) =
             λ had. absurd (none-before number (omega arith) had) in
-            held-by-pumps setting config (pasts_at p steps) way first place token used found.1.0 datagram piece (closes numbered) secured r pumps ticked operational is.matched.within enabled is_play.came none_yet
+            held-by-pumps setting config (pasts_at p steps) way first token used found.1.0 datagram (StandsFrom (used + 1) place) (closes numbered) secured r pumps ticked operational is.matched.within enabled is_play.came none_yet
             (brought-by-pumps setting config (pasts_at p steps) i datagram (λ befell. HasPair token number (accepted setting befell))
-            (had-brought setting config (pasts_at p steps) token used found.1.0 datagram comes secured i) r pumps ticked came_here operational is.matched.within enabled is_play.came)
+            (had-brought setting config (pasts_at p steps) token used found.1.0 datagram (comes found.0 found.1) secured i) r pumps ticked came_here operational is.matched.within enabled is_play.came)
 
         signed-came : ClosingCame p r i g w steps (writer_past w before) own
-        signed-came =
-            let item = item-from (used + 1) place (since_cut (arrivals_at config r i (first_number_of config g w) steps)) stands-signed in
-            record {
-              numbered = numbered;
-              last = ap (writer_past w) past-is ∙ ap (λ (o : Option WriterTurn). cons_option (option_map HadTurn o) (writer_past w before)) took;
-              closing = closing;
-              came = record { item = item.0; came = item.1; stands = item.2 };
-            }
+        signed-came = stood-came numbered stands-signed
 
       -- ---- to a reader with no numbering
 
@@ -404,17 +433,17 @@ module _ (laws : Laws) (p : Plan) (r i g w ms : ℕ) (samples : List Sampled) (d
             → verdict setting.group setting.setup (accepted setting befell) other ≡ Ok opened → is_raised setting (accepted setting befell) opened ≡ false
         calm-now now on other befell opened so_far had e =
             let pairs = accepted setting befell in
-            let near = near-number setting config (pasts_at p steps) token used found.1.0 datagram comes secured pairs opened (now-upto now on other befell opened so_far e) (now-acceptable now on other befell opened so_far e) had in
+            let near = near-number setting config (pasts_at p steps) token used found.1.0 datagram (comes found.0 found.1) secured pairs opened (now-upto now on other befell opened so_far e) (now-acceptable now on other befell opened so_far e) had in
             late-none (is_secured setting.setup.mode) (raises pairs opened.pass.token) (not-raised pairs token (used + suc found.1.0) opened.pass.token had near.1)
 
         came-bare : CameLast (arrivals_at config r i (first_number_of config g w) steps) row
         came-bare =
             let here = came datagram (made-one found.0 found.1) (has-part found.0 found.1 piece found.2) in
-            let had = brought-by-pumps setting config (pasts_at p steps) i datagram Had (had-brought setting config (pasts_at p steps) token used found.1.0 datagram comes secured i) r pumps ticked here.0 operational is.matched.within enabled is_play.came in
-            let taken = first-taken (trace-pumps config r ticked datagram found.0 (pasts_at p steps) token (used + suc found.1.0) secured own-is pumps is_play.came had) in
+            let had = brought-by-pumps setting config (pasts_at p steps) i datagram Had (had-brought setting config (pasts_at p steps) token used found.1.0 datagram (comes found.0 found.1) secured i) r pumps ticked here.0 operational is.matched.within enabled is_play.came in
+            let taken = first-taken (trace-pumps config r ticked datagram found.0 (pasts_at p steps) token (used + suc found.1.0) secured (own-is found.0 found.1) pumps is_play.came had) in
             came-last config r i (first_number_of config g w) ticked datagram found.0 (pasts_at p steps) operational is.matched.within enabled row (ap is_numbered bare) piece
             (flat-one (λ (o : Opened). pieces way.seat.part o.payload) all found.0 piece part.same found.1 (not-empty (pieces way.seat.part found.0.payload) piece found.2)) reads-bare Had calm-begins
-            (had-kept setting config (pasts_at p steps) token used found.1.0 datagram comes secured) calm-now pumps taken is_play.came
+            (had-kept setting config (pasts_at p steps) token used found.1.0 datagram (comes found.0 found.1) secured) calm-now pumps taken is_play.came
             (λ newer e. here.1 taken.later taken.before taken.earlier taken.behind newer taken.is e)
 
         bare-came : ClosingCameLast p r i g w steps (writer_past w before) own
@@ -436,27 +465,269 @@ module _ (laws : Laws) (p : Plan) (r i g w ms : ℕ) (samples : List Sampled) (d
     closing-bare bare operational enabled whole came =
         bare-came (one-part laws.turns laws.passed play is_play own closing le last took (uncut-parts whole) group.layout refl) bare operational enabled came
 
-    uncut : ((opened : Opened) → Contains (closing_opened p start ms samples g) opened → All IsUncut (pieces way.seat.part opened.payload)) → (o : Opened) (x : Piece) → Contains all o → Contains (pieces way.seat.part o.payload) x → IsUncut x
-    uncut whole o x has there = All-contains IsUncut (pieces way.seat.part o.payload) x (whole o has) there
+    -- ---- where it is cut into chunks
 
-    pub closing-signed : way.seat.part.numbering ≡ words.Message → receives config start r ≡ true → is_on config start (Reader r i) ≡ true → ((opened : Opened) → Contains (closing_opened p start ms samples g) opened → All IsUncut (pieces way.seat.part opened.payload))
+    module _ (chunks : InChunks laws.turns laws.passed play is_play own closing le last took) (numbered : way.seat.part.numbering ≡ words.Message) where
+      abbrev message : List ℕ
+      message = ClosingGot.message laws.turns laws.passed play is_play own closing le last took
+
+      abbrev frame : Frame
+      frame = ClosingGot.frame laws.turns laws.passed play is_play own closing le last took
+
+      abbrev bytes : ℕ → List ℕ
+      bytes = ClosingGot.bytes laws.turns laws.passed play is_play own closing le last took
+
+      abbrev given : PlacedFrame
+      given = placed_cut way.seat.meta (Whole place own.row)
+
+      gives : frame_of way (place_from first) frame ≡ Some given
+      gives = ClosingGot.gives laws.turns laws.passed play is_play own closing le last took numbered
+
+      is-last : (f : PlacedFrame) → IsAnswer (its_answers play) f → is_silent f ≡ false → place_of f ≤ place
+      is-last = ClosingGot.is-last laws.turns laws.passed play is_play own closing le last took
+
+      abbrev next : ℕ
+      next = next_place (settings_at group w) (its_answers play)
+
+      its_source : Source way (its_answers play) first next
+      its_source = source laws.turns laws.passed 16385 play le is_play
+
+      abbrev its_cuts : List Chunk
+      its_cuts = cuts chunks.room (number_of_place place) message
+
+      abbrev parts_of : Opened → List Piece
+      parts_of o = pieces way.seat.part o.payload
+
+      abbrev its_are : AreTurns config group (pasts_at p steps g)
+      its_are = turns laws.turns laws.passed 16385 play le is_play
+
+      module _ (c : Chunk) (has_c : Contains its_cuts c) where
+        abbrev found_c : (o : Opened) × Contains all o × Contains (parts_of o) (Chunked (chunk_bytes c))
+        found_c = in-flat parts_of all (Chunked (chunk_bytes c)) (subst (λ (l : List Piece). Contains l (Chunked (chunk_bytes c))) (sym chunks.same) (mapped-has (λ chunk. Chunked (chunk_bytes chunk)) its_cuts c has_c))
+
+        abbrev datagram_c : List ℕ
+        datagram_c = its_datagram found_c.0 found_c.1
+
+        abbrev placed_c : Chunk
+        placed_c = placed (place_from first) c
+
+        read-c : without_rest (chunk_at (chunk_bytes c)) ≡ Ok c
+        read-c = chunk-read way.seat chunks.room (number_of_place place) message frame chunks.cut_up c has_c
+
+        of-c : IsChunkOf way.seat.meta (its_answers play) bytes c
+        of-c =
+            let made : WasMade (pasts_at p steps g) datagram_c = subst (λ (past : List GroupDeed). WasMade past datagram_c) (sym past-is) (inl (made-one found_c.0 found_c.1)) in
+            let parts = own-pieces laws.turns config group readers i w is.matched (pasts_at p steps g) its_are [] datagram_c found_c.0 made (opens-first found_c.0 found_c.1) in
+            subst (λ (answer : Result Chunk ChunkFault). OfRead (IsChunkOf way.seat.meta (its_answers play) bytes) answer) read-c
+            (All-contains (IsPieceOf (IsOfAnswer way.seat.meta (its_answers play)) (IsChunkOf way.seat.meta (its_answers play) bytes) way.seat.meta) (parts_of found_c.0) (Chunked (chunk_bytes c)) parts found_c.2)
+
+        laid-c : IsLaidOf way.seat.meta (its_answers play) bytes placed_c
+        laid-c = chunk-laid way (its_answers play) bytes first next c its_source of-c
+
+        at-c : placed_c.place ≡ place
+        at-c = ap (place_from first) (cut-of chunks.room (number_of_place place) message c has_c).0 ∙ ClosingGot.back laws.turns laws.passed play is_play own closing le last took
+
+        cut-c : IsCutOf (bytes place) placed_c
+        cut-c = subst (λ (n : ℕ). IsCutOf (bytes n) placed_c) at-c laid-c.cut
+
+      -- the bytes of its place are the message
+      first-cut : (l : List Chunk) → its_cuts ≡ l → (c : Chunk) × Contains its_cuts c
+      first-cut [] e =
+          let covers : cover [] (number_of_place place) (length message) ≡ true =
+          cuts-cover chunks.room (number_of_place place) message [] chunks.cut_up.has_room (λ j d below. absurd (let size = ap length e in omega (arith, below, size))) in
+          absurd (let wrong : false ≡ true = sym (cover_none (number_of_place place) (length message) chunks.cut_up.some) ∙ covers in cc)
+      first-cut (c ∷ rest) e = (c, subst (λ (l : List Chunk). Contains l c) (sym e) (0, omega arith, refl))
+
+      long-is : length message ≡ length (bytes place)
+      long-is = let c = first-cut its_cuts refl in sym (cut-of chunks.room (number_of_place place) message c.0 c.1).1.total ∙ (cut-c c.0 c.1).total
+
+      abbrev at_place : List Chunk
+      at_place = cuts chunks.room place message
+
+      same-cut : (j : ℕ) → placed (place_from first) (cut_at chunks.room (number_of_place place) message j) ≡ cut_at chunks.room place message j
+      same-cut j = ap (λ (n : ℕ). record (cut_at chunks.room place message j) { place = n }) (ClosingGot.back laws.turns laws.passed play is_play own closing le last took)
+
+      each-of : (P : Chunk → Type 0) → ((c : Chunk) → Contains its_cuts c → P (placed (place_from first) c)) → (c : Chunk) → Contains at_place c → P c
+      each-of P h c has =
+          let of = cut-at chunks.room place message c has in
+          subst P (same-cut of.k ∙ of.is) (h (cut_at chunks.room (number_of_place place) message of.k) (cut-contains chunks.room (number_of_place place) message of.k of.within))
+
+      bytes-are : bytes place ≡ message
+      bytes-are =
+          let covers : cover at_place place (length message) ≡ true = cuts-cover chunks.room place message at_place chunks.cut_up.has_room (λ j d below. (j, below, get_or_default at_place j (get_or at_place j d) d below)) in
+          let one = message-back message place at_place (λ c has at. (cut-of chunks.room place message c has).1) covers in
+          let other = message-back (bytes place) place at_place (λ c has at. each-of (IsCutOf (bytes place)) (λ x there. cut-c x there) c has) (subst (λ (n : ℕ). cover at_place place n ≡ true) long-is covers) in
+          sym other ∙ ap (message_of at_place place) (sym long-is) ∙ one
+
+      read-is : frame_at way.seat.meta (bytes place) ≡ Ok frame
+      read-is = ap (frame_at way.seat.meta) bytes-are ∙ chunks.cut_up.read
+
+      abbrev AreAll : List Mark → Type 0
+      AreAll list = AreSent way.seat.part.numbering way.seat.meta (its_answers play) bytes list
+
+      sent-list : (raised : Bool) (befell : List Event) → CameAsMade setting config (pasts_at p steps) befell → AreAll (cut_on raised NewToken (marks setting way befell))
+      sent-list raised befell came = sent-cut way.seat.part.numbering way.seat.meta (its_answers play) bytes raised NewToken (marks setting way befell) (events-sent laws.turns laws.passed 16385 play le is_play befell came)
+
+      counts : (c : Chunk) → Contains its_cuts c → (list : List Mark) → AreAll list → is_proper (chunks_in list) (placed (place_from first) c) ≡ true
+      counts c has list are =
+          let size = cut-size chunks.room (number_of_place place) message c chunks.cut_up.has_room chunks.cut_up.some has in
+          let short : length (bytes place) ≤ longest_message = let long = long-is in let most = chunks.cut_up.short in omega (arith, long, most) in
+          proper way.seat.part.numbering way (its_answers play) bytes first next place its_source is-last frame given gives refl list (placed (place_from first) c) are (laid-c c has) (at-c c has) size.some size.within short
+
+      -- each chunk lies there
+      closes-c : (c : Chunk) (has : Contains its_cuts c)
+          → Closes setting config (pasts_at p steps) way first token used (found_c c has).1.0 (datagram_c c has) (Lies (placed (place_from first) c))
+      closes-c c has = record {
+        comes = comes (found_c c has).0 (found_c c has).1;
+        own = λ now on other befell opened came e its_token its_number raised.
+            lies-among way.seat.part.numbering way (its_answers play) bytes first next place its_source is-last frame given gives refl now (Some opened.pass.number) (chunk_bytes c) c
+            (sent-kept way.seat.part.numbering way (its_answers play) bytes first next now (Some opened.pass.number) refl its_source) (read-c c has) (λ list are. counts c has list are) (parts_of opened)
+            (cut_on raised NewToken (marks setting way befell)) (parts-sent laws.turns laws.passed 16385 play le is_play now on other befell opened came e) (sent-list raised befell came.1)
+            (subst (λ (o : Opened). Contains (parts_of o) (Chunked (chunk_bytes c))) (own-is (found_c c has).0 (found_c c has).1 now on other befell opened came e its_token its_number).1 (found_c c has).2);
+        keeps = λ now n near parts list h. lies-parts (placed (place_from first) c) way (place_from first) now (Some n) parts list h;
+        places = λ t n. refl;
+      }
+
+      -- ---- what befalls the group
+
+      abbrev total : ℕ
+      total = length (bytes place)
+
+      some-bytes : 0 < total
+      some-bytes = let long = long-is in let least = chunks.cut_up.some in omega (arith, long, least)
+
+      are-before : AreTurns config group before
+      are-before = (subst (AreTurns config group) past-is its_are).1
+
+      few-places : place ≤ first + 65536
+      few-places = let after = ClosingGot.next-is laws.turns laws.passed play is_play own closing le last took in let few = is_play.few in omega (arith, after, few)
+
+      older-source : Source way (answered_by group w before) first place
+      older-source = record { spans = λ f answer. answers-span (settings_at group w) (writer_past w before) f answer; few = few-places }
+
+      closing-step : (now : ℕ) (on : List Bool) (other : List ℕ) (befell : List Event) (opened : Opened) → CameAsMade setting config (pasts_at p steps) (Got now on other ∷ befell) → verdict setting.group setting.setup (accepted setting befell) other ≡ Ok opened
+          → Contains turn.made other → IsClosing setting config (pasts_at p steps) way first place total token used secured some-bytes (λ t n. refl) now on befell opened
+      closing-step now on other befell opened came e has =
+          let pass = (pass-of (accepted setting befell) other opened has e).0 in
+          let number = pass.number in
+          let below = has.1 in
+          let few = few-made in
+          let n = opened.pass.number in
+          let near : opened.pass.number < used + 1 + 16384 = omega (arith, number, below, few) in
+          let above : used + 1 ≤ opened.pass.number = omega (arith, number) in
+          let enabled = slice_index_or on i false in
+          let of_piece = IsPieceOf (IsOfAnswer way.seat.meta (its_answers play)) (IsChunkOf way.seat.meta (its_answers play) bytes) way.seat.meta in
+          record {
+            token_is = pass.token;
+            above = omega (arith, number);
+            covers = λ raised h.
+                covered-parts way.seat.part.numbering way (its_answers play) bytes first next place its_source is-last frame given gives refl now (Some opened.pass.number) (StandsFrom (used + 1) place)
+                (λ list f stands. (from-kept (used + 1) place way now opened.pass.number near).item list f stands) (λ list c stands. stands) (λ list. from-new (used + 1) place way now opened.pass.number list given refl above) read-is
+                (sent-kept way.seat.part.numbering way (its_answers play) bytes first next now (Some opened.pass.number) refl its_source) (if enabled then parts_of opened else []) (cut_on raised NewToken (marks setting way befell))
+                (all-on of_piece enabled (parts_of opened) (parts-sent laws.turns laws.passed 16385 play le is_play now on other befell opened came e)) (sent-list raised befell came.1) h;
+          }
+
+      older-step : (now : ℕ) (on : List Bool) (other : List ℕ) (befell : List Event) (opened : Opened) → CameAsMade setting config (pasts_at p steps) (Got now on other ∷ befell) → verdict setting.group setting.setup (accepted setting befell) other ≡ Ok opened
+          → WasMade before other → IsOlder setting config (pasts_at p steps) way first place total token used secured some-bytes (λ t n. refl) now on befell opened
+      older-step now on other befell opened came e was =
+          let pairs = accepted setting befell in
+          let enabled = slice_index_or on i false in
+          let older = answered_by group w before in
+          let old_bytes = spelled_at config group w before are-before in
+          let of_piece = IsPieceOf (IsOfAnswer way.seat.meta older) (IsChunkOf way.seat.meta older old_bytes) way.seat.meta in
+          record {
+            near = λ any. near-by any (now-acceptable now on other befell opened came e) (under-of pairs other opened (inl was) e);
+            same = λ list.
+                older-parts way older old_bytes first place total older-source now (Some opened.pass.number) (if enabled then parts_of opened else []) list
+                (all-on of_piece enabled (parts_of opened) (own-pieces laws.turns config group readers i w is.matched before are-before pairs other opened was e));
+          }
+        where
+          near-by : ((n : ℕ) × (used < n) × HasPair token n (accepted setting befell)) → is_acceptable setting.setup.keys (accepted setting befell) opened.pass.token opened.pass.number ≡ true → IsUnder s opened.pass
+              → (raises (accepted setting befell) opened.pass.token ≡ false) × (opened.pass.number < used + 1 + 16384)
+          near-by any acceptable (inl lower) = absurd (let least = acceptable-least setting.setup.keys (accepted setting befell) opened.pass.token opened.pass.number token any.0 acceptable any.2 in omega (arith, lower, least))
+          near-by any acceptable (inr upto) =
+              let same = upto.0 in let most = upto.1 in (not-raised (accepted setting befell) token any.0 opened.pass.token any.2 (omega (arith, same)), omega (arith, most))
+
+      each-step : (now : ℕ) (on : List Bool) (other : List ℕ) (befell : List Event) (opened : Opened) → CameAsMade setting config (pasts_at p steps) (Got now on other ∷ befell) → verdict setting.group setting.setup (accepted setting befell) other ≡ Ok opened
+          → IsClosing setting config (pasts_at p steps) way first place total token used secured some-bytes (λ t n. refl) now on befell opened
+          ⊎ IsOlder setting config (pasts_at p steps) way first place total token used secured some-bytes (λ t n. refl) now on befell opened
+      each-step now on other befell opened came e = by (made-now now on other befell opened came e)
+        where
+          by : WasMade (HadGroupTurn turn ∷ before) other
+              → IsClosing setting config (pasts_at p steps) way first place total token used secured some-bytes (λ t n. refl) now on befell opened
+              ⊎ IsOlder setting config (pasts_at p steps) way first place total token used secured some-bytes (λ t n. refl) now on befell opened
+          by (inl has) = inl (closing-step now on other befell opened came e has)
+          by (inr was) = inr (older-step now on other befell opened came e was)
+
+      module _ (operational : receives config start r ≡ true) (enabled : is_on config start (Reader r i) ≡ true)
+          (came : (datagram : List ℕ) → Contains turn.made datagram → HasPartFor setting i datagram → CameIn pumps datagram) where
+        lies-c : (c : Chunk) (has : Contains its_cuts c) → Lies (placed (place_from first) c) (marks setting way (events config r steps))
+        lies-c c has =
+            let at = (found_c c has).1 in
+            let one = (found_c c has).0 in
+            let number = used + suc at.0 in
+            let came_here = came (datagram_c c has) (made-one one at) (has-part one at (Chunked (chunk_bytes c)) (found_c c has).2) in
+            let none_yet : HasPair token number (accepted setting (events config r ticked)) → Lies (placed (place_from first) c) (marks setting way (events config r ticked)) =
+            λ had. absurd (none-before number (omega arith) had) in
+            held-by-pumps setting config (pasts_at p steps) way first token used at.0 (datagram_c c has) (Lies (placed (place_from first) c)) (closes-c c has) secured r pumps ticked operational is.matched.within enabled is_play.came none_yet
+            (brought-by-pumps setting config (pasts_at p steps) i (datagram_c c has) (λ befell. HasPair token number (accepted setting befell))
+            (had-brought setting config (pasts_at p steps) token used at.0 (datagram_c c has) (comes one at) secured i) r pumps ticked came_here operational is.matched.within enabled is_play.came)
+
+        chunks-came : ClosingCame p r i g w steps (writer_past w before) own
+        chunks-came =
+            let list = marks setting way (events config r steps) in
+            let each : (c : Chunk) → Contains at_place c → Contains (chunks_in list) c =
+            λ c has. has-contains c (chunks_in list) (each-of (λ x. Lies x list) (λ x there. lies-c x there) c has) in
+            let covers : cover (chunks_in list) place (length message) ≡ true =
+            cuts-cover chunks.room place message (chunks_in list) chunks.cut_up.has_room (λ j d below. each (get_or at_place j d) (j, below, get_or_default at_place j (get_or at_place j d) d below)) in
+            let all_events = covered-all setting config (pasts_at p steps) way first place total token used secured some-bytes (λ t n. refl) each-step (events config r steps) is_play.restarts is_play.came in
+            stood-came numbered (all_events.0 (subst (λ (n : ℕ). cover (chunks_in list) place n ≡ true) long-is covers))
+
+    case-came : OnePart laws.turns laws.passed play is_play own closing le last took ⊎ InChunks laws.turns laws.passed play is_play own closing le last took → way.seat.part.numbering ≡ words.Message → receives config start r ≡ true
+        → is_on config start (Reader r i) ≡ true → ((datagram : List ℕ) → Contains turn.made datagram → HasPartFor setting i datagram → CameIn pumps datagram) → ClosingCame p r i g w steps (writer_past w before) own
+    case-came (inl part) numbered operational enabled came = signed-came part numbered operational enabled came
+    case-came (inr chunks) numbered operational enabled came = chunks-came chunks numbered operational enabled came
+
+    pub closing-secured : way.seat.part.numbering ≡ words.Message → receives config start r ≡ true → is_on config start (Reader r i) ≡ true
         → ((datagram : List ℕ) → Contains turn.made datagram → HasPartFor setting i datagram → CameIn pumps datagram) → ClosingCame p r i g w steps (writer_past w before) own
-    closing-signed numbered operational enabled whole came =
-        signed-came (one-part laws.turns laws.passed play is_play own closing le last took (uncut whole) group.layout refl) numbered operational enabled came
+    closing-secured = case-came (part-case laws.turns laws.passed play is_play own closing le last took group.layout refl)
 
   pub keyed-is : (k : ℕ) × (group.keygroup ≡ Some k)
   keyed-is = some-of group.keygroup (sym (at-sound config g group is.plan.good.sound is_play.there).keys.keyed ∙ group-secured)
 
 -- so it is held
-pub signed-held : Laws → HeldLaw → (p : Plan) (r i g w : ℕ) (list : List Step) (rows : ℕ → ℕ → List DataValue) (own : WriterTurn) → InSession p r i g w list → AreVersions p list rows → ClosingGotSigned p r i g w list own
+pub secured-held : Laws → HeldLaw → (p : Plan) (r i g w : ℕ) (list : List Step) (rows : ℕ → ℕ → List DataValue) (own : WriterTurn) → InSession p r i g w list → AreVersions p list rows → ClosingGotSecured p r i g w list own
     → HoldsRowOf p r i g w list rows own.version
-signed-held laws held p r i g w list rows own is versions c =
+secured-held laws held p r i g w list rows own is versions c =
     let ended = map Pump c.pumps ++ Tick c.ms true c.samples c.done ∷ c.start in
     let here : InSession p r i g w ended = subst (InSession p r i g w) c.split is in
     let keyed = keyed-is laws p r i g w c.ms c.samples c.done c.start c.pumps own here c.secured c.named c.had c.took c.closing in
     subst (λ (l : List Step). HoldsRowOf p r i g w l rows own.version) (sym c.split)
     (held p r i g w ended rows (writer_past w (group_past p.config g (closing_deeds p c.start c.ms c.samples g))) own here (subst (λ (l : List Step). AreVersions p l rows) c.split versions)
-    (closing-signed laws p r i g w c.ms c.samples c.done c.start c.pumps own here c.secured c.named c.had c.took c.closing keyed.0 keyed.1 c.numbered c.operational c.enabled c.whole c.came))
+    (closing-secured laws p r i g w c.ms c.samples c.done c.start c.pumps own here c.secured c.named c.had c.took c.closing keyed.0 keyed.1 c.numbered c.operational c.enabled c.came))
+
+-- also where it isn't cut
+pub signed-held : Laws → HeldLaw → (p : Plan) (r i g w : ℕ) (list : List Step) (rows : ℕ → ℕ → List DataValue) (own : WriterTurn) → InSession p r i g w list → AreVersions p list rows → ClosingGotSigned p r i g w list own
+    → HoldsRowOf p r i g w list rows own.version
+signed-held laws held p r i g w list rows own is versions c =
+    secured-held laws held p r i g w list rows own is versions
+    (record {
+      numbered = c.numbered;
+      secured = c.secured;
+      named = c.named;
+      start = c.start;
+      ms = c.ms;
+      samples = c.samples;
+      done = c.done;
+      pumps = c.pumps;
+      split = c.split;
+      had = c.had;
+      took = c.took;
+      closing = c.closing;
+      operational = c.operational;
+      enabled = c.enabled;
+      came = c.came;
+    })
 
 pub signed-last-held : Laws → LastHeldLaw → (p : Plan) (r i g w : ℕ) (list : List Step) (rows : ℕ → ℕ → List DataValue) (own : WriterTurn) → InSession p r i g w list → AreVersions p list rows → ClosingGotSignedLast p r i g w list own
     → HoldsRowOf p r i g w list rows own.version

@@ -1,5 +1,5 @@
 -- A secured read group that names its writer's group: once the closing frame's datagram came, the frame stands in the reader's list, whatever came besides.
-use Rattle.std.proofs.Common.{◌≡◌, refl, sym, ap, ◌∙◌, subst, arith, ℕ, zero, suc, ◌+◌, ◌<◌, ◌≤◌, ◌⊎◌, inl, inr, Bool, true, false, List, [], ◌∷◌, ◌++◌, map, length, Option, Some, Contains, Result, Ok, Err}
+use Rattle.std.proofs.Common.{◌≡◌, refl, sym, ap, ◌∙◌, subst, arith, ℕ, suc, ◌+◌, ◌<◌, ◌≤◌, ◌⊎◌, inl, inr, Bool, true, false, List, [], ◌∷◌, ◌++◌, map, length, Some, None, Result, Ok, Err}
 use Rattle.std.specs.Prelude.{◌&&◌, fold, slice_index_or, if◌then◌else◌}
 use Rattle.seq_number.specs.Numbers.{place_from}
 use Rattle.ua_base.specs.Journal as entries_of
@@ -22,7 +22,7 @@ use Rattle.session_model.specs.Events.{events, got_on, readers_on, receives}
 use Rattle.session_model.specs.Steps.{Step, Pump, is_on, moment_of}
 use Rattle.session_laws.specs.Pasts.{CameAsMade}
 use Rattle.session_laws.proofs.GotParts.{Brought, came-before, enabled-behind, receives-behind}
-use Rattle.session_laws.proofs.SignedParts.{HasPair, StandsFrom, acceptable-least, acceptable-or-had, from-among, from-parts, not-raised, pair-added, upto-all}
+use Rattle.session_laws.proofs.SignedParts.{HasPair, acceptable-least, acceptable-or-had, not-raised, pair-added, upto-all}
 
 -- What is known of the datagrams that come to a group, by what it finds of them: each is of the closing turn's token with a number up to 1,024 above that which was
 -- used before, or of a lower token; one with this number is opened once it is accepted.
@@ -37,13 +37,23 @@ pub record Comes (setting : Setting) (config : Config) (pasts : ℕ → List Gro
   pub key : TokenKeys
   pub known : keys_with setting.setup.keys token ≡ Some key
 
--- and it has this part, which is read as the frame
-pub record Closes (setting : Setting) (config : Config) (pasts : ℕ → List GroupDeed) (way : Way) (first place token used k : ℕ) (datagram : List ℕ) (piece : Piece) : Type 0 where
+-- and what it brings to a reader's list is so, and stays so behind a datagram with a number near to it
+pub record Closes (setting : Setting) (config : Config) (pasts : ℕ → List GroupDeed) (way : Way) (first token used k : ℕ) (datagram : List ℕ) (Q : List Mark → Type 0) : Type 0 where
   pub comes : Comes setting config pasts token used k datagram
   pub own : (now : ℕ) (on : List Bool) (other : List ℕ) (before : List Event) (opened : Opened) → CameAsMade setting config pasts (Got now on other ∷ before) → verdict setting.group setting.setup (accepted setting before) other ≡ Ok opened
-      → opened.pass.token ≡ token → opened.pass.number ≡ used + suc k → Contains (pieces way.seat.part opened.payload) piece
-  pub reads : (now n : ℕ) (list : List Mark) → used + 1 ≤ n → StandsFrom (used + 1) place (piece_on way (place_from first) now (Some n) list piece)
+      → opened.pass.token ≡ token → opened.pass.number ≡ used + suc k → (raised : Bool)
+      → Q (fold (piece_on way (place_from first) now (Some opened.pass.number)) (cut_on raised NewToken (marks setting way before)) (pieces way.seat.part opened.payload))
+  pub keeps : (now n : ℕ) → n < used + 1 + 16384 → (parts : List Piece) (list : List Mark) → Q list → Q (fold (piece_on way (place_from first) now (Some n)) list parts)
   pub places : (t n : ℕ) → way.place t n ≡ place_from first
+
+-- a datagram that is taken
+pub taken-signed : (setting : Setting) (way : Way) (first now : ℕ) (enabled : Bool) (pairs : Accepted) (list : List Mark) (opened : Opened) → is_secured setting.setup.mode ≡ true → ((t n : ℕ) → way.place t n ≡ place_from first)
+    → taken_in setting way now enabled pairs list (Ok opened)
+    ≡ fold (piece_on way (place_from first) now (Some opened.pass.number)) (cut_on (raises pairs opened.pass.token) NewToken list) (if enabled then pieces way.seat.part opened.payload else [])
+taken-signed setting way first now enabled pairs list opened secured places =
+    let parts = if enabled then pieces way.seat.part opened.payload else [] in
+    ap (λ (b : Bool). fold (piece_on way (way.place opened.pass.token opened.pass.number) now (if b then Some opened.pass.number else None)) (cut_on (b && raises pairs opened.pass.token) NewToken list) parts) secured
+    ∙ ap (λ (at : ℕ → ℕ). fold (piece_on way at now (Some opened.pass.number)) (cut_on (raises pairs opened.pass.token) NewToken list) parts) (places opened.pass.token opened.pass.number)
 
 module _ (setting : Setting) (config : Config) (pasts : ℕ → List GroupDeed) (token used k : ℕ) (datagram : List ℕ) (c : Comes setting config pasts token used k datagram) (secured : is_secured setting.setup.mode ≡ true) where
   -- ---- the datagram is accepted, when it first comes
@@ -83,7 +93,7 @@ module _ (setting : Setting) (config : Config) (pasts : ℕ → List GroupDeed) 
   near-number pairs opened (inl lower) is had = let least = acceptable-least setting.setup.keys pairs opened.pass.token opened.pass.number token (used + suc k) is had in absurd (omega (arith, lower, least))
   near-number pairs opened (inr upto) is had = (let le = upto.1 in omega (arith, le), let same = upto.0 in omega (arith, same))
 
-module _ (setting : Setting) (config : Config) (pasts : ℕ → List GroupDeed) (way : Way) (first place token used k : ℕ) (datagram : List ℕ) (piece : Piece) (c : Closes setting config pasts way first place token used k datagram piece)
+module _ (setting : Setting) (config : Config) (pasts : ℕ → List GroupDeed) (way : Way) (first token used k : ℕ) (datagram : List ℕ) (Q : List Mark → Type 0) (c : Closes setting config pasts way first token used k datagram Q)
     (secured : is_secured setting.setup.mode ≡ true) where
   abbrev Came : List Event → Type 0
   Came befell = CameAsMade setting config pasts befell
@@ -97,42 +107,35 @@ module _ (setting : Setting) (config : Config) (pasts : ℕ → List GroupDeed) 
   abbrev Had : List Event → Type 0
   Had befell = HasPair token number (accepted setting befell)
 
-  -- ---- where its pair is accepted, the frame stands there
+  -- ---- where its pair is accepted, it is so
 
   abbrev Held : List Event → Type 0
-  Held befell = Had befell → StandsFrom (used + 1) place (marks setting way befell)
+  Held befell = Had befell → Q (marks setting way befell)
 
-  taken-signed : (now : ℕ) (enabled : Bool) (pairs : Accepted) (list : List Mark) (opened : Opened) → enabled ≡ true
-      → taken_in setting way now enabled pairs list (Ok opened) ≡ fold (piece_on way (place_from first) now (Some opened.pass.number)) (cut_on (raises pairs opened.pass.token) NewToken list) (pieces way.seat.part opened.payload)
-  taken-signed now enabled pairs list opened on =
-      ap (λ (b : Bool). fold (piece_on way (way.place opened.pass.token opened.pass.number) now (if b then Some opened.pass.number else Rattle.std.proofs.Common.None)) (cut_on (b && raises pairs opened.pass.token) NewToken list)
-      (if enabled then pieces way.seat.part opened.payload else [])) secured
-      ∙ ap (λ (b : Bool). fold (piece_on way (way.place opened.pass.token opened.pass.number) now (Some opened.pass.number)) (cut_on (raises pairs opened.pass.token) NewToken list) (if b then pieces way.seat.part opened.payload else [])) on
-      ∙ ap (λ (at : ℕ → ℕ). fold (piece_on way at now (Some opened.pass.number)) (cut_on (raises pairs opened.pass.token) NewToken list) (pieces way.seat.part opened.payload)) (c.places opened.pass.token opened.pass.number)
+  abbrev on_parts : ℕ → Opened → Bool → List Event → List Mark
+  on_parts now opened raised before = fold (piece_on way (place_from first) now (Some opened.pass.number)) (cut_on raised NewToken (marks setting way before)) (pieces way.seat.part opened.payload)
 
-  held-taken : (now : ℕ) (on : List Bool) (other : List ℕ) (before : List Event) (opened : Opened) → slice_index_or on way.index false ≡ true → Came (Got now on other ∷ before) → judged before other ≡ Ok opened → Held before
+  held-taken : (now : ℕ) (on : List Bool) (other : List ℕ) (before : List Event) (opened : Opened) → Came (Got now on other ∷ before) → judged before other ≡ Ok opened → Held before
       → ((opened.pass.token ≡ token) × (opened.pass.number ≡ number)) ⊎ HasPair token number (accepted setting before)
-      → StandsFrom (used + 1) place (fold (piece_on way (place_from first) now (Some opened.pass.number)) (cut_on (raises (accepted setting before) opened.pass.token) NewToken (marks setting way before)) (pieces way.seat.part opened.payload))
-  held-taken now on other before opened enabled came e h (inl same) =
-      let n = same.1 in
-      let few = c.comes.few in
-      from-among (used + 1) place way (place_from first) now opened.pass.number (omega (arith, n, few)) piece (λ list. c.reads now opened.pass.number list (omega (arith, n))) (pieces way.seat.part opened.payload)
-      (cut_on (raises (accepted setting before) opened.pass.token) NewToken (marks setting way before)) (c.own now on other before opened came e same.0 same.1)
-  held-taken now on other before opened enabled came e h (inr had) =
+      → Q (on_parts now opened (raises (accepted setting before) opened.pass.token) before)
+  held-taken now on other before opened came e h (inl same) = c.own now on other before opened came e same.0 same.1 (raises (accepted setting before) opened.pass.token)
+  held-taken now on other before opened came e h (inr had) =
       let pairs = accepted setting before in
       let near = near-number setting config pasts token used k datagram c.comes secured pairs opened (c.comes.upto now on other before opened came e) (c.comes.acceptable now on other before opened came e) had in
       let raised : raises pairs opened.pass.token ≡ false = not-raised pairs token number opened.pass.token had near.1 in
-      subst (λ (b : Bool). StandsFrom (used + 1) place (fold (piece_on way (place_from first) now (Some opened.pass.number)) (cut_on b NewToken (marks setting way before)) (pieces way.seat.part opened.payload))) (sym raised)
-      (from-parts (used + 1) place way (place_from first) now opened.pass.number near.0 (pieces way.seat.part opened.payload) (marks setting way before) (h had))
+      subst (λ (b : Bool). Q (on_parts now opened b before)) (sym raised) (c.keeps now opened.pass.number near.0 (pieces way.seat.part opened.payload) (marks setting way before) (h had))
 
   held-answer : (now : ℕ) (on : List Bool) (other : List ℕ) (before : List Event) (answer : Result Opened Refusal) → slice_index_or on way.index false ≡ true → Came (Got now on other ∷ before) → judged before other ≡ answer → Held before
-      → HasPair token number (accepted_with setting (accepted setting before) answer)
-      → StandsFrom (used + 1) place (taken_in setting way now (slice_index_or on way.index false) (accepted setting before) (marks setting way before) answer)
+      → HasPair token number (accepted_with setting (accepted setting before) answer) → Q (taken_in setting way now (slice_index_or on way.index false) (accepted setting before) (marks setting way before) answer)
   held-answer now on other before (Err refusal) enabled came e h had = h had
   held-answer now on other before (Ok opened) enabled came e h had =
       let pairs = accepted setting before in
-      subst (StandsFrom (used + 1) place) (sym (taken-signed now (slice_index_or on way.index false) pairs (marks setting way before) opened enabled))
-      (held-taken now on other before opened enabled came e h (subst (HasPair token number) (pair-added setting config pasts secured pairs opened) had))
+      let raised = raises pairs opened.pass.token in
+      let list = cut_on raised NewToken (marks setting way before) in
+      subst Q
+      (sym (taken-signed setting way first now (slice_index_or on way.index false) pairs (marks setting way before) opened secured c.places
+      ∙ ap (λ (b : Bool). fold (piece_on way (place_from first) now (Some opened.pass.number)) list (if b then pieces way.seat.part opened.payload else [])) enabled))
+      (held-taken now on other before opened came e h (subst (HasPair token number) (pair-added setting config pasts secured pairs opened) had))
 
   held-got : (now : ℕ) (on : List Bool) (other : List ℕ) (before : List Event) → slice_index_or on way.index false ≡ true → Came (Got now on other ∷ before) → Held before → Held (Got now on other ∷ before)
   held-got now on other before enabled came h = λ had. held-answer now on other before (judged before other) enabled came refl h had

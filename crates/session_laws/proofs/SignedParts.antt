@@ -69,7 +69,7 @@ new-if : (low place : ℕ) (item : Item) (before : List Mark) (jump : Bool) → 
 new-if low place item before true at from = inl (at, from)
 new-if low place item before false at from = inl (at, from)
 
-from-kept : (low place : ℕ) (way : Way) (now n : ℕ) → n < low + 16384 → IsKept (StandsFrom low place) way now (Some n)
+pub from-kept : (low place : ℕ) (way : Way) (now n : ℕ) → n < low + 16384 → IsKept (StandsFrom low place) way now (Some n)
 from-kept low place way now n near = record {
   item = λ before frame h.
       let items = since_cut (arrivals_in before) in

@@ -125,6 +125,24 @@ pub record ClosingGotSigned (p : Plan) (r i g w : ℕ) (steps : List Step) (own 
   pub whole : (opened : Opened) → Contains (closing_opened p start ms samples g) opened → All IsUncut (pieces (seat_at (setting_of p.config r).seats i).part opened.payload)
   pub came : (datagram : List ℕ) → Contains (closing_turn p start ms samples g).made datagram → HasPartFor (setting_of p.config r) i datagram → CameIn pumps datagram
 
+-- The same, whether or not the frame came in chunks: each datagram that has a chunk of it for the reader came, in whichever order.
+pub record ClosingGotSecured (p : Plan) (r i g w : ℕ) (steps : List Step) (own : WriterTurn) : Type 0 where
+  pub numbered : (seat_at (setting_of p.config r).seats i).part.numbering ≡ words.Message
+  pub secured : is_secured (setting_of p.config r).setup.mode ≡ true
+  pub named : (setting_of p.config r).group.group ≢ 0
+  pub start : List Step
+  pub ms : ℕ
+  pub samples : List Sampled
+  pub done : List Bool
+  pub pumps : List (List Entry)
+  pub split : steps ≡ map Pump pumps ++ Tick ms true samples done ∷ start
+  pub had : has_turn p start (moment_of start + ms) true (closing_deeds p start ms samples g) g ≡ true
+  pub took : took_by w (closing_turn p start ms samples g) ≡ Some own
+  pub closing : own.closing ≡ true
+  pub operational : receives p.config start r ≡ true
+  pub enabled : is_on p.config start (Reader r i) ≡ true
+  pub came : (datagram : List ℕ) → Contains (closing_turn p start ms samples g).made datagram → HasPartFor (setting_of p.config r) i datagram → CameIn pumps datagram
+
 -- the reader holds the row of the version, cut to its fields
 abbrev pub HoldsRowOf : Plan → ℕ → ℕ → ℕ → ℕ → List Step → (ℕ → ℕ → List DataValue) → ℕ → Type 0
 HoldsRowOf p r i g w steps rows version =

@@ -29,7 +29,7 @@ ghost use Rattle.session_laws.specs.Bare.{ClosingCameLast, ClosingGotLast, Closi
 ghost use Rattle.session_laws.specs.Courses.{HaveOneCourse};
 ghost use Rattle.session_laws.specs.Fresh.{BeginWithKeys, keyed_turns, protected_by};
 ghost use Rattle.session_laws.specs.Headline.{InSession, ComesFrom, IsPublished, PublishesVersion, answered_turn};
-ghost use Rattle.session_laws.specs.Newest.{BringsLast, ClosingCame, ClosingGot, ClosingGotSigned, HoldsRowOf, IsLastLogged, IsNewest};
+ghost use Rattle.session_laws.specs.Newest.{BringsLast, ClosingCame, ClosingGot, ClosingGotSecured, ClosingGotSigned, HoldsRowOf, IsLastLogged, IsNewest};
 ghost use Rattle.session_laws.specs.Pasts.{settings_at};
 ghost use Rattle.session_laws.specs.Plays.{Play, IsPlay, ComesFromWriter, HoldsVersion, its_marks, its_member, its_way};
 ghost use Rattle.session_laws.specs.Sessions.{AreVersions, SamplesRise};
@@ -136,10 +136,9 @@ pub fn a_key_frame_that_comes_last_is_held()
 /// cut, the reader holds the row of the turn's version, cut to its fields: at whatever place of a pump the frame came, however
 /// often, and whatever came before or behind it. It came where, without security, each datagram of the turn with a part for the
 /// reader is one that the journal has as received in the pumps behind it, whole or in chunks, in whichever order. It came likewise
-/// to a secured read group that names the writer's group, with a frame that isn't cut into chunks, whatever the read group has
-/// accepted before.
-/// A reader with no numbering holds it likewise, where no other key frame came behind it; there, with or without security, it
-/// came with a frame that isn't cut.
+/// to a secured read group that names the writer's group, whatever the read group has accepted before: with a frame that isn't
+/// cut into chunks, or in chunks too. A reader with no numbering holds it likewise, where no other key frame came behind it; there
+/// it came, with or without security, with a frame that isn't cut.
 pub fn a_closing_frame_that_came_is_held()
     ensures received { (p : Plan) (r i g w : ℕ) (steps : List Step) (rows : ℕ → ℕ → List DataValue)
         (before : List GroupDeed) (turn : GroupTurn) (own : WriterTurn) → InSession p r i g w steps
@@ -147,6 +146,9 @@ pub fn a_closing_frame_that_came_is_held()
         → HoldsRowOf p r i g w steps rows own.version }
     ensures signed { (p : Plan) (r i g w : ℕ) (steps : List Step) (rows : ℕ → ℕ → List DataValue) (own : WriterTurn)
         → InSession p r i g w steps → AreVersions p steps rows → ClosingGotSigned p r i g w steps own
+        → HoldsRowOf p r i g w steps rows own.version }
+    ensures secured { (p : Plan) (r i g w : ℕ) (steps : List Step) (rows : ℕ → ℕ → List DataValue) (own : WriterTurn)
+        → InSession p r i g w steps → AreVersions p steps rows → ClosingGotSecured p r i g w steps own
         → HoldsRowOf p r i g w steps rows own.version }
     ensures came { (p : Plan) (r i g w : ℕ) (steps : List Step) (rows : ℕ → ℕ → List DataValue)
         (before : List WriterDeed) (turn : WriterTurn) → InSession p r i g w steps → AreVersions p steps rows
