@@ -2,7 +2,7 @@ use Rattle.std.proofs.Common.{◌≡◌, true, false, cond, nat_le, Some, None, 
 use Rattle.std.proofs.lemmas.Bool.Decides.{nat_tests}
 use Rattle.config_tables.specs.Texts.{number_spelled}
 use Rattle.config_tables.proofs.Numbers.{spelled}
-use Rattle.config_tables.proofs.publisher.number_spelled.Goals as goal
+use Rattle.config_tables.proofs.number.number_spelled.Goals as goal
 
 pub returns-then-n-most-clause-number : goal.returns-then-n-most-clause-number
 returns-then-n-most-clause-number c =
