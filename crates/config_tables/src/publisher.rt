@@ -1,10 +1,10 @@
 //! Publishers, as they are spelled.
 ghost use Rattle.std.specs.Prelude.{◌≡◌, ◌≤◌, option_map, option_and_then, IfSome};
 ghost use Rattle.std.specs.List.{list_all};
-ghost use Rattle.config_tables.specs.Texts.{after, number_spelled, number_after, is_printable, is_id, id_spelled, publisher_named, width_of};
+ghost use Rattle.config_tables.specs.Texts.{after, number_after, is_printable, is_id, id_spelled, publisher_named, width_of};
 
+use crate::number::number_spelled;
 use ua_values::Text;
-use value_texts::decimal_number;
 
 /// Who publishes (OPC 10000-14 7.2.4.4, PublisherId). A text is 1 to 64 bytes from `!` to `~`.
 #[derive(Clone, Copy, Debug, PartialEq, Eq)]
@@ -71,16 +71,6 @@ fn after<'a>(text: &'a [u8], word: &[u8]) -> Option<&'a [u8]>
     ensures { option_map (λ rest. rest.now) result ≡ after word.now text.now }
 {
     text.strip_prefix(word)
-}
-
-fn number_spelled(digits: &[u8], most: u64) -> Option<u64>
-    ensures number { result ≡ number_spelled most digits.now }
-    ensures bound { IfSome result (λ n. n ≤ most) }
-{
-    match decimal_number(digits) {
-        Some(n) => { if n <= most { Some(n) } else { None } }
-        None => None,
-    }
 }
 
 fn id_spelled(text: &[u8]) -> Option<Text>

@@ -1,9 +1,8 @@
 //! Numbers in lines.
 ghost use Rattle.std.specs.Prelude.{◌≡◌, ◌≤◌, ◌<◌, ◌^◌, IfSome, is_some};
-ghost use Rattle.config_tables.specs.Texts.{number_spelled};
 ghost use Rattle.ps_script.specs.Numbers.{number_within, is_number, number_at};
 
-use config_tables::decimal_number;
+use config_tables::number_spelled;
 
 /// The number that a word spells, where it is in the range.
 #[tactic(auto, unfolding(crate::specs::Numbers::number_within))]
@@ -13,16 +12,6 @@ pub(crate) fn number_within(word: &[u8], least: u64, most: u64) -> Option<u64>
 {
     match number_spelled(word, most) {
         Some(n) => if least <= n { Some(n) } else { None },
-        None => None,
-    }
-}
-
-fn number_spelled(word: &[u8], most: u64) -> Option<u64>
-    ensures number { result ≡ number_spelled most word.now }
-    ensures bound { IfSome result (λ n. n ≤ most) }
-{
-    match decimal_number(word) {
-        Some(n) => if n <= most { Some(n) } else { None },
         None => None,
     }
 }
