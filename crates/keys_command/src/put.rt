@@ -33,7 +33,7 @@ fn policy_of(long: bool) -> &'static str
 pub fn put_key(out: &mut Vec<u8>, token: u32, opens: bool) -> Result<(), NoMemory>
     ensures { OnOk result (out.new.items ≡ out.old.items ++ key_line opens token) }
 {
-    let rest = if opens { " opens\n" } else { "\n" };
     put_named(out, b"key ", u64::from(token))?;
+    let rest = if opens { " opens\n" } else { "\n" };
     put(out, rest.as_bytes())
 }
