@@ -10,15 +10,16 @@ use Rattle.key_service.specs.declared.service_fault.ServiceFault.{ServiceFault}
 use Rattle.key_service.specs.declared.service_fault.ServiceFault.TheVariants.{TooFew, NotConsecutive, Uneven}
 use Rattle.key_service.specs.Answers.{answer, answered, next_of}
 use Rattle.key_service.specs.Services.{IsServed, Refuses, lifetime_of}
-use Rattle.command_parts.specs.Statuses.{line_feed}
 use Rattle.ps_config.specs.declared.parts.Config.{Config}
 use Rattle.ps_config.specs.declared.parts.KeyGroupPart.{KeyGroupPart}
+use Rattle.ps_report.specs.Lines.{feed}
+use Rattle.ps_report.specs.Reports.{end_line}
 use Rattle.keys_command.specs.declared.refusal.Refusal.{Refusal}
 use Rattle.keys_command.specs.declared.refusal.Refusal.TheVariants.{NotFound, Unserved}
 use Rattle.keys_command.specs.declared.words.Asked.{Asked}
 use Rattle.keys_command.specs.Answers.{IsAnswerOf, IsGroupAnswer, group_named}
 use Rattle.keys_command.specs.Ends.{TellsAnswer}
-use Rattle.keys_command.specs.Texts.{end_line, keys_text, refusal_name}
+use Rattle.keys_command.specs.Texts.{keys_text, refusal_name}
 
 -- an answer goes by the policy and the sets of the ring
 abbrev answer_by : Bool → List KeySet → ℕ → ℕ → ℕ → Keys
@@ -60,7 +61,7 @@ one_service a b asked (Ok k) (Err NotFound) long sets is also = absurd also
 one_service a b asked (Err (Unserved fault)) (Ok l) long sets is also =
     absurd (not_both (key_sets b) fault also.0 (subst (λ (s : List KeySet). Refuses s fault) sets is))
 one_service a b asked (Err (Unserved f)) (Err (Unserved g)) long sets is also =
-    ap (λ (name : List ℕ). codes "refused " ++ name ++ line_feed ++ end_line) (one_name (key_sets b) f g (subst (λ (s : List KeySet). Refuses s f) sets is) also)
+    ap (λ (name : List ℕ). codes "refused " ++ name ++ feed ++ end_line) (one_name (key_sets b) f g (subst (λ (s : List KeySet). Refuses s f) sets is) also)
 one_service a b asked (Err (Unserved f)) (Err NotFound) long sets is also = absurd also
 one_service a b asked (Err NotFound) y long sets is also = absurd is
 

@@ -5,7 +5,8 @@ use Rattle.group_keys.specs.declared.key_set.KeySet.{KeySet}
 use Rattle.key_service.specs.declared.service.Keys.{Keys}
 use Rattle.key_service.specs.declared.service_fault.ServiceFault.TheVariants.{TooFew, NotConsecutive, Uneven}
 use Rattle.key_service.specs.Spelling.{policy_of}
-use Rattle.command_parts.specs.Statuses.{line_feed}
+use Rattle.ps_report.specs.Lines.{feed}
+use Rattle.ps_report.specs.Reports.{end_line}
 use Rattle.keys_command.specs.declared.refusal.Refusal.{Refusal}
 use Rattle.keys_command.specs.declared.refusal.Refusal.TheVariants.{NotFound, Unserved}
 
@@ -20,22 +21,19 @@ refusal_name (Unserved (Uneven index)) = codes "Uneven"
 unfoldable pub policy_line : Keys → List ℕ
 policy_line keys =
     codes "policy " ++ policy_of keys.long ++ codes " first " ++ decimal keys.first ++ codes " next " ++ decimal keys.next
-    ++ codes " lifetime " ++ decimal keys.lifetime ++ line_feed
+    ++ codes " lifetime " ++ decimal keys.lifetime ++ feed
 
 -- `key T opens`, or `key T`
 unfoldable pub key_line : Bool → ℕ → List ℕ
-key_line opens token = codes "key " ++ decimal token ++ (if opens then codes " opens" else []) ++ line_feed
+key_line opens token = codes "key " ++ decimal token ++ (if opens then codes " opens" else []) ++ feed
 
 -- a line for each key
 abbrev pub key_lines : Bool → List KeySet → List ℕ
 key_lines opens sets = flat_map (λ set. key_line opens set.token) sets
 
-abbrev pub end_line : List ℕ
-end_line = codes "end" ++ line_feed
-
 -- `refused NAME`
 abbrev pub refused_text : Refusal → List ℕ
-refused_text refusal = codes "refused " ++ refusal_name refusal ++ line_feed ++ end_line
+refused_text refusal = codes "refused " ++ refusal_name refusal ++ feed ++ end_line
 
 -- what is written of an answer to this START: of keys the policy and each key, which opens where START is 0; else the refusal
 abbrev pub keys_text : ℕ → Result Keys Refusal → List ℕ

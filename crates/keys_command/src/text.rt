@@ -10,13 +10,14 @@ ghost use Rattle.keys_command.specs.Texts.{key_line, key_lines, keys_text, refus
 use crate::answering::answer_of;
 use crate::exchange::reply_back;
 use crate::opening::{guard_of, opens};
-use crate::put::{put, put_key, put_policy};
+use crate::put::{put_key, put_policy};
 use crate::refusal::Refusal;
 use crate::words::Asked;
 use group_keys::KeySet;
 use key_service::Keys;
 use message_guard::Guard;
 use ps_config::Config;
+use ps_report::{put, put_end, put_feed};
 use std::alloc::Global;
 use ua_base::NoMemory;
 
@@ -39,10 +40,10 @@ fn refused_text(alloc: Global, refusal: Refusal) -> Result<Vec<u8>, NoMemory>
     ensures { IfOk result (λ text. text.items ≡ refused_text refusal) }
 {
     let mut out = Vec::new(alloc);
-    put(&mut out, "refused ")?;
-    put(&mut out, refusal.name())?;
-    put(&mut out, "\n")?;
-    put(&mut out, "end\n")?;
+    put(&mut out, b"refused ")?;
+    put(&mut out, refusal.name().as_bytes())?;
+    put_feed(&mut out)?;
+    put_end(&mut out)?;
     Ok(out)
 }
 
@@ -56,7 +57,7 @@ fn keys_text(alloc: Global, start: u32, keys: &Keys) -> Result<Vec<u8>, NoMemory
     let mut out = Vec::new(alloc);
     put_policy(&mut out, &back)?;
     put_each(&mut out, start, keys, &back)?;
-    put(&mut out, "end\n")?;
+    put_end(&mut out)?;
     Ok(out)
 }
 

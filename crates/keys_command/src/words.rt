@@ -1,10 +1,9 @@
 //! The words of the command.
-ghost use Rattle.std.specs.Prelude.{◌≡◌, ◌≤◌, IfSome, option_map};
-ghost use Rattle.config_tables.specs.Texts.{number_spelled};
+ghost use Rattle.std.specs.Prelude.{◌≡◌, option_map};
 ghost use Rattle.keys_command.specs.Words.{asked_in, keys_of};
 
 use command_parts::{Word, names_file};
-use config_tables::decimal_number;
+use config_tables::number_spelled;
 use dataset_meta::Name32;
 
 /// A START and a COUNT are at most this.
@@ -62,14 +61,4 @@ fn asked_in(group: &str, start: &str, count: &str, moment: &str) -> Option<Asked
         count: count as u32,
         moment,
     })
-}
-
-fn number_spelled(digits: &[u8], most: u64) -> Option<u64>
-    ensures number { result ≡ number_spelled most digits.now }
-    ensures bound { IfSome result (λ n. n ≤ most) }
-{
-    match decimal_number(digits) {
-        Some(n) => { if n <= most { Some(n) } else { None } }
-        None => None,
-    }
 }

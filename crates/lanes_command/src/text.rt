@@ -9,9 +9,10 @@ ghost use Rattle.session_model.specs.Deeds.{Deed, group_indexes};
 ghost use Rattle.lanes_command.specs.Standing.{HaveGroups, IsGroupOf, IsHad, StandAll, all_of, counts_of, log_in, logs_by};
 ghost use Rattle.lanes_command.specs.Texts.{group_lines, lanes_text, writer_lines};
 
-use crate::put::{put_end, put_lane, put_totals, put_writer};
+use crate::put::{put_lane, put_totals, put_writer};
 use lane_groups::{Lane, Ran};
 use ps_config::{Config, GroupPart};
+use ps_report::put_end;
 use std::alloc::Global;
 use ua_base::NoMemory;
 use writer_group::Group;

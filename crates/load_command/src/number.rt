@@ -1,9 +1,8 @@
 //! The number of a load.
 ghost use Rattle.std.specs.Prelude.{◌≡◌, ◌≤◌, IfSome};
-ghost use Rattle.config_tables.specs.Texts.{number_spelled};
 ghost use Rattle.load_command.specs.Numbers.{load_number};
 
-use value_texts::decimal_number;
+use config_tables::number_spelled;
 
 /// The least that may be loaded.
 const LEAST: u64 = 1;
@@ -17,18 +16,8 @@ pub fn load_number(word: &[u8]) -> Option<u32>
     ensures number { result ≡ load_number word.now }
     ensures bounds { IfSome result (λ n. (1 ≤ n) × (n ≤ 1024)) }
 {
-    match number_spelled(word) {
+    match number_spelled(word, MOST) {
         Some(n) => if LEAST <= n { Some(n as u32) } else { None },
-        None => None,
-    }
-}
-
-fn number_spelled(word: &[u8]) -> Option<u64>
-    ensures number { result ≡ number_spelled MOST word.now }
-    ensures bound { IfSome result (λ n. n ≤ MOST) }
-{
-    match decimal_number(word) {
-        Some(n) => if n <= MOST { Some(n) } else { None },
         None => None,
     }
 }

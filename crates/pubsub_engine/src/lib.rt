@@ -13,6 +13,7 @@ mod size;
 mod storing;
 mod switching;
 
+pub use logs::{is_same_publisher, version_at};
 pub use opening::Opening;
 pub use session::Session;
 pub use size::{Append, Size};

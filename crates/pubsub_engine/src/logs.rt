@@ -34,7 +34,7 @@ pub(crate) fn log_read<'a>(
 }
 
 /// Whether both are one publisher.
-fn is_same_publisher(one: &Publisher, other: &Publisher) -> bool
+pub fn is_same_publisher(one: &Publisher, other: &Publisher) -> bool
     ensures { result ≡ is_same_publisher one.now other.now }
 {
     match (one, other) {
@@ -104,7 +104,7 @@ fn writer_within(group: &GroupPart, id: u16) -> Option<usize>
 }
 
 /// The version that a log has at a number.
-pub(crate) fn version_at(log: &[(u64, u64)], number: Option<u16>) -> Option<u64>
+pub fn version_at(log: &[(u64, u64)], number: Option<u16>) -> Option<u64>
     ensures { result ≡ option_and_then (version_in log.now) number }
 {
     match number {

@@ -48,10 +48,6 @@ unmatched-text second steps kept r i none = record { matched = λ g w low matche
 
 -- ---- the whole
 
-pub end-read : end_line ≡ 101 ∷ 110 ∷ 100 ∷ 10 ∷ []
-unfolding end_line
-end-read = refl
-
 abbrev IsCounted : Config → List Step → List ℕ → Type 0
 IsCounted second steps counts =
     counts ≡ counted (count_by is_sent (journal (plan_again second) steps)) ∷ counted (count_by is_send_failed (journal (plan_again second) steps))
@@ -61,7 +57,7 @@ IsCounted second steps counts =
 pub text-is : (first : Config) (closed : Closed) (second : Config) (steps : List Step) (kept : ℕ → List StoreVersion) (report written read linked text counts : List ℕ)
     → IsReportBegun first closed report → Wrote (IsWriterText second steps) (writer_places second) report written
     → Wrote (IsReaderText second steps kept) (reader_places second) written read → IsCounted second steps counts
-    → linked ≡ read ++ link_line (slice_index_or counts 0 0) (slice_index_or counts 1 0) (slice_index_or counts 2 0) → text ≡ linked ++ (101 ∷ 110 ∷ 100 ∷ 10 ∷ [])
+    → linked ≡ read ++ link_line (slice_index_or counts 0 0) (slice_index_or counts 1 0) (slice_index_or counts 2 0) → text ≡ linked ++ end_line
     → IsTextOf first closed second steps kept text
 text-is first closed second steps kept report written read linked text counts begun writers readers counts_are link_is is = record {
   report = report;
@@ -72,7 +68,7 @@ text-is first closed second steps kept report written read linked text counts be
   readers_are = readers.texts;
   text_is =
       let line : List ℕ → List ℕ = λ cs. link_line (slice_index_or cs 0 0) (slice_index_or cs 1 0) (slice_index_or cs 2 0) in
-      is ∙ ap (λ (l : List ℕ). linked ++ l) (sym end-read)
+      is
       ∙ ap (λ (l : List ℕ). l ++ end_line)
       (link_is ∙ ap (λ (l : List ℕ). l ++ line counts) (readers.whole_is ∙ ap (λ (l : List ℕ). l ++ readers.text) writers.whole_is)
       ∙ ap (λ (cs : List ℕ). report ++ writers.text ++ readers.text ++ line cs) counts_are);

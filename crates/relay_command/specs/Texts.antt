@@ -24,8 +24,8 @@ use Rattle.session_model.specs.Steps.{Plan, Step}
 use Rattle.session_laws.specs.Reading.{IsMatchedIn}
 use Rattle.gateway_core.specs.declared.collected.StoreVersion.{StoreVersion}
 use Rattle.gateway_core.specs.declared.gateway.Gateway.{Gateway}
-use Rattle.gateway_core.specs.Holding.{IsGateway, plan_of}
-use Rattle.gateway_core.specs.Lived.{GatewayStep, plan_again, version_in, versions_kept as kept_at}
+use Rattle.gateway_core.specs.Holding.{IsGateway, plan_of, sources_of}
+use Rattle.gateway_core.specs.Lived.{GatewayStep, plan_again, session_steps, version_in, versions_kept as kept_at}
 use Rattle.gateway_laws.specs.Relays.{RelayStep}
 use Rattle.gateway_laws.specs.Sources.{Source, source_at}
 use Rattle.gateway_laws.specs.Versions.{versions_kept}
@@ -127,6 +127,19 @@ pub record IsReaderText (second : Config) (steps : List Step) (kept : ℕ → Li
   pub matched : (g w : ℕ) → g < length second.group → IsMatchedIn second place.0 place.1 g w
       → text ≡ reader_line second steps kept place.0 place.1 g w
   pub unmatched : ((g w : ℕ) → g < length second.group → IsMatchedIn second place.0 place.1 g w → ⊥) → text ≡ []
+
+-- the same of this gateway, which has done these steps
+abbrev pub steps_of : Gateway → List GatewayStep → List Step
+steps_of gateway lived = session_steps (sources_of gateway) lived
+
+abbrev pub kept_of : Gateway → List GatewayStep → ℕ → List StoreVersion
+kept_of gateway lived = kept_by_index (sources_of gateway) lived
+
+abbrev pub IsWriterTextOf : Config → Gateway → List GatewayStep → MemberPlace → List ℕ → Type 0
+IsWriterTextOf second gateway lived = IsWriterText second (steps_of gateway lived)
+
+abbrev pub IsReaderTextOf : Config → Gateway → List GatewayStep → MemberPlace → List ℕ → Type 0
+IsReaderTextOf second gateway lived = IsReaderText second (steps_of gateway lived) (kept_of gateway lived)
 
 -- the counts of the gateway's link are those of its journal
 abbrev pub link_text : List Entry → List ℕ

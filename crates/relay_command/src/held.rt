@@ -3,9 +3,10 @@ ghost use Rattle.std.specs.Prelude.{◌≡◌, ◌++◌, OnOk};
 ghost use Rattle.dataset_reader.specs.Reader.{IsReaderOf, kept_by};
 ghost use Rattle.relay_command.specs.Texts.{relayed_as, relayed_line};
 
-use crate::put::{put, put_row, put_stored, put_waits};
+use crate::put::put_stored;
 use dataset_meta::{Meta, Name32};
 use dataset_reader::Reader;
+use ps_report::{put, put_feed, put_row, put_waits};
 use ua_base::NoMemory;
 
 /// The store that a reader's message has, and the version that this came with, as far as they are known.
@@ -32,7 +33,7 @@ pub(crate) fn put_relayed(
     put(out, b"relayed ")?;
     put(out, name.as_bytes())?;
     put_held(out, meta, reader, stored)?;
-    put(out, b"\n")
+    put_feed(out)
 }
 
 /// What the reader holds, or why it waits.

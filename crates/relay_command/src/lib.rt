@@ -4,7 +4,6 @@
 mod command;
 mod held;
 mod laws;
-mod logs;
 mod matching;
 mod put;
 mod relaying;

@@ -4,11 +4,11 @@ ghost use Rattle.std.specs.Prelude.{◌≡◌, ◌<◌, ◌≤◌, ℕ, IfSome, 
 ghost use Rattle.group_laws.specs.Matching.{IsMatched, IsMatchedTo, ReadsWriter};
 ghost use Rattle.writer_group.specs.Parts.{group_at};
 ghost use Rattle.writer_group.specs.Standing.{IsGood};
-ghost use Rattle.pubsub_engine.specs.Logs.{is_same_publisher};
 ghost use Rattle.relay_command.specs.Sources.{AsksFor, IsRead};
 
-use config_tables::{Layout, Publisher};
+use config_tables::Layout;
 use ps_config::{Config, GroupPart, ReadGroupPart, ReaderPart, WriterPart};
+use pubsub_engine::is_same_publisher;
 
 /// The group and the index in it of the writer that the reader with this index in the read group is matched to.
 pub fn matched_writer(config: &Config, readers: &ReadGroupPart, index: usize) -> Option<(u8, u8)>
@@ -67,20 +67,6 @@ fn asks_for(group: &GroupPart, readers: &ReadGroupPart) -> bool
     (readers.group == group.id || (readers.group == 0 && readers.layout == Layout::Dynamic))
         && (readers.version == 0 || readers.version == group.version)
         && (readers.class_id.is_none() || readers.class_id == group.class_id)
-}
-
-/// Whether both are one publisher.
-fn is_same_publisher(one: &Publisher, other: &Publisher) -> bool
-    ensures { result ≡ is_same_publisher one.now other.now }
-{
-    match (one, other) {
-        (Publisher::U8(id), Publisher::U8(other)) => *id == *other,
-        (Publisher::U16(id), Publisher::U16(other)) => *id == *other,
-        (Publisher::U32(id), Publisher::U32(other)) => *id == *other,
-        (Publisher::U64(id), Publisher::U64(other)) => *id == *other,
-        (Publisher::Text(text), Publisher::Text(other)) => text.as_bytes() == other.as_bytes(),
-        _ => false,
-    }
 }
 
 /// The index of the group's writer that the reader reads.

@@ -8,18 +8,18 @@ ghost use Rattle.writer_group.specs.Parts.{group_at};
 ghost use Rattle.session_model.specs.Closing.{MemberPlace, reader_places, writer_places};
 ghost use Rattle.session_model.specs.Deeds.{log_at};
 ghost use Rattle.session_laws.specs.Reading.{IsMatchedIn};
-ghost use Rattle.gateway_core.specs.Lived.{GatewayStep, plan_again, session_steps, version_in};
-ghost use Rattle.gateway_core.specs.Holding.{IsGateway, sources_of};
+ghost use Rattle.gateway_core.specs.Lived.{GatewayStep, plan_again, version_in};
+ghost use Rattle.gateway_core.specs.Holding.{IsGateway};
 ghost use Rattle.gateway_core.specs.Standing.{Stands};
-ghost use Rattle.relay_command.specs.Texts.{IsGatewayOf, IsReaderText, IsReportBegun, IsTextOf, IsWriterText, Wrote, config_of, kept_by_index, places_in_group, places_in_read_group, reader_line};
+ghost use Rattle.relay_command.specs.Texts.{IsGatewayOf, IsReaderTextOf, IsReportBegun, IsTextOf, IsWriterTextOf, Wrote, config_of, kept_of, places_in_group, places_in_read_group, reader_line, steps_of};
 
 use crate::held::{Stored, put_relayed};
-use crate::logs::store_at;
 use crate::matching::matched_writer;
-use crate::put::{put, put_gateway, put_link};
+use crate::put::{put_gateway, put_link};
 use gateway_core::Gateway;
 use ps_config::Config;
-use ps_report::{Closed, report};
+use ps_report::{Closed, put_end, report};
+use pubsub_engine::version_at;
 use std::alloc::Global;
 use ua_base::NoMemory;
 
@@ -38,15 +38,15 @@ pub(crate) fn text_of(
     requires closed { IsClosedOf first.now closed.now }
     requires second { IsGatewayOf second.now gateway.now }
     ensures { IfOk result (λ text. (lived : List GatewayStep) → Stands second.now lived gateway.now
-        → IsTextOf first.now closed.now second.now (session_steps (sources_of gateway.now) lived)
-        (kept_by_index (sources_of gateway.now) lived) text.items) }
+        → IsTextOf first.now closed.now second.now (steps_of gateway.now lived)
+        (kept_of gateway.now lived) text.items) }
 {
     let mut out = report_begun(alloc, first, closed)?;
     put_writers(&mut out, second, gateway)?;
     put_readers(&mut out, second, gateway)?;
     let [sent, failed, received] = gateway.counts();
     put_link(&mut out, sent, failed, received)?;
-    put(&mut out, b"end\n")?;
+    put_end(&mut out)?;
     Ok(out)
 }
 
@@ -64,8 +64,8 @@ fn report_begun(alloc: Global, first: &Config, closed: &Closed) -> Result<Vec<u8
 fn put_writers(out: &mut Vec<u8>, second: &Config, gateway: &Gateway<'_>) -> Result<(), NoMemory>
     requires { IsGatewayOf second.now gateway.now }
     ensures { OnOk result ((lived : List GatewayStep) → Stands second.now lived gateway.now
-        → Wrote (IsWriterText second.now (session_steps (sources_of gateway.now) lived))
-        (writer_places second.now) out.old.items out.new.items) }
+        → Wrote (IsWriterTextOf second.now gateway.now lived) (writer_places second.now)
+        out.old.items out.new.items) }
 {
     for g in 0..second.group.as_slice().len() {
         put_group(out, second, gateway, g)?;
@@ -84,8 +84,8 @@ fn put_group(
     requires within { g < length second.now.group }
     ensures { OnOk result ((lived : List GatewayStep) (places : List MemberPlace) (front : List ℕ)
         → Stands second.now lived gateway.now
-        → Wrote (IsWriterText second.now (session_steps (sources_of gateway.now) lived)) places front out.old.items
-        → Wrote (IsWriterText second.now (session_steps (sources_of gateway.now) lived))
+        → Wrote (IsWriterTextOf second.now gateway.now lived) places front out.old.items
+        → Wrote (IsWriterTextOf second.now gateway.now lived)
         (places ++ places_in_group second.now g) front out.new.items) }
 {
     let groups = second.group.as_slice();
@@ -104,8 +104,8 @@ fn put_group(
 fn put_readers(out: &mut Vec<u8>, second: &Config, gateway: &Gateway<'_>) -> Result<(), NoMemory>
     requires { IsGatewayOf second.now gateway.now }
     ensures { OnOk result ((lived : List GatewayStep) → Stands second.now lived gateway.now
-        → Wrote (IsReaderText second.now (session_steps (sources_of gateway.now) lived)
-        (kept_by_index (sources_of gateway.now) lived)) (reader_places second.now) out.old.items out.new.items) }
+        → Wrote (IsReaderTextOf second.now gateway.now lived) (reader_places second.now)
+        out.old.items out.new.items) }
 {
     for r in 0..second.readgroup.as_slice().len() {
         put_read_group(out, second, gateway, r)?;
@@ -124,10 +124,9 @@ fn put_read_group(
     requires within { r < length second.now.readgroup }
     ensures { OnOk result ((lived : List GatewayStep) (places : List MemberPlace) (front : List ℕ)
         → Stands second.now lived gateway.now
-        → Wrote (IsReaderText second.now (session_steps (sources_of gateway.now) lived)
-        (kept_by_index (sources_of gateway.now) lived)) places front out.old.items
-        → Wrote (IsReaderText second.now (session_steps (sources_of gateway.now) lived)
-        (kept_by_index (sources_of gateway.now) lived)) (places ++ places_in_read_group second.now r) front out.new.items) }
+        → Wrote (IsReaderTextOf second.now gateway.now lived) places front out.old.items
+        → Wrote (IsReaderTextOf second.now gateway.now lived)
+        (places ++ places_in_read_group second.now r) front out.new.items) }
 {
     let groups = second.readgroup.as_slice();
     let readers = groups[r].reader.as_slice();
@@ -149,8 +148,8 @@ fn put_reader(
     requires within { r < length second.now.readgroup }
     requires there { i < length (read_group_at second.now r).reader }
     ensures { OnOk result ((lived : List GatewayStep) → Stands second.now lived gateway.now
-        → (text : List ℕ) × IsReaderText second.now (session_steps (sources_of gateway.now) lived)
-        (kept_by_index (sources_of gateway.now) lived) (r, i) text × (out.new.items ≡ out.old.items ++ text)) }
+        → (text : List ℕ) × IsReaderTextOf second.now gateway.now lived (r, i) text
+        × (out.new.items ≡ out.old.items ++ text)) }
 {
     let groups = second.readgroup.as_slice();
     match matched_writer(second, &groups[r], i) {
@@ -175,8 +174,8 @@ fn put_matched(
     requires group { g < length second.now.group }
     requires matched { IsMatchedIn second.now r i g w }
     ensures { OnOk result ((lived : List GatewayStep) → Stands second.now lived gateway.now
-        → out.new.items ≡ out.old.items ++ reader_line second.now (session_steps (sources_of gateway.now) lived)
-        (kept_by_index (sources_of gateway.now) lived) r i g w) }
+        → out.new.items ≡ out.old.items ++ reader_line second.now
+        (steps_of gateway.now lived) (kept_of gateway.now lived) r i g w) }
 {
     let groups = second.readgroup.as_slice();
     let readers = groups[r].reader.as_slice();
@@ -195,11 +194,12 @@ fn stored_at(gateway: &Gateway<'_>, g: u8, w: u8, set: u8, number: Option<u16>) 
     requires writer { w < length (group_at (config_of gateway.now) g).writer }
     requires set { set < length (config_of gateway.now).dataset }
     ensures { (second : ConfigValue) (lived : List GatewayStep) → Stands second lived gateway.now
-        → let steps = session_steps (sources_of gateway.now) lived in
+        → let steps = steps_of gateway.now lived in
         (result.store ≡ option_and_then (store_in (log_at (plan_again second) g w steps)) number)
-        × (result.version ≡ option_and_then (version_in (kept_by_index (sources_of gateway.now) lived set)) result.store) }
+        × (result.version
+        ≡ option_and_then (version_in (kept_of gateway.now lived set)) result.store) }
 {
-    let store = store_at(gateway.writer(g, w).log(), number);
+    let store = version_at(gateway.writer(g, w).log(), number);
     let version = match store {
         Some(store) => gateway.version_of(set, store),
         None => None,

@@ -1,5 +1,5 @@
 use Rattle.std.proofs.Common.{refl, rules}
-use Rattle.key_rows.proofs.Back.{taken_first}
+use Rattle.key_service.proofs.Laid.{taken_first}
 use Rattle.key_rows.proofs.read_back.written_reply.Goals as goal
 
 pub returns-in-Ok-clause-reply : goal.returns-in-Ok-clause-reply

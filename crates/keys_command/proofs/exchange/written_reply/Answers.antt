@@ -1,6 +1,6 @@
 use Rattle.std.proofs.Common.{refl, rules, arith}
 use Rattle.key_service.specs.Spelling.{reply_bytes}
-use Rattle.keys_command.proofs.Back.{taken_first}
+use Rattle.key_service.proofs.Laid.{taken_first}
 use Rattle.keys_command.proofs.Sizes.{reply_short}
 use Rattle.keys_command.proofs.exchange.written_reply.Goals as goal
 

@@ -1,5 +1,6 @@
 use Rattle.std.proofs.Common.{◌≡◌, ◌++◌, ◌==◌, List, ℕ, ap, ◌∙◌}
-use Rattle.keys_command.specs.Texts.{end_line, key_lines, policy_line}
+use Rattle.ps_report.specs.Reports.{end_line}
+use Rattle.keys_command.specs.Texts.{key_lines, policy_line}
 use Rattle.keys_command.proofs.Known.{read_policy}
 use Rattle.keys_command.proofs.text.keys_text.Goals as goal
 
@@ -11,4 +12,4 @@ returns c =
     c.in_ok-put_policy.ensures ∙ ap (λ (l : List ℕ). l ++ policy_line back) c.new-out.ensures.items ∙ read_policy keys back c.reply_back-back.ensures in
     let lines : c.put_each.new.out.items ≡ policy_line keys ++ key_lines (c.args.start == 0) keys.keys.items =
     c.in_ok-put_each.ensures ∙ ap (λ (l : List ℕ). l ++ key_lines (c.args.start == 0) keys.keys.items) policy in
-    c.in_ok-put.ensures ∙ ap (λ (l : List ℕ). l ++ end_line) lines
+    c.in_ok-put_end.ensures ∙ ap (λ (l : List ℕ). l ++ end_line) lines
