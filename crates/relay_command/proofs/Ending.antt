@@ -5,7 +5,7 @@ use Rattle.std.proofs.lemmas.Bool.{false≢true}
 use Rattle.ua_base.specs.Cause.{HasCause, Rose}
 use Rattle.ua_base.specs.Files.{ToldFile, TellsFile}
 use Rattle.ps_config.specs.declared.parts.Config.{Config}
-use Rattle.ps_config.specs.Reading.{configuration}
+use Rattle.ps_config.specs.Reading.{Judgement, configuration}
 use Rattle.ps_script.specs.declared.fault.ScriptFault.{ScriptFault}
 use Rattle.ps_script.specs.declared.script.Script.{Script}
 use Rattle.ps_script.specs.Scripts.{script as script_in}
@@ -20,10 +20,12 @@ use Rattle.command_parts.specs.Files.{IsLong, IsTold}
 use Rattle.command_parts.specs.Outputs.{EndsWriting}
 use Rattle.command_parts.specs.Outside.{Outside, Wire}
 use Rattle.command_parts.specs.Scripts.{EndsScript, IsJudgedScript}
-use Rattle.command_parts.specs.Statuses.{IsDone, IsConfigRefused, IsOutOfMemory, IsScriptRefused, IsUnopened, IsUnread, IsUnwritten}
-use Rattle.command_parts.proofs.Told.{judged_told, script_told, long_short}
+use Rattle.command_parts.specs.Statuses.{IsDone, IsConfigRefused, IsOutOfMemory, IsScriptRefused, IsTooLong, IsUnopened, IsUnread, IsUnwritten}
+use Rattle.command_parts.proofs.Told.{judged_told, script_told, long_is, long_judged, long_short}
 use Rattle.session_command.specs.Endings.{status_of}
+use Rattle.session_command.specs.Sessions.{NamesLong}
 use Rattle.session_command.proofs.Ended.{written_late}
+use Rattle.session_command.proofs.Told.{short}
 use Rattle.relay_command.specs.declared.command.Accepted.{Accepted}
 use Rattle.relay_command.specs.Ends.{Accepts, AreConfigured, AreRefused, AreTold, AreToldConfigs, EndsAccepting, EndsSecond, Names, Reads, RelayEnds, Says, UsesLinks, Writes}
 use Rattle.relay_command.specs.Links.{LeavesUnopened, OpensSo, opening_again}
@@ -120,6 +122,10 @@ module _ (tells : List ℕ → ToldFile) (names : Names) where
         ]
       ]
 
+-- a file that was judged isn't too long
+not_named : (file : ToldFile) (bytes : List ℕ) (judgement : Judgement) → file ≡ Some (Some bytes) → IsJudged file judgement → ⊥ ↔ IsLong bytes
+not_named file bytes judgement told judged = ((λ no. absurd no), (λ long. long_judged file bytes judgement told judged long))
+
 -- ---- what a status says
 
 module _ (names : Names) (old new : Outside) (lab wire : Wire) where
@@ -177,6 +183,85 @@ module _ (names : Names) (old new : Outside) (lab wire : Wire) where
   script_refused BadWords reader first second bytes h told script a b = absurd h
   script_refused (NotInLanes line) reader first second bytes h told script a b = absurd h
 
+  first_long : (status : Status) (bytes : List ℕ) → Says status names old new lab wire → old.file names.first ≡ Some (Some bytes) → (IsUnread status → ⊥) → (IsOutOfMemory status → ⊥)
+      → NamesLong status names.first ↔ IsLong bytes
+  first_long Done bytes h told a b = not_named (old.file names.first) bytes (Ok h.1.accepted.first) told h.1.accepts.configured.first_is
+  first_long Unwritten bytes h told a b = not_named (old.file names.first) bytes (Ok h.1.accepted.first) told h.1.accepts.configured.first_is
+  first_long Unopened bytes h told a b = not_named (old.file names.first) bytes (Ok h.0.first) told h.1.configured.first_is
+  first_long (ScriptRefused line fault) bytes h told a b = not_named (old.file names.first) bytes (Ok h.0) told h.2.first_is
+  first_long (NoSource set) bytes h told a b = not_named (old.file names.first) bytes (Ok h.0) told h.2
+  first_long (ConfigRefused code path) bytes h told a b =
+      elim h [
+        | inl judged ↦ not_named (old.file names.first) bytes (Err (code, path)) told judged
+        | inr behind ↦ not_named (old.file names.first) bytes (Ok behind.0) told behind.1
+      ]
+  first_long (Long file) bytes h told a b = (
+    (λ same. long_is (old.file names.first) bytes told (subst (λ (l : List ℕ). TellsFile (old.file l) IsLong) same h.1)),
+    (λ long. elim h.0 [
+      | inl same ↦ same
+      | inr rest ↦ elim rest [
+        | inl behind ↦ absurd (long_judged (old.file names.first) bytes (Ok behind.1) told behind.2 long)
+        | inr script ↦ absurd (long_judged (old.file names.first) bytes (Ok script.1) told script.3.first_is long)
+      ]
+    ]),
+  )
+  first_long (Unread file) bytes h told a b = absurd (a refl)
+  first_long OutOfMemory bytes h told a b = absurd (b refl)
+  first_long BadWords bytes h told a b = absurd h
+  first_long (NotInLanes line) bytes h told a b = absurd h
+
+  second_long : (status : Status) (first : Config) (one bytes : List ℕ) → Says status names old new lab wire → IsTold (old.file names.first) one → configuration one ≡ Ok first
+      → old.file names.second ≡ Some (Some bytes) → (IsUnread status → ⊥) → (IsOutOfMemory status → ⊥) → NamesLong status names.second ↔ IsLong bytes
+  second_long Done first one bytes h known is told a b = not_named (old.file names.second) bytes (Ok h.1.accepted.second) told h.1.accepts.configured.second_is.judged
+  second_long Unwritten first one bytes h known is told a b = not_named (old.file names.second) bytes (Ok h.1.accepted.second) told h.1.accepts.configured.second_is.judged
+  second_long Unopened first one bytes h known is told a b = not_named (old.file names.second) bytes (Ok h.0.second) told h.1.configured.second_is.judged
+  second_long (ScriptRefused line fault) first one bytes h known is told a b = not_named (old.file names.second) bytes (Ok h.1) told h.2.second_is.judged
+  second_long (NoSource set) first one bytes h known is told a b = not_named (old.file names.second) bytes (Ok h.1) told h.3
+  second_long (ConfigRefused code path) first one bytes h known is told a b =
+      elim h [
+        | inl judged ↦ absurd (ok_not_err (configuration one) first is (err_is (configuration one) (code, path) (judged_told (old.file names.first) one (Err (code, path)) known.told judged)))
+        | inr behind ↦ not_named (old.file names.second) bytes (Err (code, path)) told behind.2
+      ]
+  second_long (Long file) first one bytes h known is told a b = (
+    (λ same. long_is (old.file names.second) bytes told (subst (λ (l : List ℕ). TellsFile (old.file l) IsLong) same h.1)),
+    (λ long. elim h.0 [
+      | inl same ↦ absurd (long_short (old.file names.first) one known (subst (λ (l : List ℕ). TellsFile (old.file l) IsLong) same h.1))
+      | inr rest ↦ elim rest [
+        | inl behind ↦ behind.0
+        | inr script ↦ absurd (long_judged (old.file names.second) bytes (Ok script.2) told script.3.second_is.judged long)
+      ]
+    ]),
+  )
+  second_long (Unread file) first one bytes h known is told a b = absurd (a refl)
+  second_long OutOfMemory first one bytes h known is told a b = absurd (b refl)
+  second_long BadWords first one bytes h known is told a b = absurd h
+  second_long (NotInLanes line) first one bytes h known is told a b = absurd h
+
+  script_long : (status : Status) (first second : Config) (bytes : List ℕ) → Says status names old new lab wire → AreToldConfigs old.file names first second
+      → old.file names.script ≡ Some (Some bytes) → (IsUnread status → ⊥) → (IsOutOfMemory status → ⊥) → IsTooLong status ↔ IsLong bytes
+  script_long Done first second bytes h known told a b =
+      short true (old.file names.script) h.1.accepted.first bytes (Ok h.1.accepted.script) 0 told h.1.accepts.scripted (λ e. omega arith)
+  script_long Unwritten first second bytes h known told a b =
+      short true (old.file names.script) h.1.accepted.first bytes (Ok h.1.accepted.script) 6 told h.1.accepts.scripted (λ e. omega arith)
+  script_long Unopened first second bytes h known told a b = short true (old.file names.script) h.0.first bytes (Ok h.0.script) 8 told h.1.scripted (λ e. omega arith)
+  script_long (ScriptRefused line fault) first second bytes h known told a b = short true (old.file names.script) h.0 bytes (Err (line, fault)) 4 told h.3 (λ e. omega arith)
+  script_long (ConfigRefused code path) first second bytes h known told a b = absurd (config_not old.file names first second code path known h)
+  script_long (NoSource set) first second bytes h known told a b = absurd (source_not old.file names first second set known h)
+  script_long (Long file) first second bytes h known told a b = (
+    (λ nine. elim h.0 [
+      | inl same ↦ absurd (long_short (old.file names.first) known.first_bytes known.first_told (subst (λ (l : List ℕ). TellsFile (old.file l) IsLong) same h.1))
+      | inr rest ↦ elim rest [
+        | inl behind ↦ absurd (long_short (old.file names.second) known.second_bytes known.second_told (subst (λ (l : List ℕ). TellsFile (old.file l) IsLong) behind.0 h.1))
+        | inr last ↦ long_is (old.file names.script) bytes told (subst (λ (l : List ℕ). TellsFile (old.file l) IsLong) last.0 h.1)
+      ]
+    ]),
+    (λ long. refl),
+  )
+  script_long (Unread file) first second bytes h known told a b = absurd (a refl)
+  script_long OutOfMemory first second bytes h known told a b = absurd (b refl)
+  script_long BadWords first second bytes h known told a b = absurd h
+  script_long (NotInLanes line) first second bytes h known told a b = absurd h
+
   completes : {X : Type 0} (status : Status) → Says status names old new lab wire → AreTold old.file names → (IsUnread status → ⊥) → (IsUnwritten status → ⊥) → (IsUnopened status → X)
       → IsDone status ⊎ IsOutOfMemory status ⊎ X
   completes Done h t a b other = inl refl
@@ -207,6 +292,9 @@ relay_ends status names old new lab lab_after wire wire_after h links reads writ
   links = links;
   config_refused = λ one other. config_refused names old new lab_after wire_after status one other h;
   script_refused = λ reader first second bytes. script_refused names old new lab_after wire_after status reader first second bytes h;
+  first_long = λ bytes. first_long names old new lab_after wire_after status bytes h;
+  second_long = λ first one bytes. second_long names old new lab_after wire_after status first one bytes h;
+  script_long = λ first second bytes. script_long names old new lab_after wire_after status first second bytes h;
   complete = λ told folder_quiet out_quiet lab_quiet wire_quiet.
       elim (completes names old new lab_after wire_after {X = ⊥} status h told (λ is. folder_quiet (reads.rose is)) (λ is. out_quiet (writes.rose is))
       (λ is. rose_one lab lab_after wire wire_after (links.unopened is) lab_quiet wire_quiet)) [

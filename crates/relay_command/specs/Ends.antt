@@ -15,7 +15,8 @@ use Rattle.command_parts.specs.Configurations.{IsJudged, EndsConfigFile}
 use Rattle.command_parts.specs.Files.{IsLong, IsTold}
 use Rattle.command_parts.specs.Outside.{Outside, Wire, IsQuiet}
 use Rattle.command_parts.specs.Scripts.{IsJudgedScript}
-use Rattle.command_parts.specs.Statuses.{IsDone, IsConfigRefused, IsScriptRefused, IsUnread, IsUnwritten, IsOutOfMemory, IsUnopened}
+use Rattle.command_parts.specs.Statuses.{IsDone, IsConfigRefused, IsScriptRefused, IsUnread, IsUnwritten, IsOutOfMemory, IsUnopened, IsTooLong}
+use Rattle.session_command.specs.Sessions.{NamesLong}
 use Rattle.relay_command.specs.declared.command.Accepted.{Accepted}
 use Rattle.relay_command.specs.Links.{LeavesUnopened, opening_again}
 use Rattle.relay_command.specs.Relaying.{IsRelayOf}
@@ -144,6 +145,13 @@ pub record RelayEnds (status : Status) (names : Names) (old new : Outside) (lab 
       → ¬ IsUnread status → ¬ IsOutOfMemory status → IsConfigRefused status ↔ AreRefused first_bytes second_bytes
   pub script_refused : (reader : ValueReader) (first second : Config) (bytes : List ℕ) → AreToldConfigs old.file names first second → IsTold (old.file names.script) bytes
       → ¬ IsUnread status → ¬ IsOutOfMemory status → IsScriptRefused status ↔ IsErr (script_in reader first bytes true)
+  -- of a file that is too long this is told where those before it are accepted, and of no other
+  pub first_long : (bytes : List ℕ) → old.file names.first ≡ Some (Some bytes)
+      → ¬ IsUnread status → ¬ IsOutOfMemory status → NamesLong status names.first ↔ IsLong bytes
+  pub second_long : (first : Config) (first_bytes bytes : List ℕ) → IsTold (old.file names.first) first_bytes → configuration first_bytes ≡ Ok first
+      → old.file names.second ≡ Some (Some bytes) → ¬ IsUnread status → ¬ IsOutOfMemory status → NamesLong status names.second ↔ IsLong bytes
+  pub script_long : (first second : Config) (bytes : List ℕ) → AreToldConfigs old.file names first second → old.file names.script ≡ Some (Some bytes)
+      → ¬ IsUnread status → ¬ IsOutOfMemory status → IsTooLong status ↔ IsLong bytes
   -- what is accepted is relayed, where no call fails
   pub complete : AreTold old.file names → IsQuiet old.read_faults new.read_faults → IsQuiet old.write_faults new.write_faults
       → IsQuiet lab.faults lab_after.faults → IsQuiet wire.faults wire_after.faults → IsDone status ⊎ IsOutOfMemory status

@@ -95,7 +95,7 @@ module _ (fates : Bool) where
         (script_is reader tells script_name config_name config taken bytes (Ok script) known accepts.configured told.told accepts.scripted) takes refused)),
   )
 
-  short : (file : ToldFile) (config : Config) (bytes : List ℕ) (judgement : Result Script (ℕ × ScriptFault)) (n : ℕ) → file ≡ Some (Some bytes) → IsJudgedScript file config fates judgement → (n ≡ 9 → ⊥)
+  pub short : (file : ToldFile) (config : Config) (bytes : List ℕ) (judgement : Result Script (ℕ × ScriptFault)) (n : ℕ) → file ≡ Some (Some bytes) → IsJudgedScript file config fates judgement → (n ≡ 9 → ⊥)
       → (n ≡ 9) ↔ IsLong bytes
   short file config bytes judgement n told j differs = ((λ nine. absurd (differs nine)), (λ long. absurd (long_read file j.bytes bytes told j.read long)))
 
