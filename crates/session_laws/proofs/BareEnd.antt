@@ -17,8 +17,8 @@ use Rattle.reader_group.specs.Payloads.{Piece, pieces}
 use Rattle.reader_group.specs.Settings.{setting_of}
 use Rattle.writer_group.specs.Parts.{group_at}
 use Rattle.writer_group.specs.Turns.{GroupDeed, GroupTurn, took_by, writer_past}
-use Rattle.session_model.specs.Events.{events}
-use Rattle.session_model.specs.Steps.{Plan, Step, Pump}
+use Rattle.session_model.specs.Events.{events, readers_on}
+use Rattle.session_model.specs.Steps.{Plan, Step, Pump, moment_of}
 use Rattle.session_laws.specs.Bare.{CameLast, ClosingCameLast, ClosingGotLast}
 use Rattle.session_laws.specs.Headline.{InSession, meta_of}
 use Rattle.session_laws.specs.Newest.{HasPartFor, HoldsRowOf}
@@ -26,9 +26,11 @@ use Rattle.session_laws.specs.Pasts.{CameAsMade}
 use Rattle.session_laws.specs.Plays.{IsPlay, Play, its_way}
 use Rattle.session_laws.specs.Reading.{arrivals_at, first_number_of}
 use Rattle.session_laws.specs.Sessions.{AreVersions, pasts_at}
-use Rattle.session_laws.proofs.BareGot.{and-false, came-last}
+use Rattle.session_laws.proofs.BareGot.{and-false, brings, came-last}
 use Rattle.session_laws.proofs.BareTrace.{taken-any}
 use Rattle.session_laws.proofs.ClosingGot.{LastTurn, OnePart, flat-one, gives-bare, in-flat, last-turn, not-empty, one-part, opened_all, opens-all, same-turn}
+use Rattle.session_laws.proofs.GotParts.{enabled-behind}
+use Rattle.session_laws.proofs.InPumps.{so_far}
 use Rattle.session_laws.proofs.Marks.{turns}
 use Rattle.session_laws.proofs.Published.{Laws, is-play, play_of}
 
@@ -87,12 +89,16 @@ module _ (laws : Laws) (p : Plan) (r i g w : ℕ) (steps : List Step) (before : 
       came-in : CameLast (arrivals_at p.config r i (first_number_of p.config g w) (map Pump c.pumps ++ c.start)) row
       came-in =
           let datagram = datagram_of found.0 found.1 in
+          let first = first_number_of p.config g w in
           let came = c.came datagram (made-of found.0 found.1) (has-part found.0 found.1 part.piece found.2) in
-          let taken = taken-any p.config r c.start datagram found.0 c.pumps (opens-all laws.turns laws.passed play is_play own c.closing le last took c.unsecured found.0 found.1).2 came.0 in
-          came-last p.config r i (first_number_of p.config g w) c.start datagram found.0 (pasts_at p steps) c.operational is.matched.within c.enabled row (ap is_numbered c.bare) part.piece
-          (flat-one parts_of all found.0 part.piece part.same found.1 (not-empty (parts_of found.0) part.piece found.2)) reads (λ befell. ⊤) (λ now on befell e. tt) (λ now on other befell calm. tt)
-          (λ now on other befell opened so_far calm e. and-false (is_secured (setting_of p.config r).setup.mode) (raises (accepted (setting_of p.config r) befell) opened.pass.token) c.unsecured)
-          c.pumps taken (subst (λ (l : List Step). CameAsMade (setting_of p.config r) p.config (pasts_at p steps) (events p.config r l)) c.split is_play.came)
+          let opens = (opens-all laws.turns laws.passed play is_play own c.closing le last took c.unsecured found.0 found.1).2 in
+          let taken = taken-any p.config r c.start datagram found.0 c.pumps opens came.0 in
+          let steps_before = map Pump taken.before ++ c.start in
+          let key = brings p.config r i first c.start datagram found.0 row (ap is_numbered c.bare) part.piece (flat-one parts_of all found.0 part.piece part.same found.1 (not-empty (parts_of found.0) part.piece found.2)) reads
+          (moment_of steps_before) (readers_on p.config steps_before r) (so_far p.config r c.start taken.before taken.earlier) (enabled-behind p.config r i taken.before c.start is.matched.within c.enabled) taken.opens in
+          came-last p.config r i first c.start datagram (pasts_at p steps) c.operational row (ap is_numbered c.bare) (λ befell. ⊤) (λ now on other befell calm. tt)
+          (λ now on other befell opened came_so calm e. and-false (is_secured (setting_of p.config r).setup.mode) (raises (accepted (setting_of p.config r) befell) opened.pass.token) c.unsecured)
+          c.pumps taken.later taken.before taken.earlier taken.behind taken.is tt key (subst (λ (l : List Step). CameAsMade (setting_of p.config r) p.config (pasts_at p steps) (events p.config r l)) c.split is_play.came)
           (λ newer e. came.1 taken.later taken.before taken.earlier taken.behind newer taken.is e)
 
     came-here : CameLast (arrivals_at p.config r i (first_number_of p.config g w) (map Pump c.pumps ++ c.start)) row

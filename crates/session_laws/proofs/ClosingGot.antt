@@ -421,7 +421,7 @@ module _ (laws : TurnLaws) (law : TakesSignedAlone) (p : Play) (is : IsPlay 1638
               let size = cut-size room (carried closing_frame) message chunk cut_up.has_room cut_up.some has in
               let of_number = (cut-of room (carried closing_frame) message chunk has).0 in
               let short : length (bytes place) ≤ longest_message = let long = ap length bytes-are in let most = cut_up.short in omega (arith, long, most) in
-              proper (its_way p).seat.part.numbering (its_way p) (its_answers p) bytes first (next_place s (its_answers p)) place (source laws law 16385 p le is) is-last frame (placed_cut (its_meta p) closing_frame) (gives numbered) refl
+              proper (its_way p).seat.part.numbering (its_way p) (its_answers p) bytes first (next_place s (its_answers p)) place (source laws law 16385 p le is) is-last
               list (placed (place_from first) chunk) are (laid-of chunk has) (ap (place_from first) of_number ∙ back) size.some size.within short
 
           lies : (chunk : Chunk) → Contains (cuts room (carried closing_frame) message) chunk → Lies (placed (place_from first) chunk) (its_marks p)

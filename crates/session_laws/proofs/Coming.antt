@@ -97,6 +97,15 @@ lies-kept chunk way now s = record {
 pub lies-parts : (chunk : Chunk) (way : Way) (at : ℕ → ℕ) (now : ℕ) (s : Option ℕ) (parts : List Piece) (before : List Mark) → Lies chunk before → Lies chunk (fold (piece_on way at now s) before parts)
 lies-parts chunk way at now s parts before h = keep-pieces (Lies chunk) way at now s (lies-kept chunk way now s) parts before h
 
+-- what is read leaves the chunks
+same-on : (way : Way) (now : ℕ) (s : Option ℕ) (before : List Mark) (o : Option PlacedFrame) → chunks_in (item_on way now s before o) ≡ chunks_in before
+same-on way now s before None = refl
+same-on way now s before (Some f) = same-chunks way before (item_of now s f)
+
+pub read-same : (way : Way) (at : ℕ → ℕ) (now : ℕ) (s : Option ℕ) (before : List Mark) (r : Result Frame FrameFault) → chunks_in (read_on way at now s before r) ≡ chunks_in before
+read-same way at now s before (Err fault) = refl
+read-same way at now s before (Ok f) = same-on way now s before (frame_of way at f)
+
 -- ---- covers
 
 differ-test : (a b : ℕ) → a ≢ b → (a == b) ≡ false
@@ -112,8 +121,7 @@ cover-other c chunks place total differ =
 -- ---- a frame whose last place this is
 
 module _ (word : NumberingWord) (way : Way) (answered : List Answered) (bytes : ℕ → List ℕ) (first next place : ℕ) (source : Source way answered first next)
-    (last : (frame : PlacedFrame) → IsAnswer answered frame → is_silent frame ≡ false → place_of frame ≤ place)
-    (frame : Frame) (given : PlacedFrame) (gives : frame_of way (place_from first) frame ≡ Some given) (at : place_of given ≡ place) where
+    (last : (frame : PlacedFrame) → IsAnswer answered frame → is_silent frame ≡ false → place_of frame ≤ place) where
   abbrev total : ℕ
   total = length (bytes place)
 
@@ -127,8 +135,8 @@ module _ (word : NumberingWord) (way : Way) (answered : List Answered) (bytes : 
   of_chunk c = IsChunkOf way.seat.meta answered bytes c
 
   -- the frame is read
-  pub reads-frame : (now : ℕ) (s : Option ℕ) (before : List Mark) → Stands place (read_on way (place_from first) now s before (Ok frame))
-  reads-frame now s before = subst (λ (o : Option PlacedFrame). Stands place (item_on way now s before o)) (sym gives) (stands-new place way now s before given at)
+  pub reads-frame : (frame : Frame) (given : PlacedFrame) → frame_of way (place_from first) frame ≡ Some given → place_of given ≡ place → (now : ℕ) (s : Option ℕ) (before : List Mark) → Stands place (read_on way (place_from first) now s before (Ok frame))
+  reads-frame frame given gives at now s before = subst (λ (o : Option PlacedFrame). Stands place (item_on way now s before o)) (sym gives) (stands-new place way now s before given at)
 
   low : (before : List Mark) → AreAll before → All (λ c. c.place ≤ place) (chunks_in before)
   low before are =
@@ -155,7 +163,7 @@ module _ (word : NumberingWord) (way : Way) (answered : List Answered) (bytes : 
   of_piece piece = IsPieceOf of_frame of_chunk way.seat.meta piece
 
   -- what an item with this stamp leaves, and what the frame brings, stands where the chunks cover the message
-  module _ (now : ℕ) (s : Option ℕ) (Q : List Mark → Type 0) (behind : (before : List Mark) (f : PlacedFrame) → Q before → Q (comes way before (item_of now s f))) (laid : (before : List Mark) (c : Chunk) → Q before → Q (Laid c ∷ before))
+  module _ (frame : Frame) (given : PlacedFrame) (gives : frame_of way (place_from first) frame ≡ Some given) (now : ℕ) (s : Option ℕ) (Q : List Mark → Type 0) (behind : (before : List Mark) (f : PlacedFrame) → Q before → Q (comes way before (item_of now s f))) (laid : (before : List Mark) (c : Chunk) → Q before → Q (Laid c ∷ before))
       (new : (before : List Mark) → Q (comes way before (item_of now s given))) where
     abbrev Covered : List Mark → Type 0
     Covered list = cover (chunks_in list) place total ≡ true → Q list
@@ -225,6 +233,51 @@ module _ (word : NumberingWord) (way : Way) (answered : List Answered) (bytes : 
           covered-parts keep parts (piece_on way (place_from first) now s before piece) (All-tail of_piece piece parts of)
           (keep-parts AreAll of_frame of_chunk way (place_from first) now s keep (piece ∷ []) before (All-cons of_piece piece [] head (All-nil of_piece)) are)
           (covered-piece before piece head are h)
+
+  -- a chunk with which the chunks cover the message: that is read
+  module _ (frame : Frame) (read : frame_at way.seat.meta (bytes place) ≡ Ok frame) (now : ℕ) (s : Option ℕ) (before : List Mark) (are : AreAll before) (none : cover (chunks_in before) place total ≡ false) where
+    abbrev laid_by : Bool → Bool → Chunk → List Mark
+    laid_by proper whole c =
+        if not proper then before
+        else if whole then read_on way (place_from first) now s (Laid c ∷ before) (frame_at way.seat.meta (message_of (c ∷ chunks_in before) c.place c.total))
+        else Laid c ∷ before
+
+    never : {X : Type 0} (b : Bool) → b ≡ false → b ≡ true → X
+    never b e f = absurd (let wrong : false ≡ true = sym e ∙ f in cc)
+
+    flip-laid : (c : Chunk) (proper whole own : Bool) → is_whole_at (chunks_in before) c ≡ whole → (c.place == place) ≡ own → IsLaidOf way.seat.meta answered bytes c → cover (chunks_in (laid_by proper whole c)) place total ≡ true
+        → laid_by proper whole c ≡ read_on way (place_from first) now s (Laid c ∷ before) (Ok frame)
+    flip-laid c false whole own e is laid full = never (cover (chunks_in before) place total) none full
+    flip-laid c true true true e is laid full =
+        let same : c.place ≡ place = grind (arith, nat_tests) in
+        let message : message_of (c ∷ chunks_in before) c.place c.total ≡ bytes place =
+        whole-is way.seat.meta answered bytes c (chunks_in before) laid (chunks-are (IsLaidOf way.seat.meta answered bytes) before are.chunks) e ∙ ap bytes same in
+        ap (λ (r : Result Frame FrameFault). read_on way (place_from first) now s (Laid c ∷ before) r) (ap (frame_at way.seat.meta) message ∙ read)
+    flip-laid c true true false e is laid full =
+        let differ : c.place ≢ place = grind (arith, nat_tests) in
+        never (cover (chunks_in before) place total) none
+        (sym (ap (λ (l : List Chunk). cover l place total) (read-same way (place_from first) now s (Laid c ∷ before) (frame_at way.seat.meta (message_of (c ∷ chunks_in before) c.place c.total))) ∙ cover-other c (chunks_in before) place total differ) ∙ full)
+    flip-laid c true false true e is laid full =
+        let same : c.place ≡ place = grind (arith, nat_tests) in
+        let size = same-total c laid same in
+        let chunks = chunks_in before in
+        let lows : list_all (λ x. nat_le x.place c.place) chunks ≡ true = ap (λ (n : ℕ). list_all (λ x. nat_le x.place n) chunks) same ∙ all-low chunks (low before are) in
+        let covers : cover (c ∷ chunks) c.place c.total ≡ true = ap (λ (n : ℕ). cover (c ∷ chunks) n c.total) same ∙ ap (λ (n : ℕ). cover (c ∷ chunks) place n) size ∙ full in
+        let was = not-whole (list_all (λ x. nat_le x.place c.place) chunks) (cover (c ∷ chunks) c.place c.total) (cover chunks c.place c.total) lows covers e in
+        never (cover chunks place total) none (sym (ap (λ (n : ℕ). cover chunks n c.total) same ∙ ap (λ (n : ℕ). cover chunks place n) size) ∙ was)
+    flip-laid c true false false e is laid full =
+        let differ : c.place ≢ place = grind (arith, nat_tests) in never (cover (chunks_in before) place total) none (sym (cover-other c (chunks_in before) place total differ) ∙ full)
+
+    flip-read : (r : Result Chunk ChunkFault) → OfRead of_chunk r → cover (chunks_in (chunk_on way (place_from first) now s before r)) place total ≡ true
+        → (c : Chunk) × (chunk_on way (place_from first) now s before r ≡ read_on way (place_from first) now s (Laid c ∷ before) (Ok frame))
+    flip-read (Err fault) of full = never (cover (chunks_in before) place total) none full
+    flip-read (Ok chunk) of full =
+        let c = placed (place_from first) chunk in
+        (c, flip-laid c (is_proper (chunks_in before) c) (is_whole_at (chunks_in before) c) (c.place == place) refl refl (chunk-laid way answered bytes first next chunk source of) full)
+
+    pub flip-chunk : (b : List ℕ) → OfRead of_chunk (without_rest (chunk_at b)) → cover (chunks_in (piece_on way (place_from first) now s before (Chunked b))) place total ≡ true
+        → (c : Chunk) × (piece_on way (place_from first) now s before (Chunked b) ≡ read_on way (place_from first) now s (Laid c ∷ before) (Ok frame))
+    flip-chunk b of full = flip-read (without_rest (chunk_at b)) of full
 
   -- one of the parts is read as the frame
   pub reads-among : (now : ℕ) (piece : Piece) → ((before : List Mark) → Stands place (piece_on way (place_from first) now None before piece)) → (parts : List Piece) (before : List Mark) → Contains parts piece

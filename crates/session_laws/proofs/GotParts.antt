@@ -114,7 +114,7 @@ module _ (laws : TurnLaws) (law : TakesSignedAlone) (most : ℕ) (p : Play) (le 
       covered-taken now enabled pairs list (Err refusal) of are h = h
       covered-taken now enabled pairs list (Ok opened) of are h =
           subst Covered (sym (taken-open now enabled pairs list opened))
-          (covered-parts way.seat.part.numbering way (its_answers p) bytes first next place (source laws law most p le is) last frame given gives at now None (Stands place) (λ before f stands. stands-behind place way now before f stands)
+          (covered-parts way.seat.part.numbering way (its_answers p) bytes first next place (source laws law most p le is) last frame given gives now None (Stands place) (λ before f stands. stands-behind place way now before f stands)
           (λ before c stands. stands) (λ before. stands-new place way now None before given at) read (keep-now now) (if enabled then pieces way.seat.part opened.payload else []) list
           (all-on of_piece enabled (pieces way.seat.part opened.payload) (of opened refl)) are h)
 
@@ -156,7 +156,7 @@ module _ (laws : TurnLaws) (law : TakesSignedAlone) (most : ℕ) (p : Play) (le 
         → Stands place (list_after (Got now on datagram ∷ before))
     brings-frame piece reads now on datagram before opened enabled e has =
         subst (Stands place) (sym (taken-now now on datagram before opened enabled e))
-        (reads-among way.seat.part.numbering way (its_answers p) bytes first next place (source laws law most p le is) last frame given gives at now piece (reads now) (pieces way.seat.part opened.payload) (list_after before) has)
+        (reads-among way.seat.part.numbering way (its_answers p) bytes first next place (source laws law most p le is) last now piece (reads now) (pieces way.seat.part opened.payload) (list_after before) has)
 
     pub brings-chunk : (b : List ℕ) (chunk : Chunk) → without_rest (chunk_at b) ≡ Ok chunk → ((list : List Mark) → AreAll list → is_proper (chunks_in list) (placed (place_from first) chunk) ≡ true)
         → (now : ℕ) (on : List Bool) (datagram : List ℕ) (before : List Event) (opened : Opened) → slice_index_or on way.index false ≡ true
@@ -164,7 +164,7 @@ module _ (laws : TurnLaws) (law : TakesSignedAlone) (most : ℕ) (p : Play) (le 
         → Lies (placed (place_from first) chunk) (list_after (Got now on datagram ∷ before))
     brings-chunk b chunk is_read counts now on datagram before opened enabled e came has =
         subst (Lies (placed (place_from first) chunk)) (sym (taken-now now on datagram before opened enabled e))
-        (lies-among way.seat.part.numbering way (its_answers p) bytes first next place (source laws law most p le is) last frame given gives at now None b chunk (keep-now now) is_read counts
+        (lies-among way.seat.part.numbering way (its_answers p) bytes first next place (source laws law most p le is) last now None b chunk (keep-now now) is_read counts
         (pieces way.seat.part opened.payload) (list_after before) (parts-sent laws law most p le is now on datagram before opened came e) (events-sent laws law most p le is before came.1) has)
 
 -- ---- the pumps that a session ends with

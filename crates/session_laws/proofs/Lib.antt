@@ -42,6 +42,7 @@ mod ClosingSigned
 mod SignedEnd
 mod Further
 pub mod BareHeld
+mod InPumps
 mod BareGot
 mod BareTrace
 mod BareEnd

@@ -302,9 +302,10 @@ module _ (laws : TurnLaws) (config : Config) (group : GroupPart) (readers : Read
 
   -- ---- whichever group made it
 
-  pub made-pieces : (index : ℕ) (pasts : ℕ → List GroupDeed) → IsSound config → IsAt config index group → ((h : ℕ) (part : GroupPart) → IsAt config h part → IsPast config part (pasts h))
-      → (are : AreTurns config group (pasts index)) (accepted : Accepted) (datagram : List ℕ) (opened : Opened) → IsMade config pasts datagram → its_verdict accepted datagram ≡ Ok opened → ArePieces (pasts index) are opened
-  made-pieces index pasts sound at are_pasts are accepted datagram opened is e = on (is.group == index) refl
+  -- the group did, or there is nothing for the reader
+  pub own-or-none : (index : ℕ) (pasts : ℕ → List GroupDeed) → IsSound config → IsAt config index group → ((h : ℕ) (part : GroupPart) → IsAt config h part → IsPast config part (pasts h))
+      → (accepted : Accepted) (datagram : List ℕ) (opened : Opened) → IsMade config pasts datagram → its_verdict accepted datagram ≡ Ok opened → WasMade (pasts index) datagram ⊎ (pieces seat.part opened.payload ≡ [])
+  own-or-none index pasts sound at are_pasts accepted datagram opened is e = on (is.group == index) refl
     where
       within : writer < length group.writer
       within = matched.reads.within
@@ -315,15 +316,21 @@ module _ (laws : TurnLaws) (config : Config) (group : GroupPart) (readers : Read
       some : 1 ≤ seat.part.writer
       some = let id = reads.id in let least = writer-id config index writer group sound at within in omega (arith, id, least)
 
-      on : (b : Bool) → (is.group == index) ≡ b → ArePieces (pasts index) are opened
-      on true own =
-          let same : is.group ≡ index = grind (arith, nat_tests) in
-          own-pieces (pasts index) are accepted datagram opened (subst (λ (n : ℕ). WasMade (pasts n) datagram) same is.made) e
+      on : (b : Bool) → (is.group == index) ≡ b → WasMade (pasts index) datagram ⊎ (pieces seat.part opened.payload ≡ [])
+      on true own = let same : is.group ≡ index = grind (arith, nat_tests) in inl (subst (λ (n : ℕ). WasMade (pasts n) datagram) same is.made)
       on false other =
           let differ : is.group ≢ index = grind (arith, nat_tests) in
           let apart = writers-differ config index is.group writer group is.part sound at is.there differ within in
           let not_own = All-weaker (λ (w : WriterPart). w.id ≢ (writer_at group writer).id) (λ (w : WriterPart). w.id ≢ seat.part.writer) (λ w ids same. ids (same ∙ reads.id)) is.part.writer apart in
-          let none = other-made is.part (pasts is.group) accepted datagram opened (are_pasts is.group is.part is.there).turns is.made (at-sound config index group sound at).id.0
-          (ids-differ config index is.group group is.part sound at is.there differ) some not_own e in
+          inr (other-made is.part (pasts is.group) accepted datagram opened (are_pasts is.group is.part is.there).turns is.made (at-sound config index group sound at).id.0
+          (ids-differ config index is.group group is.part sound at is.there differ) some not_own e)
+
+  pub made-pieces : (index : ℕ) (pasts : ℕ → List GroupDeed) → IsSound config → IsAt config index group → ((h : ℕ) (part : GroupPart) → IsAt config h part → IsPast config part (pasts h))
+      → (are : AreTurns config group (pasts index)) (accepted : Accepted) (datagram : List ℕ) (opened : Opened) → IsMade config pasts datagram → its_verdict accepted datagram ≡ Ok opened → ArePieces (pasts index) are opened
+  made-pieces index pasts sound at are_pasts are accepted datagram opened is e = on (own-or-none index pasts sound at are_pasts accepted datagram opened is e)
+    where
+      on : WasMade (pasts index) datagram ⊎ (pieces seat.part opened.payload ≡ []) → ArePieces (pasts index) are opened
+      on (inl made) = own-pieces (pasts index) are accepted datagram opened made e
+      on (inr none) =
           subst (λ (l : List Piece). All (IsPieceOf (IsOfAnswer seat.meta (answered_by group writer (pasts index))) (IsChunkOf seat.meta (answered_by group writer (pasts index)) (spelled_at config group writer (pasts index) are)) seat.meta) l) (sym none)
           (All-nil (IsPieceOf (IsOfAnswer seat.meta (answered_by group writer (pasts index))) (IsChunkOf seat.meta (answered_by group writer (pasts index)) (spelled_at config group writer (pasts index) are)) seat.meta))

@@ -78,8 +78,9 @@ pub record ClosingGotLast (p : Plan) (r i g w : ℕ) (steps : List Step) (before
   pub came : (datagram : List ℕ) → Contains turn.made datagram → HasPartFor (setting_of p.config r) i datagram
       → CameIn pumps datagram × NoOtherBehind p r i g w pumps start datagram (row_cut (meta_of p r i) own.row)
 
--- The same of a secured read group that names the writer's group, where the steps end with a closing tick and its pumps. Nothing is asked of what it accepts.
-pub record ClosingGotSignedLast (p : Plan) (r i g w : ℕ) (steps : List Step) (own : WriterTurn) : Type 0 where
+-- The same of a secured read group that names the writer's group, where the steps end with a closing tick and its pumps, and the frame may come in chunks: behind the first
+-- of them no other key frame comes. Nothing is asked of what the read group accepts.
+pub record ClosingGotSecuredLast (p : Plan) (r i g w : ℕ) (steps : List Step) (own : WriterTurn) : Type 0 where
   pub bare : IsBare p r i
   pub secured : is_secured (setting_of p.config r).setup.mode ≡ true
   pub named : (setting_of p.config r).group.group ≢ 0
@@ -94,8 +95,6 @@ pub record ClosingGotSignedLast (p : Plan) (r i g w : ℕ) (steps : List Step) (
   pub closing : own.closing ≡ true
   pub operational : receives p.config start r ≡ true
   pub enabled : is_on p.config start (Reader r i) ≡ true
-  pub whole : (datagram : List ℕ) → Contains (closing_turn p start ms samples g).made datagram → (part : HasPartFor (setting_of p.config r) i datagram)
-      → All IsUncut (pieces (seat_at (setting_of p.config r).seats i).part part.opened.payload)
   pub came : (datagram : List ℕ) → Contains (closing_turn p start ms samples g).made datagram → HasPartFor (setting_of p.config r) i datagram
       → CameIn pumps datagram
       × NoOtherBehind p r i g w pumps (Tick ms true samples done ∷ start) datagram (row_cut (meta_of p r i) own.row)

@@ -1,5 +1,5 @@
 -- A reader that holds the newest version: the last datagram that comes brings it the key frame of the last place in its writer's log.
-use Rattle.std.specs.Prelude.{◌≡◌, ◌≢◌, ◌⊎◌, ℕ, List, [], ◌∷◌, ◌++◌, ◌+◌, map, All, Bool, Contains, true, false, Option, Some, option_map, Ok}
+use Rattle.std.specs.Prelude.{◌≡◌, ◌≢◌, ◌⊎◌, ◌≤◌, ℕ, List, [], ◌∷◌, ◌++◌, ◌+◌, map, All, Bool, Contains, true, false, Option, Some, option_map, Ok}
 use Rattle.seq_number.specs.Numbers.{number_of_place}
 use Rattle.dataset_meta.specs.DataValues.{DataValue}
 use Rattle.dataset_meta.specs.Rows.{row_cut}
@@ -8,6 +8,7 @@ use Rattle.config_tables.specs.declared.words.NumberingWord.TheVariants as words
 use Rattle.reader_group.specs.Complete.{BringsWhole}
 use Rattle.message_guard.specs.Modes.{is_secured}
 use Rattle.pubsub_states.specs.declared.component.Component.TheVariants.{Reader}
+use Rattle.reader_group.specs.Arrivals.{accepted}
 use Rattle.reader_group.specs.Members.{seat_at}
 use Rattle.reader_group.specs.Opening.{Opened, verdict}
 use Rattle.reader_group.specs.Payloads.{pieces}
@@ -22,7 +23,7 @@ use Rattle.group_laws.specs.TurnOpened.{turn_opened}
 use Rattle.session_model.specs.Deeds.{Deed, deeds, group_past, has_turn, log_at, turn_input, turn_of, writer_deeds}
 use Rattle.session_model.specs.Turns.{deeds_before}
 use Rattle.writer_group.specs.declared.sampled.Sampled.{Sampled}
-use Rattle.session_model.specs.Events.{plain_at, reader_at, readers_on, receives}
+use Rattle.session_model.specs.Events.{events, plain_at, reader_at, readers_on, receives}
 use Rattle.session_model.specs.Steps.{Plan, Step, Pump, Tick, is_on, moment_of}
 use Rattle.writer_group.specs.Turns.{GroupDeed, GroupTurn, HadGroupTurn, took_by}
 use Rattle.session_laws.specs.Headline.{meta_of}
@@ -142,6 +143,38 @@ pub record ClosingGotSecured (p : Plan) (r i g w : ℕ) (steps : List Step) (own
   pub operational : receives p.config start r ≡ true
   pub enabled : is_on p.config start (Reader r i) ≡ true
   pub came : (datagram : List ℕ) → Contains (closing_turn p start ms samples g).made datagram → HasPartFor (setting_of p.config r) i datagram → CameIn pumps datagram
+
+-- the datagram came in one of these pumps behind these steps, and the read group took it there
+pub record TookIn (p : Plan) (r : ℕ) (pumps : List (List Entry)) (start : List Step) (datagram : List ℕ) : Type 0 where
+  pub later : List (List Entry)
+  pub before : List (List Entry)
+  pub earlier : List Entry
+  pub behind : List Entry
+  pub is : pumps ≡ later ++ (earlier ++ Got datagram ∷ behind) ∷ before
+  pub opened : Opened
+  pub opens : let setting = setting_of p.config r in
+      verdict setting.group setting.setup (accepted setting (events p.config r (Pump earlier ∷ map Pump before ++ start))) datagram ≡ Ok opened
+
+-- The same of a secured read group that may name no group: it took each datagram of the turn with a part for the reader in one of the pumps, and none of a higher token
+-- than the turn's, as another key group with the same keys may have.
+pub record ClosingTook (p : Plan) (r i g w : ℕ) (steps : List Step) (own : WriterTurn) : Type 0 where
+  pub numbered : (seat_at (setting_of p.config r).seats i).part.numbering ≡ words.Message
+  pub secured : is_secured (setting_of p.config r).setup.mode ≡ true
+  pub start : List Step
+  pub ms : ℕ
+  pub samples : List Sampled
+  pub done : List Bool
+  pub pumps : List (List Entry)
+  pub split : steps ≡ map Pump pumps ++ Tick ms true samples done ∷ start
+  pub had : has_turn p start (moment_of start + ms) true (closing_deeds p start ms samples g) g ≡ true
+  pub took : took_by w (closing_turn p start ms samples g) ≡ Some own
+  pub closing : own.closing ≡ true
+  pub operational : receives p.config start r ≡ true
+  pub enabled : is_on p.config start (Reader r i) ≡ true
+  pub came : (datagram : List ℕ) → Contains (closing_turn p start ms samples g).made datagram → HasPartFor (setting_of p.config r) i datagram
+      → TookIn p r pumps (Tick ms true samples done ∷ start) datagram
+  pub tokens : (datagram : List ℕ) (t : TookIn p r pumps (Tick ms true samples done ∷ start) datagram) (one : Opened) → Contains (closing_opened p start ms samples g) one
+      → t.opened.pass.token ≤ one.pass.token
 
 -- the reader holds the row of the version, cut to its fields
 abbrev pub HoldsRowOf : Plan → ℕ → ℕ → ℕ → ℕ → List Step → (ℕ → ℕ → List DataValue) → ℕ → Type 0

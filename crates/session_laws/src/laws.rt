@@ -25,11 +25,11 @@ ghost use Rattle.session_model.specs.Sends.{IsRun, journal, sent_by};
 ghost use Rattle.session_model.specs.States.{state_at};
 ghost use Rattle.session_model.specs.Stores.{stores};
 ghost use Rattle.session_model.specs.Turns.{deeds_before};
-ghost use Rattle.session_laws.specs.Bare.{ClosingCameLast, ClosingGotLast, ClosingGotSignedLast};
+ghost use Rattle.session_laws.specs.Bare.{ClosingCameLast, ClosingGotLast, ClosingGotSecuredLast};
 ghost use Rattle.session_laws.specs.Courses.{HaveOneCourse};
 ghost use Rattle.session_laws.specs.Fresh.{BeginWithKeys, keyed_turns, protected_by};
 ghost use Rattle.session_laws.specs.Headline.{InSession, ComesFrom, IsPublished, PublishesVersion, answered_turn};
-ghost use Rattle.session_laws.specs.Newest.{BringsLast, ClosingCame, ClosingGot, ClosingGotSecured, ClosingGotSigned, HoldsRowOf, IsLastLogged, IsNewest};
+ghost use Rattle.session_laws.specs.Newest.{BringsLast, ClosingCame, ClosingGot, ClosingGotSecured, ClosingGotSigned, ClosingTook, HoldsRowOf, IsLastLogged, IsNewest};
 ghost use Rattle.session_laws.specs.Pasts.{settings_at};
 ghost use Rattle.session_laws.specs.Plays.{Play, IsPlay, ComesFromWriter, HoldsVersion, its_marks, its_member, its_way};
 ghost use Rattle.session_laws.specs.Sessions.{AreVersions, SamplesRise};
@@ -137,8 +137,9 @@ pub fn a_key_frame_that_comes_last_is_held()
 /// often, and whatever came before or behind it. It came where, without security, each datagram of the turn with a part for the
 /// reader is one that the journal has as received in the pumps behind it, whole or in chunks, in whichever order. It came likewise
 /// to a secured read group that names the writer's group, whatever the read group has accepted before: with a frame that isn't
-/// cut into chunks, or in chunks too. A reader with no numbering holds it likewise, where no other key frame came behind it; there
-/// it came, with or without security, with a frame that isn't cut.
+/// cut into chunks, or in chunks too; to one that names none where this took each of its datagrams once, and none of a higher
+/// token. A reader with no numbering holds it likewise, where no other key frame came behind it; there it came to a read group
+/// that names the writer's group, whole or in chunks, or without security, with a frame that isn't cut.
 pub fn a_closing_frame_that_came_is_held()
     ensures received { (p : Plan) (r i g w : ℕ) (steps : List Step) (rows : ℕ → ℕ → List DataValue)
         (before : List GroupDeed) (turn : GroupTurn) (own : WriterTurn) → InSession p r i g w steps
@@ -150,6 +151,9 @@ pub fn a_closing_frame_that_came_is_held()
     ensures secured { (p : Plan) (r i g w : ℕ) (steps : List Step) (rows : ℕ → ℕ → List DataValue) (own : WriterTurn)
         → InSession p r i g w steps → AreVersions p steps rows → ClosingGotSecured p r i g w steps own
         → HoldsRowOf p r i g w steps rows own.version }
+    ensures taken { (p : Plan) (r i g w : ℕ) (steps : List Step) (rows : ℕ → ℕ → List DataValue) (own : WriterTurn)
+        → InSession p r i g w steps → AreVersions p steps rows → ClosingTook p r i g w steps own
+        → HoldsRowOf p r i g w steps rows own.version }
     ensures came { (p : Plan) (r i g w : ℕ) (steps : List Step) (rows : ℕ → ℕ → List DataValue)
         (before : List WriterDeed) (turn : WriterTurn) → InSession p r i g w steps → AreVersions p steps rows
         → ClosingCame p r i g w steps before turn → HoldsRowOf p r i g w steps rows turn.version }
@@ -157,9 +161,9 @@ pub fn a_closing_frame_that_came_is_held()
         (before : List GroupDeed) (turn : GroupTurn) (own : WriterTurn) → InSession p r i g w steps
         → AreVersions p steps rows → ClosingGotLast p r i g w steps before turn own
         → HoldsRowOf p r i g w steps rows own.version }
-    ensures signed_last { (p : Plan) (r i g w : ℕ) (steps : List Step) (rows : ℕ → ℕ → List DataValue)
+    ensures secured_last { (p : Plan) (r i g w : ℕ) (steps : List Step) (rows : ℕ → ℕ → List DataValue)
         (own : WriterTurn) → InSession p r i g w steps → AreVersions p steps rows
-        → ClosingGotSignedLast p r i g w steps own → HoldsRowOf p r i g w steps rows own.version }
+        → ClosingGotSecuredLast p r i g w steps own → HoldsRowOf p r i g w steps rows own.version }
     ensures came_last { (p : Plan) (r i g w : ℕ) (steps : List Step) (rows : ℕ → ℕ → List DataValue)
         (before : List WriterDeed) (turn : WriterTurn) → InSession p r i g w steps → AreVersions p steps rows
         → ClosingCameLast p r i g w steps before turn → HoldsRowOf p r i g w steps rows turn.version }

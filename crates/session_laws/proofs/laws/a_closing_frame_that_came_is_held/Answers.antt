@@ -2,7 +2,7 @@ use Rattle.session_laws.proofs.BareEnd.{got-last-held}
 use Rattle.session_laws.proofs.BareHeld.{bare-held}
 use Rattle.session_laws.proofs.ClosingGot.{got-held}
 use Rattle.session_laws.proofs.ClosingHeld.{closing-held}
-use Rattle.session_laws.proofs.SignedEnd.{secured-held, signed-held, signed-last-held}
+use Rattle.session_laws.proofs.SignedEnd.{secured-held, secured-last-held, signed-held, took-held}
 use Rattle.session_laws.proofs.Published.{Laws}
 use Rattle.session_laws.proofs.laws.a_closing_frame_that_came_is_held.Goals as goal
 
@@ -33,8 +33,9 @@ returns c =
       received = got-held below held;
       signed = signed-held below held;
       secured = secured-held below held;
+      taken = took-held below held;
       came = held;
       received_last = got-last-held below last;
-      signed_last = signed-last-held below last;
+      secured_last = secured-last-held below last;
       came_last = last;
     }
