@@ -1,5 +1,6 @@
 -- How many components a configuration has at most.
-use Rattle.std.proofs.Common.{◌≡◌, ℕ, ◌+◌, ◌≤◌, List, [], ◌∷◌, length, sum, sum_by, All, ap, refl, arith, length-append}
+use Rattle.std.proofs.Common.{◌∙◌, take, slice_index, ◌≡◌, ℕ, ◌+◌, ◌≤◌, List, [], ◌∷◌, length, sum, sum_by, All, ap, arith, length-append}
+use Rattle.std.proofs.Math.Seq.{take-length}
 use Rattle.std.proofs.lemmas.List.{length-map}
 use Rattle.std.proofs.lemmas.List.Elements.{All-nil, All-cons}
 use Rattle.std.proofs.lemmas.List.Sums.{sum_by-cons, sum-map}
@@ -11,7 +12,7 @@ use Rattle.ps_config.specs.Sound.{IsFew}
 use Rattle.pubsub_states.specs.declared.component.Component.TheVariants.{Group, Writer, ReadGroup, Reader}
 use Rattle.pubsub_states.specs.declared.component.Component.{Component}
 use Rattle.pubsub_states.specs.Components.{counts_of, components, families}
-use Rattle.pubsub_states.specs.Listed.{IsListed}
+use Rattle.pubsub_states.specs.Listed.{AreHeadIds, IsListed}
 use Rattle.pubsub_states.proofs.Families.{length-families}
 
 -- each term of a sum is within a bound of the sum
@@ -43,22 +44,30 @@ few-groups config few = omega (arith, length-map config.group (λ (group : Group
 pub few-read_groups : (config : Config) → IsFew config → length (counts_of config).readers ≤ 4
 few-read_groups config few = omega (arith, length-map config.readgroup (λ (group : ReadGroupPart). length group.reader), few.readgroups)
 
-pub few-listed : (writers readers : List ℕ) (in_order : List Component) → IsListed writers readers in_order → length in_order ≤ 42
-few-listed writers readers in_order listed =
+-- what comes behind the groups and their writers
+pub next_id : (writers ids : List ℕ) (k first : ℕ) → AreHeadIds 2 writers ids → k ≡ length writers → first ≡ slice_index ids k → first ≡ 2 + length writers + sum writers
+next_id writers ids k first are at is =
+    let it = are k (omega (arith, at)) in
+    let all : sum (take k writers) ≡ sum writers = ap (λ n. sum (take n writers)) at ∙ ap sum (take-length writers) in
+    omega (arith, is, it, at, all)
+
+few-families : (writers readers : List ℕ) → length writers ≤ 4 → length readers ≤ 4 → sum writers ≤ 16 → sum readers ≤ 16
+    → length (components (record { writers = writers; readers = readers })) ≤ 42
+few-families writers readers few_groups few_read_groups few_writers few_readers =
     let groups = families Group Writer 0 writers in
     let read_groups = families ReadGroup Reader 0 readers in
     let all = length-append groups read_groups in
     let one = length-families Group Writer 0 writers in
     let two = length-families ReadGroup Reader 0 readers in
-    let e = ap length listed.list in
-    omega (arith, all, one, two, e, listed.few_groups, listed.few_read_groups, listed.few_writers, listed.few_readers)
+    omega (arith, all, one, two, few_groups, few_read_groups, few_writers, few_readers)
+
+pub few-listed : (writers readers group_ids read_group_ids : List ℕ) (in_order : List Component)
+    → IsListed writers readers group_ids read_group_ids in_order → length in_order ≤ 42
+few-listed writers readers group_ids read_group_ids in_order listed =
+    let few = few-families writers readers listed.few_groups listed.few_read_groups listed.few_writers listed.few_readers in
+    omega (arith, few, ap length listed.list)
 
 pub few_components : (config : Config) → IsFew config → length (components (counts_of config)) ≤ 42
 few_components config few =
-    few-listed (counts_of config).writers (counts_of config).readers (components (counts_of config)) (record {
-      list = refl;
-      few_groups = few-groups config few;
-      few_read_groups = few-read_groups config few;
-      few_writers = writers-summed config few;
-      few_readers = readers-summed config few;
-    })
+    few-families (counts_of config).writers (counts_of config).readers (few-groups config few) (few-read_groups config few)
+    (writers-summed config few) (readers-summed config few)

@@ -5,6 +5,7 @@ ghost use Rattle.std.specs.Str.{bytes_eq};
 ghost use Rattle.pubsub_states.specs.Components.{components, counts_of, families, before_family, IsAmong};
 ghost use Rattle.pubsub_states.specs.Names.{name_of};
 ghost use Rattle.pubsub_states.specs.Halves.{head_of, member_of};
+ghost use Rattle.pubsub_states.specs.Listed.{AreHeadIds};
 
 use crate::component::Component;
 use crate::half::Half;
@@ -20,6 +21,9 @@ use ua_base::NoMemory;
 pub struct Components {
     writers: ArrayVec<u8, 4>,
     readers: ArrayVec<u8, 4>,
+    // The ids of the groups and of the read groups, and behind the last of each the id that comes next.
+    group_ids: [u8; 5],
+    read_group_ids: [u8; 5],
     in_order: Vec<Component>,
 }
 
@@ -31,7 +35,8 @@ impl Model for Components {
 
     ghost view = { λ c. record { writers = c.writers.items; readers = c.readers.items } };
 
-    ghost invariant = { λ c. IsListed c.writers.items c.readers.items c.in_order.items };
+    ghost invariant = { λ c. IsListed c.writers.items c.readers.items c.group_ids c.read_group_ids
+        c.in_order.items };
 }
 
 impl Components {
@@ -47,9 +52,13 @@ impl Components {
         let writers = writer_counts(config.group.as_slice());
         let readers = reader_counts(config.readgroup.as_slice());
         let in_order = listed(alloc, writers.as_slice(), readers.as_slice())?;
+        let group_ids = head_ids(2, writers.as_slice());
+        let read_group_ids = head_ids(group_ids[writers.len()], readers.as_slice());
         Ok(Components {
             writers,
             readers,
+            group_ids,
+            read_group_ids,
             in_order,
         })
     }
@@ -103,7 +112,7 @@ impl Components {
         ensures id { result ≡ 2 + before_family self.now.writers group }
         ensures room { result + slice_index self.now.writers group ≤ 22 }
     {
-        2 + before_family(self.writers.as_slice(), group)
+        self.group_ids[usize::from(group)]
     }
 
     fn read_group_id(&self, read_group: u8) -> u8
@@ -111,8 +120,7 @@ impl Components {
         ensures id { result ≡ first_read_group self.now + before_family self.now.readers read_group }
         ensures room { result + slice_index self.now.readers read_group ≤ 42 }
     {
-        let groups = self.writers.len() as u8;
-        self.group_id(groups) + before_family(self.readers.as_slice(), read_group)
+        self.read_group_ids[usize::from(read_group)]
     }
 }
 
@@ -189,6 +197,20 @@ fn reader_counts(groups: &[ReadGroupPart]) -> ArrayVec<u8, 4>
         counts.push(group.reader.as_slice().len() as u8);
     }
     counts
+}
+
+/// The id of the head of each family, the first of which has this id, and of what comes behind the last family.
+fn head_ids(first: u8, counts: &[u8]) -> [u8; 5]
+    requires first { first ≤ 22 }
+    requires few { length counts.now ≤ 4 }
+    requires small { sum counts.now ≤ 16 }
+    ensures { AreHeadIds first counts.now result }
+{
+    let mut ids = [first; 5];
+    for family in 0..counts.len() + 1 {
+        ids[family] = first + before_family(counts, family as u8);
+    }
+    ids
 }
 
 /// How many components stand before the head of a family: the heads before it with their members.

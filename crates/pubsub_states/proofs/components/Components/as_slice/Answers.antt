@@ -5,4 +5,4 @@ use Rattle.pubsub_states.proofs.components.Components.as_slice.Goals as goal
 pub returns-clause-few : goal.returns-clause-few
 returns-clause-few c =
     let e = ap length c.deref.ensures.value in
-    omega (arith, e, few-listed _ _ _ c.self.invariant)
+    omega (arith, e, few-listed _ _ _ _ _ c.self.invariant)

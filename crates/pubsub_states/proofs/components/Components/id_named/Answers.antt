@@ -16,7 +16,7 @@ position_named-requires-clause-among c =
 pub position_named-requires-clause-few : goal.position_named-requires-clause-few
 position_named-requires-clause-few c =
     let e = ap length c.deref.ensures.value in
-    omega (arith, e, few-listed _ _ _ c.self.invariant)
+    omega (arith, e, few-listed _ _ _ _ _ c.self.invariant)
 
 pub returns-clause-named : goal.returns-clause-named
 returns-clause-named c =
