@@ -9,3 +9,5 @@ pub mod Numbers
 pub mod Retries
 pub mod Sole
 pub mod Spellings
+pub mod Strips
+pub mod Widths

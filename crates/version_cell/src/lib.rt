@@ -8,6 +8,7 @@
 #![tactic(auto)]
 
 mod cell;
+mod cut;
 mod laws;
 mod making;
 mod pass;
@@ -16,6 +17,7 @@ mod rule;
 mod sets;
 mod spelling;
 mod steps;
+mod strip;
 
 pub use cell::{Cell, Placed, Wrote};
 pub use laws::{
