@@ -9,3 +9,4 @@ pub mod Numbers
 pub mod Retries
 pub mod Sole
 pub mod Spellings
+pub mod Stores
