@@ -1,10 +1,10 @@
 -- A store: the only author has seen all entries, so its row goes behind them with nothing compared.
-use Rattle.std.proofs.Common.{◌≡◌, ℕ, ◌+◌, ◌<◌, ◌≤◌, Bool, true, List, [], ◌∷◌, ◌++◌, length, set, refl, sym, ap, ◌∙◌, subst, arith, nat_eq}
-use Rattle.std.specs.Prelude.{◌↔◌, Some, if◌then◌else◌, slice_index, sum}
+use Rattle.std.proofs.Common.{◌≡◌, ℕ, ◌+◌, ◌<◌, ◌≤◌, Bool, List, [], ◌∷◌, ◌++◌, length, set, refl, sym, ap, ◌∙◌, subst, arith}
+use Rattle.std.specs.Prelude.{◌↔◌, Some, if◌then◌else◌, slice_index}
 use Rattle.std.proofs.lemmas.List.Elements.{All-weaker}
 use mathlib.Core.Option.{some}
 use lib.ListN.{get_elem?}
-use lib.Pointwise.{pointwise, bytes_decides}
+use lib.Pointwise.{bytes_decides}
 use Rattle.crossbeam_utils.specs.Register.{Turns}
 use Rattle.crossbeam_utils.specs.Seq.{cell_view, IsSamePass}
 use Rattle.dataset_meta.specs.Metas.{MetaData, IsMeta}
@@ -12,7 +12,6 @@ use Rattle.row_words.specs.Belonging.{Belongs}
 use Rattle.row_words.specs.Shapes.{BelongsTo, shape_of}
 use Rattle.version_cell.specs.declared.cell.Cell.TheInside.{Inside as CellInside}
 use Rattle.version_cell.specs.declared.pass.Pass.TheInside.{Inside}
-use Rattle.version_cell.specs.declared.rule.Entry.{Entry}
 use Rattle.version_cell.specs.declared.rule.View.{View}
 use Rattle.version_cell.specs.Histories.{entry, own, row_after}
 use Rattle.version_cell.specs.Terms.{IsEntry, IsSole, quota, shape_in}
