@@ -64,6 +64,15 @@ impl Outcome<[u64; 151], View> for Exchanges {
     ghost then = { Tries };
 }
 
+/// A write with nothing compared.
+pub struct Stores;
+
+impl Outcome<[u64; 151], View> for Stores {
+    ghost use Rattle.version_cell.specs.Steps.{Writes};
+
+    ghost then = { Writes };
+}
+
 /// An exchange that takes a number where it wins, and is a load where it loses.
 pub struct Enrolling;
 
