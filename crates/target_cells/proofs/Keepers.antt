@@ -4,36 +4,19 @@ use Rattle.std.specs.Prelude.{All, Some, take}
 use Rattle.std.proofs.lemmas.List.{length-map, map-append, take_more, get_or_default}
 use Rattle.std.proofs.lemmas.List.Elements.{All-nil, All-push}
 use native.Mathlib.Decide.{dec_le}
-use Rattle.row_words.specs.declared.patch.Patch.{Patch}
-use Rattle.version_cell.specs.declared.cell.Wrote.TheVariants as wrote
 use Rattle.version_cell.specs.Histories.{StartsWith, longer}
-use Rattle.version_cell.specs.Terms.{quota, IsEntry, IsSole}
+use Rattle.version_cell.specs.Terms.{IsEntry, IsSole}
 use Rattle.version_cell.specs.Known.{Known}
 use Rattle.version_cell.specs.Cells.{CellData, terms_of}
-use Rattle.version_cell.specs.Passes.{SeesLawful, Adds, Joins, Tried, new_pass}
+use Rattle.version_cell.specs.Passes.{SeesLawful, Adds, Joins, new_pass}
 use Rattle.version_cell.specs.Sets.{ArePassesOf, cell_at, no_cell, new_passes, pass_at}
 use Rattle.version_cell.proofs.Each.{new_at}
 use Rattle.dataset_meta.specs.Metas.{MetaData, no_meta}
 use Rattle.row_words.specs.Shapes.{shape_of}
 use Rattle.version_cell.specs.declared.rule.Entry.{Entry}
 use Rattle.version_cell.proofs.Logs.{longer_left, longer_right, whole}
-use Rattle.version_cell.proofs.Sole.{sole_author, sole_sees_nothing}
+use Rattle.version_cell.proofs.Sole.{sole_sees_nothing}
 use Rattle.target_cells.specs.Keeping.{TargetsData, IsKeeper, AreKeepers, AreKept, IsLevel, keeper_quotas, metas_of}
-
--- the keeper's exchange isn't lost, since it has seen all entries
-pub never_moved : (cell : CellData) (patch : Patch) (old new : Known) (v : ℕ) → IsKeeper old → SeesLawful new → Tried cell patch old new (wrote.Moved v) → ⊥
-never_moved cell patch old new v keeper lawful tried =
-    let same = sole_sees_nothing old new tried.1 keeper.author keeper.lawful lawful keeper.sole in
-    let longer = tried.2 in
-    let l = ap length same in
-    omega (arith, longer, l)
-
--- nor is it refused
-pub never_full : (cell : CellData) (patch : Patch) (old new : Known) (q : ℕ) → IsKeeper old → length old.seen < quota 0 old.terms → Tried cell patch old new (wrote.Full q) → ⊥
-never_full cell patch old new q keeper left tried =
-    let full = tried.1 0 keeper.author in
-    let all = ap length (sole_author old.terms old.seen keeper.lawful keeper.sole) in
-    omega (arith, full.0, full.1, all, left)
 
 -- the keeper after its store
 pub still_keeper : (old new : Known) (row : List ℕ) → IsKeeper old → Adds old new row → SeesLawful new → IsKeeper new

@@ -1,9 +1,6 @@
 -- The cells of readers, in each of which the keeper has number 0 and is the only author.
 use Rattle.std.specs.Prelude.{◌≡◌, ℕ, ◌<◌, List, ◌∷◌, length, map, replicate, All, Some, slice_index_or}
 use Rattle.dataset_meta.specs.Metas.{MetaData, no_meta}
-use Rattle.row_words.specs.declared.patch.Patch.{Patch}
-use Rattle.row_words.specs.Belonging.{Belongs}
-use Rattle.row_words.specs.Patches.{patched_words}
 use Rattle.version_cell.specs.Terms.{IsSole}
 use Rattle.version_cell.specs.Known.{Known}
 use Rattle.version_cell.specs.Cells.{CellData, IsCell}
@@ -48,7 +45,3 @@ pub record IsKeeper (p : Known) : Type 0 where
 
 abbrev pub AreKeepers : List Known → Type 0
 AreKeepers keeper = (reader : ℕ) → reader < length keeper → IsKeeper (pass_at keeper reader)
-
--- whatever row it is laid into, the patch leaves this one
-abbrev pub IsWhole : MetaData → List ℕ → Patch → Type 0
-IsWhole meta words patch = (before : List ℕ) → Belongs meta before → patched_words meta.fields patch before ≡ words

@@ -1,18 +1,16 @@
 //! Stores of one cell by its sole author.
-ghost use Rattle.std.specs.Prelude.{◌≡◌, ◌<◌, ◌≤◌, ◌^◌, ◌-◌, length};
+ghost use Rattle.std.specs.Prelude.{◌≡◌, ◌<◌, length};
 ghost use Rattle.row_words.specs.Belonging.{Belongs};
-ghost use Rattle.row_words.specs.Patches.{IsPatchOf};
 ghost use Rattle.version_cell.specs.Terms.{quota};
 ghost use Rattle.version_cell.specs.Passes.{IsPassOf, Adds, SeesLawful};
-ghost use Rattle.target_cells.specs.Keeping.{IsKeeper, AreKeepers, IsLevel, AreLevel, IsWhole};
+ghost use Rattle.target_cells.specs.Keeping.{IsKeeper, AreKeepers, IsLevel, AreLevel};
 ghost use Rattle.version_cell.specs.Sets.{ArePassesOf, EachSeesLawful};
 
-use dataset_meta::Meta;
-use row_words::{Patch, Row};
+use row_words::Row;
 use std::sync::Wait;
-use version_cell::{Cell, Pass, Wrote, histories_are_the_models};
+use version_cell::{Cell, Pass};
 
-// The keeper has seen every entry, so its exchange wins.
+// Nobody else makes an entry, so nothing is compared.
 pub(crate) fn store<R: Wait>(rt: &R, cell: &Cell, pass: &mut Pass, row: &Row) -> u64
     requires own { IsPassOf cell.now pass.old }
     requires keeper { IsKeeper pass.old }
@@ -23,36 +21,7 @@ pub(crate) fn store<R: Wait>(rt: &R, cell: &Cell, pass: &mut Pass, row: &Row) ->
     ensures lawful { SeesLawful pass.new }
     ensures keeper { IsKeeper pass.new }
 {
-    histories_are_the_models();
-    let patch = whole_patch(cell.meta(), row);
-    match cell.try_write(rt, pass, &patch) {
-        Wrote::Wrote(count) => count,
-        Wrote::Moved { .. } => unreachable!(),
-        Wrote::Full { .. } => unreachable!(),
-    }
-}
-
-// The patch that marks every field, with the row's values and statuses.
-fn whole_patch(meta: &Meta, row: &Row) -> Patch
-    requires { Belongs meta.now row.now.words }
-    ensures of { IsPatchOf meta.now result }
-    ensures whole { IsWhole meta.now row.now.words result }
-{
-    Patch {
-        mask: all_marks(meta.fields().len()),
-        row: *row,
-    }
-}
-
-fn all_marks(count: usize) -> u64
-    requires { count ≤ 64 }
-    ensures { result ≡ 2 ^ count - 1 }
-{
-    if count < 64 {
-        (1 << count) - 1
-    } else {
-        u64::MAX
-    }
+    cell.store(rt, pass, row)
 }
 
 // Each pass sees exactly what the keeper has stored.

@@ -18,16 +18,19 @@ use Rattle.version_cell.specs.Views.{joined, view}
 use Rattle.version_cell.specs.Rule.{Kept, spell}
 use Rattle.version_cell.specs.Steps.{Closes, Reads, Tries}
 use Rattle.version_cell.specs.Known.{Known}
+use Rattle.version_cell.specs.Widths.{StandsIn}
+use Rattle.version_cell.specs.Strips.{table_of}
 use Rattle.version_cell.specs.Front.{IsFront, known_by, terms_in}
 use Rattle.version_cell.specs.Cells.{CellData}
 use Rattle.version_cell.specs.CellFields.{HasTerms, cell_by}
 use Rattle.version_cell.specs.Passes.{Adds, HasLeft, IsPassOf, Joins, SeesLawful, SeesMore, Tried, row_with}
 use Rattle.version_cell.proofs.CellLaws.{RowLaws, name_here, terms_known, front_belongs, front_laid}
 use Rattle.version_cell.proofs.Fronts.{may_write, has_left, wrote, front_after_write, adds, front_after_load, sees_more, rose, version_below, is_lawful, front_after_join, joins}
+use Rattle.version_cell.proofs.Widths.{row_stands}
 
 -- a cell and a pass of it, by their fields
 module _ (c : CellInside) (h : HasTerms c) (cell : CellData) (cell_is : cell_by c ≡ cell) (p : Inside) (f : IsFront p) (old : Known) (old_is : known_by p ≡ old) (own : IsPassOf cell old) where
-  pub same_name : p.place.table_id ≡ c.words.table.shared.table_id
+  pub same_name : p.place.table_id ≡ table_of c.words
   same_name = ap (λ (k : Known). k.cell) old_is ∙ name_here c h cell cell_is old own
 
   pub same_terms : terms_in (cell_view p.place).terms ≡ c.terms
@@ -55,6 +58,12 @@ module _ (c : CellInside) (h : HasTerms c) (cell : CellData) (cell_is : cell_by 
       left : HasLeft old
       left = subst HasLeft old_is (has_left p c.terms f same_terms t row front next named fits below is_front is_next)
 
+      pub front_stands : StandsIn (table_of c.words) front
+      front_stands = row_stands c h p.version p.row.words front (row_fits laws) is_front
+
+      pub next_stands : StandsIn (table_of c.words) next
+      next_stands = row_stands c h (p.version + 1) row next ((laws.by_shape c.meta row h.meta).0 (subst (λ (s : List ℕ). BelongsTo s row) h.shape fits)) is_next
+
       pub may_exchange : (place : ℕ) → Turns Kept place (cell_view p.place) (λ x. if pointwise nat_eq x front then next else x) Tries
       may_exchange = may_write p c.terms f same_terms t row front next named fits below is_front is_next
 
@@ -79,10 +88,10 @@ module _ (c : CellInside) (h : HasTerms c) (cell : CellData) (cell_is : cell_by 
         read : Reads (cell_view p.place) x x (cell_view p'.place)
         read = told.0 refl
 
-        pub front_lost : p'.version ≡ slice_index x 0 → p'.row.words ≡ slice_range x 2 127 → p'.author ≡ p.author → p'.made ≡ p.made → IsFront p'
+        pub front_lost : p'.version ≡ slice_index x 0 → p'.row.words ≡ slice_range x 26 151 → p'.author ≡ p.author → p'.made ≡ p.made → IsFront p'
         front_lost = front_after_load p p' x x f read
 
-        pub tried_lost : p'.version ≡ slice_index x 0 → p'.row.words ≡ slice_range x 2 127 → p'.author ≡ p.author → p'.made ≡ p.made → IsSamePass p.place p'.place → Tried cell patch old (known_by p') (wrote.Moved p'.version)
+        pub tried_lost : p'.version ≡ slice_index x 0 → p'.row.words ≡ slice_range x 26 151 → p'.author ≡ p.author → p'.made ≡ p.made → IsSamePass p.place p'.place → Tried cell patch old (known_by p') (wrote.Moved p'.version)
         tried_lost ev er ea em kept =
             let more = sees_more p p' x x f read kept in
             let up = rose p c.terms f same_terms t row front next named fits below is_front is_next x (cell_view p'.place) other read in
@@ -90,7 +99,7 @@ module _ (c : CellInside) (h : HasTerms c) (cell : CellData) (cell_is : cell_by 
 
   -- the pass takes in another of the cell
   module _ (o : Inside) (g : IsFront o) (other : Known) (other_is : known_by o ≡ other) (own_other : IsPassOf cell other) where
-    pub other_name : o.place.table_id ≡ c.words.table.shared.table_id
+    pub other_name : o.place.table_id ≡ table_of c.words
     other_name = ap (λ (k : Known). k.cell) other_is ∙ name_here c h cell cell_is other own_other
 
     other_terms : terms_in (cell_view o.place).terms ≡ c.terms

@@ -1,5 +1,5 @@
 -- What the fields of a cell give, and what they are to a pass of it.
-use Rattle.std.proofs.Common.{◌≡◌, ℕ, ◌<◌, List, [], ◌∷◌, ◌++◌, length, take, drop, sym, ap, ◌∙◌, subst, arith, length-take-le, take-append-drop}
+use Rattle.std.proofs.Common.{◌≡◌, ℕ, ◌+◌, ◌<◌, ◌≤◌, List, [], ◌∷◌, ◌++◌, length, take, drop, sym, ap, ◌∙◌, subst, arith, length-take-le, take-append-drop}
 use Rattle.std.specs.Prelude.{◌↔◌, ◌^◌, All, replicate, sum}
 use Rattle.std.proofs.Math.Seq.{take-append_seam, drop-append_seam}
 use Rattle.std.proofs.lemmas.List.Elements.{All-tail, All-head}
@@ -15,6 +15,8 @@ use Rattle.version_cell.specs.declared.rule.Entry.{Entry}
 use Rattle.version_cell.specs.Histories.{last_words, opening_words, row_after}
 use Rattle.version_cell.specs.Terms.{IsEntry, IsLawful, shape_in}
 use Rattle.version_cell.specs.Known.{Known}
+use Rattle.version_cell.specs.Widths.{row_width}
+use Rattle.version_cell.specs.Strips.{table_of}
 use Rattle.version_cell.specs.Front.{IsFront, terms_in}
 use Rattle.version_cell.specs.Cells.{CellData, IsCell, terms_of}
 use Rattle.version_cell.specs.CellFields.{HasTerms, cell_by}
@@ -30,20 +32,24 @@ terms_here c h = ap (λ l. take 8 c.terms ++ l) (sym h.shape) ∙ take-append-dr
 pub quotas_here : (terms quotas shape : List ℕ) → terms ≡ quotas ++ shape → length quotas ≡ 8 → take 8 terms ≡ quotas
 quotas_here terms quotas shape is eight = ap (take 8) is ∙ ap (λ (n : ℕ). take n (quotas ++ shape)) (sym eight) ∙ take-append_seam quotas shape
 
-pub has_terms : (c : CellInside) (quotas : List ℕ) (meta : MetaData) → c.terms ≡ quotas ++ shape_of meta → c.meta ≡ meta → length quotas ≡ 8 → length c.terms ≡ 24 → sum quotas < 2 ^ 63 → IsMeta meta.fields → HasTerms c
-has_terms c quotas meta is same eight wide small is_meta = record {
+pub has_terms : (c : CellInside) (quotas : List ℕ) (meta : MetaData) → c.terms ≡ quotas ++ shape_of meta → c.meta ≡ meta → length quotas ≡ 8 → length c.terms ≡ 24 → sum quotas < 2 ^ 63 → IsMeta meta.fields → row_width meta + 27 ≤ (table_of c.words).words → HasTerms c
+has_terms c quotas meta is same eight wide small is_meta room = record {
   wide = wide;
   shape = ap (drop 8) is ∙ ap (λ (n : ℕ). drop n (quotas ++ shape_of meta)) (sym eight) ∙ drop-append_seam quotas (shape_of meta) ∙ ap shape_of (sym same);
   small = subst (λ (qs : List ℕ). sum qs < 2 ^ 63) (sym (quotas_here c.terms quotas (shape_of meta) is eight)) small;
   meta = subst (λ (m : MetaData). IsMeta m.fields) (sym same) is_meta;
+  room = subst (λ (m : MetaData). row_width m + 27 ≤ (table_of c.words).words) (sym same) room;
 }
+
+pub room_of : (row width words : ℕ) → row ≡ width → row + 27 ≤ words → width + 27 ≤ words
+room_of row width words same room = omega (arith, same, room)
 
 pub is_cell : (c : CellInside) → HasTerms c → IsCell (cell_by c)
 is_cell c h = record { eight = length-take-le 8 c.terms (omega (arith, h.wide)); small = h.small; meta = h.meta }
 
 -- a pass of the cell
 module _ (c : CellInside) (h : HasTerms c) (cell : CellData) (is : cell_by c ≡ cell) (p : Known) (own : IsPassOf cell p) where
-  pub name_here : p.cell ≡ c.words.table.shared.table_id
+  pub name_here : p.cell ≡ table_of c.words
   name_here = own.name ∙ ap (λ (d : CellData). d.id) (sym is)
 
   pub terms_known : p.terms ≡ c.terms

@@ -2,7 +2,7 @@
 use Rattle.std.proofs.Common.{◌≡◌, ℕ, zero, suc, ◌+◌, ◌<◌, ◌≤◌, Bool, true, false, List, [], ◌∷◌, ◌++◌, length, take, drop, zero-le, refl, sym, ap, ◌∙◌, subst, arith, length-append, add-one, nat_eq, true≢false}
 use Rattle.std.specs.Prelude.{Some, None, if◌then◌else◌, not, max, sum, slice_index, slice_range}
 use Rattle.std.specs.List.{All}
-use Rattle.std.proofs.lemmas.List.{append_cancel_left, nil_from_length}
+use Rattle.std.proofs.lemmas.List.{append_cancel_right, nil_from_length}
 use Rattle.std.proofs.lemmas.List.Elements.{All-nil, All-tail, All-head, All-push, All-weaker}
 use Rattle.std.proofs.lemmas.List.Sums.{sum_by_more}
 use Rattle.crossbeam_utils.specs.Seq.{cell_view, IsSamePass}
@@ -22,7 +22,7 @@ use Rattle.crossbeam_utils.specs.Register.{Turns}
 use Rattle.version_cell.proofs.Keeps.{tries, within_after}
 use native.Mathlib.Decide.{ℕ_discrete, dec_le}
 use lib.Pointwise.{pointwise, bytes_decides}
-use Rattle.version_cell.proofs.Spellings.{row_of_spell}
+use Rattle.version_cell.proofs.Spellings.{equal_parts, row_of_spell}
 
 opening_wide : length opening_words ≡ 125
 unfolding opening_words
@@ -57,12 +57,12 @@ some_same x y e = cc
 
 -- after a load, or an exchange that lost
 module _ (p p' : Inside) (x y : List ℕ) (f : IsFront p) (r : Reads (cell_view p.place) x y (cell_view p'.place)) where
-  pub front_after_load : p'.version ≡ slice_index x 0 → p'.row.words ≡ slice_range x 2 127 → p'.author ≡ p.author → p'.made ≡ p.made → IsFront p'
+  pub front_after_load : p'.version ≡ slice_index x 0 → p'.row.words ≡ slice_range x 26 151 → p'.author ≡ p.author → p'.made ≡ p.made → IsFront p'
   front_after_load ev er ea em =
       let w = cell_view p'.place in
       let wide = row_wide r.terms w.seen r.lawful in record {
         version = ev ∙ ap (λ l. slice_index l 0) r.spelled;
-        row = er ∙ ap (λ l. slice_range l 2 127) r.spelled ∙ row_of_spell (length w.seen) w.count (row_after w.seen) r.terms wide;
+        row = er ∙ ap (λ l. slice_range l 26 151) r.spelled ∙ row_of_spell (length w.seen) w.count (row_after w.seen) r.terms r.wide wide;
         author = ea ∙ f.author ∙ sym r.author;
         made = λ t e. em ∙ f.made t (sym ea ∙ e) ∙ ap length (sym (r.own_same t (sym f.author ∙ sym ea ∙ e)).0);
         number = λ t e. f.number t (sym ea ∙ e);
@@ -131,7 +131,7 @@ module _ (p : Inside) (q : List ℕ) (f : IsFront p) (known : terms_in (cell_vie
         let v = cell_view p.place in
         let r = tried.1 (λ e. rises (sym is_next ∙ e ∙ (bytes_decides x front).0 same ∙ is_front)) in
         let by_is : r.by ≡ t = some_same r.by t (sym r.author ∙ sym f.author ∙ named) in
-        let row_is : r.row ≡ row = sym (row_of_spell (length v.seen + 1) v.count r.row r.terms r.belongs.whole) ∙ ap (λ l. slice_range l 2 127) (sym r.spelled ∙ is_next) ∙ row_of_spell (p.version + 1) 8 row q fits.whole in
+        let row_is : r.row ≡ row = (equal_parts (length v.seen + 1) (p.version + 1) v.count 8 r.row row r.terms q r.belongs.whole fits.whole (sym r.spelled ∙ is_next)).2 in
         r.after ∙ (λ i. view (v.seen ++ entry (by_is i) (row_is i) ∷ []) v.author v.count v.terms v.olds)
       where
         rises : spell (p.version + 1) 8 row q ≡ spell p.version 8 p.row.words q → ⊥
@@ -267,8 +267,8 @@ found_nothing v w x start terms wide is is_start same r =
     let none : length w.seen ≡ 0 = ap (λ l. slice_index l 0) spelled in
     let count_is : w.count ≡ 0 = ap (λ l. slice_index l 1) spelled in
     let seen_is : w.seen ≡ [] = nil_from_length w.seen none in
-    let behind : row_after w.seen ++ r.terms ≡ opening_words ++ terms = ap (λ l. drop 2 l) spelled in
-    let terms_is : r.terms ≡ terms = append_cancel_left opening_words r.terms terms (ap (λ l. row_after l ++ r.terms) (sym seen_is) ∙ behind) in
+    let behind : r.terms ++ row_after w.seen ≡ terms ++ opening_words = ap (λ l. drop 2 l) spelled in
+    let terms_is : r.terms ≡ terms = append_cancel_right r.terms terms opening_words (ap (λ l. r.terms ++ row_after l) (sym seen_is) ∙ behind) in
     let author_is : w.author ≡ None = r.author ∙ ap (λ (u : View). u.author) is in
     let olds_is : w.olds ≡ [] = r.olds ∙ ap (λ (u : View). u.olds) is in
     let terms_now : w.terms ≡ Some terms = r.has_terms ∙ ap Some terms_is in

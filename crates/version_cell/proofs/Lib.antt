@@ -9,3 +9,6 @@ pub mod Numbers
 pub mod Retries
 pub mod Sole
 pub mod Spellings
+pub mod Stores
+pub mod Strips
+pub mod Widths

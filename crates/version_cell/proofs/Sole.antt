@@ -11,7 +11,7 @@ use Rattle.version_cell.specs.Known.{Known}
 use Rattle.version_cell.specs.Passes.{SeesLawful, SeesMore}
 use Rattle.version_cell.proofs.Logs.{total, length_by_author, own-append}
 
-own_fits : (t : ℕ) (log : List Entry) → length (own t log) ≤ length log
+pub own_fits : (t : ℕ) (log : List Entry) → length (own t log) ≤ length log
 own_fits t [] = omega arith
 own_fits t (e ∷ log) = go (eqb e.author t) (own_fits t log)
   where

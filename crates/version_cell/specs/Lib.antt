@@ -1,6 +1,8 @@
 pub mod Histories
+pub mod Strips
 pub mod Terms
 pub mod Views
+pub mod Widths
 pub mod Rule
 pub mod Steps
 pub mod Known

@@ -7,9 +7,9 @@ use Rattle.version_cell.specs.declared.rule.View.{View}
 use Rattle.version_cell.specs.Histories.{own, row_after, StartsWith}
 use Rattle.version_cell.specs.Terms.{quota, IsEntry}
 
--- the words of a cell: the version, the count of numbers given, the row, and then the terms
+-- the words of a cell: the version, the count of numbers given, the terms, and then the row
 abbrev pub spell : ℕ → ℕ → List ℕ → List ℕ → List ℕ
-spell version count row terms = version ∷ count ∷ (row ++ terms)
+spell version count row terms = version ∷ count ∷ (terms ++ row)
 
 abbrev pub FirstHasOwn : ℕ → List Entry → List (List Entry) → Type 0
 FirstHasOwn author log [] = Unit {0}

@@ -5,7 +5,7 @@ use Rattle.row_words.specs.Shapes.{BelongsTo}
 use Rattle.version_cell.specs.declared.rule.Entry.{Entry}
 use Rattle.version_cell.specs.declared.rule.View.{View}
 use Rattle.version_cell.specs.Histories.{entry, own, row_after, StartsWith}
-use Rattle.version_cell.specs.Terms.{quota, shape_in, IsLawful}
+use Rattle.version_cell.specs.Terms.{quota, shape_in, IsLawful, IsSole}
 use Rattle.version_cell.specs.Views.{settled, view}
 use Rattle.version_cell.specs.Rule.{spell, FirstHasOwn}
 
@@ -73,6 +73,12 @@ pub record MayWrite (v : View) (author : ℕ) (terms row : List ℕ) : Type 0 wh
   pub knows : v.terms ≡ Some terms
   pub belongs : BelongsTo (shape_in terms) row
   pub left : length (own author v.seen) < quota author terms
+
+-- the pass may write this row with nothing compared: it is the only author, and no number is left to give
+pub record MayStore (v : View) (terms row : List ℕ) : Type 0 where
+  pub write : MayWrite v 0 terms row
+  pub sole : IsSole terms
+  pub all_given : v.count ≡ 8
 
 -- the pass may take a number
 pub record MayEnrol (v : View) (terms : List ℕ) : Type 0 where

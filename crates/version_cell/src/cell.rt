@@ -1,17 +1,15 @@
 //! The cell of a data set, and what a write is answered.
-use crate::rule::{OneHistory, View};
-use crossbeam_utils::atomic::seq_cell::RuledSeqCell;
+use crate::strip::Strip;
 use dataset_meta::Meta;
 use std::marker::Model;
 
-pub(crate) type Words = RuledSeqCell<[u64; 151], View, OneHistory, 151>;
-
 /// The rows of a data set, one after another. Its words are the version (the number of entries), the count of numbers given, the
-/// 125 words of the last row, the quotas of the eight authors, and the 16 words of the shape of the meta. To a contract it is its
-/// name, the meta and the quotas; what stands in it is known only by what its passes have seen.
+/// quotas of the eight authors, the 16 words of the shape of the meta, and the last row: its first 8, 32, 80 or all 125 words,
+/// the fewest behind which each row of the meta is 0. To a contract it is its name, the meta and the quotas; what stands in it is
+/// known only by what its passes have seen.
 #[derive(Drop)]
 pub struct Cell {
-    pub(crate) words: Words,
+    pub(crate) words: Strip,
     pub(crate) meta: Meta,
     // The quotas, and behind them the shape.
     pub(crate) terms: [u64; 24],

@@ -14,7 +14,7 @@ ghost use Rattle.version_cell.specs.Histories.{StartsWith, entry, history_of, op
 ghost use Rattle.version_cell.specs.Terms.{IsLawful, IsSole, quota};
 ghost use Rattle.version_cell.specs.Views.{blank, copied, joined};
 ghost use Rattle.version_cell.specs.Rule.{Kept, spell};
-ghost use Rattle.version_cell.specs.Steps.{Closes, Enrols, MayEnrol, MayWrite, Reads, Tries, exchanged, seen_words, written_words};
+ghost use Rattle.version_cell.specs.Steps.{Closes, Enrols, MayEnrol, MayStore, MayWrite, Reads, Tries, Writes, exchanged, seen_words, written_words};
 ghost use Rattle.version_cell.specs.Known.{Known};
 ghost use Rattle.version_cell.specs.Cells.{CellData, IsCell};
 ghost use Rattle.version_cell.specs.Passes.{Adds, AddsLater, HasLeft, IsFull, IsPassOf, SeesLawful, SeesMore, new_pass, row_with};
@@ -32,7 +32,7 @@ pub fn spellings_have_equal_parts()
 {}
 
 /// A new cell meets the rule, and each kind of step keeps it, from any state that meets it: a load, the load that ends a join, a
-/// write or an enrolment by an exchange that wins or loses, a split, the move of a view to a new pass, and a join.
+/// write or an enrolment by an exchange that wins or loses, a store, a split, the move of a view to a new pass, and a join.
 pub fn steps_keep_the_rule()
     ensures opening { (terms : List ℕ) → length terms ≡ 24
         → Kept (spell 0 0 opening_words terms) (blank ∷ []) }
@@ -42,6 +42,8 @@ pub fn steps_keep_the_rule()
         → MayWrite v author terms row
         → let expected = seen_words v v.count terms in let new = written_words v row terms in
         Turns Kept pass v (exchanged expected new) Tries }
+    ensures store { (pass : ℕ) (v : ViewValue) (terms row : List ℕ) → MayStore v terms row
+        → let new = written_words v row terms in Turns Kept pass v (λ _. new) Writes }
     ensures enrolment { (pass : ℕ) (v : ViewValue) (terms : List ℕ) → MayEnrol v terms
         → let expected = seen_words v v.count terms in let new = seen_words v (v.count + 1) terms in
         Turns Kept pass v (exchanged expected new) Enrols }

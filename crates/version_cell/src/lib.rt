@@ -5,9 +5,12 @@
 //! seen and exchanges the words of the cell, once. Where another thread was there before, the pass learns that thread's row, and
 //! nothing is written. Where the exchange wins, the entry is the next of the history, and its version is its place there. So each
 //! version has one author and one row, which is the row before it with the author's patch.
+//!
+//! Where number 0 is the only author, it has seen every entry: `Cell::store` puts a whole row in place and compares nothing.
 #![tactic(auto)]
 
 mod cell;
+mod cut;
 mod laws;
 mod making;
 mod pass;
@@ -16,6 +19,8 @@ mod rule;
 mod sets;
 mod spelling;
 mod steps;
+mod storing;
+mod strip;
 
 pub use cell::{Cell, Placed, Wrote};
 pub use laws::{

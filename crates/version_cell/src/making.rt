@@ -1,18 +1,20 @@
 //! The making of a cell, in which the eight numbers are given.
-ghost use Rattle.std.specs.Prelude.{◌≡◌, ℕ, ◌+◌, ◌<◌, ◌^◌, ◌++◌, length, sum, Some, None, IfSome, IfOk};
+ghost use Rattle.std.specs.Prelude.{◌≡◌, ℕ, ◌+◌, ◌<◌, ◌≤◌, ◌^◌, ◌++◌, length, sum, Some, None, IfSome, IfOk};
 ghost use Rattle.crossbeam_utils.specs.Seq.{cell_view};
 ghost use Rattle.version_cell.specs.Histories.{opening_words};
 ghost use Rattle.version_cell.specs.Views.{copied, joined, settled};
 ghost use Rattle.version_cell.specs.Rule.{spell};
 ghost use Rattle.version_cell.specs.Cells.{IsCell};
 ghost use Rattle.version_cell.specs.Passes.{AreNumbered, new_pass};
+ghost use Rattle.version_cell.specs.Strips.{table_of};
 ghost use Rattle.version_cell.specs.Making.{AreFresh, AreNew, IsFresh, new_known};
 
-use crate::cell::{Cell, Words};
+use crate::cell::Cell;
 use crate::pass::Pass;
-use crate::places::{RowPass, join_places, load_words};
+use crate::places::{join_places, load_words};
 use crate::rule::{Copies, Enrolling};
-use crate::spelling::{spelled, terms_for};
+use crate::spelling::{spelled, terms_for, words_of_rows};
+use crate::strip::{Place, Strip};
 use dataset_meta::Meta;
 use row_words::Row;
 use std::alloc::Global;
@@ -36,8 +38,9 @@ impl Cell {
         ensures numbered { IfOk result (λ made. AreNumbered made.0 made.2.items) }
     {
         let terms = terms_for(quotas, meta);
+        let row = words_of_rows(meta);
         let meta = meta.copy(alloc)?;
-        let (words, first, passes) = begun(rt, alloc, &terms)?;
+        let (words, first, passes) = begun(rt, alloc, row, &terms)?;
         Ok((Cell { words, meta, terms }, first, passes))
     }
 }
@@ -46,17 +49,20 @@ impl Cell {
 fn begun<R: Wait>(
     rt: &R,
     alloc: Global,
+    row: u32,
     terms: &[u64; 24],
-) -> Result<(Words, Pass, Vec<Pass>), NoMemory>
-    requires { length terms.now ≡ 24 }
+) -> Result<(Strip, Pass, Vec<Pass>), NoMemory>
+    requires wide { length terms.now ≡ 24 }
+    requires narrow { row ≤ 125 }
+    ensures room { IfOk result (λ made. row + 27 ≤ (table_of made.0).words) }
     ensures first { IfOk result
-        (λ made. made.1 ≡ new_known made.0.table.shared.table_id terms.now None) }
+        (λ made. made.1 ≡ new_known (table_of made.0) terms.now None) }
     ensures count { IfOk result (λ made. length made.2.items ≡ 8) }
     ensures numbered { IfOk result
-        (λ made. AreNew made.0.table.shared.table_id terms.now made.2.items) }
+        (λ made. AreNew (table_of made.0) terms.now made.2.items) }
 {
     for _ in rt.forever() {
-        if let Some(made) = attempt(rt, alloc, terms)? {
+        if let Some(made) = attempt(rt, alloc, row, terms)? {
             return Ok(made);
         }
     }
@@ -66,16 +72,18 @@ fn begun<R: Wait>(
 fn attempt<R: Wait>(
     rt: &R,
     alloc: Global,
+    row: u32,
     terms: &[u64; 24],
-) -> Result<Option<(Words, Pass, Vec<Pass>)>, NoMemory>
-    requires { length terms.now ≡ 24 }
-    ensures { IfOk result (λ r. IfSome r (λ made.
-        (made.1 ≡ new_known made.0.table.shared.table_id terms.now None)
+) -> Result<Option<(Strip, Pass, Vec<Pass>)>, NoMemory>
+    requires wide { length terms.now ≡ 24 }
+    requires narrow { row ≤ 125 }
+    ensures { IfOk result (λ r. IfSome r (λ made. (row + 27 ≤ (table_of made.0).words)
+        × (made.1 ≡ new_known (table_of made.0) terms.now None)
         × (length made.2.items ≡ 8)
-        × AreNew made.0.table.shared.table_id terms.now made.2.items)) }
+        × AreNew (table_of made.0) terms.now made.2.items)) }
 {
     let start = words_with(0, terms);
-    let (words, mut first) = Words::ruled(alloc, start)?;
+    let (words, mut first) = Strip::ruled(alloc, row, &start)?;
     if load_words(rt, &words, &mut first) != start {
         return Ok(None);
     }
@@ -91,14 +99,14 @@ fn attempt<R: Wait>(
 fn all_enrolled<R: Wait>(
     rt: &R,
     alloc: Global,
-    words: &Words,
+    words: &Strip,
     terms: &[u64; 24],
-    first: &mut RowPass,
-) -> Result<Option<Vec<RowPass>>, NoMemory>
-    requires { IsFresh words.now.table.shared.table_id terms.now None 0 first.old }
+    first: &mut Place,
+) -> Result<Option<Vec<Place>>, NoMemory>
+    requires { IsFresh (table_of words.now) terms.now None 0 first.old }
     ensures { IfOk result (λ r. IfSome r (λ places. (length places.items ≡ 8)
-        × AreFresh words.entry.now.table.shared.table_id terms.entry.now places.items
-        × IsFresh words.entry.now.table.shared.table_id terms.entry.now None 8 first.new)) }
+        × AreFresh (table_of words.entry.now) terms.entry.now places.items
+        × IsFresh (table_of words.entry.now) terms.entry.now None 8 first.new)) }
 {
     let mut places = Vec::new(alloc);
     for number in 0..8 {
@@ -113,22 +121,22 @@ fn all_enrolled<R: Wait>(
 // A new token with this number, which the first then knows of.
 fn enrolled<R: Wait>(
     rt: &R,
-    words: &Words,
+    words: &Strip,
     terms: &[u64; 24],
-    first: &mut RowPass,
+    first: &mut Place,
     number: u64,
-) -> Option<RowPass>
+) -> Option<Place>
     requires small { number < 8 }
-    requires first { IsFresh words.now.table.shared.table_id terms.now None number first.old }
+    requires first { IsFresh (table_of words.now) terms.now None number first.old }
     ensures { IfSome result (λ place.
-        let id = words.entry.now.table.shared.table_id in let count = number + 1 in
+        let id = table_of words.entry.now in let count = number + 1 in
         IsFresh id terms.entry.now (Some number) count place
         × IsFresh id terms.entry.now None count first.new) }
 {
     let mut place = words.split_pass::<Copies>(first);
     let front = words_with(number, terms);
     let next = words_with(number + 1, terms);
-    let Ok(_) = words.compare_exchange_as::<Enrolling, R>(rt, &mut place, front, next) else {
+    let Ok(_) = words.compare_exchange_as::<Enrolling, R>(rt, &mut place, &front, &next) else {
         return None;
     };
     take_in(rt, words, first, &mut place);
@@ -139,18 +147,18 @@ fn enrolled<R: Wait>(
 fn passes_of<R: Wait>(
     rt: &R,
     alloc: Global,
-    words: &Words,
+    words: &Strip,
     terms: &[u64; 24],
-    first: &mut RowPass,
-    places: Vec<RowPass>,
+    first: &mut Place,
+    places: Vec<Place>,
 ) -> Result<Vec<Pass>, NoMemory>
     requires count { length places.items ≡ 8 }
     requires wide { length terms.now ≡ 24 }
-    requires numbered { AreFresh words.now.table.shared.table_id terms.now places.items }
-    requires first { IsFresh words.now.table.shared.table_id terms.now None 8 first.old }
-    ensures first { IsFresh words.entry.now.table.shared.table_id terms.entry.now None 8 first.new }
+    requires numbered { AreFresh (table_of words.now) terms.now places.items }
+    requires first { IsFresh (table_of words.now) terms.now None 8 first.old }
+    ensures first { IsFresh (table_of words.entry.now) terms.entry.now None 8 first.new }
     ensures passes { IfOk result (λ passes. (length passes.items ≡ 8)
-        × AreNew words.entry.now.table.shared.table_id terms.entry.now passes.items) }
+        × AreNew (table_of words.entry.now) terms.entry.now passes.items) }
 {
     let mut passes = Vec::new(alloc);
     let mut number = 0u8;
@@ -164,9 +172,9 @@ fn passes_of<R: Wait>(
 }
 
 // The token learns what the other knows.
-fn take_in<R: Wait>(rt: &R, words: &Words, place: &mut RowPass, other: &mut RowPass)
-    requires own { place.old.table_id ≡ words.now.table.shared.table_id }
-    requires other { other.old.table_id ≡ words.now.table.shared.table_id }
+fn take_in<R: Wait>(rt: &R, words: &Strip, place: &mut Place, other: &mut Place)
+    requires own { place.old.table_id ≡ table_of words.now }
+    requires other { other.old.table_id ≡ table_of words.now }
     ensures name { place.new.table_id ≡ place.old.table_id }
     ensures view { cell_view place.new
         ≡ settled (joined (cell_view place.old) (copied (cell_view other.old))) }
@@ -178,11 +186,11 @@ fn take_in<R: Wait>(rt: &R, words: &Words, place: &mut RowPass, other: &mut RowP
 }
 
 // A token that knows all numbers is a pass.
-fn pass_of(words: &Words, terms: &[u64; 24], place: RowPass, author: Option<u8>) -> Pass
+fn pass_of(words: &Strip, terms: &[u64; 24], place: Place, author: Option<u8>) -> Pass
     requires wide { length terms.now ≡ 24 }
-    requires fresh { IsFresh words.now.table.shared.table_id terms.now author 8 place }
+    requires fresh { IsFresh (table_of words.now) terms.now author 8 place }
     requires number { (t : ℕ) → author ≡ Some t → t < 8 }
-    ensures { result ≡ new_known words.entry.now.table.shared.table_id terms.entry.now author }
+    ensures { result ≡ new_known (table_of words.entry.now) terms.entry.now author }
 {
     Pass {
         place,

@@ -3,7 +3,7 @@ ghost use Rattle.std.specs.Prelude.{◌≡◌, length};
 ghost use Rattle.version_cell.specs.Histories.{row_after};
 ghost use Rattle.version_cell.specs.Passes.{SeesLawful};
 
-use crate::places::RowPass;
+use crate::strip::Place;
 use row_words::Row;
 use std::marker::Model;
 
@@ -11,7 +11,7 @@ use std::marker::Model;
 /// name and terms, the entries that it has seen, and its number.
 #[derive(Drop)]
 pub struct Pass {
-    pub(crate) place: RowPass,
+    pub(crate) place: Place,
     pub(crate) version: u64,
     pub(crate) row: Row,
     pub(crate) author: Option<u8>,

@@ -3,18 +3,15 @@ ghost use Rattle.std.specs.Prelude.{◌≡◌, ℕ, List, []};
 ghost use Rattle.crossbeam_utils.specs.Seq.{cell_view, IsSamePass};
 ghost use Rattle.version_cell.specs.Views.{joined};
 ghost use Rattle.version_cell.specs.Steps.{Closes, Reads};
+ghost use Rattle.version_cell.specs.Strips.{table_of};
 
-use crate::cell::Words;
-use crate::rule::{Loads, LoadsAtLast, Longer, View};
-use crossbeam_utils::atomic::seq_cell;
+use crate::rule::{Loads, LoadsAtLast, Longer};
+use crate::strip::{Place, Strip};
 use std::sync::Wait;
 
-/// A token of the words, with what it has seen.
-pub(crate) type RowPass = seq_cell::Pass<[u64; 151], View>;
-
 /// One load.
-pub(crate) fn load_words<R: Wait>(rt: &R, words: &Words, place: &mut RowPass) -> [u64; 151]
-    requires { place.old.table_id ≡ words.now.table.shared.table_id }
+pub(crate) fn load_words<R: Wait>(rt: &R, words: &Strip, place: &mut Place) -> [u64; 151]
+    requires { place.old.table_id ≡ table_of words.now }
     ensures same { IsSamePass place.old place.new }
     ensures reads { Reads (cell_view place.old) result result (cell_view place.new) }
 {
@@ -22,8 +19,8 @@ pub(crate) fn load_words<R: Wait>(rt: &R, words: &Words, place: &mut RowPass) ->
 }
 
 /// The place takes in what another has seen that has made no step yet, and a load ends the join.
-pub(crate) fn join_places<R: Wait>(rt: &R, words: &Words, place: &mut RowPass, other: RowPass)
-    requires own { place.old.table_id ≡ words.now.table.shared.table_id }
+pub(crate) fn join_places<R: Wait>(rt: &R, words: &Strip, place: &mut Place, other: Place)
+    requires own { place.old.table_id ≡ table_of words.now }
     requires other { other.table_id ≡ place.old.table_id }
     requires unmoved { other.me.1 ≡ [] }
     ensures same { IsSamePass place.old place.new }

@@ -24,13 +24,15 @@ pub struct View {
 }
 
 /// The rule: there is one history, of which each pass has seen a beginning, and the words spell its length and its last row.
-pub struct OneHistory;
+/// A cell of N words keeps the first N of 151 words, and behind those all are 0.
+pub struct OneHistory<const N: usize>;
 
-impl Protocol<[u64; 151], View> for OneHistory {
+impl<const N: usize> Protocol<[u64; N], View> for OneHistory<N> {
     ghost use Rattle.version_cell.specs.Views.{blank};
     ghost use Rattle.version_cell.specs.Rule.{Kept};
+    ghost use Rattle.version_cell.specs.Widths.{widened};
 
-    ghost holds = { Kept };
+    ghost holds = { λ words views. Kept (widened N words) views };
 
     ghost first = { blank };
 }
@@ -60,6 +62,15 @@ impl Outcome<[u64; 151], View> for Exchanges {
     ghost use Rattle.version_cell.specs.Steps.{Tries};
 
     ghost then = { Tries };
+}
+
+/// A write with nothing compared.
+pub struct Stores;
+
+impl Outcome<[u64; 151], View> for Stores {
+    ghost use Rattle.version_cell.specs.Steps.{Writes};
+
+    ghost then = { Writes };
 }
 
 /// An exchange that takes a number where it wins, and is a load where it loses.

@@ -1,7 +1,8 @@
-//! The words of a cell.
-ghost use Rattle.std.specs.Prelude.{◌≡◌, ◌++◌, slice_range};
+//! The 151 words for which those of a cell stand.
+ghost use Rattle.std.specs.Prelude.{◌≡◌, ◌≤◌, ◌++◌, slice_range};
 ghost use Rattle.row_words.specs.Shapes.{shape_of};
 ghost use Rattle.version_cell.specs.Rule.{spell};
+ghost use Rattle.version_cell.specs.Widths.{row_width};
 
 use dataset_meta::Meta;
 use row_words::{Row, shape};
@@ -13,17 +14,17 @@ pub(crate) fn spelled(version: u64, count: u64, row: &Row, terms: &[u64; 24]) ->
     let mut words = [0u64; 151];
     words[0] = version;
     words[1] = count;
-    words[2..127].copy_from_slice(&row.words);
-    words[127..].copy_from_slice(terms);
+    words[2..26].copy_from_slice(terms);
+    words[26..].copy_from_slice(&row.words);
     words
 }
 
 #[inline(always)]
 pub(crate) fn row_in(words: &[u64; 151]) -> Row
-    ensures { result.words ≡ slice_range words.now 2 127 }
+    ensures { result.words ≡ slice_range words.now 26 151 }
 {
     let mut row = [0u64; 125];
-    row.copy_from_slice(&words[2..127]);
+    row.copy_from_slice(&words[26..]);
     Row { words: row }
 }
 
@@ -35,4 +36,17 @@ pub(crate) fn terms_for(quotas: &[u64; 8], meta: &Meta) -> [u64; 24]
     terms[..8].copy_from_slice(quotas);
     terms[8..].copy_from_slice(&shape(meta));
     terms
+}
+
+// How many words of a row aren't always 0.
+pub(crate) fn words_of_rows(meta: &Meta) -> u32
+    ensures words { result ≡ row_width meta.now }
+    ensures narrow { result ≤ 125 }
+{
+    let words = meta.words();
+    if meta.quality() {
+        words
+    } else {
+        meta.value_words()
+    }
 }

@@ -51,7 +51,7 @@ impl Cell {
         let next = spelled(pass.version + 1, 8, &row, &self.terms);
         match self
             .words
-            .compare_exchange_as::<Exchanges, R>(rt, &mut pass.place, front, next)
+            .compare_exchange_as::<Exchanges, R>(rt, &mut pass.place, &front, &next)
         {
             Ok(_) => {
                 pass.version += 1;

@@ -1,4 +1,4 @@
-use Rattle.std.proofs.Common.{rules, sym, ap, ◌∙◌}
+use Rattle.std.proofs.Common.{sym, ap, ◌∙◌}
 use Rattle.crossbeam_utils.specs.Seq.{cell_view}
 use Rattle.version_cell.specs.declared.rule.View.{View}
 use Rattle.version_cell.specs.Views.{joined, settled}
@@ -6,7 +6,7 @@ use Rattle.version_cell.proofs.Keeps.{copies}
 use Rattle.version_cell.proofs.making.take_in.Goals as goal
 
 pub split_pass-told-requires : goal.split_pass-told-requires
-split_pass-told-requires g c = (search rules, (search rules, (c.requires.other, copies _ _)))
+split_pass-told-requires g c = record { own = c.requires.other; rule = copies _ _ }
 
 pub join_places-requires : goal.join_places-requires
 join_places-requires g c =

@@ -1,4 +1,4 @@
-use Rattle.std.proofs.Common.{rules, subst, ◌∙◌}
+use Rattle.std.proofs.Common.{subst, ◌∙◌}
 use Rattle.crossbeam_utils.specs.Seq.{cell_view}
 use Rattle.version_cell.specs.declared.rule.View.{View}
 use Rattle.version_cell.specs.Steps.{Closes}
@@ -6,14 +6,14 @@ use Rattle.version_cell.proofs.Keeps.{merges, closes}
 use Rattle.version_cell.proofs.places.join_places.Goals as goal
 
 pub join_pass-requires : goal.join_pass-requires
-join_pass-requires g c = (search rules, (search rules, ((c.requires.own, c.requires.other, c.requires.unmoved), merges _ _ _ _)))
+join_pass-requires g c = record { own = (c.requires.own, c.requires.other, c.requires.unmoved); rule = merges _ _ _ _ }
 
 pub load_as-requires : goal.load_as-requires
-load_as-requires g c = (search rules, (search rules, (c.join_pass.ensures.0.0 ∙ c.requires.own, closes _ _)))
+load_as-requires g c = record { own = c.join_pass.ensures.0.0 ∙ c.requires.own; rule = closes _ _ }
 
 pub returns-clause-same : goal.returns-clause-same
-returns-clause-same g c = (c.load_as.ensures.cell.0 ∙ c.join_pass.ensures.0.0, c.load_as.ensures.cell.1 ∙ c.join_pass.ensures.0.1)
+returns-clause-same g c = (c.load_as.ensures.same.0 ∙ c.join_pass.ensures.0.0, c.load_as.ensures.same.1 ∙ c.join_pass.ensures.0.1)
 
 pub returns-clause-closes : goal.returns-clause-closes
 returns-clause-closes g c =
-    (c.load_as.result, subst (λ (v : View). Closes v c.load_as.result c.load_as.result (cell_view c.load_as.new.pass)) c.join_pass.ensures.1 c.load_as.ensures.rule)
+    (c.load_as.result, subst (λ (v : View). Closes v c.load_as.result c.load_as.result (cell_view c.load_as.new.place)) c.join_pass.ensures.1 c.load_as.ensures.told)

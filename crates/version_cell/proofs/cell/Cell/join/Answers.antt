@@ -1,4 +1,4 @@
-use Rattle.std.proofs.Common.{rules, sym, ◌∙◌, ap}
+use Rattle.std.proofs.Common.{sym, ◌∙◌, ap}
 use Rattle.crossbeam_utils.specs.Seq.{cell_view}
 use Rattle.version_cell.specs.declared.pass.Pass.TheInside.{Inside}
 use Rattle.version_cell.specs.Views.{joined}
@@ -7,7 +7,7 @@ use Rattle.version_cell.proofs.Calls.{same_name, joined_by}
 use Rattle.version_cell.proofs.cell.Cell.join.Goals as goal
 
 pub split_pass-moved-requires : goal.split_pass-moved-requires
-split_pass-moved-requires g c = (search rules, (search rules, (same_name c.self.inside c.self.invariant _ c.self.view_is c.other.inside c.other.invariant _ c.other.view_is c.requires.other, moves _ _)))
+split_pass-moved-requires g c = record { own = same_name c.self.inside c.self.invariant _ c.self.view_is c.other.inside c.other.invariant _ c.other.view_is c.requires.other; rule = moves _ _ }
 
 pub join_places-requires : goal.join_places-requires
 join_places-requires g c =

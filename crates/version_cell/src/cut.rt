@@ -1,0 +1,127 @@
+//! Cells of N words that stand for 151 words: those are the N words and zeros behind them.
+ghost use Rattle.std.specs.Prelude.{◌≡◌, ◌≤◌, ℕ, List, [], ◌∷◌, true, false, nat_eq, take, if◌then◌else◌, IfOk, MatchResult};
+ghost use lib.Pointwise.{pointwise};
+ghost use Rattle.crossbeam_utils.specs.Register.{Turns};
+ghost use Rattle.crossbeam_utils.specs.Seq.{cell_view, IsSamePass};
+ghost use Rattle.version_cell.specs.Widths.{widened, Stands};
+ghost use Rattle.version_cell.specs.Views.{blank};
+ghost use Rattle.version_cell.specs.Rule.{Kept};
+
+use crate::rule::{OneHistory, View};
+use crossbeam_utils::atomic::seq_cell;
+use crossbeam_utils::atomic::seq_cell::RuledSeqCell;
+use crossbeam_utils::rule::Outcome;
+use std::alloc::{AllocError, Global};
+use std::marker::PhantomData;
+use std::sync::Wait;
+
+/// What a step of 151 words tells, of the N words that stand for them.
+pub struct Cut<M, const N: usize> {
+    outcome: PhantomData<M>,
+}
+
+impl<M: Outcome<[u64; 151], View>, const N: usize> Outcome<[u64; N], View> for Cut<M, N> {
+    ghost use Rattle.version_cell.specs.Widths.{widened};
+
+    ghost then = { λ v x y w. M.then v (widened N x) (widened N y) w };
+}
+
+/// N words under the rule.
+pub(crate) type Words<const N: usize> = RuledSeqCell<[u64; N], View, OneHistory<N>, N>;
+
+/// A token of them, with what it has seen.
+pub(crate) type Seat<const N: usize> = seq_cell::Pass<[u64; N], View>;
+
+/// A cell of N words, the first of these.
+pub(crate) fn ruled_in<const N: usize>(
+    alloc: Global,
+    start: &[u64; 151],
+) -> Result<(Words<N>, Seat<N>), AllocError>
+    requires small { N ≤ 151 }
+    requires start { Stands N start.now }
+    requires rule { Kept start.now (blank ∷ []) }
+    ensures name { IfOk result (λ made. made.1.table_id ≡ made.0.table.shared.table_id) }
+    ensures view { IfOk result (λ made. cell_view made.1 ≡ blank) }
+{
+    Words::<N>::ruled(alloc, beginning(start))
+}
+
+/// One load.
+pub(crate) fn load_in<M: Outcome<[u64; 151], View>, R: Wait, const N: usize>(
+    rt: &R,
+    words: &Words<N>,
+    seat: &mut Seat<N>,
+) -> [u64; 151]
+    requires small { N ≤ 151 }
+    requires own { seat.old.table_id ≡ words.now.table.shared.table_id }
+    requires rule { Turns Kept seat.old.id (cell_view seat.old) (λ x. x) M.then }
+    ensures same { IsSamePass seat.old seat.new }
+    ensures told { M.then (cell_view seat.old) result result (cell_view seat.new) }
+{
+    wide(&words.load_as::<Cut<M, N>, R>(rt, seat))
+}
+
+/// One exchange, which wins where it finds the words that it expects.
+pub(crate) fn exchange_in<M: Outcome<[u64; 151], View>, R: Wait, const N: usize>(
+    rt: &R,
+    words: &Words<N>,
+    seat: &mut Seat<N>,
+    current: &[u64; 151],
+    new: &[u64; 151],
+) -> Result<(), [u64; 151]>
+    requires small { N ≤ 151 }
+    requires current { Stands N current.now }
+    requires new { Stands N new.now }
+    requires own { seat.old.table_id ≡ words.now.table.shared.table_id }
+    requires rule { Turns Kept seat.old.id (cell_view seat.old)
+        (λ x. if pointwise nat_eq x current.now then new.now else x) M.then }
+    ensures same { IsSamePass seat.old seat.new }
+    ensures told { MatchResult result
+        (λ _. (x : List ℕ) × (pointwise nat_eq x current.now ≡ true)
+        × M.then (cell_view seat.old) x new.now (cell_view seat.new))
+        (λ x. (pointwise nat_eq x current.now ≡ false)
+        × M.then (cell_view seat.old) x x (cell_view seat.new)) }
+{
+    match words.compare_exchange_as::<Cut<M, N>, R>(rt, seat, beginning(current), beginning(new)) {
+        Ok(_) => Ok(()),
+        Err(found) => Err(wide(&found)),
+    }
+}
+
+/// One store.
+pub(crate) fn swap_in<M: Outcome<[u64; 151], View>, R: Wait, const N: usize>(
+    rt: &R,
+    words: &Words<N>,
+    seat: &mut Seat<N>,
+    new: &[u64; 151],
+)
+    requires small { N ≤ 151 }
+    requires new { Stands N new.now }
+    requires own { seat.old.table_id ≡ words.now.table.shared.table_id }
+    requires rule { Turns Kept seat.old.id (cell_view seat.old) (λ _. new.now) M.then }
+    ensures same { IsSamePass seat.old seat.new }
+    ensures told { (x : List ℕ) × M.then (cell_view seat.old) x new.now (cell_view seat.new) }
+{
+    words.swap_as::<Cut<M, N>, R>(rt, seat, beginning(new));
+}
+
+// The 151 words for which these stand.
+#[inline(always)]
+fn wide<const N: usize>(words: &[u64; N]) -> [u64; 151]
+    requires { N ≤ 151 }
+    ensures { result ≡ widened N words.now }
+{
+    let mut wide = [0u64; 151];
+    wide[..N].copy_from_slice(words);
+    wide
+}
+
+#[inline(always)]
+fn beginning<const N: usize>(words: &[u64; 151]) -> [u64; N]
+    requires { N ≤ 151 }
+    ensures { result ≡ take N words.now }
+{
+    let mut beginning = [0u64; N];
+    beginning.copy_from_slice(&words[..N]);
+    beginning
+}
