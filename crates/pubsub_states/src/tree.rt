@@ -44,7 +44,8 @@ impl Tree {
     ghost use Rattle.ps_config.specs.Sound.{IsFew};
     ghost use Rattle.pubsub_states.specs.declared.component.Component.{Component};
     ghost use Rattle.pubsub_states.specs.Components.{components, IsAmong, IsId};
-    ghost use Rattle.pubsub_states.specs.States.{state_of, is_operational};
+    ghost use Rattle.pubsub_states.specs.declared.component.Component.TheVariants.{Root, Connection};
+    ghost use Rattle.pubsub_states.specs.States.{state_of, state_under, is_operational};
     ghost use Rattle.pubsub_states.specs.Changes.{StandsAfter, Changes, Enable, Disable, Fault, Ready, flags_at, flags_in};
 
     /// All components are enabled and without fault; all but the readers are ready.
@@ -135,11 +136,37 @@ impl Tree {
         requires { IsAmong self.now.counts component }
         ensures { result ≡ state_of (flags_in self.now) component }
     {
-        let above = match component.parent() {
-            Some(parent) => self.state_of(parent),
-            None => State::Operational,
+        let above = match component {
+            Component::Root => State::Operational,
+            Component::Connection => self.root(),
+            Component::Group { .. } | Component::ReadGroup { .. } => self.connection(),
+            Component::Writer { group, .. } => self.head(Component::Group { group }),
+            Component::Reader { read_group, .. } => self.head(Component::ReadGroup { read_group }),
         };
         self.flags_of(component).state_under(above)
+    }
+
+    fn root(&self) -> State
+        ensures { result ≡ state_of (flags_in self.now) Root }
+    {
+        self.flags_of(Component::Root)
+            .state_under(State::Operational)
+    }
+
+    fn connection(&self) -> State
+        ensures { result ≡ state_of (flags_in self.now) Connection }
+    {
+        self.flags_of(Component::Connection)
+            .state_under(self.root())
+    }
+
+    /// The state of a group or of a read group.
+    fn head(&self, group: Component) -> State
+        requires { IsAmong self.now.counts group }
+        ensures { result
+            ≡ state_under (state_of (flags_in self.now) Connection) (flags_in self.now group) }
+    {
+        self.flags_of(group).state_under(self.connection())
     }
 
     pub fn is_enabled(&self, component: Component) -> bool
