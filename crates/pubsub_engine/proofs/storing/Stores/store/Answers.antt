@@ -1,4 +1,4 @@
-use Rattle.std.proofs.Common.{◌≡◌, refl, sym, ap, ◌∙◌, subst, arith, ◌<◌, true, length, List, ◌∷◌, Option, Some}
+use Rattle.std.proofs.Common.{◌≡◌, ℕ, refl, sym, ap, ◌∙◌, subst, arith, ◌<◌, true, length, List, ◌∷◌, Option, Some}
 use Rattle.std.specs.Vec.{with_item}
 use Rattle.dataset_meta.specs.Metas.{MetaData}
 use Rattle.dataset_reader.specs.Reader.{kept_by}
