@@ -27,22 +27,22 @@ use Rattle.pubsub_engine.specs.Standing.{IsOriginOf, IsVersionStored, log_named,
 use Rattle.pubsub_engine.specs.Storing.{HasStored, IsLast}
 use Rattle.pubsub_engine.proofs.Places.{grouped_at, grouped-places}
 
-none-there : (list : List Store) (meta : MetaData) (last : Last) → last.is_there ≡ false → IsLast list meta last → list ≡ []
-none-there [] meta last off is = refl
-none-there (store ∷ before) meta last off is = absurd (false≢true (sym off ∙ is.0))
+none-there : (list : List Store) (meta : MetaData) (row : List ℕ) (last : Last) → last.is_there ≡ false → IsLast list meta row last → list ≡ []
+none-there [] meta row last off is = refl
+none-there (store ∷ before) meta row last off is = absurd (false≢true (sym off ∙ is.0))
 
 -- before the first store
-pub no-origin : (p : Plan) (steps : List Step) (place : MemberPlace) (meta : MetaData) (last : Last) → last.is_there ≡ false
-    → IsLast (stores p.config place.0 place.1 steps) meta last
+pub no-origin : (p : Plan) (steps : List Step) (place : MemberPlace) (meta : MetaData) (row : List ℕ) (last : Last) → last.is_there ≡ false
+    → IsLast (stores p.config place.0 place.1 steps) meta row last
     → IsOriginOf p steps place (record { store = 0; number = None; version = Some 0 })
-no-origin p steps place meta last off is = record {
+no-origin p steps place meta row last off is = record {
   store = sym (ap length none);
   number = sym (ap number_stored none);
   version = subst (λ (list : List Store). IsVersionStored p steps place list (Some 0)) (sym none) refl;
 }
   where
     none : stores p.config place.0 place.1 steps ≡ []
-    none = none-there (stores p.config place.0 place.1 steps) meta last off is
+    none = none-there (stores p.config place.0 place.1 steps) meta row last off is
 
 -- as many as the keeper's pass has seen
 count-seen : (list : List Store) (meta : MetaData) (pass : Known) → HasStored list meta pass → length pass.seen ≡ length list
@@ -50,36 +50,36 @@ count-seen list meta pass seen =
     sym (length-map pass.seen (λ (entry : Entry). row_in meta.fields entry.row)) ∙ ap length seen
     ∙ length-map (reverse list) (λ (store : Store). store.row) ∙ length-reverse list
 
-number-is : (list : List Store) (meta : MetaData) (last : Last) → last.is_there ≡ true → IsLast list meta last → last.number ≡ number_stored list
-number-is [] meta last on is = absurd (false≢true (sym is ∙ on))
-number-is (store ∷ before) meta last on is = is.1
+number-is : (list : List Store) (meta : MetaData) (row : List ℕ) (last : Last) → last.is_there ≡ true → IsLast list meta row last → last.number ≡ number_stored list
+number-is [] meta row last on is = absurd (false≢true (sym is ∙ on))
+number-is (store ∷ before) meta row last on is = is.1
 
 no-version : (number : Option ℕ) → option_and_then (version_in []) number ≡ None
 no-version None = refl
 no-version (Some n) = refl
 
-version-is : (p : Plan) (steps : List Step) (place : MemberPlace) (list : List Store) (meta : MetaData) (last : Last) (version : Option ℕ) → last.is_there ≡ true → IsLast list meta last
+version-is : (p : Plan) (steps : List Step) (place : MemberPlace) (list : List Store) (meta : MetaData) (row : List ℕ) (last : Last) (version : Option ℕ) → last.is_there ≡ true → IsLast list meta row last
     → ((group_at p.config place.0).publisher ≡ p.config.publisher.id
     → version ≡ option_and_then (version_in (log_named p steps (seat_at (setting_of p.config place.0).seats place.1).part.writer)) last.number)
     → ((group_at p.config place.0).publisher ≢ p.config.publisher.id → version ≡ None)
     → IsVersionStored p steps place list version
-version-is p steps place [] meta last version on is own other = absurd (false≢true (sym is ∙ on))
-version-is p steps place (store ∷ before) meta last version on is own other =
+version-is p steps place [] meta row last version on is own other = absurd (false≢true (sym is ∙ on))
+version-is p steps place (store ∷ before) meta row last version on is own other =
     (λ same. own same ∙ ap (option_and_then (version_in (log_named p steps (seat_at (setting_of p.config place.0).seats place.1).part.writer))) is.1, other)
 
 -- of the last store
-pub is-origin : (p : Plan) (steps : List Step) (place : MemberPlace) (meta : MetaData) (last : Last) (pass : Known) (publisher : Publisher) (log : List (ℕ × ℕ)) (origin : Origin) (k : ℕ)
+pub is-origin : (p : Plan) (steps : List Step) (place : MemberPlace) (meta : MetaData) (row : List ℕ) (last : Last) (pass : Known) (publisher : Publisher) (log : List (ℕ × ℕ)) (origin : Origin) (k : ℕ)
     → last.is_there ≡ true
-    → IsLast (stores p.config place.0 place.1 steps) meta last → HasStored (stores p.config place.0 place.1 steps) meta pass
+    → IsLast (stores p.config place.0 place.1 steps) meta row last → HasStored (stores p.config place.0 place.1 steps) meta pass
     → slice_get (reader_places p.config) k ≡ Some place
     → HavePast p.config (metas_at p.config steps) (deeds p steps) publisher.groups.items
     → ((at : ReadGroupPart × ReaderPart) → slice_get (grouped_readers p.config.readgroup) k ≡ Some at → IsLogRead p.config publisher at log)
     → origin.store ≡ length pass.seen → origin.number ≡ last.number → origin.version ≡ option_and_then (version_in log) last.number
     → IsOriginOf p steps place origin
-is-origin p steps place meta last pass publisher log origin k on is seen at past read is_store is_number is_version = record {
+is-origin p steps place meta row last pass publisher log origin k on is seen at past read is_store is_number is_version = record {
   store = is_store ∙ count-seen (stores p.config place.0 place.1 steps) meta pass seen;
-  number = is_number ∙ number-is (stores p.config place.0 place.1 steps) meta last on is;
-  version = version-is p steps place (stores p.config place.0 place.1 steps) meta last origin.version on is
+  number = is_number ∙ number-is (stores p.config place.0 place.1 steps) meta row last on is;
+  version = version-is p steps place (stores p.config place.0 place.1 steps) meta row last origin.version on is
       (λ same. is_version ∙ ap (λ (l : List (ℕ × ℕ)). option_and_then (version_in l) last.number) (named.own same (metas_at p.config steps) (deeds p steps) past))
       (λ apart. is_version ∙ ap (λ (l : List (ℕ × ℕ)). option_and_then (version_in l) last.number) (named.other apart) ∙ no-version last.number);
 }

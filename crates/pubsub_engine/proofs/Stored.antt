@@ -23,7 +23,7 @@ use Rattle.reader_group.specs.Settings.{group_at, seat_in, setting_of}
 use Rattle.row_words.specs.Belonging.{row_in}
 use Rattle.target_cells.specs.Keeping.{TargetsData, metas_of}
 use Rattle.version_cell.specs.declared.rule.Entry.{Entry}
-use Rattle.version_cell.specs.Histories.{entry}
+use Rattle.version_cell.specs.Histories.{entry, last_words, opening_words, row_after}
 use Rattle.version_cell.specs.Cells.{CellData}
 use Rattle.version_cell.specs.Known.{Known, nothing}
 use Rattle.version_cell.specs.Passes.{Adds}
@@ -43,26 +43,27 @@ use Rattle.pubsub_engine.proofs.Places.{first-within, reader-at, seat-part, with
 -- the stores of a reader stay
 pub same-stored : (meta : MetaData) (list : List Store) (old new : Stores) (k : ℕ) → IsSameAt old new k → IsStoredAs meta list old k → IsStoredAs meta list new k
 same-stored meta list old new k same is = record {
-  last = λ d. subst (λ (last : Last). IsLast list meta last) (sym (same.last d)) (is.last d);
+  last = λ d. subst (λ (pass : Known). IsLast list meta (row_after pass.seen) (slice_index_or new.last.items k d)) (sym same.pass)
+      (subst (λ (last : Last). IsLast list meta (row_after (pass_at old.keeper k).seen) last) (sym (same.last d)) (is.last d));
   seen = subst (λ (pass : Known). HasStored list meta pass) (sym same.pass) is.seen;
 }
 
 -- a store that isn't the last one
-pub other-stored : (numbering : NumberingWord) (list : List Store) (now : Store) (meta : MetaData) (last : Last) (same : Bool) → same ≡ false
-    → (IsLast [] meta last → same ≡ false)
-    → ((store : Store) (before : List Store) → IsLast (store ∷ before) meta last → same ≡ is_same numbering store now)
-    → IsLast list meta last → stored_on numbering list (Some now) ≡ now ∷ list
-other-stored numbering [] now meta last same off none some is = refl
-other-stored numbering (store ∷ before) now meta last same off none some is =
+pub other-stored : (numbering : NumberingWord) (list : List Store) (now : Store) (meta : MetaData) (row : List ℕ) (last : Last) (same : Bool) → same ≡ false
+    → (IsLast [] meta row last → same ≡ false)
+    → ((store : Store) (before : List Store) → IsLast (store ∷ before) meta row last → same ≡ is_same numbering store now)
+    → IsLast list meta row last → stored_on numbering list (Some now) ≡ now ∷ list
+other-stored numbering [] now meta row last same off none some is = refl
+other-stored numbering (store ∷ before) now meta row last same off none some is =
     ap (λ (b : Bool). cons_if (not b) now (store ∷ before)) (sym (some store before is) ∙ off)
 
 -- what is the last store isn't stored again
-pub same-stays : (numbering : NumberingWord) (list : List Store) (now : Store) (meta : MetaData) (last : Last) (same : Bool) → same ≡ true
-    → (IsLast [] meta last → same ≡ false)
-    → ((store : Store) (before : List Store) → IsLast (store ∷ before) meta last → same ≡ is_same numbering store now)
-    → IsLast list meta last → stored_on numbering list (Some now) ≡ list
-same-stays numbering [] now meta last same on none some is = absurd (false≢true (sym (none is) ∙ on))
-same-stays numbering (store ∷ before) now meta last same on none some is =
+pub same-stays : (numbering : NumberingWord) (list : List Store) (now : Store) (meta : MetaData) (row : List ℕ) (last : Last) (same : Bool) → same ≡ true
+    → (IsLast [] meta row last → same ≡ false)
+    → ((store : Store) (before : List Store) → IsLast (store ∷ before) meta row last → same ≡ is_same numbering store now)
+    → IsLast list meta row last → stored_on numbering list (Some now) ≡ list
+same-stays numbering [] now meta row last same on none some is = absurd (false≢true (sym (none is) ∙ on))
+same-stays numbering (store ∷ before) now meta row last same on none some is =
     ap (λ (b : Bool). cons_if (not b) now (store ∷ before)) (sym (some store before is) ∙ on)
 
 abbrev some-store : List DataValue → Option ℕ → Option Store
@@ -90,13 +91,22 @@ more-seen meta list now old new row adds is_row seen =
     of : Entry → List DataValue
     of = λ e. row_in meta.fields e.row
 
-pub now-stored : (meta : MetaData) (list : List Store) (now : Store) (old new : Stores) (k : ℕ) (last : Last) → k < length old.last.items
-    → new.last.items ≡ slice_set old.last.items k last → IsLast (now ∷ list) meta last
-    → Adds (pass_at old.keeper k) (pass_at new.keeper k) last.row.words
+-- its row is that of the keeper's pass
+last-words-more : (row : List ℕ) (log : List Entry) (e : Entry) → last_words row (log ++ e ∷ []) ≡ e.row
+last-words-more row [] e = refl
+last-words-more row (first ∷ log) e = last-words-more first.row log e
+
+row-added : (old new : Known) (row : List ℕ) → Adds old new row → row_after new.seen ≡ row
+row-added old new row adds = ap row_after adds.seen ∙ last-words-more opening_words old.seen (entry adds.by row)
+
+pub now-stored : (meta : MetaData) (list : List Store) (now : Store) (old new : Stores) (k : ℕ) (last : Last) (row : List ℕ) → k < length old.last.items
+    → new.last.items ≡ slice_set old.last.items k last → IsLast (now ∷ list) meta row last
+    → Adds (pass_at old.keeper k) (pass_at new.keeper k) row
     → IsStoredAs meta list old k → IsStoredAs meta (now ∷ list) new k
-now-stored meta list now old new k last low set is adds before = record {
-  last = λ d. subst (λ (x : Last). IsLast (now ∷ list) meta x) (sym (ap (λ (l : List Last). get_or l k d) set ∙ get_or-set_same old.last.items k last d low)) is;
-  seen = more-seen meta list now (pass_at old.keeper k) (pass_at new.keeper k) last.row.words adds is.2 before.seen;
+now-stored meta list now old new k last row low set is adds before = record {
+  last = λ d. subst (λ (words : List ℕ). IsLast (now ∷ list) meta words (slice_index_or new.last.items k d)) (sym (row-added (pass_at old.keeper k) (pass_at new.keeper k) row adds))
+      (subst (λ (x : Last). IsLast (now ∷ list) meta row x) (sym (ap (λ (l : List Last). get_or l k d) set ∙ get_or-set_same old.last.items k last d low)) is);
+  seen = more-seen meta list now (pass_at old.keeper k) (pass_at new.keeper k) row adds is.2 before.seen;
 }
 
 pub others-same : (old new : Stores) (k : ℕ) (last : Last) → new.last.items ≡ slice_set old.last.items k last → ChangesAt k old.keeper new.keeper

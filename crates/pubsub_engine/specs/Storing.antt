@@ -11,6 +11,7 @@ use Rattle.reader_group.specs.Plain.{Event, member_at, plain}
 use Rattle.reader_group.specs.Settings.{setting_of}
 use Rattle.target_cells.specs.Keeping.{TargetsData, metas_of}
 use Rattle.row_words.specs.Belonging.{Belongs, row_in}
+use Rattle.version_cell.specs.Histories.{row_after}
 use Rattle.version_cell.specs.Known.{Known}
 use Rattle.version_cell.specs.Sets.{ArePassesOf, pass_at}
 use Rattle.session_model.specs.Closing.{MemberPlace, reader_places}
@@ -31,11 +32,11 @@ pub record MayStore (config : Config) (targets : TargetsData) (stores : Stores) 
   pub count : length stores.last.items ≡ length (readers config)
   pub room : (k : ℕ) → k < length (readers config) → length (pass_at stores.keeper k).seen < targets.limit
 
--- the last of these stores, if there is one
-abbrev pub IsLast : List Store → MetaData → Last → Type 0
-IsLast [] meta last = last.is_there ≡ false
-IsLast (store ∷ before) meta last =
-    (last.is_there ≡ true) × (last.number ≡ store.number) × (row_in meta.fields last.row.words ≡ store.row) × Belongs meta last.row.words
+-- the last of these stores, if there is one, which left a row of these words
+abbrev pub IsLast : List Store → MetaData → List ℕ → Last → Type 0
+IsLast [] meta row last = last.is_there ≡ false
+IsLast (store ∷ before) meta row last =
+    (last.is_there ≡ true) × (last.number ≡ store.number) × (row_in meta.fields row ≡ store.row) × Belongs meta row
 
 -- the keeper's pass has seen these stores, the first first
 abbrev pub HasStored : List Store → MetaData → Known → Type 0
@@ -43,7 +44,7 @@ HasStored list meta pass = map (λ entry. row_in meta.fields entry.row) pass.see
 
 -- the reader with this index over all read groups has these stores
 pub record IsStoredAs (meta : MetaData) (list : List Store) (s : Stores) (k : ℕ) : Type 0 where
-  pub last : HoldsAt (IsLast list meta) s.last.items k
+  pub last : HoldsAt (IsLast list meta (row_after (pass_at s.keeper k).seen)) s.last.items k
   pub seen : HasStored list meta (pass_at s.keeper k)
 
 abbrev pub meta_at_place : Config → MemberPlace → MetaData

@@ -28,12 +28,11 @@ use std::sync::Wait;
 use target_cells::{Keeper, Origin, Targets};
 use ua_base::NoMemory;
 
-/// The last store of a reader, if there is one.
+/// The last store of a reader, if there is one; its row is that of the keeper's pass.
 #[derive(Clone, Copy, Debug)]
 struct Last {
     is_there: bool,
     number: Option<u16>,
-    row: Row,
 }
 
 /// The keeper of all readers' targets, and each reader's last store.
@@ -54,7 +53,6 @@ impl Stores {
         let none = Last {
             is_there: false,
             number: None,
-            row: Row::opening(),
         };
         Ok(Stores {
             keeper,
@@ -173,31 +171,31 @@ impl Stores {
             return;
         };
         let number = reader.number();
-        if self.last[k].is_same(part.numbering, number, row) {
+        let kept = self.keeper.pass(k as u8).row();
+        if self.last[k].is_same(part.numbering, number, kept, row) {
             return;
         }
         targets.store(rt, &mut self.keeper, k as u8, row);
         self.last[k] = Last {
             is_there: true,
             number,
-            row: *row,
         };
     }
 }
 
 impl Last {
-    /// Whether it is of this number, or without numbering of this row.
-    fn is_same(&self, numbering: NumberingWord, number: Option<u16>, row: &Row) -> bool
-        ensures none { (meta : MetaData) → IsLast [] meta self.now → result ≡ false }
+    /// Whether it is of this number, or without numbering of this row. The keeper's pass has the row that it left.
+    fn is_same(&self, numbering: NumberingWord, number: Option<u16>, kept: &Row, row: &Row) -> bool
+        ensures none { (meta : MetaData) → IsLast [] meta kept.now.words self.now → result ≡ false }
         ensures some { (meta : MetaData) (last : Store) (before : List Store)
-            → IsLast (last ∷ before) meta self.now → Belongs meta row.now.words
+            → IsLast (last ∷ before) meta kept.now.words self.now → Belongs meta row.now.words
             → let words = row.now.words in
             result ≡ is_same numbering last (record { number = number; row = row_in meta.fields words }) }
     {
         self.is_there
             && match numbering {
                 NumberingWord::Message => self.number == number,
-                NumberingWord::None => self.row == *row,
+                NumberingWord::None => *kept == *row,
             }
     }
 }

@@ -11,7 +11,7 @@ use Rattle.pubsub_engine.proofs.storing.Last.is_same.Goals as goal
 
 pub returns-in-None-clause-some : goal.returns-in-None-clause-some
 returns-in-None-clause-some c = λ meta last before is belongs.
-    let own = c.args.self.now.row.words in
+    let own = c.args.kept.now.words in
     let other = c.args.row.now.words in
     let decides : Decides c.eq-in-None.result (◌≡◌ {A = List ℕ} own other) = slice_eq-Decides Decides-eqb own other c.eq-in-None.result c.eq-in-None.ensures in
     let now : Store = record { number = c.args.number; row = row_in meta.fields other } in

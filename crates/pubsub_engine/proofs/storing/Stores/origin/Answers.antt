@@ -3,6 +3,7 @@ use Rattle.ps_config.specs.declared.parts.Config.{Config}
 use Rattle.ps_config.specs.declared.parts.ReadGroupPart.{ReadGroupPart}
 use Rattle.ps_config.specs.declared.parts.ReaderPart.{ReaderPart}
 use Rattle.ps_report.specs.Told.{grouped_readers}
+use Rattle.version_cell.specs.Histories.{row_after}
 use Rattle.version_cell.specs.Known.{Known}
 use Rattle.version_cell.specs.Sets.{pass_at}
 use Rattle.session_model.specs.Steps.{Plan, Step}
@@ -18,14 +19,14 @@ use Rattle.pubsub_engine.proofs.storing.Stores.origin.Goals as goal
 -- the last store is at the reader's index
 last-at : (p : Plan) (steps : List Step) (place : MemberPlace) (s : Stores) (k j : ℕ) (last : Last) → HaveStored p.config (λ it. stores p.config it.0 it.1 steps) s
     → slice_get (reader_places p.config) k ≡ Some place → j ≡ k → last ≡ get_or s.last.items j last
-    → IsLast (stores p.config place.0 place.1 steps) (meta_at_place p.config place) last
+    → IsLast (stores p.config place.0 place.1 steps) (meta_at_place p.config place) (row_after (pass_at s.keeper k).seen) last
 last-at p steps place s k j last stored at is found =
-    subst (λ (l : Last). IsLast (stores p.config place.0 place.1 steps) (meta_at_place p.config place) l) (sym (found ∙ ap (λ n. get_or s.last.items n last) is))
+    subst (λ (l : Last). IsLast (stores p.config place.0 place.1 steps) (meta_at_place p.config place) (row_after (pass_at s.keeper k).seen) l) (sym (found ∙ ap (λ n. get_or s.last.items n last) is))
     ((stored k place at).last last)
 
 pub returns-then-not-last : goal.returns-then-not-last
 returns-then-not-last c = λ p steps place same past stored at.
-    no-origin p steps place (meta_at_place p.config place) c.index-last.result.now c.if-not-last.true
+    no-origin p steps place (meta_at_place p.config place) (row_after (pass_at c.args.self.now.keeper c.args.reader).seen) c.index-last.result.now c.if-not-last.true
     (last-at p steps place c.args.self.now c.args.reader c.from.result c.index-last.result.now stored at c.from.ensures c.index-last.ensures)
 
 pub returns : goal.returns
@@ -33,7 +34,7 @@ returns c = λ p steps place same past stored at.
     let k = c.args.reader in
     let log = c.log_read-log.result.now in
     let publisher = c.args.publisher.now in
-    is-origin p steps place (meta_at_place p.config place) c.index-last.result.now (pass_at c.args.self.now.keeper k) publisher log
+    is-origin p steps place (meta_at_place p.config place) (row_after (pass_at c.args.self.now.keeper c.args.reader).seen) c.index-last.result.now (pass_at c.args.self.now.keeper k) publisher log
     (record { store = c.version.result; number = c.index-last.result.now.number; version = c.version_at.result }) k c.if-not-last.false
     (last-at p steps place c.args.self.now k c.from.result c.index-last.result.now stored at c.from.ensures c.index-last.ensures)
     (stored k place at).seen at past
