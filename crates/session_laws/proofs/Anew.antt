@@ -193,7 +193,7 @@ anew p k g w steps keyed within = (all-begin p k g w steps keyed within (writer-
 
 -- ---- the turns are the writer's
 
-same-writer : (s : Settings) (w : ℕ) (test : ℕ → Bool) (past : List GroupDeed) (writers : List ℕ) → cadence s (writer_past w (refreshed_where test past writers)) ≡ cadence s (writer_past w past)
+pub same-writer : (s : Settings) (w : ℕ) (test : ℕ → Bool) (past : List GroupDeed) (writers : List ℕ) → cadence s (writer_past w (refreshed_where test past writers)) ≡ cadence s (writer_past w past)
 same-writer s w test past writers =
     refreshed-keeps (λ later. cadence s (writer_past w later) ≡ cadence s (writer_past w past)) (λ writer later e. on (writer == w) later ∙ e) test past writers refl
   where

@@ -1,35 +1,36 @@
--- A closing frame whose datagram came to a read group without security: it is the last key frame that came to a reader with no numbering.
-use Rattle.std.proofs.Common.{◌≡◌, refl, sym, ap, ◌∙◌, subst, arith, ℕ, ◌≤◌, List, [], ◌++◌, map, Option, Some, Contains}
-use Rattle.std.specs.Prelude.{option_map, ⊤}
-use Rattle.std.specs.List.{cons_option}
+-- A closing frame whose datagrams came to a read group without security: it is the last key frame that came to a reader with no numbering.
+use Rattle.std.proofs.Common.{◌≡◌, refl, sym, ap, ◌∙◌, subst, Bool, false, not, ℕ, ◌≤◌, arith, ◌⊎◌, inl, inr, List, [], ◌∷◌, ◌++◌, map, Some, true, All, Contains}
+use Rattle.std.specs.Prelude.{◌||◌, ⊤}
 use Rattle.std.proofs.lemmas.List.Elements.{All-contains}
-use Rattle.seq_number.specs.Numbers.{place_from}
 use Rattle.dataset_meta.specs.DataValues.{DataValue}
 use Rattle.dataset_meta.specs.Rows.{row_cut}
-use Rattle.message_guard.specs.Acceptance.{raises}
+use Rattle.ua_base.specs.Journal.{Entry}
+use Rattle.message_guard.specs.Acceptance.{Accepted, is_acceptable, raises}
 use Rattle.message_guard.specs.Modes.{is_secured}
-use Rattle.pubsub_model.specs.Cadence.{WriterDeed, WriterTurn, HadTurn}
-use Rattle.pubsub_model.specs.Frames.{PlacedFrame, Whole}
+use Rattle.pubsub_model.specs.Cadence.{WriterDeed, WriterTurn}
 use Rattle.group_laws.specs.TurnItems.{IsUncut}
-use Rattle.reader_group.specs.Arrivals.{Mark, accepted, is_numbered, item_on, piece_on}
+use Rattle.group_laws.specs.TurnOpened.{is_accepted}
+use Rattle.reader_group.specs.Arrivals.{accepted}
 use Rattle.reader_group.specs.Opening.{Opened}
 use Rattle.reader_group.specs.Payloads.{Piece, pieces}
 use Rattle.reader_group.specs.Settings.{setting_of}
+use Rattle.pubsub_states.specs.declared.component.Component.TheVariants.{Reader}
 use Rattle.writer_group.specs.Parts.{group_at}
-use Rattle.writer_group.specs.Turns.{GroupDeed, GroupTurn, took_by, writer_past}
-use Rattle.session_model.specs.Events.{events, readers_on}
-use Rattle.session_model.specs.Steps.{Plan, Step, Pump, moment_of}
-use Rattle.session_laws.specs.Bare.{CameLast, ClosingCameLast, ClosingGotLast}
+use Rattle.writer_group.specs.Turns.{GroupDeed, GroupTurn, HadGroupTurn, took_by, writer_past}
+use Rattle.session_model.specs.Deeds.{deeds, group_past}
+use Rattle.session_model.specs.Events.{receives}
+use Rattle.session_model.specs.Steps.{Plan, Step, Pump, is_on}
+use Rattle.session_laws.specs.Bare.{ClosingCameLast, ClosingGotLast, ClosingGotSinceLast, IsBare, NoOtherBehind}
 use Rattle.session_laws.specs.Headline.{InSession, meta_of}
-use Rattle.session_laws.specs.Newest.{HasPartFor, HoldsRowOf}
-use Rattle.session_laws.specs.Pasts.{CameAsMade}
-use Rattle.session_laws.specs.Plays.{IsPlay, Play, its_way}
-use Rattle.session_laws.specs.Reading.{arrivals_at, first_number_of}
+use Rattle.session_laws.specs.Newest.{CameIn, ClosesInTick, EachPart, HasPartFor, HoldsRowOf, closing_deeds, ticked}
+use Rattle.session_laws.specs.Plays.{its_way}
 use Rattle.session_laws.specs.Sessions.{AreVersions, pasts_at}
-use Rattle.session_laws.proofs.BareGot.{and-false, brings, came-last}
+use Rattle.session_laws.proofs.BareGot.{and-false}
+use Rattle.session_laws.proofs.BareTaken.{TakesAll, chunks-last, part-last}
 use Rattle.session_laws.proofs.BareTrace.{taken-any}
-use Rattle.session_laws.proofs.ClosingGot.{LastTurn, OnePart, flat-one, gives-bare, in-flat, last-turn, not-empty, one-part, opened_all, opens-all, same-turn}
-use Rattle.session_laws.proofs.GotParts.{enabled-behind}
+use Rattle.session_laws.proofs.ClosingGot.{InChunks, LastTurn, OnePart, last-turn, not-empty, one-part, part-case, same-turn}
+use Rattle.session_laws.proofs.ClosingParts.{all, its_datagram, le, made-one, opens}
+use Rattle.session_laws.proofs.ClosingTick.{its_last, open-first}
 use Rattle.session_laws.proofs.InPumps.{so_far}
 use Rattle.session_laws.proofs.Marks.{turns}
 use Rattle.session_laws.proofs.Published.{Laws, is-play, play_of}
@@ -40,82 +41,112 @@ LastHeldLaw =
     (p : Plan) (r i g w : ℕ) (steps : List Step) (rows : ℕ → ℕ → List DataValue) (before : List WriterDeed) (turn : WriterTurn) → InSession p r i g w steps → AreVersions p steps rows
     → ClosingCameLast p r i g w steps before turn → HoldsRowOf p r i g w steps rows turn.version
 
-module _ (laws : Laws) (p : Plan) (r i g w : ℕ) (steps : List Step) (before : List GroupDeed) (turn : GroupTurn) (own : WriterTurn) (is : InSession p r i g w steps) (c : ClosingGotLast p r i g w steps before turn own) where
-  le : 16385 ≤ 65536
-  le = omega arith
+-- ---- without security each datagram that came is taken
 
-  abbrev play : Play
-  play = play_of p r i g w steps
+module _ (laws : Laws) (p : Plan) (r i g w : ℕ) (start : List Step) (pumps : List (List Entry)) (own : WriterTurn) (is : InSession p r i g w (map Pump pumps ++ start)) (closing : own.closing ≡ true)
+    (last : LastTurn p.config (group_at p.config g) (pasts_at p (map Pump pumps ++ start) g)) (took : took_by w last.turn ≡ Some own) (bare : IsBare p r i) (unsecured : is_secured (setting_of p.config r).setup.mode ≡ false)
+    (operational : receives p.config start r ≡ true) (enabled : is_on p.config start (Reader r i) ≡ true)
+    (came : EachPart p r i last.turn.made (λ datagram. CameIn pumps datagram × NoOtherBehind p r i g w pumps start datagram (row_cut (meta_of p r i) own.row))) where
+  abbrev its_all : List Opened
+  its_all = all laws p r i g w start pumps own is closing last took
 
-  abbrev is_play : IsPlay 16385 play
-  is_play = is-play laws p r i g w steps is
+  abbrev datagram_of : (one : Opened) → Contains its_all one → List ℕ
+  datagram_of one has = its_datagram laws p r i g w start pumps own is closing last took one has
 
-  abbrev row : List DataValue
-  row = row_cut (meta_of p r i) own.row
+  made-of : (one : Opened) (has : Contains its_all one) → Contains last.turn.made (datagram_of one has)
+  made-of one has = made-one laws p r i g w start pumps own is closing last took one has
 
-  module _ (last : LastTurn p.config (group_at p.config g) (pasts_at p steps g)) (took : took_by w last.turn ≡ Some own)
-      (same : last.turn ≡ turn) where
-    abbrev all : List Opened
-    all = opened_all laws.turns laws.passed play is_play own c.closing le last took
+  accepts : (pairs : Accepted) (one : Opened) → is_accepted (setting_of p.config r).setup pairs one.pass ≡ true
+  accepts pairs one = ap (λ (b : Bool). not b || is_acceptable (setting_of p.config r).setup.keys pairs one.pass.token one.pass.number) unsecured
 
-    abbrev parts_of : Opened → List Piece
-    parts_of o = pieces (its_way play).seat.part o.payload
+  takes-all : TakesAll laws p r i g w start pumps own is closing last took (λ befell. ⊤)
+  takes-all = record {
+    bare = bare;
+    operational = operational;
+    enabled = enabled;
+    stays = record {
+      keeps = λ now on other befell calm. tt;
+      quiet = λ later older sooner behind other opened split calm e.
+          let pairs = accepted (setting_of p.config r) (so_far p.config r start older sooner) in
+          and-false (is_secured (setting_of p.config r).setup.mode) (raises pairs opened.pass.token) unsecured;
+    };
+    first_accepts = λ one has. accepts [] one;
+    taken = λ one has part.
+        taken-any p.config r start (datagram_of one has) one pumps (λ pairs. opens laws p r i g w start pumps own is closing last took one has pairs (accepts pairs one)) (came (datagram_of one has) (made-of one has) part).0;
+    begins = λ one has now on befell e. tt;
+    silent = λ one has part. (came (datagram_of one has) (made-of one has) part).1;
+  }
 
-    abbrev datagram_of : (o : Opened) → Contains all o → List ℕ
-    datagram_of o has = (opens-all laws.turns laws.passed play is_play own c.closing le last took c.unsecured o has).0
+  abbrev parts_of : Opened → List Piece
+  parts_of o = pieces (its_way (play_of p r i g w (map Pump pumps ++ start))).seat.part o.payload
 
-    made-of : (o : Opened) (has : Contains all o) → Contains turn.made (datagram_of o has)
-    made-of o has = subst (λ (t : GroupTurn). Contains t.made (datagram_of o has)) same (opens-all laws.turns laws.passed play is_play own c.closing le last took c.unsecured o has).1
+  abbrev Uncut : Type 0
+  Uncut = (datagram : List ℕ) → Contains last.turn.made datagram → (part : HasPartFor (setting_of p.config r) i datagram) → All IsUncut (parts_of part.opened)
 
-    has-part : (o : Opened) (has : Contains all o) (piece : Piece) → Contains (parts_of o) piece → HasPartFor (setting_of p.config r) i (datagram_of o has)
-    has-part o has piece there = record {
-      opened = o;
-      opens = (opens-all laws.turns laws.passed play is_play own c.closing le last took c.unsecured o has).2 [];
-      part = not-empty (parts_of o) piece there;
-    }
+  -- with no chunk for the reader
+  pub whole-last : Uncut → ClosingCameLast p r i g w (map Pump pumps ++ start) (writer_past w last.before) own
+  whole-last whole =
+      part-last laws p r i g w start pumps own is closing last took (λ befell. ⊤) takes-all
+      (one-part laws.turns laws.passed (play_of p r i g w (map Pump pumps ++ start)) (is-play laws p r i g w (map Pump pumps ++ start) is) own closing (le laws p r i g w start pumps own is closing last took) last took
+      (λ one piece has there.
+      let some = not-empty (parts_of one) piece there in
+      All-contains IsUncut (parts_of one) piece (whole (datagram_of one has) (made-of one has) (record { opened = one; opens = opens laws p r i g w start pumps own is closing last took one has [] (accepts [] one); part = some })) there) (group_at p.config g).layout refl)
 
-    uncut : (o : Opened) (piece : Piece) → Contains all o → Contains (parts_of o) piece → IsUncut piece
-    unfolding has-part
-    uncut o piece has there = All-contains IsUncut (parts_of o) piece (c.whole (datagram_of o has) (made-of o has) (has-part o has piece there)) there
-
-    module _ (part : OnePart laws.turns laws.passed play is_play own c.closing le last took) where
-      abbrev found : (o : Opened) × Contains all o × Contains (parts_of o) part.piece
-      found = in-flat parts_of all part.piece (subst (λ (l : List Piece). Contains l part.piece) (sym part.same) (0, omega arith, refl))
-
-      reads : (now : ℕ) (o : Option ℕ) (list : List Mark) → piece_on (its_way play) (place_from (first_number_of p.config g w)) now o list part.piece
-          ≡ item_on (its_way play) now o list (Some (Whole 0 row))
-      reads now o list = part.reads_as now o list ∙ ap (λ (f : Option PlacedFrame). item_on (its_way play) now o list f) (gives-bare laws.turns laws.passed play is_play own c.closing le last took c.bare)
-
-      came-in : CameLast (arrivals_at p.config r i (first_number_of p.config g w) (map Pump c.pumps ++ c.start)) row
-      came-in =
-          let datagram = datagram_of found.0 found.1 in
-          let first = first_number_of p.config g w in
-          let came = c.came datagram (made-of found.0 found.1) (has-part found.0 found.1 part.piece found.2) in
-          let opens = (opens-all laws.turns laws.passed play is_play own c.closing le last took c.unsecured found.0 found.1).2 in
-          let taken = taken-any p.config r c.start datagram found.0 c.pumps opens came.0 in
-          let steps_before = map Pump taken.before ++ c.start in
-          let key = brings p.config r i first c.start datagram found.0 row (ap is_numbered c.bare) part.piece (flat-one parts_of all found.0 part.piece part.same found.1 (not-empty (parts_of found.0) part.piece found.2)) reads
-          (moment_of steps_before) (readers_on p.config steps_before r) (so_far p.config r c.start taken.before taken.earlier) (enabled-behind p.config r i taken.before c.start is.matched.within c.enabled) taken.opens in
-          came-last p.config r i first c.start datagram (pasts_at p steps) c.operational row (ap is_numbered c.bare) (λ befell. ⊤) (λ now on other befell calm. tt)
-          (λ now on other befell opened came_so calm e. and-false (is_secured (setting_of p.config r).setup.mode) (raises (accepted (setting_of p.config r) befell) opened.pass.token) c.unsecured)
-          c.pumps taken.later taken.before taken.earlier taken.behind taken.is tt key (subst (λ (l : List Step). CameAsMade (setting_of p.config r) p.config (pasts_at p steps) (events p.config r l)) c.split is_play.came)
-          (λ newer e. came.1 taken.later taken.before taken.earlier taken.behind newer taken.is e)
-
-    came-here : CameLast (arrivals_at p.config r i (first_number_of p.config g w) (map Pump c.pumps ++ c.start)) row
-    came-here = came-in (one-part laws.turns laws.passed play is_play own c.closing le last took uncut (group_at p.config g).layout refl)
-
-  pub got-last : ClosingCameLast p r i g w steps (writer_past w before) own
-  got-last =
-      let had = last-turn p.config (group_at p.config g) w (pasts_at p steps g) (turns laws.turns laws.passed 16385 play le is_play) turn before c.last in
-      let last = had.0 in
-      let same = same-turn last.turn turn last.before before (sym last.past_is ∙ c.last) in
-      record {
-        bare = c.bare;
-        last = ap (writer_past w) c.last ∙ ap (λ (o : Option WriterTurn). cons_option (option_map HadTurn o) (writer_past w before)) c.took;
-        closing = c.closing;
-        came = subst (λ (l : List Step). CameLast (arrivals_at p.config r i (first_number_of p.config g w) l) row) (sym c.split) (came-here last (ap (took_by w) same.0 ∙ c.took) same.0);
-      }
+-- ---- so it is held
 
 pub got-last-held : Laws → LastHeldLaw → (p : Plan) (r i g w : ℕ) (steps : List Step) (rows : ℕ → ℕ → List DataValue) (before : List GroupDeed) (turn : GroupTurn) (own : WriterTurn) → InSession p r i g w steps → AreVersions p steps rows
     → ClosingGotLast p r i g w steps before turn own → HoldsRowOf p r i g w steps rows own.version
-got-last-held laws held p r i g w steps rows before turn own is versions c = held p r i g w steps rows (writer_past w before) own is versions (got-last laws p r i g w steps before turn own is c)
+got-last-held laws held p r i g w steps rows before turn own is versions c =
+    let ended = map Pump c.ends.pumps ++ c.start in
+    let here : InSession p r i g w ended = subst (InSession p r i g w) c.ends.split is in
+    let past_is : group_past p.config g (deeds p ended) ≡ HadGroupTurn turn ∷ before = subst (λ (l : List Step). group_past p.config g (deeds p l) ≡ HadGroupTurn turn ∷ before) c.ends.split c.last in
+    let is_play = is-play laws p r i g w ended here in
+    let last = (last-turn p.config (group_at p.config g) w (pasts_at p ended g) (turns laws.turns laws.passed 16385 (play_of p r i g w ended) (omega arith) is_play) turn before past_is).0 in
+    let same : last.turn ≡ turn = (same-turn last.turn turn last.before before (sym last.past_is ∙ past_is)).0 in
+    let own_made : (datagram : List ℕ) → Contains last.turn.made datagram → Contains turn.made datagram = λ datagram made. subst (λ (t : GroupTurn). Contains t.made datagram) same made in
+    subst (λ (l : List Step). HoldsRowOf p r i g w l rows own.version) (sym c.ends.split)
+    (held p r i g w ended rows (writer_past w last.before) own here (subst (λ (l : List Step). AreVersions p l rows) c.ends.split versions)
+    (whole-last laws p r i g w c.start c.ends.pumps own here c.ends.closing last (ap (took_by w) same ∙ c.ends.took) c.bare c.unsecured c.ends.operational c.ends.enabled
+    (λ datagram made part. c.came datagram (own_made datagram made) part) (λ datagram made part. c.whole datagram (own_made datagram made) part)))
+
+-- ---- whole or in chunks, in all pumps behind the closing tick
+
+module _ (laws : Laws) (p : Plan) (r i g w : ℕ) (steps : List Step) (own : WriterTurn) (is : InSession p r i g w steps) (c : ClosingGotSinceLast p r i g w steps own) where
+  abbrev t : ClosesInTick p r i g w steps own
+  t = c.tick
+
+  abbrev ended : List Step
+  ended = map Pump t.ends.pumps ++ ticked t
+
+  abbrev here : InSession p r i g w ended
+  here = subst (InSession p r i g w) t.ends.split is
+
+  abbrev last : LastTurn p.config (group_at p.config g) (pasts_at p ended g)
+  last = its_last laws p r i g w t.ms t.samples t.done t.start t.ends.pumps own here t.had t.ends.took t.ends.closing
+
+  abbrev its_le : 16385 ≤ 65536
+  its_le = le laws p r i g w (ticked t) t.ends.pumps own here t.ends.closing last t.ends.took
+
+  abbrev takes : TakesAll laws p r i g w (ticked t) t.ends.pumps own here t.ends.closing last t.ends.took (λ befell. ⊤)
+  takes = takes-all laws p r i g w (ticked t) t.ends.pumps own here t.ends.closing last t.ends.took c.bare c.unsecured t.ends.operational t.ends.enabled c.came
+
+  abbrev its_past : List WriterDeed
+  its_past = writer_past w (group_past p.config g (closing_deeds p t.start t.ms t.samples g))
+
+  since-last : OnePart laws.turns laws.passed (play_of p r i g w ended) (is-play laws p r i g w ended here) own t.ends.closing its_le last t.ends.took ⊎ InChunks laws.turns laws.passed (play_of p r i g w ended) (is-play laws p r i g w ended here) own t.ends.closing its_le last t.ends.took
+      → ClosingCameLast p r i g w ended its_past own
+  since-last (inl part) = part-last laws p r i g w (ticked t) t.ends.pumps own here t.ends.closing last t.ends.took (λ befell. ⊤) takes part
+  since-last (inr chunks) =
+      chunks-last laws p r i g w (ticked t) t.ends.pumps own here t.ends.closing last t.ends.took (λ befell. ⊤) takes chunks
+      (open-first laws p r i g w t.ms t.samples t.done t.start t.ends.pumps own here t.had t.ends.took t.ends.closing takes.first_accepts chunks)
+
+  since-came : ClosingCameLast p r i g w ended its_past own
+  since-came = since-last (part-case laws.turns laws.passed (play_of p r i g w ended) (is-play laws p r i g w ended here) own t.ends.closing its_le last t.ends.took (group_at p.config g).layout refl)
+
+pub since-last-held : Laws → LastHeldLaw → (p : Plan) (r i g w : ℕ) (steps : List Step) (rows : ℕ → ℕ → List DataValue) (own : WriterTurn) → InSession p r i g w steps → AreVersions p steps rows
+    → ClosingGotSinceLast p r i g w steps own → HoldsRowOf p r i g w steps rows own.version
+since-last-held laws held p r i g w steps rows own is versions c =
+    let split = c.tick.ends.split in
+    subst (λ (l : List Step). HoldsRowOf p r i g w l rows own.version) (sym split)
+    (held p r i g w (ended laws p r i g w steps own is c) rows (its_past laws p r i g w steps own is c) own (here laws p r i g w steps own is c) (subst (λ (l : List Step). AreVersions p l rows) split versions)
+    (since-came laws p r i g w steps own is c))

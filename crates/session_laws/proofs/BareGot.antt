@@ -19,14 +19,12 @@ use Rattle.reader_group.specs.Payloads.{Piece, pieces}
 use Rattle.reader_group.specs.Plain.{Event, Got, Setting, is_raised, stamp_by}
 use Rattle.reader_group.specs.Settings.{setting_of}
 use Rattle.reader_group.proofs.KeptParts.{IsKept, keep-pieces}
-use Rattle.writer_group.specs.Turns.{GroupDeed}
-use Rattle.session_model.specs.Events.{events, readers_on, receives}
+use Rattle.session_model.specs.Events.{readers_on, receives}
 use Rattle.session_model.specs.Steps.{Step, Pump, moment_of}
 use Rattle.session_laws.specs.Bare.{CameLast, IsNoOtherKey, NoOtherKeys}
-use Rattle.session_laws.specs.Pasts.{CameAsMade}
 use Rattle.session_laws.specs.Reading.{arrivals_at, way_of}
 use Rattle.session_laws.proofs.BareHeld.{since-more}
-use Rattle.session_laws.proofs.InPumps.{came-at, ends-with, got_at, kept-from, pumped, so_far}
+use Rattle.session_laws.proofs.InPumps.{ends-with, got_at, kept-from, pumped, so_far}
 
 -- ---- items alone are added
 
@@ -106,11 +104,16 @@ module _ (config : Config) (r i first : ℕ) (start : List Step) (datagram : Lis
             ∙ ap all parts ∙ reads now s list ∙ comes-bare way list (item_of now s (Whole 0 row)) bare);
       }
 
+-- Of what befalls a read group in the pumps behind a taken datagram: some of it stays so, and nothing raises the token.
+pub record StaysCalm (config : Config) (r : ℕ) (start : List Step) (operational : receives config start r ≡ true) (pumps : List (List Entry)) (Calm : List Event → Type 0) : Type 0 where
+  pub keeps : (now : ℕ) (on : List Bool) (other : List ℕ) (before : List Event) → Calm before → Calm (Got now on other ∷ before)
+  pub quiet : (later before : List (List Entry)) (earlier behind : List Entry) (other : List ℕ) (opened : Opened) → pumps ≡ later ++ (earlier ++ entries_of.Got other ∷ behind) ∷ before
+      → (let befell = so_far config r start before earlier in
+      Calm befell → verdict (setting_of config r).group (setting_of config r).setup (accepted (setting_of config r) befell) other ≡ Ok opened → is_raised (setting_of config r) (accepted (setting_of config r) befell) opened ≡ false)
+
 -- it stays the last, where nothing raises the token and no other key frame came
-module _ (config : Config) (r i first : ℕ) (start : List Step) (datagram : List ℕ) (pasts : ℕ → List GroupDeed) (operational : receives config start r ≡ true) (row : List DataValue) (bare : goes_by_numbers (way_of config r i first) ≡ false)
-    (Calm : List Event → Type 0) (calm_keeps : (now : ℕ) (on : List Bool) (other : List ℕ) (before : List Event) → Calm before → Calm (Got now on other ∷ before))
-    (calm_now : (now : ℕ) (on : List Bool) (other : List ℕ) (before : List Event) (opened : Opened) → CameAsMade (setting_of config r) config pasts (Got now on other ∷ before) → Calm before
-    → verdict (setting_of config r).group (setting_of config r).setup (accepted (setting_of config r) before) other ≡ Ok opened → is_raised (setting_of config r) (accepted (setting_of config r) before) opened ≡ false) where
+module _ (config : Config) (r i first : ℕ) (start : List Step) (datagram : List ℕ) (operational : receives config start r ≡ true) (row : List DataValue) (bare : goes_by_numbers (way_of config r i first) ≡ false)
+    (pumps : List (List Entry)) (Calm : List Event → Type 0) (stays : StaysCalm config r start operational pumps Calm) where
   abbrev its_setting : Setting
   its_setting = setting_of config r
 
@@ -120,33 +123,32 @@ module _ (config : Config) (r i first : ℕ) (start : List Step) (datagram : Lis
   abbrev Kept : List Arrival → List Event → Type 0
   Kept base befell = Calm befell × Adds base (marks its_setting its_way befell)
 
-  kept-got : (base : List Arrival) (now : ℕ) (on : List Bool) (other : List ℕ) (before : List Event) → CameAsMade its_setting config pasts (Got now on other ∷ before) → Kept base before → Kept base (Got now on other ∷ before)
-  kept-got base now on other before came h = (
-    calm_keeps now on other before h.0,
-    adds-taken base its_setting its_way now (slice_index_or on i false) (accepted its_setting before) (marks its_setting its_way before) (verdict its_setting.group its_setting.setup (accepted its_setting before) other) bare
-        (λ opened e. calm_now now on other before opened came h.0 e) h.1,
-  )
+  kept-got : (base : List Arrival) (later before : List (List Entry)) (earlier behind : List Entry) (other : List ℕ) → pumps ≡ later ++ (earlier ++ entries_of.Got other ∷ behind) ∷ before
+      → Kept base (so_far config r start before earlier) → Kept base (got_at config r start operational before other (so_far config r start before earlier))
+  kept-got base later before earlier behind other split h =
+      let steps = map Pump before ++ start in
+      let on = readers_on config steps r in
+      let befell = so_far config r start before earlier in (
+        stays.keeps (moment_of steps) on other befell h.0,
+        adds-taken base its_setting its_way (moment_of steps) (slice_index_or on i false) (accepted its_setting befell) (marks its_setting its_way befell) (verdict its_setting.group its_setting.setup (accepted its_setting befell) other) bare
+            (λ opened e. stays.quiet later before earlier behind other opened split h.0 e) h.1,
+      )
 
-  pub came-last : (pumps later before : List (List Entry)) (earlier behind : List Entry) → pumps ≡ later ++ (earlier ++ entries_of.Got datagram ∷ behind) ∷ before → Calm (got_at config r start operational before datagram (so_far config r start before earlier))
-      → BringsKey row (arrivals its_setting its_way (got_at config r start operational before datagram (so_far config r start before earlier))) → CameAsMade its_setting config pasts (events config r (map Pump pumps ++ start))
+  pub came-last : (later before : List (List Entry)) (earlier behind : List Entry) → pumps ≡ later ++ (earlier ++ entries_of.Got datagram ∷ behind) ∷ before → Calm (got_at config r start operational before datagram (so_far config r start before earlier))
+      → BringsKey row (arrivals its_setting its_way (got_at config r start operational before datagram (so_far config r start before earlier)))
       → ((newer : List Arrival) → arrivals_at config r i first (map Pump pumps ++ start) ≡ newer ++ arrivals_at config r i first (Pump (earlier ++ entries_of.Got datagram ∷ []) ∷ map Pump before ++ start) → NoOtherKeys row newer)
       → CameLast (arrivals_at config r i first (map Pump pumps ++ start)) row
-  came-last pumps later before earlier behind is calm key came quiet =
+  came-last later before earlier behind is calm key silent =
       let here = got_at config r start operational before datagram (so_far config r start before earlier) in
       let base = arrivals its_setting its_way here in
       let base_is : arrivals_at config r i first (Pump (earlier ++ entries_of.Got datagram ∷ []) ∷ map Pump before ++ start) ≡ base =
       ap (arrivals its_setting its_way) (pumped config r start operational (earlier ++ entries_of.Got datagram ∷ []) before ∙ ends-with config r start operational before earlier datagram) in
-      let all =
-      (kept-from config r start operational pumps (Kept base)
-      (λ late old soon next other split h.
-      kept-got base (moment_of (map Pump old ++ start)) (readers_on config (map Pump old ++ start) r) other (so_far config r start old soon)
-      (came-at config r start operational its_setting pasts late old soon next other (subst (λ (l : List (List Entry)). CameAsMade its_setting config pasts (events config r (map Pump l ++ start))) split came)) h)
-      later before earlier behind datagram is (calm, ([], refl))).1 in
+      let all = (kept-from config r start operational pumps (Kept base) (kept-got base) later before earlier behind datagram is (calm, ([], refl))).1 in
       record {
         later = all.0;
         item = key.item;
         earlier = since_cut key.earlier;
         since = ap since_cut (all.1 ∙ ap (λ (l : List Arrival). map Came all.0 ++ l) key.is) ∙ since-more all.0 (Came key.item ∷ key.earlier);
         frame_is = key.frame_is;
-        behind = all-other row all.0 (quiet (map Came all.0) (all.1 ∙ ap (λ (l : List Arrival). map Came all.0 ++ l) (sym base_is)));
+        behind = all-other row all.0 (silent (map Came all.0) (all.1 ∙ ap (λ (l : List Arrival). map Came all.0 ++ l) (sym base_is)));
       }

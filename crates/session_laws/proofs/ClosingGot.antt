@@ -490,22 +490,22 @@ closing-came laws p r i g w steps before turn own is c =
     let had = last-turn p.config (group_at p.config g) w past (turns laws.turns laws.passed 16385 play le is_play) turn before c.last in
     let last = had.0 in
     let same = same-turn last.turn turn last.before before (sym last.past_is ∙ c.last) in
-    let took : took_by w last.turn ≡ Some own = ap (took_by w) same.0 ∙ c.took in
-    let brought : (datagram : List ℕ) (K : List Event → Type 0) → Brought (setting_of p.config r) p.config (pasts_at p steps) i datagram K → CameIn c.pumps datagram → K (events p.config r steps) =
+    let took : took_by w last.turn ≡ Some own = ap (took_by w) same.0 ∙ c.ends.took in
+    let brought : (datagram : List ℕ) (K : List Event → Type 0) → Brought (setting_of p.config r) p.config (pasts_at p steps) i datagram K → CameIn c.ends.pumps datagram → K (events p.config r steps) =
     λ datagram K b has.
-    subst (λ (l : List Step). K (events p.config r l)) (sym c.split)
-    (brought-by-pumps (setting_of p.config r) p.config (pasts_at p steps) i datagram K b r c.pumps c.earlier has c.operational is.matched.within c.enabled
-    (subst (λ (l : List Step). CameAsMade (setting_of p.config r) p.config (pasts_at p steps) (events p.config r l)) c.split is_play.came)) in
+    subst (λ (l : List Step). K (events p.config r l)) (sym c.ends.split)
+    (brought-by-pumps (setting_of p.config r) p.config (pasts_at p steps) i datagram K b r c.ends.pumps c.start has c.ends.operational is.matched.within c.ends.enabled
+    (subst (λ (l : List Step). CameAsMade (setting_of p.config r) p.config (pasts_at p steps) (events p.config r l)) c.ends.split is_play.came)) in
     let bytes = had.1 (Whole (next_place (settings_at (group_at p.config g) w) (cadence (settings_at (group_at p.config g) w) (writer_past w last.before))) own.row)
-    (answer-is laws.turns laws.passed play is_play own c.closing le last took) refl in
-    let stands = stands-closing laws.turns laws.passed play is_play own c.closing le last took c.numbered c.unsecured bytes c.pumps c.earlier r
+    (answer-is laws.turns laws.passed play is_play own c.ends.closing le last took) refl in
+    let stands = stands-closing laws.turns laws.passed play is_play own c.ends.closing le last took c.numbered c.unsecured bytes c.ends.pumps c.start r
     (λ datagram made. c.came datagram (subst (λ (t : GroupTurn). Contains t.made datagram) same.0 made)) brought (group_at p.config g).layout refl in
     let s = settings_at (group_at p.config g) w in
     let found = item-of (next_place s (cadence s (writer_past w last.before))) (since_cut (arrivals_at p.config r i (first_number_of p.config g w) steps)) stands in
     record {
       numbered = c.numbered;
-      last = ap (writer_past w) c.last ∙ ap (λ (o : Option WriterTurn). cons_option (option_map HadTurn o) (writer_past w before)) c.took;
-      closing = c.closing;
+      last = ap (writer_past w) c.last ∙ ap (λ (o : Option WriterTurn). cons_option (option_map HadTurn o) (writer_past w before)) c.ends.took;
+      closing = c.ends.closing;
       came = record {
         item = found.0;
         came = found.1;

@@ -204,13 +204,15 @@ growing-got = record {
   numbered = refl;
   unsecured = refl;
   last = refl;
-  took = refl;
-  closing = refl;
-  earlier = sent_on growing_plan 0 true (nine ∷ []) behind;
-  pumps = all_got growing_plan (sent_on growing_plan 0 true (nine ∷ []) behind) ∷ [];
-  split = refl;
-  operational = refl;
-  enabled = refl;
+  start = sent_on growing_plan 0 true (nine ∷ []) behind;
+  ends = record {
+    took = refl;
+    closing = refl;
+    pumps = all_got growing_plan (sent_on growing_plan 0 true (nine ∷ []) behind) ∷ [];
+    split = refl;
+    operational = refl;
+    enabled = refl;
+  };
   came = λ datagram has part.
       inl (got-of (sends_of growing_plan (sent_on growing_plan 0 true (nine ∷ []) behind)) (record { group = 0; datagram = datagram })
       (subst (λ (l : List Send). Contains l (record { group = 0; datagram = datagram })) (sym sends-are) (sent-by 0 its_turn.made datagram has)));

@@ -32,6 +32,7 @@ mod Anew
 mod Coming
 mod GotParts
 mod ClosingGot
+mod ClosingParts
 mod Delivering
 mod ThreeGroups
 mod Growing
@@ -45,5 +46,7 @@ pub mod BareHeld
 mod InPumps
 mod BareGot
 mod BareTrace
+mod ClosingTick
+mod BareTaken
 mod BareEnd
 mod SignedChunks

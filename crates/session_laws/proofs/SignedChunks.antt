@@ -36,7 +36,7 @@ use Rattle.session_laws.proofs.Sources.{IsChunkOf, IsLaidOf, IsOfAnswer, Source,
 
 -- ---- chunks of earlier answers cover nothing of it
 
-lower : (first place : ℕ) (frame : PlacedFrame) → is_silent frame ≡ false → InSpan first place frame → place_of frame < place
+pub lower : (first place : ℕ) (frame : PlacedFrame) → is_silent frame ≡ false → InSpan first place frame → place_of frame < place
 lower first place (Whole n row) loud is = is.1
 lower first place (Change n patch) loud is = is.1
 lower first place (Alive n) loud is = absurd (cc)

@@ -1,8 +1,6 @@
 -- A session of a signed group, a fixed one and one whose frames come in chunks meets the premises.
-use Rattle.std.proofs.Common.{◌≡◌, refl, sym, ap, subst, arith, ℕ, zero, suc, ◌<◌, ◌≤◌, lit<, lit≤, inl, inr, Bool, true, false, List, [], ◌∷◌, ◌++◌, length, map, get_or, All, Contains, Some}
+use Rattle.std.proofs.Common.{◌≡◌, refl, sym, ap, subst, arith, ℕ, zero, suc, ◌<◌, ◌≤◌, lit<, lit≤, inl, inr, true, List, [], ◌∷◌, ◌++◌, length, map, All, Contains, Some}
 use Rattle.std.specs.Prelude.{slice_index_or}
-use Rattle.std.specs.List.{flat_map}
-use Rattle.std.proofs.lemmas.List.{get_or_default}
 use Rattle.std.proofs.lemmas.List.Elements.{All-append, All-cons, All-nil, All-replicate, Contains-append_left, Contains-append_right}
 use Rattle.dataset_meta.specs.DataValues.{DataValue}
 use Rattle.dataset_meta.specs.Metas.{IsMeta, MetaData}
@@ -35,12 +33,7 @@ use Rattle.session_model.specs.Steps.{Plan, Step}
 use Rattle.session_model.specs.Turns.{deeds_before}
 use Rattle.session_laws.specs.Delivered.{all_done, all_got, sent_on}
 use Rattle.session_laws.specs.Headline.{InSession}
-use Rattle.session_laws.specs.Newest.{CameIn, ClosingGot, ClosingGotSigned, HoldsRowOf, closing_opened}
-use Rattle.group_laws.specs.TurnItems.{IsUncut}
-use Rattle.reader_group.specs.Members.{seat_at}
-use Rattle.reader_group.specs.Opening.{Opened}
-use Rattle.reader_group.specs.Payloads.{Piece, Message, Chunked, Slotted, Missing, pieces}
-use Rattle.reader_group.specs.Settings.{setting_of}
+use Rattle.session_laws.specs.Newest.{CameIn, ClosingGot, ClosingGotSecured, HoldsRowOf}
 use Rattle.session_laws.specs.Reading.{IsMatchedIn}
 use Rattle.session_laws.specs.Sessions.{AreVersions}
 use Rattle.session_laws.specs.Telling.{HasRun}
@@ -267,13 +260,15 @@ slotted-got = record {
   numbered = refl;
   unsecured = refl;
   last = refl;
-  took = refl;
-  closing = refl;
-  earlier = sent_on three_plan 0 true (ones ∷ []) [];
-  pumps = all_got three_plan (sent_on three_plan 0 true (ones ∷ []) []) ∷ [];
-  split = refl;
-  operational = refl;
-  enabled = refl;
+  start = sent_on three_plan 0 true (ones ∷ []) [];
+  ends = record {
+    took = refl;
+    closing = refl;
+    pumps = all_got three_plan (sent_on three_plan 0 true (ones ∷ []) []) ∷ [];
+    split = refl;
+    operational = refl;
+    enabled = refl;
+  };
   came = λ datagram has part.
       got-sent 1 datagram (Contains-append_left (sends_by 0 (made 0) ++ sends_by 1 (made 1)) (sends_by 2 (made 2)) (record { group = 1; datagram = datagram })
       (Contains-append_right (sends_by 0 (made 0)) (sends_by 1 (made 1)) (record { group = 1; datagram = datagram }) (sent-by 1 (made 1) datagram has)));
@@ -285,84 +280,53 @@ cut-got = record {
   numbered = refl;
   unsecured = refl;
   last = refl;
-  took = refl;
-  closing = refl;
-  earlier = sent_on three_plan 0 true (ones ∷ []) [];
-  pumps = all_got three_plan (sent_on three_plan 0 true (ones ∷ []) []) ∷ [];
-  split = refl;
-  operational = refl;
-  enabled = refl;
+  start = sent_on three_plan 0 true (ones ∷ []) [];
+  ends = record {
+    took = refl;
+    closing = refl;
+    pumps = all_got three_plan (sent_on three_plan 0 true (ones ∷ []) []) ∷ [];
+    split = refl;
+    operational = refl;
+    enabled = refl;
+  };
   came = λ datagram has part.
       got-sent 2 datagram (Contains-append_right (sends_by 0 (made 0) ++ sends_by 1 (made 1)) (sends_by 2 (made 2)) (record { group = 2; datagram = datagram }) (sent-by 2 (made 2) datagram has));
 }
 
--- the signed group's datagram has a whole message
-abbrev is_message : Piece → Bool
-is_message (Message bytes) = true
-is_message (Chunked bytes) = false
-is_message (Slotted bytes) = false
-is_message Missing = false
-
-abbrev its_parts : List Piece
-its_parts = flat_map (λ (o : Opened). pieces (seat_at (setting_of three_plan.config 0).seats 0).part o.payload) (closing_opened three_plan [] 0 (ones ∷ []) 0)
-
-signed-parts : map is_message its_parts ≡ true ∷ []
-unfolding three_plan three_config signed_group signed_readers slotted_group cut_group three_keys three_key blob ones row_in statuses_in unpacked spelled_row spelled_statuses packed cut_words header_len front_bytes frame_bytes
-signed-parts = refl
-
-message-uncut : (x : Piece) → is_message x ≡ true → IsUncut x
-message-uncut (Message bytes) e = tt
-message-uncut (Chunked bytes) e = absurd (cc)
-message-uncut (Slotted bytes) e = tt
-message-uncut Missing e = absurd (cc)
-
-one-uncut : (xs : List Piece) → map is_message xs ≡ true ∷ [] → (x : Piece) → Contains xs x → IsUncut x
-one-uncut [] e x has = absurd (let below = has.1 in omega (arith, below))
-one-uncut (y ∷ []) e x (zero, below, same) = subst IsUncut same (message-uncut y (cc))
-one-uncut (y ∷ []) e x (suc k, below, same) = absurd (omega (arith, below))
-one-uncut (y ∷ z ∷ xs) e x has = absurd (let size = ap length e in omega (arith, size))
-
-in-flat-map : (f : Opened → List Piece) (xs : List Opened) (o : Opened) (x : Piece) → Contains xs o → Contains (f o) x → Contains (flat_map f xs) x
-in-flat-map f [] o x has there = absurd (let below = has.1 in omega (arith, below))
-in-flat-map f (y ∷ xs) o x (zero, below, same) there = Contains-append_left (f y) (flat_map f xs) x (subst (λ (o : Opened). Contains (f o) x) (sym same) there)
-in-flat-map f (y ∷ xs) o x (suc k, below, same) there = Contains-append_right (f y) (flat_map f xs) x (in-flat-map f xs o x (k, omega (arith, below), same) there)
-
-signed-whole : (opened : Opened) → Contains (closing_opened three_plan [] 0 (ones ∷ []) 0) opened → All IsUncut (pieces (seat_at (setting_of three_plan.config 0).seats 0).part opened.payload)
-signed-whole opened has =
-    let f = λ (o : Opened). pieces (seat_at (setting_of three_plan.config 0).seats 0).part o.payload in
-    λ k d below. one-uncut its_parts signed-parts (get_or (f opened) k d) (in-flat-map f (closing_opened three_plan [] 0 (ones ∷ []) 0) opened (get_or (f opened) k d) has (k, below, get_or_default (f opened) k (get_or (f opened) k d) d below))
-
-pub signed-got : ClosingGotSigned three_plan 0 0 0 0 three_session (own_at 0)
+pub signed-got : ClosingGotSecured three_plan 0 0 0 0 three_session (own_at 0)
 unfolding three_plan three_config signed_group signed_readers slotted_group cut_group three_keys three_key
 signed-got = record {
   numbered = refl;
   secured = refl;
   named = λ (e : 1 ≡ 0). absurd (omega (arith, e));
-  start = [];
-  ms = 0;
-  samples = ones ∷ [];
-  done = all_done three_plan 0 true (ones ∷ []) [];
-  pumps = all_got three_plan (sent_on three_plan 0 true (ones ∷ []) []) ∷ [];
-  split = refl;
-  had = refl;
-  took = refl;
-  closing = refl;
-  operational = refl;
-  enabled = refl;
-  whole = signed-whole;
+  tick = record {
+    start = [];
+    ms = 0;
+    samples = ones ∷ [];
+    done = all_done three_plan 0 true (ones ∷ []) [];
+    had = refl;
+    ends = record {
+      took = refl;
+      closing = refl;
+      pumps = all_got three_plan (sent_on three_plan 0 true (ones ∷ []) []) ∷ [];
+      split = refl;
+      operational = refl;
+      enabled = refl;
+    };
+  };
   came = λ datagram has part.
       got-sent 0 datagram (Contains-append_left (sends_by 0 (made 0) ++ sends_by 1 (made 1)) (sends_by 2 (made 2)) (record { group = 0; datagram = datagram })
       (Contains-append_left (sends_by 0 (made 0)) (sends_by 1 (made 1)) (record { group = 0; datagram = datagram }) (sent-by 0 (made 0) datagram has)));
 }
 
-abbrev pub SignedLaw : Type 0
-SignedLaw =
+abbrev pub SecuredLaw : Type 0
+SecuredLaw =
     (p : Plan) (r i g w : ℕ) (steps : List Step) (rows : ℕ → ℕ → List DataValue) (own : WriterTurn) → InSession p r i g w steps → AreVersions p steps rows
-    → ClosingGotSigned p r i g w steps own → HoldsRowOf p r i g w steps rows own.version
+    → ClosingGotSecured p r i g w steps own → HoldsRowOf p r i g w steps rows own.version
 
-pub signed-held : ThreeLaws → SignedLaw → HoldsRowOf three_plan 0 0 0 0 three_session three_rows 1
+pub secured-held : ThreeLaws → SecuredLaw → HoldsRowOf three_plan 0 0 0 0 three_session three_rows 1
 unfolding three_plan three_config signed_group ones
-signed-held laws law = law three_plan 0 0 0 0 three_session three_rows (own_at 0) (in-signed laws) versions-three signed-got
+secured-held laws law = law three_plan 0 0 0 0 three_session three_rows (own_at 0) (in-signed laws) versions-three signed-got
 
 abbrev pub ReceivedLaw : Type 0
 ReceivedLaw =

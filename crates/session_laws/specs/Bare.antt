@@ -1,11 +1,10 @@
 -- A reader with no numbering that holds the newest version: the closing frame of its writer comes to it, and no other key frame behind it.
-use Rattle.std.specs.Prelude.{◌≡◌, ◌≢◌, ◌⊎◌, ⊤, ℕ, ◌+◌, List, [], ◌∷◌, ◌++◌, map, All, Bool, Contains, true, false, Some}
+use Rattle.std.specs.Prelude.{◌≡◌, ◌≢◌, ◌⊎◌, ⊤, ℕ, List, [], ◌∷◌, ◌++◌, map, All, Contains, true, false}
 use Rattle.dataset_meta.specs.DataValues.{DataValue}
 use Rattle.dataset_meta.specs.Rows.{row_cut}
 use Rattle.ua_base.specs.Journal.{Entry, Got}
 use Rattle.config_tables.specs.declared.words.NumberingWord.TheVariants as words
 use Rattle.message_guard.specs.Modes.{is_secured}
-use Rattle.pubsub_states.specs.declared.component.Component.TheVariants.{Reader}
 use Rattle.reader_group.specs.Members.{seat_at}
 use Rattle.reader_group.specs.Payloads.{pieces}
 use Rattle.reader_group.specs.Settings.{setting_of}
@@ -13,13 +12,11 @@ use Rattle.pubsub_model.specs.Cadence.{HadTurn, WriterDeed, WriterTurn}
 use Rattle.pubsub_model.specs.Frames.{Whole, is_whole}
 use Rattle.pubsub_model.specs.Records.{Arrival, Came, Cut, Item, since_cut}
 use Rattle.group_laws.specs.TurnItems.{IsUncut}
-use Rattle.session_model.specs.Deeds.{deeds, group_past, has_turn, writer_deeds}
-use Rattle.session_model.specs.Events.{receives}
-use Rattle.session_model.specs.Steps.{Plan, Step, Pump, Tick, is_on, moment_of}
-use Rattle.writer_group.specs.declared.sampled.Sampled.{Sampled}
-use Rattle.writer_group.specs.Turns.{GroupDeed, GroupTurn, HadGroupTurn, took_by}
+use Rattle.session_model.specs.Deeds.{deeds, group_past, writer_deeds}
+use Rattle.session_model.specs.Steps.{Plan, Step, Pump}
+use Rattle.writer_group.specs.Turns.{GroupDeed, GroupTurn, HadGroupTurn}
 use Rattle.session_laws.specs.Headline.{meta_of}
-use Rattle.session_laws.specs.Newest.{CameIn, HasPartFor, closing_deeds, closing_turn}
+use Rattle.session_laws.specs.Newest.{CameIn, ClosesBefore, ClosesInTick, EachPart, HasPartFor, NoHigherToken, TookIn, made_in, ticked}
 use Rattle.session_laws.specs.Reading.{arrivals_at, first_number_of}
 
 -- the item is no key frame, or one with this row
@@ -61,40 +58,44 @@ NoOtherBehind p r i g w pumps start datagram row =
     → NoOtherKeys row newer
 
 -- The writer had a closing turn in the last one of its group, and each datagram of that with a part for the reader came in the pumps that the steps end with, with no
--- chunk for it, and behind it no other key frame: to a read group that isn't secured and is Operational, whose reader is enabled and has no numbering.
+-- chunk for it, and behind it no other key frame: to a read group that isn't secured, whose reader has no numbering. Without `whole` a chunk that comes again, once its
+-- message came, would bring nothing, whatever key frame came between.
 pub record ClosingGotLast (p : Plan) (r i g w : ℕ) (steps : List Step) (before : List GroupDeed) (turn : GroupTurn) (own : WriterTurn) : Type 0 where
   pub bare : IsBare p r i
   pub unsecured : is_secured (setting_of p.config r).setup.mode ≡ false
   pub last : group_past p.config g (deeds p steps) ≡ HadGroupTurn turn ∷ before
-  pub took : took_by w turn ≡ Some own
-  pub closing : own.closing ≡ true
   pub start : List Step
-  pub pumps : List (List Entry)
-  pub split : steps ≡ map Pump pumps ++ start
-  pub operational : receives p.config start r ≡ true
-  pub enabled : is_on p.config start (Reader r i) ≡ true
+  pub ends : ClosesBefore p r i w steps start turn own
   pub whole : (datagram : List ℕ) → Contains turn.made datagram → (part : HasPartFor (setting_of p.config r) i datagram)
       → All IsUncut (pieces (seat_at (setting_of p.config r).seats i).part part.opened.payload)
-  pub came : (datagram : List ℕ) → Contains turn.made datagram → HasPartFor (setting_of p.config r) i datagram
-      → CameIn pumps datagram × NoOtherBehind p r i g w pumps start datagram (row_cut (meta_of p r i) own.row)
+  pub came : EachPart p r i turn.made (λ datagram.
+      CameIn ends.pumps datagram × NoOtherBehind p r i g w ends.pumps start datagram (row_cut (meta_of p r i) own.row))
 
--- The same of a secured read group that names the writer's group, where the steps end with a closing tick and its pumps, and the frame may come in chunks: behind the first
--- of them no other key frame comes. Nothing is asked of what the read group accepts.
+-- no other key frame came behind the datagram in the pumps of the closing tick
+abbrev pub QuietBehind : {p : Plan} {r i g w : ℕ} {steps : List Step} {own : WriterTurn} → ClosesInTick p r i g w steps own → List ℕ → Type 0
+QuietBehind {p} {r} {i} {g} {w} {steps} {own} t datagram = NoOtherBehind p r i g w t.ends.pumps (ticked t) datagram (row_cut (meta_of p r i) own.row)
+
+-- The same whether or not the frame comes in chunks, where the pumps are all that are behind the closing tick, so that none of its chunks came before them: behind the
+-- first of them no other key frame comes.
+pub record ClosingGotSinceLast (p : Plan) (r i g w : ℕ) (steps : List Step) (own : WriterTurn) : Type 0 where
+  pub bare : IsBare p r i
+  pub unsecured : is_secured (setting_of p.config r).setup.mode ≡ false
+  pub tick : ClosesInTick p r i g w steps own
+  pub came : EachPart p r i (made_in tick) (λ datagram. CameIn tick.ends.pumps datagram × QuietBehind tick datagram)
+
+-- The same of a secured read group that names the writer's group. Nothing is asked of what the read group accepts.
 pub record ClosingGotSecuredLast (p : Plan) (r i g w : ℕ) (steps : List Step) (own : WriterTurn) : Type 0 where
   pub bare : IsBare p r i
   pub secured : is_secured (setting_of p.config r).setup.mode ≡ true
   pub named : (setting_of p.config r).group.group ≢ 0
-  pub start : List Step
-  pub ms : ℕ
-  pub samples : List Sampled
-  pub done : List Bool
-  pub pumps : List (List Entry)
-  pub split : steps ≡ map Pump pumps ++ Tick ms true samples done ∷ start
-  pub had : has_turn p start (moment_of start + ms) true (closing_deeds p start ms samples g) g ≡ true
-  pub took : took_by w (closing_turn p start ms samples g) ≡ Some own
-  pub closing : own.closing ≡ true
-  pub operational : receives p.config start r ≡ true
-  pub enabled : is_on p.config start (Reader r i) ≡ true
-  pub came : (datagram : List ℕ) → Contains (closing_turn p start ms samples g).made datagram → HasPartFor (setting_of p.config r) i datagram
-      → CameIn pumps datagram
-      × NoOtherBehind p r i g w pumps (Tick ms true samples done ∷ start) datagram (row_cut (meta_of p r i) own.row)
+  pub tick : ClosesInTick p r i g w steps own
+  pub came : EachPart p r i (made_in tick) (λ datagram. CameIn tick.ends.pumps datagram × QuietBehind tick datagram)
+
+-- The same of a secured read group that may name no group: it took each of these datagrams in one of the pumps, and none of a higher token, behind which a reader
+-- that it cuts holds nothing.
+pub record ClosingTookLast (p : Plan) (r i g w : ℕ) (steps : List Step) (own : WriterTurn) : Type 0 where
+  pub bare : IsBare p r i
+  pub secured : is_secured (setting_of p.config r).setup.mode ≡ true
+  pub tick : ClosesInTick p r i g w steps own
+  pub came : EachPart p r i (made_in tick) (λ datagram. TookIn p r tick.ends.pumps (ticked tick) datagram × QuietBehind tick datagram)
+  pub tokens : NoHigherToken tick

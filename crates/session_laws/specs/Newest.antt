@@ -1,5 +1,5 @@
 -- A reader that holds the newest version: the last datagram that comes brings it the key frame of the last place in its writer's log.
-use Rattle.std.specs.Prelude.{◌≡◌, ◌≢◌, ◌⊎◌, ◌≤◌, ℕ, List, [], ◌∷◌, ◌++◌, ◌+◌, map, All, Bool, Contains, true, false, Option, Some, option_map, Ok}
+use Rattle.std.specs.Prelude.{◌≡◌, ◌≢◌, ◌⊎◌, ◌≤◌, ℕ, List, [], ◌∷◌, ◌++◌, ◌+◌, map, Bool, Contains, true, false, Option, Some, option_map, Ok}
 use Rattle.seq_number.specs.Numbers.{number_of_place}
 use Rattle.dataset_meta.specs.DataValues.{DataValue}
 use Rattle.dataset_meta.specs.Rows.{row_cut}
@@ -18,7 +18,6 @@ use Rattle.writer_group.specs.Parts.{group_at}
 use Rattle.writer_group.specs.Payloads.{writer_at}
 use Rattle.pubsub_model.specs.Cadence.{HadTurn, WriterDeed, WriterTurn, cadence, next_place}
 use Rattle.pubsub_model.specs.Records.{Item, place_in, since_cut}
-use Rattle.group_laws.specs.TurnItems.{IsUncut}
 use Rattle.group_laws.specs.TurnOpened.{turn_opened}
 use Rattle.session_model.specs.Deeds.{Deed, deeds, group_past, has_turn, log_at, turn_input, turn_of, writer_deeds}
 use Rattle.session_model.specs.Turns.{deeds_before}
@@ -78,20 +77,28 @@ abbrev pub CameIn : List (List Entry) → List ℕ → Type 0
 CameIn [] datagram = ⊥
 CameIn (entries ∷ before) datagram = Contains entries (Got datagram) ⊎ CameIn before datagram
 
+-- Each datagram of these with a part for the reader is such.
+abbrev pub EachPart : Plan → ℕ → ℕ → List (List ℕ) → (List ℕ → Type 0) → Type 0
+EachPart p r i made P = (datagram : List ℕ) → Contains made datagram → HasPartFor (setting_of p.config r) i datagram → P datagram
+
+-- The turn of its group was a closing one for the writer, and the steps end with pumps behind these, in which the read group is Operational and its reader enabled.
+pub record ClosesBefore (p : Plan) (r i w : ℕ) (steps start : List Step) (turn : GroupTurn) (own : WriterTurn) : Type 0 where
+  pub took : took_by w turn ≡ Some own
+  pub closing : own.closing ≡ true
+  pub pumps : List (List Entry)
+  pub split : steps ≡ map Pump pumps ++ start
+  pub operational : receives p.config start r ≡ true
+  pub enabled : is_on p.config start (Reader r i) ≡ true
+
 -- The writer had a closing turn in the last one of its group, and each datagram of that with a part for the reader came in the pumps that the steps end with: to a
--- read group that isn't secured and is Operational, whose reader is enabled and goes by numbers.
+-- read group that isn't secured, whose reader goes by numbers.
 pub record ClosingGot (p : Plan) (r i g w : ℕ) (steps : List Step) (before : List GroupDeed) (turn : GroupTurn) (own : WriterTurn) : Type 0 where
   pub numbered : (seat_at (setting_of p.config r).seats i).part.numbering ≡ words.Message
   pub unsecured : is_secured (setting_of p.config r).setup.mode ≡ false
   pub last : group_past p.config g (deeds p steps) ≡ HadGroupTurn turn ∷ before
-  pub took : took_by w turn ≡ Some own
-  pub closing : own.closing ≡ true
-  pub earlier : List Step
-  pub pumps : List (List Entry)
-  pub split : steps ≡ map Pump pumps ++ earlier
-  pub operational : receives p.config earlier r ≡ true
-  pub enabled : is_on p.config earlier (Reader r i) ≡ true
-  pub came : (datagram : List ℕ) → Contains turn.made datagram → HasPartFor (setting_of p.config r) i datagram → CameIn pumps datagram
+  pub start : List Step
+  pub ends : ClosesBefore p r i w steps start turn own
+  pub came : EachPart p r i turn.made (CameIn ends.pumps)
 
 -- the turn of a group in a closing tick behind these steps, and what the publisher did before it
 abbrev pub closing_deeds : Plan → List Step → ℕ → List Sampled → ℕ → List Deed
@@ -106,43 +113,30 @@ closing_opened p start ms samples g =
     let so_far = closing_deeds p start ms samples g in
     turn_opened p.config (group_at p.config g) (group_past p.config g so_far) (turn_input p start (moment_of start + ms) true samples so_far g)
 
--- The steps end with a closing tick and its pumps, the writer has a turn there, with no chunk for the reader, and each datagram of it with a part for the reader came
--- in the pumps: to a secured read group that names the group and is Operational, whose reader is enabled and goes by numbers. Nothing is asked of what it accepts.
-pub record ClosingGotSigned (p : Plan) (r i g w : ℕ) (steps : List Step) (own : WriterTurn) : Type 0 where
-  pub numbered : (seat_at (setting_of p.config r).seats i).part.numbering ≡ words.Message
-  pub secured : is_secured (setting_of p.config r).setup.mode ≡ true
-  pub named : (setting_of p.config r).group.group ≢ 0
+-- The steps end with a closing tick and its pumps, and the writer has a closing turn there.
+pub record ClosesInTick (p : Plan) (r i g w : ℕ) (steps : List Step) (own : WriterTurn) : Type 0 where
   pub start : List Step
   pub ms : ℕ
   pub samples : List Sampled
   pub done : List Bool
-  pub pumps : List (List Entry)
-  pub split : steps ≡ map Pump pumps ++ Tick ms true samples done ∷ start
   pub had : has_turn p start (moment_of start + ms) true (closing_deeds p start ms samples g) g ≡ true
-  pub took : took_by w (closing_turn p start ms samples g) ≡ Some own
-  pub closing : own.closing ≡ true
-  pub operational : receives p.config start r ≡ true
-  pub enabled : is_on p.config start (Reader r i) ≡ true
-  pub whole : (opened : Opened) → Contains (closing_opened p start ms samples g) opened → All IsUncut (pieces (seat_at (setting_of p.config r).seats i).part opened.payload)
-  pub came : (datagram : List ℕ) → Contains (closing_turn p start ms samples g).made datagram → HasPartFor (setting_of p.config r) i datagram → CameIn pumps datagram
+  pub ends : ClosesBefore p r i w steps (Tick ms true samples done ∷ start) (closing_turn p start ms samples g) own
 
--- The same, whether or not the frame came in chunks: each datagram that has a chunk of it for the reader came, in whichever order.
+-- the steps up to that tick, what it made, and what a read group finds of that
+abbrev pub ticked : {p : Plan} {r i g w : ℕ} {steps : List Step} {own : WriterTurn} → ClosesInTick p r i g w steps own → List Step
+ticked t = Tick t.ms true t.samples t.done ∷ t.start
+
+abbrev pub made_in : {p : Plan} {r i g w : ℕ} {steps : List Step} {own : WriterTurn} → ClosesInTick p r i g w steps own → List (List ℕ)
+made_in {p} {r} {i} {g} {w} {steps} {own} t = (closing_turn p t.start t.ms t.samples g).made
+
+-- Each datagram of it with a part for the reader came in the pumps, whole or in chunks, in whichever order: to a secured read group that names the group, whose reader
+-- goes by numbers. Nothing is asked of what it accepts.
 pub record ClosingGotSecured (p : Plan) (r i g w : ℕ) (steps : List Step) (own : WriterTurn) : Type 0 where
   pub numbered : (seat_at (setting_of p.config r).seats i).part.numbering ≡ words.Message
   pub secured : is_secured (setting_of p.config r).setup.mode ≡ true
   pub named : (setting_of p.config r).group.group ≢ 0
-  pub start : List Step
-  pub ms : ℕ
-  pub samples : List Sampled
-  pub done : List Bool
-  pub pumps : List (List Entry)
-  pub split : steps ≡ map Pump pumps ++ Tick ms true samples done ∷ start
-  pub had : has_turn p start (moment_of start + ms) true (closing_deeds p start ms samples g) g ≡ true
-  pub took : took_by w (closing_turn p start ms samples g) ≡ Some own
-  pub closing : own.closing ≡ true
-  pub operational : receives p.config start r ≡ true
-  pub enabled : is_on p.config start (Reader r i) ≡ true
-  pub came : (datagram : List ℕ) → Contains (closing_turn p start ms samples g).made datagram → HasPartFor (setting_of p.config r) i datagram → CameIn pumps datagram
+  pub tick : ClosesInTick p r i g w steps own
+  pub came : EachPart p r i (made_in tick) (CameIn tick.ends.pumps)
 
 -- the datagram came in one of these pumps behind these steps, and the read group took it there
 pub record TookIn (p : Plan) (r : ℕ) (pumps : List (List Entry)) (start : List Step) (datagram : List ℕ) : Type 0 where
@@ -155,26 +149,19 @@ pub record TookIn (p : Plan) (r : ℕ) (pumps : List (List Entry)) (start : List
   pub opens : let setting = setting_of p.config r in
       verdict setting.group setting.setup (accepted setting (events p.config r (Pump earlier ∷ map Pump before ++ start))) datagram ≡ Ok opened
 
--- The same of a secured read group that may name no group: it took each datagram of the turn with a part for the reader in one of the pumps, and none of a higher token
--- than the turn's, as another key group with the same keys may have.
+-- No datagram that it took in the pumps has a higher token than the turn's, as one of another key group with the same keys may have, whose datagram cuts the reader.
+abbrev pub NoHigherToken : {p : Plan} {r i g w : ℕ} {steps : List Step} {own : WriterTurn} → ClosesInTick p r i g w steps own → Type 0
+NoHigherToken {p} {r} {i} {g} {w} {steps} {own} t =
+    (datagram : List ℕ) (it : TookIn p r t.ends.pumps (ticked t) datagram) (one : Opened) → Contains (closing_opened p t.start t.ms t.samples g) one
+    → it.opened.pass.token ≤ one.pass.token
+
+-- The same of a secured read group that may name no group: it took each datagram of the turn with a part for the reader in one of the pumps.
 pub record ClosingTook (p : Plan) (r i g w : ℕ) (steps : List Step) (own : WriterTurn) : Type 0 where
   pub numbered : (seat_at (setting_of p.config r).seats i).part.numbering ≡ words.Message
   pub secured : is_secured (setting_of p.config r).setup.mode ≡ true
-  pub start : List Step
-  pub ms : ℕ
-  pub samples : List Sampled
-  pub done : List Bool
-  pub pumps : List (List Entry)
-  pub split : steps ≡ map Pump pumps ++ Tick ms true samples done ∷ start
-  pub had : has_turn p start (moment_of start + ms) true (closing_deeds p start ms samples g) g ≡ true
-  pub took : took_by w (closing_turn p start ms samples g) ≡ Some own
-  pub closing : own.closing ≡ true
-  pub operational : receives p.config start r ≡ true
-  pub enabled : is_on p.config start (Reader r i) ≡ true
-  pub came : (datagram : List ℕ) → Contains (closing_turn p start ms samples g).made datagram → HasPartFor (setting_of p.config r) i datagram
-      → TookIn p r pumps (Tick ms true samples done ∷ start) datagram
-  pub tokens : (datagram : List ℕ) (t : TookIn p r pumps (Tick ms true samples done ∷ start) datagram) (one : Opened) → Contains (closing_opened p start ms samples g) one
-      → t.opened.pass.token ≤ one.pass.token
+  pub tick : ClosesInTick p r i g w steps own
+  pub came : EachPart p r i (made_in tick) (TookIn p r tick.ends.pumps (ticked tick))
+  pub tokens : NoHigherToken tick
 
 -- the reader holds the row of the version, cut to its fields
 abbrev pub HoldsRowOf : Plan → ℕ → ℕ → ℕ → ℕ → List Step → (ℕ → ℕ → List DataValue) → ℕ → Type 0

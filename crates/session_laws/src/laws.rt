@@ -25,11 +25,11 @@ ghost use Rattle.session_model.specs.Sends.{IsRun, journal, sent_by};
 ghost use Rattle.session_model.specs.States.{state_at};
 ghost use Rattle.session_model.specs.Stores.{stores};
 ghost use Rattle.session_model.specs.Turns.{deeds_before};
-ghost use Rattle.session_laws.specs.Bare.{ClosingCameLast, ClosingGotLast, ClosingGotSecuredLast};
+ghost use Rattle.session_laws.specs.Bare.{ClosingCameLast, ClosingGotLast, ClosingGotSecuredLast, ClosingGotSinceLast, ClosingTookLast};
 ghost use Rattle.session_laws.specs.Courses.{HaveOneCourse};
 ghost use Rattle.session_laws.specs.Fresh.{BeginWithKeys, keyed_turns, protected_by};
 ghost use Rattle.session_laws.specs.Headline.{InSession, ComesFrom, IsPublished, PublishesVersion, answered_turn};
-ghost use Rattle.session_laws.specs.Newest.{BringsLast, ClosingCame, ClosingGot, ClosingGotSecured, ClosingGotSigned, ClosingTook, HoldsRowOf, IsLastLogged, IsNewest};
+ghost use Rattle.session_laws.specs.Newest.{BringsLast, ClosingCame, ClosingGot, ClosingGotSecured, ClosingTook, HoldsRowOf, IsLastLogged, IsNewest};
 ghost use Rattle.session_laws.specs.Pasts.{settings_at};
 ghost use Rattle.session_laws.specs.Plays.{Play, IsPlay, ComesFromWriter, HoldsVersion, its_marks, its_member, its_way};
 ghost use Rattle.session_laws.specs.Sessions.{AreVersions, SamplesRise};
@@ -136,17 +136,14 @@ pub fn a_key_frame_that_comes_last_is_held()
 /// cut, the reader holds the row of the turn's version, cut to its fields: at whatever place of a pump the frame came, however
 /// often, and whatever came before or behind it. It came where, without security, each datagram of the turn with a part for the
 /// reader is one that the journal has as received in the pumps behind it, whole or in chunks, in whichever order. It came likewise
-/// to a secured read group that names the writer's group, whatever the read group has accepted before: with a frame that isn't
-/// cut into chunks, or in chunks too; to one that names none where this took each of its datagrams once, and none of a higher
-/// token. A reader with no numbering holds it likewise, where no other key frame came behind it; there it came to a read group
-/// that names the writer's group, whole or in chunks, or without security, with a frame that isn't cut.
+/// to a secured read group that names the writer's group, whatever the read group has accepted before; to one that names none
+/// where this took each of its datagrams once, and none of a higher token. A reader with no numbering holds it likewise, whole or
+/// in chunks, where no other key frame came behind it. Without security its pumps may begin anywhere behind the turn where the
+/// frame isn't cut, and are all that are behind the closing tick where it is: a chunk that comes again brings nothing.
 pub fn a_closing_frame_that_came_is_held()
     ensures received { (p : Plan) (r i g w : ℕ) (steps : List Step) (rows : ℕ → ℕ → List DataValue)
         (before : List GroupDeed) (turn : GroupTurn) (own : WriterTurn) → InSession p r i g w steps
         → AreVersions p steps rows → ClosingGot p r i g w steps before turn own
-        → HoldsRowOf p r i g w steps rows own.version }
-    ensures signed { (p : Plan) (r i g w : ℕ) (steps : List Step) (rows : ℕ → ℕ → List DataValue) (own : WriterTurn)
-        → InSession p r i g w steps → AreVersions p steps rows → ClosingGotSigned p r i g w steps own
         → HoldsRowOf p r i g w steps rows own.version }
     ensures secured { (p : Plan) (r i g w : ℕ) (steps : List Step) (rows : ℕ → ℕ → List DataValue) (own : WriterTurn)
         → InSession p r i g w steps → AreVersions p steps rows → ClosingGotSecured p r i g w steps own
@@ -164,6 +161,12 @@ pub fn a_closing_frame_that_came_is_held()
     ensures secured_last { (p : Plan) (r i g w : ℕ) (steps : List Step) (rows : ℕ → ℕ → List DataValue)
         (own : WriterTurn) → InSession p r i g w steps → AreVersions p steps rows
         → ClosingGotSecuredLast p r i g w steps own → HoldsRowOf p r i g w steps rows own.version }
+    ensures since_last { (p : Plan) (r i g w : ℕ) (steps : List Step) (rows : ℕ → ℕ → List DataValue)
+        (own : WriterTurn) → InSession p r i g w steps → AreVersions p steps rows
+        → ClosingGotSinceLast p r i g w steps own → HoldsRowOf p r i g w steps rows own.version }
+    ensures taken_last { (p : Plan) (r i g w : ℕ) (steps : List Step) (rows : ℕ → ℕ → List DataValue)
+        (own : WriterTurn) → InSession p r i g w steps → AreVersions p steps rows
+        → ClosingTookLast p r i g w steps own → HoldsRowOf p r i g w steps rows own.version }
     ensures came_last { (p : Plan) (r i g w : ℕ) (steps : List Step) (rows : ℕ → ℕ → List DataValue)
         (before : List WriterDeed) (turn : WriterTurn) → InSession p r i g w steps → AreVersions p steps rows
         → ClosingCameLast p r i g w steps before turn → HoldsRowOf p r i g w steps rows turn.version }

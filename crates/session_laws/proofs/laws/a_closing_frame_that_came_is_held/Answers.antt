@@ -1,8 +1,8 @@
-use Rattle.session_laws.proofs.BareEnd.{got-last-held}
+use Rattle.session_laws.proofs.BareEnd.{got-last-held, since-last-held}
 use Rattle.session_laws.proofs.BareHeld.{bare-held}
 use Rattle.session_laws.proofs.ClosingGot.{got-held}
 use Rattle.session_laws.proofs.ClosingHeld.{closing-held}
-use Rattle.session_laws.proofs.SignedEnd.{secured-held, secured-last-held, signed-held, took-held}
+use Rattle.session_laws.proofs.SignedEnd.{secured-held, secured-last-held, took-held, took-last-held}
 use Rattle.session_laws.proofs.Published.{Laws}
 use Rattle.session_laws.proofs.laws.a_closing_frame_that_came_is_held.Goals as goal
 
@@ -31,11 +31,12 @@ returns c =
     let last = bare-held below laws.reads in
     record {
       received = got-held below held;
-      signed = signed-held below held;
       secured = secured-held below held;
       taken = took-held below held;
       came = held;
       received_last = got-last-held below last;
       secured_last = secured-last-held below last;
+      since_last = since-last-held below last;
+      taken_last = took-last-held below last;
       came_last = last;
     }

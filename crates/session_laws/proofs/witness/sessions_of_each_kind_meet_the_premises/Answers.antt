@@ -1,7 +1,7 @@
 use Rattle.group_laws.specs.Witness.{three_config, three_text}
 use Rattle.session_laws.specs.Witness.{telling_config, telling_text}
 use Rattle.session_laws.proofs.Growing.{TellingLaws, growing-held, in-growing, telling-is-read}
-use Rattle.session_laws.proofs.ThreeGroups.{ThreeLaws, cut-held, four-sends, in-cut, in-signed, in-slotted, run-three, signed-held, slotted-held}
+use Rattle.session_laws.proofs.ThreeGroups.{ThreeLaws, cut-held, four-sends, in-cut, in-signed, in-slotted, run-three, secured-held, slotted-held}
 use Rattle.session_laws.proofs.witness.sessions_of_each_kind_meet_the_premises.Goals as goal
 
 pub returns : goal.returns
@@ -15,7 +15,7 @@ returns c =
       types = c.the_built_in_configuration_is_sound.ensures.types;
     } in
     let received = c.a_closing_frame_that_came_is_held.ensures.received in
-    let signed = c.a_closing_frame_that_came_is_held.ensures.signed in
+    let secured = c.a_closing_frame_that_came_is_held.ensures.secured in
     record {
       signed = in-signed three;
       fixed = in-slotted three;
@@ -23,7 +23,7 @@ returns c =
       growing = in-growing telling;
       run = run-three three;
       sends = four-sends;
-      signed_held = signed-held three signed;
+      signed_held = secured-held three secured;
       fixed_held = slotted-held three received;
       chunked_held = cut-held three received;
       growing_held = growing-held telling received;
