@@ -52,21 +52,6 @@ use writer_group::{
     a_refreshed_writer_sends_a_key_frame, no_token_and_number_come_twice_in_groups,
 };
 
-/// What the laws below say of turns, of what read groups take of them, of rows and of senders, as one record.
-fn what_the_laws_below_say()
-    ensures { Laws }
-{
-    each_datagram_is_taken_as_it_was_sent();
-    each_part_is_of_what_was_answered();
-    a_datagram_has_nothing_for_readers_of_other_groups();
-    a_matched_reader_reads_its_writer();
-    what_a_secured_group_takes_is_signed();
-    near_readers_have_their_records();
-    cut_rows_have_words();
-    a_ring_makes_senders_of_its_key_group();
-    each_turn_of_a_session_holds();
-}
-
 /// A reader that is matched to a writer, where every datagram that its read group gets was made by a turn of some group before,
 /// or of a secured read group each that is signed under a key of its ring: each item that comes to it is a frame that the writer
 /// answered, whatever datagrams are lost, repeated or reordered, whole or in chunks; what it keeps is what *Records* has of these
@@ -254,3 +239,18 @@ pub fn a_journal_has_one_run()
     ensures { (p : Plan) (first second : List Step) → HaveOneCourse first second → IsRun p first → IsRun p second
         → journal p first ≡ journal p second → first ≡ second }
 {}
+
+/// What the laws below say of turns, of what read groups take of them, of rows and of senders, as one record.
+fn what_the_laws_below_say()
+    ensures { Laws }
+{
+    each_datagram_is_taken_as_it_was_sent();
+    each_part_is_of_what_was_answered();
+    a_datagram_has_nothing_for_readers_of_other_groups();
+    a_matched_reader_reads_its_writer();
+    what_a_secured_group_takes_is_signed();
+    near_readers_have_their_records();
+    cut_rows_have_words();
+    a_ring_makes_senders_of_its_key_group();
+    each_turn_of_a_session_holds();
+}
