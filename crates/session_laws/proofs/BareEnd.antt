@@ -104,8 +104,9 @@ got-last-held laws held p r i g w steps rows before turn own is versions c =
     let last = (last-turn p.config (group_at p.config g) w (pasts_at p ended g) (turns laws.turns laws.passed 16385 (play_of p r i g w ended) (omega arith) is_play) turn before past_is).0 in
     let same : last.turn ≡ turn = (same-turn last.turn turn last.before before (sym last.past_is ∙ past_is)).0 in
     let own_made : (datagram : List ℕ) → Contains last.turn.made datagram → Contains turn.made datagram = λ datagram made. subst (λ (t : GroupTurn). Contains t.made datagram) same made in
-    subst (λ (l : List Step). HoldsRowOf p r i g w l rows own.version) (sym c.ends.split)
-    (held p r i g w ended rows (writer_past w last.before) own here (subst (λ (l : List Step). AreVersions p l rows) c.ends.split versions)
+    let past = writer_past w last.before in
+    held p r i g w steps rows past own is versions
+    (subst (λ (l : List Step). ClosingCameLast p r i g w l past own) (sym c.ends.split)
     (whole-last laws p r i g w c.start c.ends.pumps own here c.ends.closing last (ap (took_by w) same ∙ c.ends.took) c.bare c.unsecured c.ends.operational c.ends.enabled
     (λ datagram made part. c.came datagram (own_made datagram made) part) (λ datagram made part. c.whole datagram (own_made datagram made) part)))
 
@@ -146,7 +147,5 @@ module _ (laws : Laws) (p : Plan) (r i g w : ℕ) (steps : List Step) (own : Wri
 pub since-last-held : Laws → LastHeldLaw → (p : Plan) (r i g w : ℕ) (steps : List Step) (rows : ℕ → ℕ → List DataValue) (own : WriterTurn) → InSession p r i g w steps → AreVersions p steps rows
     → ClosingGotSinceLast p r i g w steps own → HoldsRowOf p r i g w steps rows own.version
 since-last-held laws held p r i g w steps rows own is versions c =
-    let split = c.tick.ends.split in
-    subst (λ (l : List Step). HoldsRowOf p r i g w l rows own.version) (sym split)
-    (held p r i g w (ended laws p r i g w steps own is c) rows (its_past laws p r i g w steps own is c) own (here laws p r i g w steps own is c) (subst (λ (l : List Step). AreVersions p l rows) split versions)
-    (since-came laws p r i g w steps own is c))
+    let past = its_past laws p r i g w steps own is c in
+    held p r i g w steps rows past own is versions (subst (λ (l : List Step). ClosingCameLast p r i g w l past own) (sym c.tick.ends.split) (since-came laws p r i g w steps own is c))

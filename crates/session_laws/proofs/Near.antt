@@ -13,14 +13,14 @@ use Rattle.chunker.specs.Chunks.{Chunk, places}
 use Rattle.config_tables.specs.declared.words.NumberingWord.{NumberingWord}
 use Rattle.config_tables.specs.declared.words.NumberingWord.TheVariants as words
 use Rattle.ps_config.specs.declared.parts.Config.{Config}
-use Rattle.reader_group.specs.Arrivals.{Way, Mark, Arrived, Laid, is_numbered, chunks_in}
-use Rattle.reader_group.specs.Agreeing.{Agrees, ChunksNear, NearBy, IsWayOf, MemberIs}
+use Rattle.reader_group.specs.Arrivals.{Mark, Arrived, Laid, is_numbered, chunks_in}
+use Rattle.reader_group.specs.Agreeing.{ChunksNear, NearBy, IsWayOf, MemberIs}
 use Rattle.reader_group.specs.Members.{no_seat}
-use Rattle.reader_group.specs.Plain.{Setting, Event}
 use Rattle.reader_group.specs.Settings.{seat_in}
 use Rattle.writer_group.specs.Payloads.{writer_at}
 use Rattle.writer_group.specs.Turns.{writer_past}
 use Rattle.pubsub_model.specs.Answers.{IsAnswerCut}
+pub use Rattle.session_laws.specs.Below.{AgreeLaw}
 use Rattle.session_laws.specs.Pasts.{settings_at}
 use Rattle.session_laws.specs.Plays.{Play, IsPlay, ItemsAre, IsAnswerBy, its_setting, its_way, its_meta, its_past, its_answers, its_marks, its_arrivals, its_member}
 use Rattle.pubsub_model.proofs.HeldRows.{item-placed}
@@ -102,9 +102,6 @@ way-numbers first n = omega arith
 seats-at : (config : Config) (readers : List Rattle.ps_config.specs.declared.parts.ReaderPart.ReaderPart) (reader : ℕ) → reader < length readers
     → slice_get (map (seat_in config) readers) reader ≡ Some (Rattle.std.specs.Prelude.slice_index_or (map (seat_in config) readers) reader no_seat)
 seats-at config readers reader within = slice_get-get_or (map (seat_in config) readers) reader no_seat (omega (arith, within, length-map readers (seat_in config)))
-
-abbrev pub AgreeLaw : Type 0
-AgreeLaw = (setting : Setting) (way : Way) (events : List Event) → Agrees setting way events
 
 pub way-of : (most : ℕ) (p : Play) → IsPlay most p → IsWayOf (its_setting p) (its_way p) p.events
 way-of most p is = record {

@@ -17,13 +17,11 @@ use Rattle.chunker.specs.Chunks.{Chunk}
 use Rattle.chunker.specs.Joins.{IsCutOf}
 use Rattle.chunker.specs.Spelling.{chunk_at, without_rest}
 use Rattle.message_guard.specs.Acceptance.{Accepted}
-use Rattle.message_guard.specs.Guards.{Setup}
 use Rattle.config_tables.specs.declared.words.Layout.{Layout}
 use Rattle.config_tables.specs.declared.words.Layout.TheVariants as layouts
 use Rattle.ps_config.specs.declared.parts.Config.{Config}
 use Rattle.ps_config.specs.declared.parts.GroupPart.{GroupPart}
 use Rattle.ps_config.specs.declared.parts.ReadGroupPart.{ReadGroupPart}
-use Rattle.ps_config.specs.declared.parts.ReaderPart.{ReaderPart}
 use Rattle.ps_config.specs.declared.parts.WriterPart.{WriterPart}
 use Rattle.ps_config.specs.Sound.{IsSound}
 use Rattle.writer_group.specs.Payloads.{carried_frame, meta_at, spelled_by, writer_at}
@@ -35,41 +33,16 @@ use Rattle.reader_group.specs.Opening.{Opened, verdict}
 use Rattle.reader_group.specs.Payloads.{Piece, Message, Chunked, Slotted, Missing, pieces}
 use Rattle.reader_group.specs.Settings.{setting_by, setup_by}
 use Rattle.reader_group.specs.SlotFrames.{slot_frame_at}
-use Rattle.group_laws.specs.Matching.{IsMatched, IsMatchedTo, IsGroupTurn, ReadsFrames, ReadsWriter}
+use Rattle.group_laws.specs.Matching.{IsMatchedTo, IsGroupTurn, ReadsFrames, ReadsWriter}
 use Rattle.group_laws.specs.TurnOpened.{turn_opened, is_accepted, IsTakenAs}
-use Rattle.group_laws.specs.TurnReading.{frame_read, IsFixedTurn, IsPartBy, IsPartIf, IsPartOf, IsReadAsChunk, IsSampled}
+use Rattle.group_laws.specs.TurnReading.{frame_read, IsPartBy, IsPartIf, IsPartOf, IsReadAsChunk}
 use Rattle.pubsub_model.specs.Answers.{IsAnswer}
+pub use Rattle.session_laws.specs.Below.{TurnLaws}
 use Rattle.session_laws.specs.Pasts.{IsTurn, AreTurns, IsPast, WasMade, IsMade, answered_by}
 use Rattle.session_laws.proofs.Answering.{answer-now, answer-stays, refresh-same, spelled_at, spelled-now, spelled-stays}
 use Rattle.session_laws.proofs.Distinct.{IsAt, at-sound, ids-differ, writers-differ, writer-id}
 use Rattle.reader_group.proofs.KeptParts.{OfRead, IsPieceOf, weaker-piece}
 use Rattle.session_laws.proofs.Sources.{IsOfAnswer, IsChunkOf}
-
--- ---- the laws of turns, as `group_laws` has them
-
-pub record TurnLaws : Type 0 where
-  pub taken : (config : Config) (group : GroupPart) (readers : ReadGroupPart) (past : List GroupDeed) (input : TurnInput) (accepted : Accepted) (index : ℕ) (datagram : List ℕ) (opened : Opened)
-      → IsGroupTurn config group past input → IsMatched config group readers
-      → slice_get (turn_datagrams config group past input) index ≡ Some datagram → slice_get (turn_opened config group past input) index ≡ Some opened
-      → (let setup = setup_by config readers readers.keygroup in IsTakenAs (is_accepted setup accepted opened.pass) opened (verdict readers setup accepted datagram))
-  pub many : (config : Config) (group : GroupPart) (past : List GroupDeed) (input : TurnInput) → length (turn_opened config group past input) ≡ length (turn_datagrams config group past input)
-  pub dynamic : (config : Config) (group : GroupPart) (past : List GroupDeed) (input : TurnInput) (writer : ℕ) (seat : Seat) → group.layout ≡ layouts.Dynamic → IsGroupTurn config group past input
-      → ReadsWriter group writer seat.part → ReadsFrames group input.told.metas writer seat.meta → IsSampled group past input writer
-      → (opened : Opened) → Contains (turn_opened config group past input) opened → All (IsPartBy group past input writer seat) (pieces seat.part opened.payload)
-  pub fixed : (config : Config) (group : GroupPart) (past : List GroupDeed) (input : TurnInput) (writer : ℕ) (seat : Seat) → group.layout ≡ layouts.Fixed → IsGroupTurn config group past input
-      → IsFixedTurn config group past input → ReadsWriter group writer seat.part → seat.meta ≡ meta_at group config.dataset writer
-      → (opened : Opened) → Contains (turn_opened config group past input) opened → All (IsPartBy group past input writer seat) (pieces seat.part opened.payload)
-  pub other_named : (config : Config) (group : GroupPart) (past : List GroupDeed) (input : TurnInput) (readers : ReadGroupPart) (setup : Setup) (accepted : Accepted) (datagram : List ℕ) → IsGroupTurn config group past input
-      → Contains (turn_datagrams config group past input) datagram → readers.group ≢ 0 → readers.group ≢ group.id → verdict readers setup accepted datagram ≡ Err refusals.NotOurs
-  pub other_fixed : (config : Config) (group : GroupPart) (past : List GroupDeed) (input : TurnInput) (readers : ReadGroupPart) (setup : Setup) (accepted : Accepted) (datagram : List ℕ) → IsGroupTurn config group past input
-      → Contains (turn_datagrams config group past input) datagram → group.layout ≡ layouts.Fixed → readers.layout ≡ layouts.Dynamic → IsErr (verdict readers setup accepted datagram)
-  pub other_dynamic : (config : Config) (group : GroupPart) (past : List GroupDeed) (input : TurnInput) (readers : ReadGroupPart) (setup : Setup) (accepted : Accepted) (datagram : List ℕ) (opened : Opened) (reader : ReaderPart)
-      → IsGroupTurn config group past input → Contains (turn_datagrams config group past input) datagram → group.layout ≡ layouts.Dynamic → readers.layout ≡ layouts.Dynamic → 1 ≤ reader.writer
-      → All (λ writer. writer.id ≢ reader.writer) group.writer → verdict readers setup accepted datagram ≡ Ok opened → pieces reader opened.payload ≡ []
-  pub reads : (config : Config) (readers : ReadGroupPart) (reader : ℕ) (group : GroupPart) (writer : ℕ) → IsMatchedTo config readers reader group writer
-      → ReadsWriter group writer (seat_at (setting_by config readers).seats reader).part
-  pub meta : (config : Config) (readers : ReadGroupPart) (reader : ℕ) (group : GroupPart) (writer : ℕ) → IsMatchedTo config readers reader group writer
-      → (seat_at (setting_by config readers).seats reader).meta ≡ meta_at group config.dataset writer
 
 -- ---- a frame of an answer
 

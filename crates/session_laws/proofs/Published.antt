@@ -20,6 +20,7 @@ use Rattle.session_model.specs.Deeds.{log_at, writer_deeds, deeds}
 use Rattle.writer_group.specs.Parts.{group_at, no_group}
 use Rattle.session_model.specs.Events.{events, reader_at}
 use Rattle.session_model.specs.Keeping.{AreSteps, IsPlan}
+pub use Rattle.session_laws.specs.Below.{Laws}
 use Rattle.session_laws.specs.Reading.{ReadsByRecords, first_number_of}
 use Rattle.session_model.specs.Turns.{TurnsHold}
 use Rattle.session_laws.specs.Headline.{InSession, ComesFrom, IsPublished, PublishesVersion, answered_turn, meta_of}
@@ -29,28 +30,13 @@ use Rattle.session_laws.specs.Sessions.{AreVersions, HasSample, SamplesRise, pas
 use Rattle.session_laws.proofs.Distinct.{IsAt}
 use Rattle.session_laws.proofs.Holding.{comes-from-writer, holds-version}
 use Rattle.session_laws.proofs.Living.{IsVersionTurn, TurnsAre, past-of}
-use Rattle.session_laws.proofs.Near.{AgreeLaw, reads-by-records}
-use Rattle.session_laws.proofs.Pieces.{TurnLaws}
+use Rattle.session_laws.proofs.Near.{reads-by-records}
 use Rattle.session_laws.proofs.Rowing.{WordLaws}
 use Rattle.session_laws.proofs.Senders.{RingLaw}
 use Rattle.session_laws.proofs.Sending.{came-as-made, all-restarts}
-use Rattle.reader_group.specs.Signed.{TakesSignedAlone}
 use Rattle.session_laws.proofs.Counts.{ticks-few}
 use Rattle.session_laws.proofs.Ticks.{log-few}
 use Rattle.pubsub_model.proofs.LogVersions.{log-rises}
-
--- each turn of a session holds
-abbrev pub HoldLaw : Type 0
-HoldLaw = (p : Plan) (steps : List Step) → IsPlan p → AreSteps p steps → TurnsHold p steps
-
--- all that a session stands on below
-pub record Laws : Type 0 where
-  pub turns : TurnLaws
-  pub passed : TakesSignedAlone
-  pub agrees : AgreeLaw
-  pub words : WordLaws
-  pub ring : RingLaw
-  pub hold : HoldLaw
 
 abbrev pub play_of : Plan → ℕ → ℕ → ℕ → ℕ → List Step → Play
 play_of p r i g w steps = record {

@@ -26,15 +26,11 @@ use Rattle.session_model.specs.Sets.{metas_at, meta_in, rows_at, rows_cut, cut_s
 use Rattle.session_model.specs.Deeds.{Deed, group_past, turn_input, turn_of}
 use Rattle.writer_group.specs.Parts.{group_at, no_group}
 use Rattle.session_model.specs.Keeping.{AreSteps, IsPlan}
+pub use Rattle.session_laws.specs.Below.{WordLaws}
 use Rattle.session_laws.specs.Pasts.{IsTurn}
 use Rattle.session_laws.proofs.Senders.{TurnHolds}
 use Rattle.session_laws.proofs.Distinct.{IsAt, at-contains, at-sound}
 use Rattle.session_laws.proofs.Metas.{meta-of}
-
--- the laws of rows in words, as `row_words` has them
-pub record WordLaws : Type 0 where
-  pub belongs : (short full : MetaData) (words : List ℕ) → IsMeta short.fields → HasGrown short full → Belongs full words → Belongs short (cut_words short full words)
-  pub row : (short full : MetaData) (words : List ℕ) → HasGrown short full → Belongs full words → row_in short.fields (cut_words short full words) ≡ row_cut short (row_in full.fields words)
 
 -- ---- the data sets of a moment
 

@@ -31,19 +31,16 @@ use Rattle.ps_config.specs.Headers.{mode_of}
 use Rattle.writer_group.specs.Payloads.{IsFrameIf, meta_at, payloads_of, writer_at}
 use Rattle.writer_group.specs.Sealing.{Envelope, Payload, AreWritten, advanced_by, datagrams_from}
 use Rattle.writer_group.specs.Turns.{GroupDeed, TurnInput, answer_by, envelope_of, frames_in, is_due}
-use Rattle.group_laws.specs.Matching.{MaySend, IsSenderOf, IsRingSender}
+use Rattle.group_laws.specs.Matching.{MaySend, IsSenderOf}
 use Rattle.session_model.specs.Steps.{Plan, Step, Enable, Disable, Append, Tick, Pump, moment_of}
 use Rattle.session_model.specs.Deeds.{Deed, RefreshedBelow, RefreshedSet, CameTo, TookTurn, deeds, component_at, group_past, shares, sender_after, opening_sender, advanced_if, is_spent, turn_flags, works, has_turn, turn_input, turn_of, tick_deeds}
 use Rattle.writer_group.specs.Parts.{group_at, no_group}
 use Rattle.session_model.specs.Keeping.{IsPlan}
 use Rattle.ps_config.specs.Types.{HasTypes}
 use Rattle.session_model.specs.Turns.{HoldsTurn, TurnsHold, deeds_before}
+pub use Rattle.session_laws.specs.Below.{RingLaw}
 use Rattle.session_laws.proofs.Deeds.{TickHolds, HoldsTick, tick-holds, holds-before}
 use Rattle.session_laws.proofs.Distinct.{at-sound}
-
--- the law of rings and senders, as `group_laws` has it
-abbrev pub RingLaw : Type 0
-RingLaw = (ring : KeyGroupPart) (now : ℕ) (s : SenderState) → IsKeyGroup ring → IsRingSender ring now s → IsSenderOf ring s
 
 pub record IsKeySender (ring : KeyGroupPart) (s : SenderState) : Type 0 where
   pub of_ring : IsSenderOf ring s

@@ -726,9 +726,9 @@ pub took-held : Laws → HeldLaw → (p : Plan) (r i g w : ℕ) (list : List Ste
     → HoldsRowOf p r i g w list rows own.version
 took-held laws held p r i g w list rows own is versions c =
     let t = c.tick in
-    subst (λ (l : List Step). HoldsRowOf p r i g w l rows own.version) (sym t.ends.split)
-    (held p r i g w (ended laws p r i g w list own is t c.secured) rows (past laws p r i g w list own is t c.secured) own (here laws p r i g w list own is t c.secured)
-    (subst (λ (l : List Step). AreVersions p l rows) t.ends.split versions) (came-taken laws p r i g w list own is t c.secured c.numbered c.tokens c.came))
+    let its_past = past laws p r i g w list own is t c.secured in
+    held p r i g w list rows its_past own is versions
+    (subst (λ (l : List Step). ClosingCame p r i g w l its_past own) (sym t.ends.split) (came-taken laws p r i g w list own is t c.secured c.numbered c.tokens c.came))
 
 pub secured-held : Laws → HeldLaw → (p : Plan) (r i g w : ℕ) (list : List Step) (rows : ℕ → ℕ → List DataValue) (own : WriterTurn) → InSession p r i g w list → AreVersions p list rows → ClosingGotSecured p r i g w list own
     → HoldsRowOf p r i g w list rows own.version
@@ -746,9 +746,9 @@ pub took-last-held : Laws → LastHeldLaw → (p : Plan) (r i g w : ℕ) (list :
     → HoldsRowOf p r i g w list rows own.version
 took-last-held laws held p r i g w list rows own is versions c =
     let t = c.tick in
-    subst (λ (l : List Step). HoldsRowOf p r i g w l rows own.version) (sym t.ends.split)
-    (held p r i g w (ended laws p r i g w list own is t c.secured) rows (past laws p r i g w list own is t c.secured) own (here laws p r i g w list own is t c.secured)
-    (subst (λ (l : List Step). AreVersions p l rows) t.ends.split versions) (last-taken laws p r i g w list own is t c.secured c.bare c.tokens c.came))
+    let its_past = past laws p r i g w list own is t c.secured in
+    held p r i g w list rows its_past own is versions
+    (subst (λ (l : List Step). ClosingCameLast p r i g w l its_past own) (sym t.ends.split) (last-taken laws p r i g w list own is t c.secured c.bare c.tokens c.came))
 
 pub secured-last-held : Laws → LastHeldLaw → (p : Plan) (r i g w : ℕ) (list : List Step) (rows : ℕ → ℕ → List DataValue) (own : WriterTurn) → InSession p r i g w list → AreVersions p list rows → ClosingGotSecuredLast p r i g w list own
     → HoldsRowOf p r i g w list rows own.version

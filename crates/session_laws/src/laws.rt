@@ -26,6 +26,7 @@ ghost use Rattle.session_model.specs.States.{state_at};
 ghost use Rattle.session_model.specs.Stores.{stores};
 ghost use Rattle.session_model.specs.Turns.{deeds_before};
 ghost use Rattle.session_laws.specs.Bare.{ClosingCameLast, ClosingGotLast, ClosingGotSecuredLast, ClosingGotSinceLast, ClosingTookLast};
+ghost use Rattle.session_laws.specs.Below.{Laws};
 ghost use Rattle.session_laws.specs.Courses.{HaveOneCourse};
 ghost use Rattle.session_laws.specs.Fresh.{BeginWithKeys, keyed_turns, protected_by};
 ghost use Rattle.session_laws.specs.Headline.{InSession, ComesFrom, IsPublished, PublishesVersion, answered_turn};
@@ -61,12 +62,7 @@ pub fn a_matched_reader_holds_what_was_sent()
     ensures holds { (p : Play) (row : List DataValue) → IsPlay 16385 p → (its_member p).kept.row ≡ Some row
         → HoldsVersion p (its_member p).kept.number row }
 {
-    each_datagram_is_taken_as_it_was_sent();
-    each_part_is_of_what_was_answered();
-    a_datagram_has_nothing_for_readers_of_other_groups();
-    a_matched_reader_reads_its_writer();
-    what_a_secured_group_takes_is_signed();
-    near_readers_have_their_records();
+    what_the_laws_below_say();
 }
 
 /// Whatever datagrams of a session are lost, repeated or reordered, each matched reader reads by *Records*, and holds exactly the
@@ -80,15 +76,7 @@ pub fn matched_readers_hold_published_versions()
         → InSession p r i g w steps → AreVersions p steps rows → (reader_at p.config r i steps).kept.row ≡ Some row
         → IsPublished p r i g w steps rows (reader_at p.config r i steps).kept.number row }
 {
-    each_datagram_is_taken_as_it_was_sent();
-    each_part_is_of_what_was_answered();
-    a_datagram_has_nothing_for_readers_of_other_groups();
-    a_matched_reader_reads_its_writer();
-    what_a_secured_group_takes_is_signed();
-    near_readers_have_their_records();
-    cut_rows_have_words();
-    a_ring_makes_senders_of_its_key_group();
-    each_turn_of_a_session_holds();
+    what_the_laws_below_say();
 }
 
 /// Every data message of a writer stands for one whole version of its data set's single history, and never an older one than its
@@ -171,15 +159,7 @@ pub fn a_closing_frame_that_came_is_held()
         (before : List WriterDeed) (turn : WriterTurn) → InSession p r i g w steps → AreVersions p steps rows
         → ClosingCameLast p r i g w steps before turn → HoldsRowOf p r i g w steps rows turn.version }
 {
-    each_datagram_is_taken_as_it_was_sent();
-    each_part_is_of_what_was_answered();
-    a_datagram_has_nothing_for_readers_of_other_groups();
-    a_matched_reader_reads_its_writer();
-    what_a_secured_group_takes_is_signed();
-    near_readers_have_their_records();
-    cut_rows_have_words();
-    a_ring_makes_senders_of_its_key_group();
-    each_turn_of_a_session_holds();
+    what_the_laws_below_say();
     answers_have_places_of_their_span();
     matched_readers_hold_published_versions();
 }
@@ -259,3 +239,18 @@ pub fn a_journal_has_one_run()
     ensures { (p : Plan) (first second : List Step) → HaveOneCourse first second → IsRun p first → IsRun p second
         → journal p first ≡ journal p second → first ≡ second }
 {}
+
+/// What the laws below say of turns, of what read groups take of them, of rows and of senders, as one record.
+fn what_the_laws_below_say()
+    ensures { Laws }
+{
+    each_datagram_is_taken_as_it_was_sent();
+    each_part_is_of_what_was_answered();
+    a_datagram_has_nothing_for_readers_of_other_groups();
+    a_matched_reader_reads_its_writer();
+    what_a_secured_group_takes_is_signed();
+    near_readers_have_their_records();
+    cut_rows_have_words();
+    a_ring_makes_senders_of_its_key_group();
+    each_turn_of_a_session_holds();
+}
