@@ -1,16 +1,10 @@
-//! The calls of `message_guard` that bench/datagrams measures from C, each made many times; those on headers, payloads and
-//! chunks, measured from Rust, stand in `parts`.
-#![tactic(auto)]
-
-mod parts;
-
+//! The calls of `message_guard` that bench/datagrams measures from C, each made many times.
 ghost use Rattle.std.specs.Prelude.{◌<◌, IsTrue};
 ghost use Rattle.message_guard.specs.Modes.{is_secured};
 
 use arrayvec::ArrayVec;
 use group_keys::{KeySet, Ring};
 use message_guard::{Guard, Mode, Sender};
-pub use parts::{bench_join, bench_read_header, bench_split, bench_write_header};
 use ua_binary::Pen;
 use uadp_header::{Header, Ids, PublisherId, SecurityPart, write_header};
 

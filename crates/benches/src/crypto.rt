@@ -1,6 +1,4 @@
 //! The calls of the cryptography crates that bench/crypto measures from C, each made many times.
-#![tactic(auto)]
-
 use aes_ctr::{Key, Key128, Key256, apply_stream};
 use replay_window::{Seen, Window};
 

@@ -2,7 +2,7 @@
 use std::alloc::{AllocError, AllocFailed};
 use ua_base::NoMemory;
 
-/// Why nothing is measured: the text isn't accepted, it is of another shape, or there is no memory.
+/// Why nothing is measured: the text isn't accepted, it is of another shape or has no data set, or there is no memory.
 #[derive(Drop)]
 pub struct Unmeasured;
 
