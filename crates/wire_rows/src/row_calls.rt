@@ -1,4 +1,4 @@
-//! The calls by their names, and what is kept from line to line.
+//! The calls of rows, writers and readers by their names, and what is kept of them from line to line.
 use crate::readers::ReaderRows;
 use crate::rows;
 use crate::writers::WriterRows;
@@ -7,24 +7,22 @@ use std::alloc::Global;
 
 /// What is kept from line to line: a writer and a reader.
 #[derive(Drop)]
-pub struct Bench {
-    alloc: Global,
+pub struct RowCalls {
     writers: WriterRows,
     readers: ReaderRows,
 }
 
-impl Bench {
-    pub fn new(alloc: Global) -> Bench {
-        Bench {
-            alloc,
+impl RowCalls {
+    pub fn new() -> RowCalls {
+        RowCalls {
             writers: WriterRows::new(),
             readers: ReaderRows::new(),
         }
     }
 
-    pub fn answer(&mut self, line: &mut Line) -> Answer {
-        let alloc = self.alloc;
-        match line.word()? {
+    /// The calls of rows, patches and shapes in words.
+    pub fn answer(&mut self, alloc: Global, call: &str, line: &mut Line) -> Answer {
+        match call {
             "words" => rows::words(alloc, line),
             "shape" => rows::shape(alloc, line),
             "set" => rows::set(alloc, line),
@@ -33,6 +31,13 @@ impl Bench {
             "put" => rows::put(alloc, line),
             "lay" => rows::lay(alloc, line),
             "changed" => rows::changed(alloc, line),
+            call => self.write(alloc, call, line),
+        }
+    }
+
+    /// The calls of a writer.
+    fn write(&mut self, alloc: Global, call: &str, line: &mut Line) -> Answer {
+        match call {
             "data" => self.writers.data(alloc, line),
             "writer" => self.writers.writer(alloc, line),
             "turn" => self.writers.turn(alloc, line, false),
@@ -40,13 +45,12 @@ impl Bench {
             "quiet" => self.writers.quiet(alloc, line),
             "refresh" => self.writers.refresh(),
             "log" => self.writers.log(alloc),
-            call => self.read(call, line),
+            call => self.read(alloc, call, line),
         }
     }
 
     /// The calls of a reader.
-    fn read(&mut self, call: &str, line: &mut Line) -> Answer {
-        let alloc = self.alloc;
+    fn read(&mut self, alloc: Global, call: &str, line: &mut Line) -> Answer {
         match call {
             "reader" => self.readers.reader(alloc, line),
             "whole" | "change" | "alive" => self.readers.frame(alloc, call, line),
