@@ -2,6 +2,7 @@
 use crate::guards::GuardRows;
 use crate::joiners::{self, JoinerRows};
 use crate::random::{line_of, name_of};
+use crate::row_calls::RowCalls;
 use crate::timers::TimerRows;
 use crate::windows::WindowRows;
 use crate::{frames, headers, metas, payloads, security, slots, values};
@@ -16,6 +17,7 @@ pub struct Bench {
     joiner: JoinerRows,
     window: WindowRows,
     guards: GuardRows,
+    rows: RowCalls,
 }
 
 impl Bench {
@@ -26,6 +28,7 @@ impl Bench {
             joiner: JoinerRows::new(),
             window: WindowRows::new(),
             guards: GuardRows::new(),
+            rows: RowCalls::new(),
         }
     }
 
@@ -126,7 +129,7 @@ impl Bench {
             "stream256" => security::stream256(alloc, line),
             "hmac" => security::hmac(alloc, line),
             "ring" => security::ring(alloc, line),
-            "cut" => joiners::cut(alloc, line),
+            "cut_message" => joiners::cut(alloc, line),
             "read_chunk" => joiners::read_chunk(alloc, line),
             "write_chunk" => joiners::write_chunk(alloc, line),
             call => self.kept(call, line),
@@ -160,7 +163,7 @@ impl Bench {
             "keysets" => self.guards.keysets(),
             "keyset" => self.guards.keyset(alloc, line),
             "sender" => self.guards.sender(line),
-            "turn" => self.guards.turn(alloc, line),
+            "sender_turn" => self.guards.turn(alloc, line),
             "spent" => self.guards.spent(alloc),
             "front" => self.guards.front(alloc, line),
             "may_protect" => self.guards.may_protect(alloc, line),
@@ -168,7 +171,7 @@ impl Bench {
             "guard" => self.guards.guard(line),
             "test" => self.guards.test(alloc, line),
             "open" => self.guards.open(alloc, line),
-            _ => Err(LineFault::Call),
+            call => self.rows.answer(alloc, call, line),
         }
     }
 }

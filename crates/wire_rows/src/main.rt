@@ -1,8 +1,10 @@
-//! Cases of the crates of the wire, one a line: a call and its arguments. Each line is printed again, with what the call
-//! answers behind ` -> `. Lines that begin with `#`, and empty ones, are printed as they are.
+//! Cases of the crates of the wire and of rows, one a line: a call and its arguments, which are rows and patches in words, what
+//! writers send and what readers hold, too (`row_calls`). Each line is printed again, with what the call answers behind ` -> `. Lines
+//! that begin with `#`, and empty ones, are printed as they are.
 #![tactic(auto)]
 
 mod bench;
+mod fields;
 mod frames;
 mod guards;
 mod header_parts;
@@ -11,6 +13,9 @@ mod joiners;
 mod metas;
 mod payloads;
 mod random;
+mod readers;
+mod row_calls;
+mod rows;
 mod security;
 mod senders;
 mod shown;
@@ -19,6 +24,7 @@ mod timers;
 mod tries;
 mod values;
 mod windows;
+mod writers;
 
 use bench::Bench;
 use case_lines::{AnsweredLine, Line, is_note};
