@@ -1,4 +1,5 @@
-//! Cells of N words that stand for 151 words: those are the N words and zeros behind them.
+//! Cells of N words that stand for 151 words: those are the N words and zeros behind them. Steps of one width stay functions of
+//! their own, so that a call pays for the locals of its width alone.
 ghost use Rattle.std.specs.Prelude.{◌≡◌, ◌≤◌, ℕ, List, [], ◌∷◌, true, false, nat_eq, take, if◌then◌else◌, IfOk, MatchResult};
 ghost use lib.Pointwise.{pointwise};
 ghost use Rattle.crossbeam_utils.specs.Register.{Turns};
@@ -33,6 +34,7 @@ pub(crate) type Words<const N: usize> = RuledSeqCell<[u64; N], View, OneHistory<
 pub(crate) type Seat<const N: usize> = seq_cell::Pass<[u64; N], View>;
 
 /// A cell of N words, the first of these.
+#[inline(never)]
 pub(crate) fn ruled_in<const N: usize>(
     alloc: Global,
     start: &[u64; 151],
@@ -47,6 +49,7 @@ pub(crate) fn ruled_in<const N: usize>(
 }
 
 /// One load.
+#[inline(never)]
 pub(crate) fn load_in<M: Outcome<[u64; 151], View>, R: Wait, const N: usize>(
     rt: &R,
     words: &Words<N>,
@@ -62,6 +65,7 @@ pub(crate) fn load_in<M: Outcome<[u64; 151], View>, R: Wait, const N: usize>(
 }
 
 /// One exchange, which wins where it finds the words that it expects.
+#[inline(never)]
 pub(crate) fn exchange_in<M: Outcome<[u64; 151], View>, R: Wait, const N: usize>(
     rt: &R,
     words: &Words<N>,
@@ -89,6 +93,7 @@ pub(crate) fn exchange_in<M: Outcome<[u64; 151], View>, R: Wait, const N: usize>
 }
 
 /// One store.
+#[inline(never)]
 pub(crate) fn swap_in<M: Outcome<[u64; 151], View>, R: Wait, const N: usize>(
     rt: &R,
     words: &Words<N>,

@@ -1,5 +1,6 @@
-//! A cell that threads write and read at once: 151 words under a rule, by which one history comes of all writes, and each pass
-//! has seen a beginning of it.
+//! A cell that threads write and read at once: words under a rule, by which one history comes of all writes, and each pass has
+//! seen a beginning of it. The rule speaks of 151 words. A cell keeps the first 34, 58 or 106 of them, or all, by how many words
+//! a row of its meta needs; behind those all are 0.
 //!
 //! A thread has a pass, with a number of its own from 0 to 7. `Cell::try_write` lays a patch into the last row that the pass has
 //! seen and exchanges the words of the cell, once. Where another thread was there before, the pass learns that thread's row, and
