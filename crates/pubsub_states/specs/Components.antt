@@ -1,6 +1,6 @@
 -- The components of a configuration and their ids, which count from 0: root, connection, each group followed by its writers, each read
 -- group followed by its readers.
-use Rattle.std.specs.Prelude.{ℕ, ◌+◌, ◌<◌, Bool, true, false, ◌&&◌, ◌==◌, List, [], ◌∷◌, ◌++◌, length, map, take, sum, slice_index, Option, Some, None, ⊤}
+use Rattle.std.specs.Prelude.{ℕ, ◌+◌, ◌<◌, Bool, true, false, ◌&&◌, ◌==◌, List, [], ◌∷◌, ◌++◌, length, map, take, sum, slice_index, ⊤}
 use Rattle.std.specs.List.{list_any, range_with_len}
 use Rattle.ps_config.specs.declared.parts.Config.{Config}
 use Rattle.pubsub_states.specs.declared.component.Component.{Component}
@@ -55,15 +55,6 @@ id_of counts (Reader r i) = first_read_group counts + before_family counts.reade
 -- an id of the configuration
 abbrev pub IsId : Counts → ℕ → Type 0
 IsId counts id = id < length (components counts)
-
--- the component right above
-abbrev pub parent_of : Component → Option Component
-parent_of Root = None
-parent_of Connection = Some Root
-parent_of (Group g) = Some Connection
-parent_of (Writer g w) = Some (Group g)
-parent_of (ReadGroup r) = Some Connection
-parent_of (Reader r i) = Some (ReadGroup r)
 
 -- a component with all above it, from the root down
 abbrev pub line : Component → List Component

@@ -17,21 +17,8 @@ pub enum Component {
 }
 
 impl Component {
-    ghost use Rattle.pubsub_states.specs.Components.{counts_of, IsAmong, parent_of, is_at_or_above, is_reader};
+    ghost use Rattle.pubsub_states.specs.Components.{counts_of, IsAmong, is_at_or_above, is_reader};
     ghost use Rattle.pubsub_states.specs.Names.{name_of};
-
-    /// The component right above it.
-    pub fn parent(self) -> Option<Component>
-        ensures { result ≡ parent_of self }
-    {
-        match self {
-            Component::Root => None,
-            Component::Connection => Some(Component::Root),
-            Component::Group { .. } | Component::ReadGroup { .. } => Some(Component::Connection),
-            Component::Writer { group, .. } => Some(Component::Group { group }),
-            Component::Reader { read_group, .. } => Some(Component::ReadGroup { read_group }),
-        }
-    }
 
     /// Whether it is the other one, or stands above it.
     pub fn is_at_or_above(self, lower: Component) -> bool

@@ -126,8 +126,9 @@ pub fn a_key_frame_that_comes_last_is_held()
 /// reader is one that the journal has as received in the pumps behind it, whole or in chunks, in whichever order. It came likewise
 /// to a secured read group that names the writer's group, whatever the read group has accepted before; to one that names none
 /// where this took each of its datagrams once, and none of a higher token. A reader with no numbering holds it likewise, whole or
-/// in chunks, where no other key frame came behind it. Without security its pumps may begin anywhere behind the turn where the
-/// frame isn't cut, and are all that are behind the closing tick where it is: a chunk that comes again brings nothing.
+/// in chunks, where no other key frame came behind any coming of one of its datagrams. Without security its pumps may begin
+/// anywhere behind the turn where the frame isn't cut, and are all that are behind the closing tick where it is: a chunk that
+/// comes again brings nothing.
 pub fn a_closing_frame_that_came_is_held()
     ensures received { (p : Plan) (r i g w : ℕ) (steps : List Step) (rows : ℕ → ℕ → List DataValue)
         (before : List GroupDeed) (turn : GroupTurn) (own : WriterTurn) → InSession p r i g w steps

@@ -12,8 +12,8 @@ use row_words::{Row, words_belong_by_shape};
 use std::sync::Wait;
 
 impl Cell {
-    /// An entry of number 0 where the terms let nobody else make one: it has seen all entries, so the row is put in their place
-    /// with nothing compared. The answer is the entry's version.
+    /// An entry of number 0 where the terms let nobody else make one: it has seen all entries, so the row is put in place of the
+    /// last one's with nothing compared. The answer is the entry's version. The contract doesn't count the steps.
     pub fn store<R: Wait>(&self, rt: &R, pass: &mut Pass, row: &Row) -> u64
         requires own { IsPassOf self.now pass.old }
         requires author { pass.old.author ≡ Some 0 }
