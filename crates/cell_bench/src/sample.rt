@@ -7,22 +7,23 @@ use row_words::Patch;
 use std::alloc::Global;
 use ua_values::{Kind, Value, fits};
 
-/// Four fields of the kind UInt32.
+/// Four fields of the kind UInt32 and three texts, 103 words in all: a cell of it has 151.
 pub fn meta(alloc: Global) -> Option<Meta>
     ensures { IfSome result (λ meta. meta.quality ≡ false) }
 {
     let mut fields = Vec::new(alloc);
     for name in [b"a", b"b", b"c", b"d"] {
-        let name = Name32::new(name)?;
-        fields
-            .push(Field {
-                name,
-                kind: Kind::UInt32,
-                cap: 0,
-            })
-            .ok()?;
+        fields.push(field(name, Kind::UInt32, 0)?).ok()?;
+    }
+    for name in [b"e", b"f", b"g"] {
+        fields.push(field(name, Kind::String, 256)?).ok()?;
     }
     Meta::new(Name32::new(b"demo")?, fields, 1, 0, false).ok()
+}
+
+fn field(name: &[u8], kind: Kind, cap: u16) -> Option<Field> {
+    let name = Name32::new(name)?;
+    Some(Field { name, kind, cap })
 }
 
 /// The first field is 7.
