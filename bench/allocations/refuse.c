@@ -3,6 +3,7 @@
 #include <errno.h>
 #include <stdio.h>
 #include <stdlib.h>
+#include <sys/syscall.h>
 #include <unistd.h>
 
 void *__libc_malloc(size_t);
@@ -34,7 +35,13 @@ int posix_memalign(void **result, size_t align, size_t size) {
   return *result ? 0 : ENOMEM;
 }
 
-__attribute__((destructor)) static void tell(void) {
+static void tell(void) {
   char text[32];
   if (getenv("COUNT") && write(2, text, snprintf(text, sizeof text, "%ld\n", made)) < 0) return;
+}
+
+// A program that has threads ends by this call.
+void _exit(int status) {
+  tell();
+  for (;;) syscall(SYS_exit_group, status);
 }
