@@ -274,13 +274,6 @@ found_nothing v w x start terms wide is is_start same r =
     let terms_now : w.terms ≡ Some terms = r.has_terms ∙ ap Some terms_is in
     λ i. view (seen_is i) (author_is i) (count_is i) (terms_now i) (olds_is i)
 
-pub same_words : (x y : List ℕ) → false ≡ not (pointwise nat_eq x y) → x ≡ y
-same_words x y e = go (pointwise nat_eq x y) refl e
-  where
-    go : (b : Bool) → pointwise nat_eq x y ≡ b → false ≡ not b → x ≡ y
-    go true k _ = (bytes_decides x y).0 k
-    go false k n = absurd (true≢false (sym n))
-
 -- what each pass has seen is lawful
 pub is_lawful : (p : Inside) → IsFront p → IsLawful (known_by p).terms (known_by p).seen
 is_lawful p f = subst (λ l. IsLawful l (cell_view p.place).seen) (sym (ap terms_in f.has_terms)) f.lawful

@@ -8,6 +8,7 @@ pub mod Models
 pub mod Numbers
 pub mod Retries
 pub mod Sole
+pub mod Parts
 pub mod Spellings
 pub mod Stores
 pub mod Strips

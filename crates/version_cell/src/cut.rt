@@ -1,6 +1,6 @@
 //! Cells of N words that stand for 151 words: those are the N words and zeros behind them. Steps of one width stay functions of
 //! their own, so that a call pays for the locals of its width alone.
-ghost use Rattle.std.specs.Prelude.{◌≡◌, ◌≤◌, ℕ, List, [], ◌∷◌, true, false, nat_eq, take, if◌then◌else◌, IfOk, MatchResult};
+ghost use Rattle.std.specs.Prelude.{◌≡◌, ◌≤◌, ℕ, List, [], ◌∷◌, ◌++◌, true, false, nat_eq, length, take, if◌then◌else◌, IfOk, MatchResult};
 ghost use lib.Pointwise.{pointwise};
 ghost use Rattle.crossbeam_utils.specs.Register.{Turns};
 ghost use Rattle.crossbeam_utils.specs.Seq.{cell_view, IsSamePass};
@@ -12,6 +12,7 @@ use crate::rule::{OneHistory, View};
 use crossbeam_utils::atomic::seq_cell;
 use crossbeam_utils::atomic::seq_cell::RuledSeqCell;
 use crossbeam_utils::rule::Outcome;
+use row_words::Row;
 use std::alloc::{AllocError, Global};
 use std::marker::PhantomData;
 use std::sync::Wait;
@@ -48,20 +49,25 @@ pub(crate) fn ruled_in<const N: usize>(
     Words::<N>::ruled(alloc, beginning(start))
 }
 
-/// One load.
+/// One load. The words that it finds are the head, which is those before a row, and the row.
 #[inline(never)]
 pub(crate) fn load_in<M: Outcome<[u64; 151], View>, R: Wait, const N: usize>(
     rt: &R,
     words: &Words<N>,
     seat: &mut Seat<N>,
-) -> [u64; 151]
+    head: &mut [u64; 26],
+    row: &mut Row,
+)
+    requires wide { 26 ≤ N }
     requires small { N ≤ 151 }
     requires own { seat.old.table_id ≡ words.now.table.shared.table_id }
     requires rule { Turns Kept seat.old.id (cell_view seat.old) (λ x. x) M.then }
     ensures same { IsSamePass seat.old seat.new }
-    ensures told { M.then (cell_view seat.old) result result (cell_view seat.new) }
+    ensures told { let found = head.new ++ row.new.words in
+        M.then (cell_view seat.old) found found (cell_view seat.new) }
 {
-    wide(&words.load_as::<Cut<M, N>, R>(rt, seat))
+    let found = words.load_as::<Cut<M, N>, R>(rt, seat);
+    part(&found, head, row);
 }
 
 /// One exchange, which wins where it finds the words that it expects.
@@ -108,6 +114,19 @@ pub(crate) fn swap_in<M: Outcome<[u64; 151], View>, R: Wait, const N: usize>(
     ensures told { (x : List ℕ) × M.then (cell_view seat.old) x new.now (cell_view seat.new) }
 {
     words.swap_as::<Cut<M, N>, R>(rt, seat, beginning(new));
+}
+
+// The head and the row of the 151 words for which these stand.
+#[inline(always)]
+fn part(words: &[u64], head: &mut [u64; 26], row: &mut Row)
+    requires wide { 26 ≤ length words.now }
+    requires small { length words.now ≤ 151 }
+    ensures { head.new ++ row.new.words ≡ widened (length words.now) words.now }
+{
+    let count = words.len() - 26;
+    head.copy_from_slice(&words[..26]);
+    row.words[..count].copy_from_slice(&words[26..]);
+    row.words[count..].fill(0);
 }
 
 // The 151 words for which these stand.

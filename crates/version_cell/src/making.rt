@@ -1,5 +1,5 @@
 //! The making of a cell, in which the eight numbers are given.
-ghost use Rattle.std.specs.Prelude.{◌≡◌, ℕ, ◌+◌, ◌<◌, ◌≤◌, ◌^◌, ◌++◌, length, sum, Some, None, IfSome, IfOk};
+ghost use Rattle.std.specs.Prelude.{◌≡◌, ℕ, ◌+◌, ◌<◌, ◌≤◌, ◌^◌, ◌++◌, length, sum, true, Some, None, IfSome, IfOk};
 ghost use Rattle.crossbeam_utils.specs.Seq.{cell_view};
 ghost use Rattle.version_cell.specs.Histories.{opening_words};
 ghost use Rattle.version_cell.specs.Views.{copied, joined, settled};
@@ -84,7 +84,9 @@ fn attempt<R: Wait>(
 {
     let start = words_with(0, terms);
     let (words, mut first) = Strip::ruled(alloc, row, &start)?;
-    if load_words(rt, &words, &mut first) != start {
+    let (mut head, mut row) = ([0u64; 26], Row::opening());
+    load_words(rt, &words, &mut first, &mut head, &mut row);
+    if !is_found(&start, &head, &row) {
         return Ok(None);
     }
     let Some(places) = all_enrolled(rt, alloc, &words, terms, &mut first)? else {
@@ -93,6 +95,13 @@ fn attempt<R: Wait>(
     let passes = passes_of(rt, alloc, &words, terms, &mut first, places)?;
     let pass = pass_of(&words, terms, first, None);
     Ok(Some((words, pass, passes)))
+}
+
+// Whether the head and the row are these words.
+fn is_found(words: &[u64; 151], head: &[u64; 26], row: &Row) -> bool
+    ensures { result ≡ true → head.now ++ row.now.words ≡ words.now }
+{
+    head[..] == words[..26] && row.words[..] == words[26..]
 }
 
 // The tokens of the eight numbers, or none where another took one.

@@ -20,9 +20,9 @@ impl Cell {
         ensures version { result ≡ length pass.new.seen }
         ensures lawful { SeesLawful pass.new }
     {
-        let words = load_words(rt, &self.words, &mut pass.place);
-        pass.version = words[0];
-        pass.row = row_in(&words);
+        let mut head = [0u64; 26];
+        load_words(rt, &self.words, &mut pass.place, &mut head, &mut pass.row);
+        pass.version = head[0];
         pass.version
     }
 

@@ -1,5 +1,5 @@
 //! The words of a cell, of one of four widths, and a token of them.
-ghost use Rattle.std.specs.Prelude.{◌≡◌, ◌+◌, ◌≤◌, ℕ, List, [], ◌∷◌, true, false, nat_eq, length, if◌then◌else◌, IfOk, MatchResult};
+ghost use Rattle.std.specs.Prelude.{◌≡◌, ◌+◌, ◌≤◌, ℕ, List, [], ◌∷◌, ◌++◌, true, false, nat_eq, length, if◌then◌else◌, IfOk, MatchResult};
 ghost use lib.Pointwise.{pointwise};
 ghost use Rattle.crossbeam_utils.specs.Register.{Forks, Merges, Turns};
 ghost use Rattle.crossbeam_utils.specs.Seq.{cell_view, IsSamePass};
@@ -12,6 +12,7 @@ use crate::cut::{Seat, Words, exchange_in, load_in, ruled_in, swap_in};
 use crate::rule::View;
 use atomic_table::{Join, Split};
 use crossbeam_utils::rule::Outcome;
+use row_words::Row;
 use std::alloc::{AllocError, Global};
 use std::marker::Model;
 use std::sync::Wait;
@@ -87,22 +88,33 @@ impl Strip {
         }
     }
 
-    /// One load.
+    /// One load. The words that it finds are the head, which is those before a row, and the row.
     pub(crate) fn load_as<M: Outcome<[u64; 151], View>, R: Wait>(
         &self,
         rt: &R,
         place: &mut Place,
-    ) -> [u64; 151]
+        head: &mut [u64; 26],
+        row: &mut Row,
+    )
         requires own { place.old.table_id ≡ table_of self.now }
         requires rule { Turns Kept place.old.id (cell_view place.old) (λ x. x) M.then }
         ensures same { IsSamePass place.old place.new }
-        ensures told { M.then (cell_view place.old) result result (cell_view place.new) }
+        ensures told { let found = head.new ++ row.new.words in
+            M.then (cell_view place.old) found found (cell_view place.new) }
     {
         match (self, &mut place.seats) {
-            (Strip::Narrow(words), Seats::Narrow(seat)) => load_in::<M, R, 34>(rt, words, seat),
-            (Strip::Short(words), Seats::Short(seat)) => load_in::<M, R, 58>(rt, words, seat),
-            (Strip::Long(words), Seats::Long(seat)) => load_in::<M, R, 106>(rt, words, seat),
-            (Strip::Whole(words), Seats::Whole(seat)) => load_in::<M, R, 151>(rt, words, seat),
+            (Strip::Narrow(words), Seats::Narrow(seat)) => {
+                load_in::<M, R, 34>(rt, words, seat, head, row)
+            }
+            (Strip::Short(words), Seats::Short(seat)) => {
+                load_in::<M, R, 58>(rt, words, seat, head, row)
+            }
+            (Strip::Long(words), Seats::Long(seat)) => {
+                load_in::<M, R, 106>(rt, words, seat, head, row)
+            }
+            (Strip::Whole(words), Seats::Whole(seat)) => {
+                load_in::<M, R, 151>(rt, words, seat, head, row)
+            }
             _ => unreachable!(),
         }
     }

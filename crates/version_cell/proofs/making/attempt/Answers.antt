@@ -1,6 +1,6 @@
-use Rattle.std.proofs.Common.{◌∙◌}
+use Rattle.std.proofs.Common.{rules, sym, ◌∙◌, ◌++◌, ℕ, List}
 use Rattle.version_cell.proofs.Keeps.{opens}
-use Rattle.version_cell.proofs.Fronts.{found_nothing, same_words}
+use Rattle.version_cell.proofs.Fronts.{found_nothing}
 use Rattle.version_cell.proofs.Widths.{opening_stands}
 use Rattle.version_cell.proofs.making.attempt.Goals as goal
 
@@ -12,7 +12,10 @@ ruled-requires g c = record {
 }
 
 pub all_enrolled-requires : goal.all_enrolled-requires
-all_enrolled-requires g c = (
-  c.load_words.ensures.same.0 ∙ c.in_ok-words.ensures.name,
-  found_nothing _ _ c.load_words.result c.words_with-start.result c.args.terms.now c.requires.wide c.in_ok-words.ensures.view c.words_with-start.ensures (same_words _ _ c.if-ne.ensures) c.load_words.ensures.reads,
-)
+all_enrolled-requires g c =
+    let head : List ℕ = c.load_words.new.head in
+    let row : List ℕ = c.load_words.new.row.words in
+    let start : List ℕ = c.words_with-start.result in (
+      c.load_words.ensures.same.0 ∙ c.in_ok-words.ensures.name,
+      found_nothing _ _ (head ++ row) start c.args.terms.now c.requires.wide c.in_ok-words.ensures.view c.words_with-start.ensures (c.is_found.ensures c.if-not-is_found.false) c.load_words.ensures.reads,
+    )

@@ -1,4 +1,5 @@
 use Rattle.std.proofs.Common.{subst, ◌∙◌}
+use Rattle.std.specs.Prelude.{◌++◌, List, ℕ}
 use Rattle.crossbeam_utils.specs.Seq.{cell_view}
 use Rattle.version_cell.specs.declared.rule.View.{View}
 use Rattle.version_cell.specs.Steps.{Closes}
@@ -16,4 +17,5 @@ returns-clause-same g c = (c.load_as.ensures.same.0 ∙ c.join_pass.ensures.0.0,
 
 pub returns-clause-closes : goal.returns-clause-closes
 returns-clause-closes g c =
-    (c.load_as.result, subst (λ (v : View). Closes v c.load_as.result c.load_as.result (cell_view c.load_as.new.place)) c.join_pass.ensures.1 c.load_as.ensures.told)
+    let found : List ℕ = c.load_as.new.head ++ c.load_as.new.row.words in
+    (found, subst (λ (v : View). Closes v found found (cell_view c.load_as.new.place)) c.join_pass.ensures.1 c.load_as.ensures.told)

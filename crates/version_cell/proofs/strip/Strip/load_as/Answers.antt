@@ -16,7 +16,10 @@ load_in-requires g c =
             search rules,
             (
               search rules,
-              (own_here _ (seats.Narrow a.seat) _ a.is-1 c.place.view_is _ (strip.Narrow a.words) a.is-0 c.requires.own, turns_here _ (seats.Narrow a.seat) _ a.is-1 c.place.view_is (λ x. x) g.M.Outcome.then c.requires.rule),
+              (
+                search rules,
+                (own_here _ (seats.Narrow a.seat) _ a.is-1 c.place.view_is _ (strip.Narrow a.words) a.is-0 c.requires.own, turns_here _ (seats.Narrow a.seat) _ a.is-1 c.place.view_is (λ x. x) g.M.Outcome.then c.requires.rule),
+              ),
             ),
           ),
         ),
@@ -35,7 +38,10 @@ load_in-requires-in-Short-Short g c =
             search rules,
             (
               search rules,
-              (own_here _ (seats.Short a.seat) _ a.is-1 c.place.view_is _ (strip.Short a.words) a.is-0 c.requires.own, turns_here _ (seats.Short a.seat) _ a.is-1 c.place.view_is (λ x. x) g.M.Outcome.then c.requires.rule),
+              (
+                search rules,
+                (own_here _ (seats.Short a.seat) _ a.is-1 c.place.view_is _ (strip.Short a.words) a.is-0 c.requires.own, turns_here _ (seats.Short a.seat) _ a.is-1 c.place.view_is (λ x. x) g.M.Outcome.then c.requires.rule),
+              ),
             ),
           ),
         ),
@@ -54,7 +60,10 @@ load_in-requires-in-Long-Long g c =
             search rules,
             (
               search rules,
-              (own_here _ (seats.Long a.seat) _ a.is-1 c.place.view_is _ (strip.Long a.words) a.is-0 c.requires.own, turns_here _ (seats.Long a.seat) _ a.is-1 c.place.view_is (λ x. x) g.M.Outcome.then c.requires.rule),
+              (
+                search rules,
+                (own_here _ (seats.Long a.seat) _ a.is-1 c.place.view_is _ (strip.Long a.words) a.is-0 c.requires.own, turns_here _ (seats.Long a.seat) _ a.is-1 c.place.view_is (λ x. x) g.M.Outcome.then c.requires.rule),
+              ),
             ),
           ),
         ),
@@ -73,7 +82,10 @@ load_in-requires-in-Whole-Whole g c =
             search rules,
             (
               search rules,
-              (own_here _ (seats.Whole a.seat) _ a.is-1 c.place.view_is _ (strip.Whole a.words) a.is-0 c.requires.own, turns_here _ (seats.Whole a.seat) _ a.is-1 c.place.view_is (λ x. x) g.M.Outcome.then c.requires.rule),
+              (
+                search rules,
+                (own_here _ (seats.Whole a.seat) _ a.is-1 c.place.view_is _ (strip.Whole a.words) a.is-0 c.requires.own, turns_here _ (seats.Whole a.seat) _ a.is-1 c.place.view_is (λ x. x) g.M.Outcome.then c.requires.rule),
+              ),
             ),
           ),
         ),
