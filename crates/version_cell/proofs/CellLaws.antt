@@ -14,6 +14,7 @@ use Rattle.version_cell.specs.declared.pass.Pass.TheInside.{Inside}
 use Rattle.version_cell.specs.declared.rule.Entry.{Entry}
 use Rattle.version_cell.specs.Histories.{last_words, opening_words, row_after}
 use Rattle.version_cell.specs.Terms.{IsEntry, IsLawful, shape_in}
+use Rattle.version_cell.specs.Rule.{spell}
 use Rattle.version_cell.specs.Known.{Known}
 use Rattle.version_cell.specs.Widths.{row_width}
 use Rattle.version_cell.specs.Strips.{table_of}
@@ -25,6 +26,10 @@ use Rattle.version_cell.specs.Passes.{IsPassOf}
 pub opening_is : (words : List ℕ) → words ≡ replicate 125 0 → words ≡ opening_words
 unfolding opening_words
 opening_is words e = e
+
+-- the words of a cell with no entries
+pub spelled_anew : (row : List ℕ) (given : ℕ) (terms words : List ℕ) → row ≡ replicate 125 0 → words ≡ spell 0 given row terms → words ≡ spell 0 given opening_words terms
+spelled_anew row given terms words zeros is = is ∙ ap (λ l. spell 0 given l terms) (opening_is row zeros)
 
 pub terms_here : (c : CellInside) → HasTerms c → terms_of (cell_by c).quotas (cell_by c).meta ≡ c.terms
 terms_here c h = ap (λ l. take 8 c.terms ++ l) (sym h.shape) ∙ take-append-drop 8 c.terms

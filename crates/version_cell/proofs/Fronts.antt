@@ -1,8 +1,8 @@
 -- The fields of a pass after each step.
-use Rattle.std.proofs.Common.{◌≡◌, ℕ, zero, suc, ◌+◌, ◌<◌, ◌≤◌, Bool, true, false, List, [], ◌∷◌, ◌++◌, length, take, drop, zero-le, refl, sym, ap, ◌∙◌, subst, arith, length-append, add-one, nat_eq, true≢false}
-use Rattle.std.specs.Prelude.{Some, None, if◌then◌else◌, not, max, sum, slice_index, slice_range}
+use Rattle.std.proofs.Common.{◌≡◌, ℕ, zero, suc, ◌+◌, ◌<◌, ◌≤◌, true, false, List, [], ◌∷◌, ◌++◌, length, take, drop, zero-le, refl, sym, ap, ◌∙◌, subst, arith, length-append, add-one, nat_eq, true≢false}
+use Rattle.std.specs.Prelude.{Some, None, if◌then◌else◌, max, sum, slice_index, slice_range}
 use Rattle.std.specs.List.{All}
-use Rattle.std.proofs.lemmas.List.{append_cancel_right, nil_from_length}
+use Rattle.std.proofs.lemmas.List.{append_cancel_right, nil_from_length, take_all}
 use Rattle.std.proofs.lemmas.List.Elements.{All-nil, All-tail, All-head, All-push, All-weaker}
 use Rattle.std.proofs.lemmas.List.Sums.{sum_by_more}
 use Rattle.crossbeam_utils.specs.Seq.{cell_view, IsSamePass}
@@ -261,6 +261,12 @@ front_at_first p terms wide is ev er em small = record {
 }
 
 -- a first load that finds the words of a cell with no entries
+-- the words of a cell with no entries are 151
+pub anew_all : (words terms first : List ℕ) → length terms ≡ 24 → words ≡ spell 0 0 opening_words terms → first ≡ take 151 words → first ≡ words
+anew_all words terms first wide is taken =
+    let all : length words ≡ 151 = ap length is ∙ omega (arith, length-append terms opening_words, wide, opening_wide) in
+    taken ∙ take_all 151 words (omega (arith, all))
+
 pub found_nothing : (v w : View) (x start terms : List ℕ) → length terms ≡ 24 → v ≡ blank → start ≡ spell 0 0 opening_words terms → x ≡ start → Reads v x x w → w ≡ fresh None 0 terms
 found_nothing v w x start terms wide is is_start same r =
     let spelled : spell (length w.seen) w.count (row_after w.seen) r.terms ≡ spell 0 0 opening_words terms = sym r.spelled ∙ same ∙ is_start in

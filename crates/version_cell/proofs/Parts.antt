@@ -1,5 +1,5 @@
 -- A head and a row, of words behind which those that they stand for are 0.
-use Rattle.std.proofs.Common.{◌≡◌, ℕ, ◌+◌, ◌-◌, ◌≤◌, List, [], ◌∷◌, ◌++◌, length, take, drop, refl, sym, ap, ◌∙◌, arith, append_assoc, length-append, length-drop, length-take-le}
+use Rattle.std.proofs.Common.{◌≡◌, ℕ, ◌-◌, ◌≤◌, List, [], ◌∷◌, ◌++◌, length, take, drop, refl, sym, ap, ◌∙◌, arith, append_assoc, length-append, length-drop, length-take-le}
 use Rattle.std.specs.Prelude.{replicate, slice_index, slice_range}
 use Rattle.std.proofs.lemmas.List.{append-nil, drop_at, nil_from_length, take_all, take_at, take-append-drop}
 use borrow.Rule.Slice.PartMut.{mid_of, post_of, put_mid}

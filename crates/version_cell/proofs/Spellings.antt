@@ -1,17 +1,28 @@
 -- The parts of a spelling.
-use Rattle.std.proofs.Common.{◌≡◌, ℕ, List, ◌∷◌, ◌++◌, length, take, drop, refl, sym, ap, ◌∙◌, arith, length-append, length-drop}
-use Rattle.std.specs.Prelude.{slice_range}
-use Rattle.std.proofs.lemmas.List.{append-nil, nil_from_length, take_all, take_at, drop_at, append_cancel_left}
-use borrow.Rule.Slice.PartMut.{post_of}
+use Rattle.std.proofs.Common.{◌≡◌, ℕ, zero, suc, ◌+◌, ◌-◌, ◌≤◌, List, [], ◌∷◌, ◌++◌, length, take, drop, refl, sym, ap, ◌∙◌, arith, length-append, length-drop, length-take-le}
+use Rattle.std.specs.Prelude.{replicate, slice_range, slice_set}
+use Rattle.std.proofs.Math.Seq.{take-append-add}
+use Rattle.std.proofs.lemmas.List.{append-nil, length-replicate, nil_from_length, take_all, take_at, drop_at, append_cancel_left}
+use borrow.Rule.Slice.PartMut.{mid_of, post_of, put_mid}
 use Rattle.version_cell.specs.Rule.{spell}
 
-pub put_terms_and_row : (v c : ℕ) (row terms z row' terms' : List ℕ) → row' ≡ row → terms' ≡ terms → length terms ≡ 24 → length z ≡ 125
-    → v ∷ c ∷ (take 24 (terms' ++ z) ++ (row' ++ post_of {X = ℕ} 26 125 (v ∷ c ∷ (terms' ++ z)))) ≡ spell v c row terms
-put_terms_and_row v c row terms z row' terms' e d wide few =
-    let front : take 24 (terms' ++ z) ≡ terms = take_at terms' z 24 (ap length d ∙ wide) ∙ d in
-    let behind : length (post_of {X = ℕ} 26 125 (v ∷ c ∷ (terms' ++ z))) ≡ 0 = length-drop 125 (drop 24 (terms' ++ z)) ∙ omega (arith, length-drop 24 (terms' ++ z), length-append terms' z, ap length d) in
-    let none = nil_from_length (post_of {X = ℕ} 26 125 (v ∷ c ∷ (terms' ++ z))) behind in
-    λ i. v ∷ c ∷ (front i ++ ((ap (λ l. row' ++ l) none ∙ append-nil row' ∙ e) i))
+-- the first words of a spelling, put in place of zeros one after another
+pub put_first : (n v c : ℕ) (row terms row' terms' : List ℕ) → 26 ≤ n → n ≤ 151 → terms' ≡ terms → row' ≡ take (n - 26) row
+    → (let zeros = slice_set (slice_set (replicate n 0) 0 v) 1 c in
+    let begun = put_mid 2 24 zeros terms' in length terms' ≡ length (mid_of 2 24 zeros) → put_mid 26 (length begun - 26) begun row' ≡ take n (spell v c row terms))
+put_first zero v c row terms row' terms' wide small e d few = absurd (omega (arith, wide))
+put_first (suc zero) v c row terms row' terms' wide small e d few = absurd (omega (arith, wide))
+put_first (suc (suc m)) v c row terms row' terms' wide small e d few =
+    let zeros : List ℕ = replicate m 0 in
+    let begun : List ℕ = v ∷ c ∷ (terms' ++ drop 24 zeros) in
+    let more : ℕ = suc (suc m) - 26 in
+    let long : length terms' ≡ 24 = few ∙ length-take-le 24 zeros (omega (arith, length-replicate {A = ℕ} m 0, wide)) in
+    let terms_long : length terms ≡ 24 = ap length (sym e) ∙ long in
+    let front : take 24 (terms' ++ drop 24 zeros) ≡ terms = take_at terms' (drop 24 zeros) 24 long ∙ e in
+    let behind : length (post_of {X = ℕ} 26 (length begun - 26) begun) ≡ 0 = length-drop (length begun - 26) (drop 26 begun) ∙ omega (arith, length-drop 26 begun) in
+    let none : post_of {X = ℕ} 26 (length begun - 26) begun ≡ [] = nil_from_length (post_of {X = ℕ} 26 (length begun - 26) begun) behind in
+    (λ i. v ∷ c ∷ (front i ++ ((ap (λ l. row' ++ l) none ∙ append-nil row' ∙ d) i)))
+    ∙ ap (λ (l : List ℕ). v ∷ c ∷ l) (sym (ap (λ (k : ℕ). take k (terms ++ row)) (let is : m ≡ length terms + more = omega (arith, terms_long, wide) in is) ∙ take-append-add terms row more))
 
 pub row_of_spell : (v c : ℕ) (row terms : List ℕ) → length terms ≡ 24 → length row ≡ 125 → slice_range (spell v c row terms) 26 151 ≡ row
 row_of_spell v c row terms few wide = ap (take 125) (drop_at terms row 24 few) ∙ take_all 125 row (omega (arith, wide))

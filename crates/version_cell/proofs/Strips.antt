@@ -1,10 +1,9 @@
 -- Words that stand for 151, and tokens of one width.
-use Rattle.std.proofs.Common.{◌≡◌, ℕ, ◌+◌, ◌-◌, ◌≤◌, Bool, true, false, List, [], ◌∷◌, ◌++◌, length, take, drop, set, refl, sym, ap, ◌∙◌, subst, arith, nat_eq, true≢false, append_assoc}
+use Rattle.std.proofs.Common.{◌≡◌, ℕ, ◌+◌, ◌-◌, ◌≤◌, Bool, true, false, List, ◌++◌, drop, set, refl, sym, ap, ◌∙◌, subst, arith, nat_eq, true≢false}
 use Rattle.std.specs.Prelude.{if◌then◌else◌, replicate}
 use Rattle.std.proofs.lemmas.List.{append_cancel_right, drop-replicate}
 use lib.Pointwise.{pointwise, bytes_decides}
-use Rattle.crossbeam_utils.specs.Register.{Forks, Merges, Turns}
-use Rattle.atomic_table.specs.Seated.{TableId}
+use Rattle.crossbeam_utils.specs.Register.{Forks, Turns}
 use Rattle.atomic_table.specs.declared.shared.Seat.{Seat}
 use Rattle.crossbeam_utils.specs.Seq.{cell_view}
 use Rattle.crossbeam_utils.specs.declared.atomic.seq_cell.Doing.{Doing}

@@ -1,15 +1,15 @@
 -- The words behind those that a cell keeps are 0.
-use Rattle.std.proofs.Common.{◌≡◌, ℕ, zero, suc, ◌+◌, ◌-◌, ◌*◌, ◌^◌, ◌≤◌, Bool, true, false, List, [], ◌∷◌, ◌++◌, length, take, drop, map, refl, sym, ap, ◌∙◌, subst, arith, append_assoc, length-append}
+use Rattle.std.proofs.Common.{◌≡◌, ℕ, zero, suc, ◌+◌, ◌-◌, ◌^◌, ◌≤◌, Bool, true, false, List, [], ◌∷◌, ◌++◌, length, take, refl, sym, ap, ◌∙◌, subst, arith, append_assoc, length-append}
 use Rattle.std.specs.Prelude.{if◌then◌else◌, replicate}
 use Rattle.std.proofs.Math.Seq.{take-append-add}
-use Rattle.std.proofs.lemmas.List.{length-replicate, replicate-append-replicate, take-replicate}
+use Rattle.std.proofs.lemmas.List.{replicate-append-replicate, take-replicate}
 use Rattle.dataset_meta.specs.declared.field.Field.{Field}
 use Rattle.dataset_meta.specs.DataValues.{DataValue}
-use Rattle.dataset_meta.specs.Metas.{IsMeta, MetaData, status_words, value_words, words_of}
+use Rattle.dataset_meta.specs.Metas.{status_words, value_words, words_of}
 use Rattle.dataset_meta.specs.Rows.{IsRowOf}
 use Rattle.row_words.specs.Digits.{grouped}
 use Rattle.row_words.specs.Belonging.{Belongs, row_in, spelled_parts, spelled_row, spelled_statuses, spelled_values}
-use Rattle.row_words.proofs.RowLaws.{behind, length-spelled_parts, length-spelled_statuses, length-spelled_values, spelled_row-behind, statuses}
+use Rattle.row_words.proofs.RowLaws.{behind, length-spelled_parts, length-spelled_values, spelled_row-behind, statuses}
 use Rattle.version_cell.specs.declared.cell.Cell.TheInside.{Inside as CellInside}
 use Rattle.version_cell.specs.declared.strip.Strip.{Strip}
 use Rattle.version_cell.specs.Histories.{opening_words}

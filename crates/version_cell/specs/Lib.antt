@@ -4,6 +4,7 @@ pub mod Terms
 pub mod Views
 pub mod Widths
 pub mod Rule
+pub mod Spellings
 pub mod Steps
 pub mod Known
 pub mod Front

@@ -7,8 +7,10 @@ ghost use Rattle.crossbeam_utils.specs.Seq.{cell_view, IsSamePass};
 ghost use Rattle.version_cell.specs.Widths.{widened, Stands};
 ghost use Rattle.version_cell.specs.Views.{blank};
 ghost use Rattle.version_cell.specs.Rule.{Kept};
+ghost use Rattle.version_cell.specs.Spellings.{words_of};
 
 use crate::rule::{OneHistory, View};
+use crate::spelling::Spelling;
 use crossbeam_utils::atomic::seq_cell;
 use crossbeam_utils::atomic::seq_cell::RuledSeqCell;
 use crossbeam_utils::rule::Outcome;
@@ -38,15 +40,16 @@ pub(crate) type Seat<const N: usize> = seq_cell::Pass<[u64; N], View>;
 #[inline(never)]
 pub(crate) fn ruled_in<const N: usize>(
     alloc: Global,
-    start: &[u64; 151],
+    start: &Spelling,
 ) -> Result<(Words<N>, Seat<N>), AllocError>
+    requires wide { 26 ≤ N }
     requires small { N ≤ 151 }
-    requires start { Stands N start.now }
-    requires rule { Kept start.now (blank ∷ []) }
+    requires start { Stands N (words_of start.now) }
+    requires rule { Kept (words_of start.now) (blank ∷ []) }
     ensures name { IfOk result (λ made. made.1.table_id ≡ made.0.table.shared.table_id) }
     ensures view { IfOk result (λ made. cell_view made.1 ≡ blank) }
 {
-    Words::<N>::ruled(alloc, beginning(start))
+    Words::<N>::ruled(alloc, start.first())
 }
 
 /// One load. The words that it finds are the head, which is those before a row, and the row.
@@ -76,23 +79,24 @@ pub(crate) fn exchange_in<M: Outcome<[u64; 151], View>, R: Wait, const N: usize>
     rt: &R,
     words: &Words<N>,
     seat: &mut Seat<N>,
-    current: &[u64; 151],
-    new: &[u64; 151],
+    current: &Spelling,
+    new: &Spelling,
 ) -> Result<(), [u64; 151]>
+    requires wide { 26 ≤ N }
     requires small { N ≤ 151 }
-    requires current { Stands N current.now }
-    requires new { Stands N new.now }
+    requires current { Stands N (words_of current.now) }
+    requires new { Stands N (words_of new.now) }
     requires own { seat.old.table_id ≡ words.now.table.shared.table_id }
     requires rule { Turns Kept seat.old.id (cell_view seat.old)
-        (λ x. if pointwise nat_eq x current.now then new.now else x) M.then }
+        (λ x. if pointwise nat_eq x (words_of current.now) then words_of new.now else x) M.then }
     ensures same { IsSamePass seat.old seat.new }
     ensures told { MatchResult result
-        (λ _. (x : List ℕ) × (pointwise nat_eq x current.now ≡ true)
-        × M.then (cell_view seat.old) x new.now (cell_view seat.new))
-        (λ x. (pointwise nat_eq x current.now ≡ false)
+        (λ _. (x : List ℕ) × (pointwise nat_eq x (words_of current.now) ≡ true)
+        × M.then (cell_view seat.old) x (words_of new.now) (cell_view seat.new))
+        (λ x. (pointwise nat_eq x (words_of current.now) ≡ false)
         × M.then (cell_view seat.old) x x (cell_view seat.new)) }
 {
-    match words.compare_exchange_as::<Cut<M, N>, R>(rt, seat, beginning(current), beginning(new)) {
+    match words.compare_exchange_as::<Cut<M, N>, R>(rt, seat, current.first(), new.first()) {
         Ok(_) => Ok(()),
         Err(found) => Err(wide(&found)),
     }
@@ -104,16 +108,18 @@ pub(crate) fn swap_in<M: Outcome<[u64; 151], View>, R: Wait, const N: usize>(
     rt: &R,
     words: &Words<N>,
     seat: &mut Seat<N>,
-    new: &[u64; 151],
+    new: &Spelling,
 )
+    requires wide { 26 ≤ N }
     requires small { N ≤ 151 }
-    requires new { Stands N new.now }
+    requires new { Stands N (words_of new.now) }
     requires own { seat.old.table_id ≡ words.now.table.shared.table_id }
-    requires rule { Turns Kept seat.old.id (cell_view seat.old) (λ _. new.now) M.then }
+    requires rule { Turns Kept seat.old.id (cell_view seat.old) (λ _. words_of new.now) M.then }
     ensures same { IsSamePass seat.old seat.new }
-    ensures told { (x : List ℕ) × M.then (cell_view seat.old) x new.now (cell_view seat.new) }
+    ensures told { (x : List ℕ)
+        × M.then (cell_view seat.old) x (words_of new.now) (cell_view seat.new) }
 {
-    words.swap_as::<Cut<M, N>, R>(rt, seat, beginning(new));
+    words.swap_as::<Cut<M, N>, R>(rt, seat, new.first());
 }
 
 // The head and the row of the 151 words for which these stand.
@@ -138,14 +144,4 @@ fn wide<const N: usize>(words: &[u64; N]) -> [u64; 151]
     let mut wide = [0u64; 151];
     wide[..N].copy_from_slice(words);
     wide
-}
-
-#[inline(always)]
-fn beginning<const N: usize>(words: &[u64; 151]) -> [u64; N]
-    requires { N ≤ 151 }
-    ensures { result ≡ take N words.now }
-{
-    let mut beginning = [0u64; N];
-    beginning.copy_from_slice(&words[..N]);
-    beginning
 }

@@ -1,9 +1,7 @@
 //! The making of a cell, in which the eight numbers are given.
 ghost use Rattle.std.specs.Prelude.{◌≡◌, ℕ, ◌+◌, ◌<◌, ◌≤◌, ◌^◌, ◌++◌, length, sum, true, Some, None, IfSome, IfOk};
 ghost use Rattle.crossbeam_utils.specs.Seq.{cell_view};
-ghost use Rattle.version_cell.specs.Histories.{opening_words};
 ghost use Rattle.version_cell.specs.Views.{copied, joined, settled};
-ghost use Rattle.version_cell.specs.Rule.{spell};
 ghost use Rattle.version_cell.specs.Cells.{IsCell};
 ghost use Rattle.version_cell.specs.Passes.{AreNumbered, new_pass};
 ghost use Rattle.version_cell.specs.Strips.{table_of};
@@ -82,11 +80,12 @@ fn attempt<R: Wait>(
         × (length made.2.items ≡ 8)
         × AreNew (table_of made.0) terms.now made.2.items)) }
 {
-    let start = words_with(0, terms);
+    let opening = Row::opening();
+    let start = spelled(0, 0, &opening, terms);
     let (words, mut first) = Strip::ruled(alloc, row, &start)?;
-    let (mut head, mut row) = ([0u64; 26], Row::opening());
+    let (mut head, mut row) = ([0u64; 26], opening);
     load_words(rt, &words, &mut first, &mut head, &mut row);
-    if !is_found(&start, &head, &row) {
+    if !is_found(&start.first(), &head, &row) {
         return Ok(None);
     }
     let Some(places) = all_enrolled(rt, alloc, &words, terms, &mut first)? else {
@@ -143,8 +142,9 @@ fn enrolled<R: Wait>(
         × IsFresh id terms.entry.now None count first.new) }
 {
     let mut place = words.split_pass::<Copies>(first);
-    let front = words_with(number, terms);
-    let next = words_with(number + 1, terms);
+    let opening = Row::opening();
+    let front = spelled(0, number, &opening, terms);
+    let next = spelled(0, number + 1, &opening, terms);
     let Ok(_) = words.compare_exchange_as::<Enrolling, R>(rt, &mut place, &front, &next) else {
         return None;
     };
@@ -208,11 +208,4 @@ fn pass_of(words: &Strip, terms: &[u64; 24], place: Place, author: Option<u8>) -
         author,
         made: 0,
     }
-}
-
-// The words of a cell with no entries.
-fn words_with(count: u64, terms: &[u64; 24]) -> [u64; 151]
-    ensures { result ≡ spell 0 count opening_words terms.now }
-{
-    spelled(0, count, &Row::opening(), terms)
 }

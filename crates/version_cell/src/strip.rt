@@ -5,11 +5,13 @@ ghost use Rattle.crossbeam_utils.specs.Register.{Forks, Merges, Turns};
 ghost use Rattle.crossbeam_utils.specs.Seq.{cell_view, IsSamePass};
 ghost use Rattle.version_cell.specs.Views.{blank};
 ghost use Rattle.version_cell.specs.Rule.{Kept};
+ghost use Rattle.version_cell.specs.Spellings.{words_of};
 ghost use Rattle.version_cell.specs.Widths.{Stands, StandsIn};
 ghost use Rattle.version_cell.specs.Strips.{table_of};
 
 use crate::cut::{Seat, Words, exchange_in, load_in, ruled_in, swap_in};
 use crate::rule::View;
+use crate::spelling::Spelling;
 use atomic_table::{Join, Split};
 use crossbeam_utils::rule::Outcome;
 use row_words::Row;
@@ -60,11 +62,12 @@ impl Strip {
     pub(crate) fn ruled(
         alloc: Global,
         row: u32,
-        start: &[u64; 151],
+        start: &Spelling,
     ) -> Result<(Strip, Place), AllocError>
         requires narrow { row ≤ 125 }
-        requires start { (count : ℕ) → 26 ≤ count → count ≤ 151 → Stands count start.now }
-        requires rule { Kept start.now (blank ∷ []) }
+        requires start { (count : ℕ) → 26 ≤ count → count ≤ 151
+            → Stands count (words_of start.now) }
+        requires rule { Kept (words_of start.now) (blank ∷ []) }
         ensures name { IfOk result (λ made. made.1.table_id ≡ table_of made.0) }
         ensures view { IfOk result (λ made. cell_view made.1 ≡ blank) }
         ensures room { IfOk result (λ made. row + 27 ≤ (table_of made.0).words) }
@@ -124,19 +127,20 @@ impl Strip {
         &self,
         rt: &R,
         place: &mut Place,
-        current: &[u64; 151],
-        new: &[u64; 151],
+        current: &Spelling,
+        new: &Spelling,
     ) -> Result<(), [u64; 151]>
         requires own { place.old.table_id ≡ table_of self.now }
-        requires current { StandsIn (table_of self.now) current.now }
-        requires new { StandsIn (table_of self.now) new.now }
+        requires current { StandsIn (table_of self.now) (words_of current.now) }
+        requires new { StandsIn (table_of self.now) (words_of new.now) }
         requires rule { Turns Kept place.old.id (cell_view place.old)
-            (λ x. if pointwise nat_eq x current.now then new.now else x) M.then }
+            (λ x. if pointwise nat_eq x (words_of current.now) then words_of new.now else x)
+            M.then }
         ensures same { IsSamePass place.old place.new }
         ensures told { MatchResult result
-            (λ _. (x : List ℕ) × (pointwise nat_eq x current.now ≡ true)
-            × M.then (cell_view place.old) x new.now (cell_view place.new))
-            (λ x. (pointwise nat_eq x current.now ≡ false)
+            (λ _. (x : List ℕ) × (pointwise nat_eq x (words_of current.now) ≡ true)
+            × M.then (cell_view place.old) x (words_of new.now) (cell_view place.new))
+            (λ x. (pointwise nat_eq x (words_of current.now) ≡ false)
             × M.then (cell_view place.old) x x (cell_view place.new)) }
     {
         match (self, &mut place.seats) {
@@ -161,13 +165,15 @@ impl Strip {
         &self,
         rt: &R,
         place: &mut Place,
-        new: &[u64; 151],
+        new: &Spelling,
     )
         requires own { place.old.table_id ≡ table_of self.now }
-        requires new { StandsIn (table_of self.now) new.now }
-        requires rule { Turns Kept place.old.id (cell_view place.old) (λ _. new.now) M.then }
+        requires new { StandsIn (table_of self.now) (words_of new.now) }
+        requires rule { Turns Kept place.old.id (cell_view place.old) (λ _. words_of new.now)
+            M.then }
         ensures same { IsSamePass place.old place.new }
-        ensures told { (x : List ℕ) × M.then (cell_view place.old) x new.now (cell_view place.new) }
+        ensures told { (x : List ℕ)
+            × M.then (cell_view place.old) x (words_of new.now) (cell_view place.new) }
     {
         match (self, &mut place.seats) {
             (Strip::Narrow(words), Seats::Narrow(seat)) => {

@@ -3,6 +3,7 @@ use Rattle.std.specs.Prelude.{if◌then◌else◌}
 use lib.Pointwise.{pointwise}
 use Rattle.version_cell.specs.declared.strip.Strip.TheVariants as strip
 use Rattle.version_cell.specs.declared.strip.Seats.TheVariants as seats
+use Rattle.version_cell.specs.Spellings.{words_of}
 use Rattle.version_cell.proofs.Strips.{own_here, stands_here, turns_here}
 use Rattle.version_cell.proofs.strip.Strip.compare_exchange_as.Goals as goal
 
@@ -18,7 +19,10 @@ exchange_in-requires g c =
             search rules,
             (
               search rules,
-              (stands_here _ (strip.Narrow a.words) 34 c.args.current.now a.is-0 a.words.wide.0 c.requires.current, (stands_here _ (strip.Narrow a.words) 34 c.args.new.now a.is-0 a.words.wide.0 c.requires.new, (own_here _ (seats.Narrow a.seat) _ a.is-1 c.place.view_is _ (strip.Narrow a.words) a.is-0 c.requires.own, turns_here _ (seats.Narrow a.seat) _ a.is-1 c.place.view_is (λ x. if pointwise nat_eq x c.args.current.now then c.args.new.now else x) g.M.Outcome.then c.requires.rule))),
+              (
+                search rules,
+                (stands_here _ (strip.Narrow a.words) 34 (words_of c.args.current.now) a.is-0 a.words.wide.0 c.requires.current, (stands_here _ (strip.Narrow a.words) 34 (words_of c.args.new.now) a.is-0 a.words.wide.0 c.requires.new, (own_here _ (seats.Narrow a.seat) _ a.is-1 c.place.view_is _ (strip.Narrow a.words) a.is-0 c.requires.own, turns_here _ (seats.Narrow a.seat) _ a.is-1 c.place.view_is (λ x. if pointwise nat_eq x (words_of c.args.current.now) then (words_of c.args.new.now) else x) g.M.Outcome.then c.requires.rule))),
+              ),
             ),
           ),
         ),
@@ -37,7 +41,10 @@ exchange_in-requires-in-Short-Short g c =
             search rules,
             (
               search rules,
-              (stands_here _ (strip.Short a.words) 58 c.args.current.now a.is-0 a.words.wide.0 c.requires.current, (stands_here _ (strip.Short a.words) 58 c.args.new.now a.is-0 a.words.wide.0 c.requires.new, (own_here _ (seats.Short a.seat) _ a.is-1 c.place.view_is _ (strip.Short a.words) a.is-0 c.requires.own, turns_here _ (seats.Short a.seat) _ a.is-1 c.place.view_is (λ x. if pointwise nat_eq x c.args.current.now then c.args.new.now else x) g.M.Outcome.then c.requires.rule))),
+              (
+                search rules,
+                (stands_here _ (strip.Short a.words) 58 (words_of c.args.current.now) a.is-0 a.words.wide.0 c.requires.current, (stands_here _ (strip.Short a.words) 58 (words_of c.args.new.now) a.is-0 a.words.wide.0 c.requires.new, (own_here _ (seats.Short a.seat) _ a.is-1 c.place.view_is _ (strip.Short a.words) a.is-0 c.requires.own, turns_here _ (seats.Short a.seat) _ a.is-1 c.place.view_is (λ x. if pointwise nat_eq x (words_of c.args.current.now) then (words_of c.args.new.now) else x) g.M.Outcome.then c.requires.rule))),
+              ),
             ),
           ),
         ),
@@ -56,7 +63,10 @@ exchange_in-requires-in-Long-Long g c =
             search rules,
             (
               search rules,
-              (stands_here _ (strip.Long a.words) 106 c.args.current.now a.is-0 a.words.wide.0 c.requires.current, (stands_here _ (strip.Long a.words) 106 c.args.new.now a.is-0 a.words.wide.0 c.requires.new, (own_here _ (seats.Long a.seat) _ a.is-1 c.place.view_is _ (strip.Long a.words) a.is-0 c.requires.own, turns_here _ (seats.Long a.seat) _ a.is-1 c.place.view_is (λ x. if pointwise nat_eq x c.args.current.now then c.args.new.now else x) g.M.Outcome.then c.requires.rule))),
+              (
+                search rules,
+                (stands_here _ (strip.Long a.words) 106 (words_of c.args.current.now) a.is-0 a.words.wide.0 c.requires.current, (stands_here _ (strip.Long a.words) 106 (words_of c.args.new.now) a.is-0 a.words.wide.0 c.requires.new, (own_here _ (seats.Long a.seat) _ a.is-1 c.place.view_is _ (strip.Long a.words) a.is-0 c.requires.own, turns_here _ (seats.Long a.seat) _ a.is-1 c.place.view_is (λ x. if pointwise nat_eq x (words_of c.args.current.now) then (words_of c.args.new.now) else x) g.M.Outcome.then c.requires.rule))),
+              ),
             ),
           ),
         ),
@@ -75,7 +85,10 @@ exchange_in-requires-in-Whole-Whole g c =
             search rules,
             (
               search rules,
-              (stands_here _ (strip.Whole a.words) 151 c.args.current.now a.is-0 a.words.wide.0 c.requires.current, (stands_here _ (strip.Whole a.words) 151 c.args.new.now a.is-0 a.words.wide.0 c.requires.new, (own_here _ (seats.Whole a.seat) _ a.is-1 c.place.view_is _ (strip.Whole a.words) a.is-0 c.requires.own, turns_here _ (seats.Whole a.seat) _ a.is-1 c.place.view_is (λ x. if pointwise nat_eq x c.args.current.now then c.args.new.now else x) g.M.Outcome.then c.requires.rule))),
+              (
+                search rules,
+                (stands_here _ (strip.Whole a.words) 151 (words_of c.args.current.now) a.is-0 a.words.wide.0 c.requires.current, (stands_here _ (strip.Whole a.words) 151 (words_of c.args.new.now) a.is-0 a.words.wide.0 c.requires.new, (own_here _ (seats.Whole a.seat) _ a.is-1 c.place.view_is _ (strip.Whole a.words) a.is-0 c.requires.own, turns_here _ (seats.Whole a.seat) _ a.is-1 c.place.view_is (λ x. if pointwise nat_eq x (words_of c.args.current.now) then (words_of c.args.new.now) else x) g.M.Outcome.then c.requires.rule))),
+              ),
             ),
           ),
         ),

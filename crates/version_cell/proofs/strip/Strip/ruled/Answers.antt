@@ -12,7 +12,10 @@ ruled_in-requires c = (
         search rules,
         (
           search rules,
-          (c.requires.start 34 (omega arith) (omega arith), c.requires.rule),
+          (
+            search rules,
+            (c.requires.start 34 (omega arith) (omega arith), c.requires.rule),
+          ),
         ),
       ),
     ),
@@ -30,7 +33,10 @@ ruled_in-requires-then-row-le32 c = (
         search rules,
         (
           search rules,
-          (c.requires.start 58 (omega arith) (omega arith), c.requires.rule),
+          (
+            search rules,
+            (c.requires.start 58 (omega arith) (omega arith), c.requires.rule),
+          ),
         ),
       ),
     ),
@@ -48,7 +54,10 @@ ruled_in-requires-then-row-le80 c = (
         search rules,
         (
           search rules,
-          (c.requires.start 106 (omega arith) (omega arith), c.requires.rule),
+          (
+            search rules,
+            (c.requires.start 106 (omega arith) (omega arith), c.requires.rule),
+          ),
         ),
       ),
     ),
@@ -66,7 +75,10 @@ ruled_in-requires-else-row-le80 c = (
         search rules,
         (
           search rules,
-          (c.requires.start 151 (omega arith) (omega arith), c.requires.rule),
+          (
+            search rules,
+            (c.requires.start 151 (omega arith) (omega arith), c.requires.rule),
+          ),
         ),
       ),
     ),
