@@ -47,6 +47,7 @@ mod InPumps
 mod BareGot
 mod BareTrace
 mod ClosingTick
+mod AllTaken
 mod BareTaken
 mod BareEnd
 mod SignedChunks
