@@ -20,17 +20,17 @@ use Rattle.writer_group.specs.Turns.{GroupDeed, GroupTurn, HadGroupTurn, took_by
 use Rattle.session_model.specs.Deeds.{deeds, group_past}
 use Rattle.session_model.specs.Events.{receives}
 use Rattle.session_model.specs.Steps.{Plan, Step, Pump, is_on}
-use Rattle.session_laws.specs.Bare.{ClosingCameLast, ClosingGotLast, ClosingGotSinceLast, IsBare, NoOtherBehind}
+use Rattle.session_laws.specs.Bare.{CameQuietly, ClosingCameLast, ClosingGotLast, ClosingGotSinceLast, IsBare}
 use Rattle.session_laws.specs.Headline.{InSession, meta_of}
 use Rattle.session_laws.specs.Newest.{CameIn, ClosesInTick, EachPart, HasPartFor, HoldsRowOf, closing_deeds, ticked}
 use Rattle.session_laws.specs.Plays.{its_way}
 use Rattle.session_laws.specs.Sessions.{AreVersions, pasts_at}
 use Rattle.session_laws.proofs.BareGot.{and-false}
-use Rattle.session_laws.proofs.BareTaken.{TakesAll, chunks-last, part-last}
-use Rattle.session_laws.proofs.BareTrace.{taken-any}
+use Rattle.session_laws.proofs.BareTaken.{QuietOnceTaken, TakesAll, chunks-last, part-last, quiet-all}
+use Rattle.session_laws.proofs.BareTrace.{came-between, taken-any}
 use Rattle.session_laws.proofs.ClosingGot.{InChunks, LastTurn, OnePart, last-turn, not-empty, one-part, part-case, same-turn}
-use Rattle.session_laws.proofs.ClosingParts.{all, its_datagram, le, made-one, opens}
-use Rattle.session_laws.proofs.ClosingTick.{its_last, open-first}
+use Rattle.session_laws.proofs.ClosingParts.{all, found-own, its_datagram, le, made-one, opens}
+use Rattle.session_laws.proofs.ClosingTick.{its_last, new-first}
 use Rattle.session_laws.proofs.InPumps.{so_far}
 use Rattle.session_laws.proofs.Marks.{turns}
 use Rattle.session_laws.proofs.Published.{Laws, is-play, play_of}
@@ -46,7 +46,7 @@ LastHeldLaw =
 module _ (laws : Laws) (p : Plan) (r i g w : ℕ) (start : List Step) (pumps : List (List Entry)) (own : WriterTurn) (is : InSession p r i g w (map Pump pumps ++ start)) (closing : own.closing ≡ true)
     (last : LastTurn p.config (group_at p.config g) (pasts_at p (map Pump pumps ++ start) g)) (took : took_by w last.turn ≡ Some own) (bare : IsBare p r i) (unsecured : is_secured (setting_of p.config r).setup.mode ≡ false)
     (operational : receives p.config start r ≡ true) (enabled : is_on p.config start (Reader r i) ≡ true)
-    (came : EachPart p r i last.turn.made (λ datagram. CameIn pumps datagram × NoOtherBehind p r i g w pumps start datagram (row_cut (meta_of p r i) own.row))) where
+    (came : EachPart p r i last.turn.made (CameIn pumps)) where
   abbrev its_all : List Opened
   its_all = all laws p r i g w start pumps own is closing last took
 
@@ -72,9 +72,8 @@ module _ (laws : Laws) (p : Plan) (r i g w : ℕ) (start : List Step) (pumps : L
     };
     first_accepts = λ one has. accepts [] one;
     taken = λ one has part.
-        taken-any p.config r start (datagram_of one has) one pumps (λ pairs. opens laws p r i g w start pumps own is closing last took one has pairs (accepts pairs one)) (came (datagram_of one has) (made-of one has) part).0;
+        taken-any p.config r start (datagram_of one has) one pumps (λ pairs. opens laws p r i g w start pumps own is closing last took one has pairs (accepts pairs one)) (came (datagram_of one has) (made-of one has) part);
     begins = λ one has now on befell e. tt;
-    silent = λ one has part. (came (datagram_of one has) (made-of one has) part).1;
   }
 
   abbrev parts_of : Opened → List Piece
@@ -84,13 +83,24 @@ module _ (laws : Laws) (p : Plan) (r i g w : ℕ) (start : List Step) (pumps : L
   Uncut = (datagram : List ℕ) → Contains last.turn.made datagram → (part : HasPartFor (setting_of p.config r) i datagram) → All IsUncut (parts_of part.opened)
 
   -- with no chunk for the reader
-  pub whole-last : Uncut → ClosingCameLast p r i g w (map Pump pumps ++ start) (writer_past w last.before) own
-  whole-last whole =
+  pub whole-last : Uncut → EachPart p r i last.turn.made (CameQuietly p r i g w pumps start (row_cut (meta_of p r i) own.row)) → ClosingCameLast p r i g w (map Pump pumps ++ start) (writer_past w last.before) own
+  whole-last whole quietly =
       part-last laws p r i g w start pumps own is closing last took (λ befell. ⊤) takes-all
       (one-part laws.turns laws.passed (play_of p r i g w (map Pump pumps ++ start)) (is-play laws p r i g w (map Pump pumps ++ start) is) own closing (le laws p r i g w start pumps own is closing last took) last took
       (λ one piece has there.
       let some = not-empty (parts_of one) piece there in
       All-contains IsUncut (parts_of one) piece (whole (datagram_of one has) (made-of one has) (record { opened = one; opens = opens laws p r i g w start pumps own is closing last took one has [] (accepts [] one); part = some })) there) (group_at p.config g).layout refl)
+      (λ one has some part.
+      let c = quietly (datagram_of one has) (made-of one has) part in
+      let pairs = accepted (setting_of p.config r) (so_far p.config r start c.before c.first) in
+      record {
+        at = record { later = c.later; before = c.before; earlier = c.first; behind = c.behind; is = c.is; opens = opens laws p r i g w start pumps own is closing last took one has pairs (accepts pairs one) };
+        quiet = c.quiet;
+      })
+
+-- a datagram that came so came
+quietly-came : (p : Plan) (r i g w : ℕ) (pumps : List (List Entry)) (start : List Step) (row : List DataValue) (datagram : List ℕ) → CameQuietly p r i g w pumps start row datagram → CameIn pumps datagram
+quietly-came p r i g w pumps start row datagram c = subst (λ (l : List (List Entry)). CameIn l datagram) (sym c.is) (came-between c.later c.before c.first c.behind datagram)
 
 -- ---- so it is held
 
@@ -108,11 +118,12 @@ got-last-held laws held p r i g w steps rows before turn own is versions c =
     held p r i g w steps rows past own is versions
     (subst (λ (l : List Step). ClosingCameLast p r i g w l past own) (sym c.ends.split)
     (whole-last laws p r i g w c.start c.ends.pumps own here c.ends.closing last (ap (took_by w) same ∙ c.ends.took) c.bare c.unsecured c.ends.operational c.ends.enabled
-    (λ datagram made part. c.came datagram (own_made datagram made) part) (λ datagram made part. c.whole datagram (own_made datagram made) part)))
+    (λ datagram made part. quietly-came p r i g w c.ends.pumps c.start (row_cut (meta_of p r i) own.row) datagram (c.came datagram (own_made datagram made) part))
+    (λ datagram made part. c.whole datagram (own_made datagram made) part) (λ datagram made part. c.came datagram (own_made datagram made) part)))
 
 -- ---- whole or in chunks, in all pumps behind the closing tick
 
-module _ (laws : Laws) (p : Plan) (r i g w : ℕ) (steps : List Step) (own : WriterTurn) (is : InSession p r i g w steps) (c : ClosingGotSinceLast p r i g w steps own) where
+module _ (laws : Laws) (p : Plan) (r i g w : ℕ) (steps : List Step) (own : WriterTurn) (is : InSession p r i g w steps) (c : ClosingGotSinceLast p r i g w steps own) (unsecured : is_secured (setting_of p.config r).setup.mode ≡ false) where
   abbrev t : ClosesInTick p r i g w steps own
   t = c.tick
 
@@ -129,23 +140,35 @@ module _ (laws : Laws) (p : Plan) (r i g w : ℕ) (steps : List Step) (own : Wri
   its_le = le laws p r i g w (ticked t) t.ends.pumps own here t.ends.closing last t.ends.took
 
   abbrev takes : TakesAll laws p r i g w (ticked t) t.ends.pumps own here t.ends.closing last t.ends.took (λ befell. ⊤)
-  takes = takes-all laws p r i g w (ticked t) t.ends.pumps own here t.ends.closing last t.ends.took c.bare c.unsecured t.ends.operational t.ends.enabled c.came
+  takes = takes-all laws p r i g w (ticked t) t.ends.pumps own here t.ends.closing last t.ends.took c.bare unsecured t.ends.operational t.ends.enabled c.came
+
+  once : QuietOnceTaken laws p r i g w (ticked t) t.ends.pumps own here t.ends.closing last t.ends.took
+  once later before first behind split taken =
+      c.quiet later before first behind split
+      (λ datagram made part.
+      let found = found-own laws p r i g w (ticked t) t.ends.pumps own here t.ends.closing last t.ends.took [] datagram part.opened made part.opens in
+      let at = taken part.opened found.0 part.part in
+      subst (λ (d : List ℕ). CameIn (first ∷ before) d) found.1
+      (subst (λ (l : List (List Entry)). CameIn l (its_datagram laws p r i g w (ticked t) t.ends.pumps own here t.ends.closing last t.ends.took part.opened found.0)) (sym at.is)
+      (came-between at.later at.before at.earlier at.behind (its_datagram laws p r i g w (ticked t) t.ends.pumps own here t.ends.closing last t.ends.took part.opened found.0))))
 
   abbrev its_past : List WriterDeed
   its_past = writer_past w (group_past p.config g (closing_deeds p t.start t.ms t.samples g))
 
   since-last : OnePart laws.turns laws.passed (play_of p r i g w ended) (is-play laws p r i g w ended here) own t.ends.closing its_le last t.ends.took ⊎ InChunks laws.turns laws.passed (play_of p r i g w ended) (is-play laws p r i g w ended here) own t.ends.closing its_le last t.ends.took
       → ClosingCameLast p r i g w ended its_past own
-  since-last (inl part) = part-last laws p r i g w (ticked t) t.ends.pumps own here t.ends.closing last t.ends.took (λ befell. ⊤) takes part
+  since-last (inl part) =
+      part-last laws p r i g w (ticked t) t.ends.pumps own here t.ends.closing last t.ends.took (λ befell. ⊤) takes part
+      (λ one has some its. quiet-all laws p r i g w (ticked t) t.ends.pumps own here t.ends.closing last t.ends.took once part one has some (takes.taken one has its))
   since-last (inr chunks) =
       chunks-last laws p r i g w (ticked t) t.ends.pumps own here t.ends.closing last t.ends.took (λ befell. ⊤) takes chunks
-      (open-first laws p r i g w t.ms t.samples t.done t.start t.ends.pumps own here t.had t.ends.took t.ends.closing takes.first_accepts chunks)
+      (new-first laws p r i g w t.ms t.samples t.done t.start t.ends.pumps own here t.had t.ends.took t.ends.closing takes.first_accepts chunks) once
 
   since-came : ClosingCameLast p r i g w ended its_past own
   since-came = since-last (part-case laws.turns laws.passed (play_of p r i g w ended) (is-play laws p r i g w ended here) own t.ends.closing its_le last t.ends.took (group_at p.config g).layout refl)
 
-pub since-last-held : Laws → LastHeldLaw → (p : Plan) (r i g w : ℕ) (steps : List Step) (rows : ℕ → ℕ → List DataValue) (own : WriterTurn) → InSession p r i g w steps → AreVersions p steps rows
-    → ClosingGotSinceLast p r i g w steps own → HoldsRowOf p r i g w steps rows own.version
-since-last-held laws held p r i g w steps rows own is versions c =
-    let past = its_past laws p r i g w steps own is c in
-    held p r i g w steps rows past own is versions (subst (λ (l : List Step). ClosingCameLast p r i g w l past own) (sym c.tick.ends.split) (since-came laws p r i g w steps own is c))
+pub unsecured-last-held : Laws → LastHeldLaw → (p : Plan) (r i g w : ℕ) (steps : List Step) (rows : ℕ → ℕ → List DataValue) (own : WriterTurn) → InSession p r i g w steps → AreVersions p steps rows
+    → ClosingGotSinceLast p r i g w steps own → is_secured (setting_of p.config r).setup.mode ≡ false → HoldsRowOf p r i g w steps rows own.version
+unsecured-last-held laws held p r i g w steps rows own is versions c unsecured =
+    let past = its_past laws p r i g w steps own is c unsecured in
+    held p r i g w steps rows past own is versions (subst (λ (l : List Step). ClosingCameLast p r i g w l past own) (sym c.tick.ends.split) (since-came laws p r i g w steps own is c unsecured))

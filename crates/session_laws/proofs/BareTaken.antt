@@ -1,5 +1,5 @@
 -- A reader with no numbering whose read group took each datagram of a closing turn in the pumps: the turn's frame is the last key frame that came to it.
-use Rattle.std.proofs.Common.{◌≡◌, ◌≢◌, refl, sym, ap, ◌∙◌, subst, arith, ℕ, ◌≤◌, ◌⊎◌, inl, inr, Bool, true, false, List, [], ◌∷◌, ◌++◌, map, length, Option, Some, All, Contains, Result, Ok, Err}
+use Rattle.std.proofs.Common.{◌≡◌, ◌≢◌, refl, sym, ap, ◌∙◌, subst, arith, ℕ, ◌≤◌, ◌⊎◌, inl, inr, Bool, true, false, List, [], ◌∷◌, ◌++◌, map, Option, Some, All, Contains, Result, Ok, Err, append_assoc}
 use Rattle.std.specs.Prelude.{fold, option_map, slice_index_or, if◌then◌else◌}
 use Rattle.std.specs.List.{cons_option}
 use Rattle.std.proofs.lemmas.List.Elements.{All-head}
@@ -19,7 +19,7 @@ use Rattle.reader_group.specs.Settings.{setting_of}
 use Rattle.writer_group.specs.Parts.{group_at}
 use Rattle.writer_group.specs.Turns.{HadGroupTurn, writer_past, took_by}
 use Rattle.session_model.specs.Steps.{Plan, Step, Pump, moment_of, is_on}
-use Rattle.session_laws.specs.Bare.{CameLast, ClosingCameLast, IsBare, NoOtherBehind}
+use Rattle.session_laws.specs.Bare.{CameLast, ClosingCameLast, IsBare, NoOtherBehind, NoOtherOnceAll}
 use Rattle.session_laws.specs.Headline.{InSession, meta_of}
 use Rattle.session_laws.specs.Pasts.{CameAsMade, WasMade, settings_at}
 use Rattle.session_laws.specs.Plays.{IsPlay, Play, its_answers, its_way}
@@ -31,12 +31,13 @@ use Rattle.session_model.specs.Events.{events, readers_on, receives}
 use Rattle.session_laws.specs.Newest.{HasPartFor}
 use Rattle.session_laws.specs.Reading.{arrivals_at, first_number_of}
 use Rattle.session_laws.specs.Sessions.{pasts_at}
+use Rattle.session_laws.proofs.AllTaken.{HasAllTaken, all-of-one, all-taken}
 use Rattle.session_laws.proofs.ClosingGot as ClosingGot
 use Rattle.session_laws.proofs.BareGot.{BringsKey, StaysCalm, TakenAt, brings, came-last, comes-bare}
-use Rattle.session_laws.proofs.InPumps.{came-at, got_at, kept-from, nil-behind, pumps-kept, so_far}
+use Rattle.session_laws.proofs.InPumps.{came-at, ends-with, got_at, kept-from, nil-behind, pumped, pumps-kept, so_far}
 use Rattle.session_laws.proofs.ClosingGot.{InChunks, LastTurn, OnePart, flat-one, gives-bare, in-flat, is-last, not-empty}
 use Rattle.session_laws.proofs.ClosingParts.{OpensFirst, all, all-covered, found-own, found_c, has-part, has-part-c, its_cuts, its_datagram, its_total, lays, le, none-either, older-same, own-or-other, read-is, sent-list, some-bytes}
-use Rattle.session_laws.proofs.Coming.{Lies, flip-chunk, lies-parts}
+use Rattle.session_laws.proofs.Coming.{Lies, flip-chunk, lies-parts, none-covered}
 use Rattle.session_laws.proofs.Marks.{parts-sent, source}
 use Rattle.session_laws.proofs.SignedChunks.{IsNoChunk, chunk-case, same-parts}
 use Rattle.session_laws.proofs.Sources.{IsChunkOf, IsOfAnswer}
@@ -97,7 +98,26 @@ module _ (laws : Laws) (p : Plan) (r i g w : ℕ) (start : List Step) (pumps : L
     pub first_accepts : OpensFirst laws p r i g w start pumps own is closing last took
     pub taken : (one : Opened) (has : Contains its_all one) → HasPartFor setting i (datagram_of one has) → TakenAt config r start (datagram_of one has) one pumps
     pub begins : (one : Opened) (has : Contains its_all one) (now : ℕ) (on : List Bool) (befell : List Event) → verdict setting.group setting.setup (accepted setting befell) (datagram_of one has) ≡ Ok one → Calm (Got now on (datagram_of one has) ∷ befell)
-    pub silent : (one : Opened) (has : Contains its_all one) → HasPartFor setting i (datagram_of one has) → NoOtherBehind p r i g w pumps start (datagram_of one has) row
+
+  -- it took it at a moment behind which no other key frame came
+  pub record TakenQuietly (one : Opened) (has : Contains its_all one) : Type 0 where
+    pub at : TakenAt config r start (datagram_of one has) one pumps
+    pub quiet : NoOtherBehind p r i g w steps (Pump (at.earlier ++ entries_of.Got (datagram_of one has) ∷ []) ∷ map Pump at.before ++ start) row
+
+  -- no other key frame came once it took all
+  abbrev pub QuietOnceTaken : Type 0
+  QuietOnceTaken = NoOtherOnceAll p r i g w pumps start (HasAllTaken laws p r i g w start pumps own is closing last took) row
+
+  pub quiet-all : QuietOnceTaken → OnePart laws.turns laws.passed play is_play own closing its_le last took → (one : Opened) (has : Contains its_all one) → parts_of one ≢ [] → TakenAt config r start (datagram_of one has) one pumps → TakenQuietly one has
+  quiet-all once part one has some at =
+      let datagram = datagram_of one has in
+      let first_entries = at.earlier ++ entries_of.Got datagram ∷ [] in
+      let here : TakenAt config r start datagram one (first_entries ∷ at.before) = record { later = []; before = at.before; earlier = at.earlier; behind = []; is = refl; opens = at.opens } in
+      record {
+        at = at;
+        quiet = once at.later at.before first_entries at.behind (at.is ∙ ap (λ (l : List Entry). at.later ++ l ∷ at.before) (sym (append_assoc at.earlier (entries_of.Got datagram ∷ []) at.behind)))
+            (all-of-one laws p r i g w start pumps own is closing last took part one has some (first_entries ∷ at.before) here);
+      }
 
   module _ (Calm : List Event → Type 0) (t : TakesAll Calm) where
     came-so : (later before : List (List Entry)) (earlier behind : List Entry) (other : List ℕ) → pumps ≡ later ++ (earlier ++ entries_of.Got other ∷ behind) ∷ before
@@ -125,20 +145,21 @@ module _ (laws : Laws) (p : Plan) (r i g w : ℕ) (start : List Step) (pumps : L
       reads : (now : ℕ) (o : Option ℕ) (list : List Mark) → piece_on way (place_from first) now o list part.piece ≡ item_on way now o list (Some (Whole 0 row))
       reads now o list = part.reads_as now o list ∙ ap (λ (f : Option PlacedFrame). item_on way now o list f) (gives-bare laws.turns laws.passed play is_play own closing its_le last took t.bare)
 
-      pub part-last : ClosingCameLast p r i g w steps (writer_past w last.before) own
-      part-last =
+      pub part-last : ((one : Opened) (has : Contains its_all one) → parts_of one ≢ [] → HasPartFor setting i (datagram_of one has) → TakenQuietly one has) → ClosingCameLast p r i g w steps (writer_past w last.before) own
+      part-last quietly =
           let one = found.0 in
           let has = found.1 in
           let some : parts_of one ≢ [] = not-empty (parts_of one) part.piece found.2 in
           let datagram = datagram_of one has in
           let its_part = has-part laws p r i g w start pumps own is closing last took one has (t.first_accepts one has) some in
-          let taken = t.taken one has its_part in
+          let its = quietly one has some its_part in
+          let taken = its.at in
           let steps_before = map Pump taken.before ++ start in
           let befell = so_far config r start taken.before taken.earlier in
           let key = brings config r i first start datagram one row (ap is_numbered t.bare) part.piece (flat-one parts_of its_all one part.piece part.same has some) reads (moment_of steps_before) (readers_on config steps_before r) befell (enabled-at taken.before) taken.opens in
           turns-last
           (came-last config r i first start datagram t.operational row (ap is_numbered t.bare) pumps Calm t.stays taken.later taken.before taken.earlier taken.behind taken.is
-          (t.begins one has (moment_of steps_before) (readers_on config steps_before r) befell taken.opens) key (λ newer e. t.silent one has its_part taken.later taken.before taken.earlier taken.behind newer taken.is e))
+          (t.begins one has (moment_of steps_before) (readers_on config steps_before r) befell taken.opens) key its.quiet)
 
     -- ---- where it is cut into chunks
 
@@ -221,10 +242,6 @@ module _ (laws : Laws) (p : Plan) (r i g w : ℕ) (start : List Step) (pumps : L
 
       -- what a datagram does with which the message is whole
       record FlipsBy (other : List ℕ) (befell : List Event) : Type 0 where
-        one : Opened
-        has : Contains its_all one
-        is_datagram : datagram_of one has ≡ other
-        part : HasPartFor setting i (datagram_of one has)
         key : BringsKey row (arrivals setting way befell)
         calm : Calm befell
 
@@ -268,13 +285,8 @@ module _ (laws : Laws) (p : Plan) (r i g w : ℕ) (start : List Step) (pumps : L
           by (inr no_chunks) = never list (open-cut raised (marks setting way befell) none) (sym (ap (λ (l : List Chunk). cover l place total) (same-parts way first now s (parts_of opened) list no_chunks)) ∙ full)
           by (inl (b, one)) =
               let own_one = found-own laws p r i g w start pumps own is closing last took (accepted setting befell) other opened made e in
-              let some : parts_of opened ≢ [] = λ empty. let wrong : Path (List Piece) (Chunked b ∷ []) [] = sym one ∙ empty in absurd (let size = ap length wrong in omega (arith, size)) in
               let opens_so = subst (λ (d : List ℕ). verdict setting.group setting.setup (accepted setting befell) d ≡ Ok opened) (sym own_one.1) e in
               record {
-                one = opened;
-                has = own_one.0;
-                is_datagram = own_one.1;
-                part = has-part laws p r i g w start pumps own is closing last took opened own_one.0 (t.first_accepts opened own_one.0) some;
                 key = subst (λ (a : Result Opened Refusal). BringsKey row (arrivals_in (taken_in setting way now (slice_index_or on i false) (accepted setting befell) (marks setting way befell) a))) (sym e)
                     (subst (λ (x : Bool). BringsKey row (arrivals_in (brought now s list (if x then parts_of opened else [])))) (sym gets_it)
                     (flips-key now on s other befell opened raised b came e one (open-cut raised (marks setting way befell) none) full));
@@ -314,6 +326,7 @@ module _ (laws : Laws) (p : Plan) (r i g w : ℕ) (start : List Step) (pumps : L
         other : List ℕ
         is_split : pumps ≡ later ++ (sooner ++ entries_of.Got other ∷ behind) ∷ older
         flips : FlipsBy other (got_at config r start t.operational older other (so_far config r start older sooner))
+        full : Full (marks setting way (got_at config r start t.operational older other (so_far config r start older sooner)))
 
       abbrev OpenOr : List Event → Type 0
       OpenOr befell = Open (marks setting way befell) ⊎ Flip
@@ -336,6 +349,7 @@ module _ (laws : Laws) (p : Plan) (r i g w : ℕ) (start : List Step) (pumps : L
                 other = other;
                 is_split = split;
                 flips = flips-answer (moment_of before) (readers_on config before r) other befell (verdict setting.group setting.setup (accepted setting befell) other) (came-so later older sooner behind other split) refl (enabled-at older) none e;
+                full = e;
               })
 
       flip-end : OpenOr (events config r steps) → Flip
@@ -346,10 +360,20 @@ module _ (laws : Laws) (p : Plan) (r i g w : ℕ) (start : List Step) (pumps : L
       flipped none =
           flip-end (subst (λ (l : List (List Entry)). OpenOr (events config r (map Pump l ++ start))) (nil-behind pumps) (pumps-kept config r start t.operational pumps OpenOr open-kept [] pumps [] (sym (nil-behind pumps)) (inl none)))
 
-      pub chunks-last : cover (chunks_in (marks setting way (events config r start))) place total ≡ false → ClosingCameLast p r i g w steps (writer_past w last.before) own
-      chunks-last none =
-          let f = flipped none in
-          let by = f.flips in
+      -- by then all was taken
+      flip-took : (f : Flip) → All (λ c. c.place ≢ place) (chunks_in (marks setting way (events config r start))) → HasAllTaken laws p r i g w start pumps own is closing last took ((f.sooner ++ entries_of.Got f.other ∷ []) ∷ f.older)
+      flip-took f new =
+          let entries = f.sooner ++ entries_of.Got f.other ∷ [] in
+          let here : events config r (map Pump (entries ∷ f.older) ++ start) ≡ got_at config r start t.operational f.older f.other (so_far config r start f.older f.sooner) =
+          pumped config r start t.operational entries f.older ∙ ends-with config r start t.operational f.older f.sooner f.other in
+          all-taken laws p r i g w start pumps own is closing last took t.first_accepts chunks t.operational (entries ∷ f.older)
+          (subst (CameAsMade setting config (pasts_at p steps)) (sym here) (came-so f.later f.older f.sooner f.behind f.other f.is_split)) new
+          (subst (λ (befell : List Event). Full (marks setting way befell)) (sym here) f.full)
+
+      pub chunks-last : All (λ c. c.place ≢ place) (chunks_in (marks setting way (events config r start))) → QuietOnceTaken → ClosingCameLast p r i g w steps (writer_past w last.before) own
+      chunks-last new once =
+          let f = flipped (none-covered place total (chunks_in (marks setting way (events config r start))) (some-bytes laws p r i g w start pumps own is closing last took t.first_accepts chunks) new) in
+          let moved : (f.sooner ++ entries_of.Got f.other ∷ []) ++ f.behind ≡ f.sooner ++ entries_of.Got f.other ∷ f.behind = append_assoc f.sooner (entries_of.Got f.other ∷ []) f.behind in
           turns-last
-          (came-last config r i first start f.other t.operational row (ap is_numbered t.bare) pumps Calm t.stays f.later f.older f.sooner f.behind f.is_split by.calm by.key
-          (λ newer e. subst (λ (d : List ℕ). NoOtherBehind p r i g w pumps start d row) by.is_datagram (t.silent by.one by.has by.part) f.later f.older f.sooner f.behind newer f.is_split e))
+          (came-last config r i first start f.other t.operational row (ap is_numbered t.bare) pumps Calm t.stays f.later f.older f.sooner f.behind f.is_split f.flips.calm f.flips.key
+          (once f.later f.older (f.sooner ++ entries_of.Got f.other ∷ []) f.behind (f.is_split ∙ ap (λ (l : List Entry). f.later ++ l ∷ f.older) (sym moved)) (flip-took f new)))

@@ -33,6 +33,15 @@ split-by (y ∷ xs) x (zero, below, same) = record { before = []; behind = xs; i
 split-by (y ∷ xs) x (suc k, below, same) =
     let rest = split-by xs x (k, omega (arith, below), same) in record { before = y ∷ rest.before; behind = rest.behind; is = ap (λ l. y ∷ l) rest.is }
 
+stands-between : {X : Type 0} (xs more : List X) (x : X) → Contains (xs ++ x ∷ more) x
+stands-between [] more x = (0, omega arith, refl)
+stands-between (y ∷ xs) more x = let rest = stands-between xs more x in (suc rest.0, let lt = rest.1 in omega (arith, lt), rest.2)
+
+-- the datagram of an entry came
+pub came-between : (later before : List (List Entry)) (earlier behind : List Entry) (datagram : List ℕ) → CameIn (later ++ (earlier ++ entries_of.Got datagram ∷ behind) ∷ before) datagram
+came-between [] before earlier behind datagram = inl (stands-between earlier behind (entries_of.Got datagram))
+came-between (entries ∷ later) before earlier behind datagram = inr (came-between later before earlier behind datagram)
+
 module _ (config : Config) (r : ℕ) (start : List Step) (datagram : List ℕ) (one : Opened) where
   taken-later : (entries : List Entry) (pumps : List (List Entry)) → TakenAt config r start datagram one pumps → TakenAt config r start datagram one (entries ∷ pumps)
   taken-later entries pumps t = record {

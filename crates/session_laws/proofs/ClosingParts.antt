@@ -194,7 +194,7 @@ module _ (laws : Laws) (p : Plan) (r i g w : ℕ) (start : List Step) (pumps : L
       pub has-part-c : HasPartFor setting i (its_datagram found_c.0 found_c.1)
       has-part-c = has-part found_c.0 found_c.1 (opens_first found_c.0 found_c.1) (not-empty (parts_of found_c.0) (Chunked (chunk_bytes c)) found_c.2)
 
-      read-c : without_rest (chunk_at (chunk_bytes c)) ≡ Ok c
+      pub read-c : without_rest (chunk_at (chunk_bytes c)) ≡ Ok c
       read-c = chunk-read way.seat chunks.room (number_of_place place) message frame chunks.cut_up c has_c
 
       of-c : IsChunkOf way.seat.meta (its_answers play) bytes c
@@ -221,7 +221,7 @@ module _ (laws : Laws) (p : Plan) (r i g w : ℕ) (start : List Step) (pumps : L
         absurd (let wrong : false ≡ true = sym (cover_none (number_of_place place) (length message) chunks.cut_up.some) ∙ covers in cc)
     first-cut (c ∷ rest) e = (c, subst (λ (l : List Chunk). Contains l c) (sym e) (0, omega arith, refl))
 
-    long-is : length message ≡ its_total
+    pub long-is : length message ≡ its_total
     long-is = let c = first-cut its_cuts refl in sym (cut-of chunks.room (number_of_place place) message c.0 c.1).1.total ∙ (cut-c c.0 c.1).total
 
     pub some-bytes : 0 < its_total
@@ -280,7 +280,7 @@ module _ (laws : Laws) (p : Plan) (r i g w : ℕ) (start : List Step) (pumps : L
 
     -- ---- an older datagram
 
-    are-before : AreTurns config group last.before
+    pub are-before : AreTurns config group last.before
     are-before = (subst (AreTurns config group) last.past_is its_are).1
 
     few-places : place ≤ first + 65536

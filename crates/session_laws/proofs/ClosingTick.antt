@@ -1,7 +1,6 @@
 -- A session that ends with a closing tick and its pumps: the group's last turn is that of the tick, and none of the chunks of its frame came before.
-use Rattle.std.proofs.Common.{◌≡◌, ◌≢◌, sym, ap, ◌∙◌, subst, arith, ℕ, zero, suc, ◌+◌, ◌<◌, ◌≤◌, Bool, true, false, List, [], ◌∷◌, ◌++◌, map, length, Some, All}
+use Rattle.std.proofs.Common.{◌≡◌, ◌≢◌, sym, ap, ◌∙◌, subst, arith, ℕ, zero, suc, ◌+◌, ◌<◌, ◌≤◌, Bool, true, false, List, ◌∷◌, ◌++◌, map, length, Some, All}
 use Rattle.std.specs.Prelude.{⊤}
-use Rattle.std.proofs.lemmas.List.Elements.{All-head}
 use Rattle.ua_base.specs.Journal.{Entry}
 use Rattle.pubsub_model.specs.Cadence.{WriterTurn}
 use Rattle.pubsub_model.specs.Frames.{PlacedFrame}
@@ -21,15 +20,14 @@ use Rattle.session_model.specs.Turns.{TurnsHold}
 use Rattle.session_laws.specs.Newest.{closing_deeds, closing_turn}
 use Rattle.session_laws.specs.Sessions.{pasts_at}
 use Rattle.session_laws.proofs.SignedChunks.{lower}
-use Rattle.chunker.specs.Chunks.{Chunk, cover}
-use Rattle.chunker.proofs.ChunkLaws.{cover_none}
+use Rattle.chunker.specs.Chunks.{Chunk}
 use Rattle.pubsub_model.specs.Answers.{IsAnswer}
 use Rattle.session_laws.proofs.Published.{Laws, is-play, play_of}
 use Rattle.session_laws.proofs.Rowing.{turn-is}
 use Rattle.session_laws.proofs.ClosingSigned.{before-pumps, before-tick, deeds-behind, last-of-tick}
 use Rattle.dataset_meta.specs.Rows.{cons_if}
 use Rattle.std.specs.Prelude.{◌==◌}
-use Rattle.std.proofs.lemmas.List.Elements.{All-tail, All-weaker}
+use Rattle.std.proofs.lemmas.List.Elements.{All-nil, All-weaker}
 use Rattle.pubsub_model.specs.Cadence.{Answered}
 use Rattle.pubsub_model.specs.declared.reading.Why.TheVariants.{Timeout}
 use Rattle.pubsub_states.specs.declared.component.Component.{Component}
@@ -41,8 +39,7 @@ use Rattle.session_laws.proofs.Anew.{same-writer}
 use Rattle.session_laws.proofs.Answering.{answer-stays}
 use Rattle.session_laws.proofs.ClosingGot as ClosingGot
 use Rattle.session_laws.proofs.ClosingGot.{InChunks, LastTurn}
-use Rattle.session_laws.proofs.ClosingParts.{OpensFirst, its_total, le, older-source, some-bytes}
-use Rattle.session_laws.proofs.Coming.{cover-other}
+use Rattle.session_laws.proofs.ClosingParts.{OpensFirst, le, older-source}
 use Rattle.session_laws.proofs.Deeds.{HoldsTick, TickHolds, holds-before}
 use Rattle.session_laws.proofs.Marks.{all-sent, its_bytes}
 use Rattle.session_laws.proofs.Senders.{SendHolds, send-to, turn-at}
@@ -52,12 +49,6 @@ less-by : (a b : ℕ) → a < b → (n : ℕ) × (b ≡ suc a + n)
 less-by a zero lt = absurd (omega (arith, lt))
 less-by zero (suc b) lt = (b, omega arith)
 less-by (suc a) (suc b) lt = let rest = less-by a b (omega (arith, lt)) in let same = rest.1 in (rest.0, omega (arith, same))
-
--- chunks of other places cover nothing
-none-covered : (place total : ℕ) (chunks : List Chunk) → 0 < total → All (λ c. c.place ≢ place) chunks → cover chunks place total ≡ false
-none-covered place total [] some all = cover_none place total some
-none-covered place total (c ∷ chunks) some all =
-    cover-other c chunks place total (All-head (λ (c : Chunk). c.place ≢ place) c chunks all) ∙ none-covered place total chunks some (All-tail (λ (c : Chunk). c.place ≢ place) c chunks all)
 
 -- ---- what a writer answered stays so, up to the turn of its group in a tick
 
@@ -155,37 +146,30 @@ module _ (laws : Laws) (p : Plan) (r i g w ms : ℕ) (samples : List Sampled) (d
     abbrev place : ℕ
     place = ClosingGot.place laws.turns laws.passed (play_of p r i g w steps) (is-play laws p r i g w steps is) own closing (le laws p r i g w ticked_on pumps own is closing its_last took) its_last took
 
-    abbrev total : ℕ
-    total = its_total laws p r i g w ticked_on pumps own is closing its_last took opens_first chunks
-
     abbrev way : Way
     way = its_way (play_of p r i g w steps)
-
-    some : 0 < total
-    some = some-bytes laws p r i g w ticked_on pumps own is closing its_last took opens_first chunks
 
     abbrev list : List Mark
     list = marks (setting_of config r) way (events config r start)
 
-    open-start : cover (chunks_in list) place total ≡ false
-    open-start =
+    new-start : All (λ c. c.place ≢ place) (chunks_in list)
+    new-start =
         let was = play_of p r i g w start in
         let is_was = is-play laws p r i g w start in-start in
         let short : 16385 ≤ 65536 = omega arith in
         let sent = all-sent laws.turns laws.passed 16385 was short is_was in
         let laid = IsLaidOf (its_meta was) (its_answers was) (its_bytes laws.turns laws.passed 16385 was short is_was) in
-        none-covered place total (chunks_in list) some
-        (All-weaker laid (λ (c : Chunk). c.place ≢ place)
+        All-weaker laid (λ (c : Chunk). c.place ≢ place)
         (λ c l same.
         let answer = still-answered p g w start at_tick true samples holds-tick is.there l.placed l.answer in
         let lt = lower (writer_at (group_at config g) w).first_number place l.placed l.loud ((older-source laws p r i g w ticked_on pumps own is closing its_last took opens_first chunks).spans l.placed answer) in
         let at = l.place in
         absurd (omega (arith, lt, at, same)))
-        (chunks_in list) (chunks-are laid list sent.chunks))
+        (chunks_in list) (chunks-are laid list sent.chunks)
 
-    pub open-first : cover (chunks_in (marks (setting_of config r) way (events config r ticked_on))) place total ≡ false
-    open-first = on (runs_out way at_tick (arrivals_in list))
+    pub new-first : All (λ c. c.place ≢ place) (chunks_in (marks (setting_of config r) way (events config r ticked_on)))
+    new-first = on (runs_out way at_tick (arrivals_in list))
       where
-        on : (b : Bool) → cover (chunks_in (cut_on b Timeout list)) place total ≡ false
-        on true = cover_none place total some
-        on false = open-start
+        on : (b : Bool) → All (λ c. c.place ≢ place) (chunks_in (cut_on b Timeout list))
+        on true = All-nil (λ (c : Chunk). c.place ≢ place)
+        on false = new-start

@@ -17,7 +17,7 @@ use Rattle.dataset_reader.specs.Keeping.{jumps}
 use Rattle.chunker.specs.Chunks.{Chunk, at_greatest, cover, is_proper, is_whole_at, longest_message, message_of, places}
 use Rattle.chunker.specs.declared.payload.ChunkFault.{ChunkFault}
 use Rattle.chunker.specs.Spelling.{chunk_at, without_rest}
-use Rattle.chunker.proofs.ChunkLaws.{at_place, cover-at_place}
+use Rattle.chunker.proofs.ChunkLaws.{at_place, cover-at_place, cover_none}
 use Rattle.reader_group.specs.Arrivals.{Way, Mark, Arrived, Laid, arrivals_in, chunk_on, chunks_in, comes, frame_of, goes_by_numbers, item_of, item_on, piece_on, placed, read_on}
 use Rattle.reader_group.specs.Payloads.{Piece, Message, Chunked, Slotted, Missing}
 use Rattle.reader_group.specs.SlotFrames.{slot_frame_at}
@@ -117,6 +117,12 @@ cover-other c chunks place total differ =
     sym (cover-at_place place total (c ∷ chunks))
     ∙ ap (λ (b : Bool). cover (if b then c ∷ at_place place chunks else at_place place chunks) place total) (differ-test c.place place differ)
     ∙ cover-at_place place total chunks
+
+-- chunks of other places cover nothing
+pub none-covered : (place total : ℕ) (chunks : List Chunk) → 0 < total → All (λ c. c.place ≢ place) chunks → cover chunks place total ≡ false
+none-covered place total [] some all = cover_none place total some
+none-covered place total (c ∷ chunks) some all =
+    cover-other c chunks place total (All-head (λ (c : Chunk). c.place ≢ place) c chunks all) ∙ none-covered place total chunks some (All-tail (λ (c : Chunk). c.place ≢ place) c chunks all)
 
 -- ---- a frame whose last place this is
 

@@ -42,7 +42,8 @@ use Rattle.session_laws.specs.Reading.{IsMatchedIn}
 use Rattle.session_laws.specs.Sessions.{AreVersions}
 use Rattle.session_laws.specs.Witness.{growing_plan, growing_session, new_field, nine, nine_rows, small_row, telling_config, telling_group, telling_text, telling_writer}
 use Rattle.session_laws.proofs.Delivering.{appended-session, delivered-session, opening-session, pump-of}
-use Rattle.session_laws.proofs.ThreeGroups.{ReceivedLaw, all-sends, got-of, sent-by, short-of}
+use Rattle.session_laws.proofs.OneTick.{all-sends, got-of, sent-by, short-of}
+use Rattle.session_laws.proofs.ThreeGroups.{ReceivedLaw}
 
 pub telling-is-read : configuration telling_text ≡ Ok telling_config
 unfolding toml_on_literals hex_on_literals is_utf8 chars digits configuration table_faults stands config_of publisher_part data_set_of key_of key_group_of writer_of group_of reader_of read_group_of settings_at header_len demo built_in_writer built_in_group built_in_reader built_in_read_group built_in_config telling_writer telling_group telling_config

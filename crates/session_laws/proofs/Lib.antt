@@ -34,6 +34,11 @@ mod GotParts
 mod ClosingGot
 mod ClosingParts
 mod Delivering
+mod OneTick
+mod Quiet
+mod KnownTokens
+mod BareMeeting
+mod BehindAnother
 mod ThreeGroups
 mod Growing
 mod Passing
@@ -47,6 +52,7 @@ mod InPumps
 mod BareGot
 mod BareTrace
 mod ClosingTick
+mod AllTaken
 mod BareTaken
 mod BareEnd
 mod SignedChunks

@@ -46,7 +46,7 @@ pub record BuiltInLaws : Type 0 where
   pub fixed : IsFixedSound built_in_config
   pub matched : IsMatchedTo built_in_config built_in_read_group 0 built_in_group 0
 
-grown : HasGrown demo demo
+pub grown : HasGrown demo demo
 unfolding demo
 grown = record { fields = refl; quality = refl; major = refl }
 
@@ -71,7 +71,7 @@ plan-is laws = record {
   whole = whole-metas laws.sound;
 }
 
-seven-belongs : Belongs demo seven.row.words
+pub seven-belongs : Belongs demo seven.row.words
 unfolding demo row_in statuses_in spelled_row spelled_statuses seven
 seven-belongs = record {
   whole = refl;

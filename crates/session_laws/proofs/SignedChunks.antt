@@ -41,15 +41,15 @@ lower first place (Whole n row) loud is = is.1
 lower first place (Change n patch) loud is = is.1
 lower first place (Alive n) loud is = absurd (cc)
 
-abbrev AnyFrame : Frame → Type 0
+abbrev pub AnyFrame : Frame → Type 0
 AnyFrame frame = ⊤
 
-any-read : (read : Result Frame FrameFault) → OfRead AnyFrame read
+pub any-read : (read : Result Frame FrameFault) → OfRead AnyFrame read
 any-read (Ok frame) = tt
 any-read (Err fault) = tt
 
 module _ (way : Way) (older : List Answered) (bytes : ℕ → List ℕ) (first place total : ℕ) (source : Source way older first place) where
-  not-there : (c : Chunk) → IsLaidOf way.seat.meta older bytes c → c.place ≢ place
+  pub not-there : (c : Chunk) → IsLaidOf way.seat.meta older bytes c → c.place ≢ place
   not-there c laid same = let lt = lower first place laid.placed laid.loud (source.spans laid.placed laid.answer) in let own = laid.place in omega (arith, lt, own, same)
 
   same-item : (now : ℕ) (s : Option ℕ) (before : List Mark) (o : Option PlacedFrame) → cover (chunks_in (item_on way now s before o)) place total ≡ cover (chunks_in before) place total

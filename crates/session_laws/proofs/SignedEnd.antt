@@ -33,7 +33,7 @@ use Rattle.group_laws.specs.Matching.{IsSenderOf}
 use Rattle.group_laws.specs.TurnOpened.{is_accepted, turn_opened}
 use Rattle.session_model.specs.Deeds.{Deed, deeds, group_past, has_turn, sender_after}
 use Rattle.session_model.specs.Steps.{Plan, Step, Pump, Tick, moment_of, is_on}
-use Rattle.session_laws.specs.Bare.{ClosingCameLast, ClosingGotSecuredLast, ClosingTookLast, IsBare, NoOtherBehind, QuietBehind}
+use Rattle.session_laws.specs.Bare.{AllTook, ClosingCameLast, ClosingGotSinceLast, ClosingTookLast, IsBare, NoOtherOnceAll, QuietOnce}
 use Rattle.session_laws.specs.Headline.{InSession, meta_of}
 use Rattle.session_laws.specs.Pasts.{AreTurns, CameAsMade, WasMade, settings_at}
 use Rattle.session_laws.specs.Plays.{IsPlay, Play, its_answers, its_way}
@@ -51,14 +51,14 @@ use Rattle.session_laws.specs.Newest.{CameIn, ClosesInTick, ClosingCame, Closing
 use Rattle.session_laws.specs.Reading.{arrivals_at, first_number_of}
 use Rattle.session_laws.specs.Sessions.{AreVersions, pasts_at}
 use Rattle.session_laws.proofs.ClosingGot as ClosingGot
-use Rattle.session_laws.proofs.BareEnd.{LastHeldLaw}
+use Rattle.session_laws.proofs.BareEnd.{LastHeldLaw, unsecured-last-held}
 use Rattle.session_laws.proofs.BareGot.{TakenAt}
 use Rattle.session_laws.proofs.InPumps.{came-at, got_at, kept-from, pumped, so_far}
-use Rattle.session_laws.proofs.BareTrace.{trace-pumps}
+use Rattle.session_laws.proofs.BareTrace.{came-between, trace-pumps}
 use Rattle.session_laws.proofs.ClosingGot.{HeldLaw, InChunks, LastTurn, OnePart, gives, in-flat, is-last, not-empty, part-case}
 use Rattle.session_laws.proofs.ClosingParts.{all, all-covered, below-made, found-own, found_c, has-part, has-part-c, its_cuts, its_datagram, its_total, lays, le, made-one, none-either, older-same, one-at, opens, own-or-other, read-is, sent-list, some-bytes}
-use Rattle.session_laws.proofs.ClosingTick.{holds-start, holds-tick, in-start, its_last, open-first}
-use Rattle.session_laws.proofs.BareTaken.{TakesAll, chunks-last, part-last}
+use Rattle.session_laws.proofs.ClosingTick.{holds-start, holds-tick, in-start, its_last, new-first}
+use Rattle.session_laws.proofs.BareTaken.{QuietOnceTaken, TakesAll, chunks-last, part-last, quiet-all}
 use Rattle.session_laws.proofs.Coming.{Lies, covered-parts, lies-parts}
 use Rattle.session_laws.proofs.Marks.{all-on, parts-sent, source}
 use Rattle.session_laws.proofs.SignedChunks.{IsClosing, IsOlder, IsStep, TakesSteps, covered-all}
@@ -614,14 +614,14 @@ module _ (laws : Laws) (p : Plan) (r i g w ms : ℕ) (samples : List Sampled) (d
     abbrev HasOne : List Event → Type 0
     HasOne befell = (one : Opened) × Contains its_all one × HasPair token one.pass.number (accepted setting befell)
 
-    abbrev EachTookLast : Type 0
-    EachTookLast = EachPart p r i turn.made (λ datagram. TookAt datagram × NoOtherBehind p r i g w pumps ticked datagram (row_cut (meta_of p r i) own.row))
+    abbrev QuietOnceTook : Type 0
+    QuietOnceTook = NoOtherOnceAll p r i g w pumps ticked (λ list. EachPart p r i turn.made (TookIn p r list ticked)) (row_cut (meta_of p r i) own.row)
 
     pairs-stay : (n : ℕ) (pairs : Accepted) (answer : Result Opened Refusal) → HasPair token n pairs → HasPair token n (accepted_with setting pairs answer)
     pairs-stay n pairs (Err refusal) had = had
     pairs-stay n pairs (Ok opened) had = subst (HasPair token n) (sym (pair-added setting config (pasts_at p steps) secured pairs opened)) (inr had)
 
-    takes-all : IsBare p r i → (operational : receives config start r ≡ true) → is_on config start (Reader r i) ≡ true → LowTokens → EachTookLast → TakesAll laws p r i g w ticked pumps own is closing last took HasOne
+    takes-all : IsBare p r i → (operational : receives config start r ≡ true) → is_on config start (Reader r i) ≡ true → LowTokens → EachTook → TakesAll laws p r i g w ticked pumps own is closing last took HasOne
     takes-all bare operational enabled tokens came = record {
       bare = bare;
       operational = operational;
@@ -634,7 +634,7 @@ module _ (laws : Laws) (p : Plan) (r i g w ms : ℕ) (samples : List Sampled) (d
             (not-raised pairs token had.0.pass.number opened.pass.token had.2 (low-token operational tokens had.0 had.1 later older sooner behind other opened split e));
       };
       first_accepts = first-accepts;
-      taken = λ one has part. taken-at operational one has (came (datagram_of one has) (made-one laws p r i g w ticked pumps own is closing last took one has) part).0;
+      taken = λ one has part. taken-at operational one has (came (datagram_of one has) (made-one laws p r i g w ticked pumps own is closing last took one has) part);
       begins = λ one has now on befell e.
           let pairs = accepted setting befell in (
             one,
@@ -642,17 +642,40 @@ module _ (laws : Laws) (p : Plan) (r i g w ms : ℕ) (samples : List Sampled) (d
             subst (λ (a : Result Opened Refusal). HasPair token one.pass.number (accepted_with setting pairs a)) (sym e)
                 (subst (HasPair token one.pass.number) (sym (pair-added setting config (pasts_at p steps) secured pairs one)) (inl ((one-pass one has).token, refl))),
           );
-      silent = λ one has part. (came (datagram_of one has) (made-one laws p r i g w ticked pumps own is closing last took one has) part).1;
     }
 
-    pub closing-took-last : IsBare p r i → receives config start r ≡ true → is_on config start (Reader r i) ≡ true → LowTokens → EachTookLast → ClosingCameLast p r i g w steps (writer_past w before) own
-    closing-took-last bare operational enabled tokens came = by its_case
+    quiet-taken : (operational : receives config start r ≡ true) → QuietOnceTook → QuietOnceTaken laws p r i g w ticked pumps own is closing last took
+    quiet-taken operational quiet later older sooner behind split taken =
+        quiet later older sooner behind split
+        (λ datagram made part.
+        let found = found-own laws p r i g w ticked pumps own is closing last took [] datagram part.opened made part.opens in
+        let at = taken part.opened found.0 part.part in
+        subst (TookIn p r (sooner ∷ older) ticked) found.1
+        (record {
+          later = at.later;
+          before = at.before;
+          earlier = at.earlier;
+          behind = at.behind;
+          is = at.is;
+          opened = part.opened;
+          opens = opens-there operational at.before at.earlier (datagram_of part.opened found.0) part.opened at.opens;
+        }))
+
+    pub closing-took-last : IsBare p r i → receives config start r ≡ true → is_on config start (Reader r i) ≡ true → LowTokens → EachTook → QuietOnceTook → ClosingCameLast p r i g w steps (writer_past w before) own
+    closing-took-last bare operational enabled tokens came quiet = by its_case
       where
+        takes : TakesAll laws p r i g w ticked pumps own is closing last took HasOne
+        takes = takes-all bare operational enabled tokens came
+
+        once : QuietOnceTaken laws p r i g w ticked pumps own is closing last took
+        once = quiet-taken operational quiet
+
         by : OnePart laws.turns laws.passed play is_play own closing its_le last took ⊎ InChunks laws.turns laws.passed play is_play own closing its_le last took → ClosingCameLast p r i g w steps (writer_past w before) own
-        by (inl part) = part-last laws p r i g w ticked pumps own is closing last took HasOne (takes-all bare operational enabled tokens came) part
+        by (inl part) =
+            part-last laws p r i g w ticked pumps own is closing last took HasOne takes part
+            (λ one has some its. quiet-all laws p r i g w ticked pumps own is closing last took once part one has some (takes.taken one has its))
         by (inr chunks) =
-            chunks-last laws p r i g w ticked pumps own is closing last took HasOne (takes-all bare operational enabled tokens came) chunks
-            (open-first laws p r i g w ms samples done start pumps own is had took closing first-accepts chunks)
+            chunks-last laws p r i g w ticked pumps own is closing last took HasOne takes chunks (new-first laws p r i g w ms samples done start pumps own is had took closing first-accepts chunks) once
 
     -- ---- a read group that names the group takes what comes, and none of a higher token
 
@@ -711,9 +734,9 @@ module _ (laws : Laws) (p : Plan) (r i g w : ℕ) (list : List Step) (own : Writ
   came-taken numbered tokens came =
       closing-took laws p r i g w t.ms t.samples t.done t.start t.ends.pumps own here t.had t.ends.took t.ends.closing secured keyed.0 keyed.1 numbered t.ends.operational t.ends.enabled tokens came
 
-  last-taken : IsBare p r i → NoHigherToken t → EachPart p r i (made_in t) (λ datagram. Took datagram × QuietBehind t datagram) → ClosingCameLast p r i g w ended past own
-  last-taken bare tokens came =
-      closing-took-last laws p r i g w t.ms t.samples t.done t.start t.ends.pumps own here t.had t.ends.took t.ends.closing secured keyed.0 keyed.1 bare t.ends.operational t.ends.enabled tokens came
+  last-taken : IsBare p r i → NoHigherToken t → AllTook t t.ends.pumps → QuietOnce t (AllTook t) → ClosingCameLast p r i g w ended past own
+  last-taken bare tokens came quiet =
+      closing-took-last laws p r i g w t.ms t.samples t.done t.start t.ends.pumps own here t.had t.ends.took t.ends.closing secured keyed.0 keyed.1 bare t.ends.operational t.ends.enabled tokens came quiet
 
   module _ (named : (setting_of p.config r).group.group ≢ 0) where
     low-tokens : NoHigherToken t
@@ -748,16 +771,27 @@ took-last-held laws held p r i g w list rows own is versions c =
     let t = c.tick in
     let its_past = past laws p r i g w list own is t c.secured in
     held p r i g w list rows its_past own is versions
-    (subst (λ (l : List Step). ClosingCameLast p r i g w l its_past own) (sym t.ends.split) (last-taken laws p r i g w list own is t c.secured c.bare c.tokens c.came))
+    (subst (λ (l : List Step). ClosingCameLast p r i g w l its_past own) (sym t.ends.split) (last-taken laws p r i g w list own is t c.secured c.bare c.tokens c.took c.quiet))
 
-pub secured-last-held : Laws → LastHeldLaw → (p : Plan) (r i g w : ℕ) (list : List Step) (rows : ℕ → ℕ → List DataValue) (own : WriterTurn) → InSession p r i g w list → AreVersions p list rows → ClosingGotSecuredLast p r i g w list own
+-- what it took came
+took-came : (p : Plan) (r : ℕ) (pumps : List (List Entry)) (start : List Step) (datagram : List ℕ) → TookIn p r pumps start datagram → CameIn pumps datagram
+took-came p r pumps start datagram t = subst (λ (l : List (List Entry)). CameIn l datagram) (sym t.is) (came-between t.later t.before t.earlier t.behind datagram)
+
+-- not secured, or naming the group
+pub since-last-held : Laws → LastHeldLaw → (p : Plan) (r i g w : ℕ) (list : List Step) (rows : ℕ → ℕ → List DataValue) (own : WriterTurn) → InSession p r i g w list → AreVersions p list rows → ClosingGotSinceLast p r i g w list own
     → HoldsRowOf p r i g w list rows own.version
-secured-last-held laws held p r i g w list rows own is versions c =
-    took-last-held laws held p r i g w list rows own is versions
-    (record {
-      bare = c.bare;
-      secured = c.secured;
-      tick = c.tick;
-      came = λ datagram made part. let came = c.came datagram made part in (took-come laws p r i g w list own is c.tick c.secured c.named datagram made part came.0, came.1);
-      tokens = low-tokens laws p r i g w list own is c.tick c.secured c.named;
-    })
+since-last-held laws held p r i g w list rows own is versions c = on (is_secured (setting_of p.config r).setup.mode) refl c.unsecured_or_named
+  where
+    on : (b : Bool) → is_secured (setting_of p.config r).setup.mode ≡ b → (is_secured (setting_of p.config r).setup.mode ≡ false) ⊎ ((setting_of p.config r).group.group ≢ 0) → HoldsRowOf p r i g w list rows own.version
+    on false unsecured either = unsecured-last-held laws held p r i g w list rows own is versions c unsecured
+    on true secured (inl unsecured) = absurd (let wrong : false ≡ true = sym unsecured ∙ secured in cc)
+    on true secured (inr named) =
+        took-last-held laws held p r i g w list rows own is versions
+        (record {
+          bare = c.bare;
+          secured = secured;
+          tick = c.tick;
+          took = λ datagram made part. took-come laws p r i g w list own is c.tick secured named datagram made part (c.came datagram made part);
+          tokens = low-tokens laws p r i g w list own is c.tick secured named;
+          quiet = λ later before first behind split took. c.quiet later before first behind split (λ datagram made part. took-came p r (first ∷ before) (ticked_in c.tick) datagram (took datagram made part));
+        })

@@ -49,17 +49,31 @@ pub record ClosingCameLast (p : Plan) (r i g w : ℕ) (steps : List Step) (befor
   pub closing : turn.closing ≡ true
   pub came : CameLast (arrivals_at p.config r i (first_number_of p.config g w) steps) (row_cut (meta_of p r i) turn.row)
 
--- Behind no moment at which the datagram came in these pumps, with which the steps end, another key frame than one with this row came to the reader.
-abbrev pub NoOtherBehind : Plan → ℕ → ℕ → ℕ → ℕ → List (List Entry) → List Step → List ℕ → List DataValue → Type 0
-NoOtherBehind p r i g w pumps start datagram row =
-    (later before : List (List Entry)) (first behind : List Entry) (newer : List Arrival) → pumps ≡ later ++ (first ++ Got datagram ∷ behind) ∷ before
-    → (let arrived = arrivals_at p.config r i (first_number_of p.config g w) in
-    arrived (map Pump pumps ++ start) ≡ newer ++ arrived (Pump (first ++ Got datagram ∷ []) ∷ map Pump before ++ start))
+-- Of what came to the reader in all of these steps, none behind the steps with which they begin is another key frame than one with this row.
+abbrev pub NoOtherBehind : Plan → ℕ → ℕ → ℕ → ℕ → List Step → List Step → List DataValue → Type 0
+NoOtherBehind p r i g w steps here row =
+    (newer : List Arrival)
+    → (let arrived = arrivals_at p.config r i (first_number_of p.config g w) in arrived steps ≡ newer ++ arrived here)
     → NoOtherKeys row newer
 
--- The writer had a closing turn in the last one of its group, and each datagram of that with a part for the reader came in the pumps that the steps end with, with no
--- chunk for it, and behind it no other key frame: to a read group that isn't secured, whose reader has no numbering. Without `whole` a chunk that comes again, once its
--- message came, would bring nothing, whatever key frame came between.
+-- The datagram came in these pumps, with which the steps end, at a moment behind which no other key frame than one with this row came to the reader.
+pub record CameQuietly (p : Plan) (r i g w : ℕ) (pumps : List (List Entry)) (start : List Step) (row : List DataValue) (datagram : List ℕ) : Type 0 where
+  pub later : List (List Entry)
+  pub before : List (List Entry)
+  pub first : List Entry
+  pub behind : List Entry
+  pub is : pumps ≡ later ++ (first ++ Got datagram ∷ behind) ∷ before
+  pub quiet : NoOtherBehind p r i g w (map Pump pumps ++ start) (Pump (first ++ Got datagram ∷ []) ∷ map Pump before ++ start) row
+
+-- Behind no moment of these pumps, with which the steps end, by which all has come in them did another key frame than one with this row come to the reader.
+abbrev pub NoOtherOnceAll : Plan → ℕ → ℕ → ℕ → ℕ → List (List Entry) → List Step → (List (List Entry) → Type 0) → List DataValue → Type 0
+NoOtherOnceAll p r i g w pumps start HasAllCome row =
+    (later before : List (List Entry)) (first behind : List Entry) → pumps ≡ later ++ (first ++ behind) ∷ before → HasAllCome (first ∷ before)
+    → NoOtherBehind p r i g w (map Pump pumps ++ start) (Pump first ∷ map Pump before ++ start) row
+
+-- The writer had a closing turn in the last one of its group, and each datagram of that with a part for the reader came in the pumps that the steps end with,
+-- with no chunk for it, at a moment behind which no other key frame came: to a read group that isn't secured, whose reader has no numbering. Without `whole` a
+-- chunk that comes again, once its message came, would bring nothing, whatever key frame came between.
 pub record ClosingGotLast (p : Plan) (r i g w : ℕ) (steps : List Step) (before : List GroupDeed) (turn : GroupTurn) (own : WriterTurn) : Type 0 where
   pub bare : IsBare p r i
   pub unsecured : is_secured (setting_of p.config r).setup.mode ≡ false
@@ -68,34 +82,37 @@ pub record ClosingGotLast (p : Plan) (r i g w : ℕ) (steps : List Step) (before
   pub ends : ClosesBefore p r i w steps start turn own
   pub whole : (datagram : List ℕ) → Contains turn.made datagram → (part : HasPartFor (setting_of p.config r) i datagram)
       → All IsUncut (pieces (seat_at (setting_of p.config r).seats i).part part.opened.payload)
-  pub came : EachPart p r i turn.made (λ datagram.
-      CameIn ends.pumps datagram × NoOtherBehind p r i g w ends.pumps start datagram (row_cut (meta_of p r i) own.row))
+  pub came : EachPart p r i turn.made (CameQuietly p r i g w ends.pumps start (row_cut (meta_of p r i) own.row))
 
--- no other key frame came behind the datagram in the pumps of the closing tick
-abbrev pub QuietBehind : {p : Plan} {r i g w : ℕ} {steps : List Step} {own : WriterTurn} → ClosesInTick p r i g w steps own → List ℕ → Type 0
-QuietBehind {p} {r} {i} {g} {w} {steps} {own} t datagram = NoOtherBehind p r i g w t.ends.pumps (ticked t) datagram (row_cut (meta_of p r i) own.row)
+-- each datagram of the closing turn with a part for the reader came in these pumps
+abbrev pub AllCame : {p : Plan} {r i g w : ℕ} {steps : List Step} {own : WriterTurn} → ClosesInTick p r i g w steps own → List (List Entry) → Type 0
+AllCame {p} {r} {i} {g} {w} {steps} {own} t pumps = EachPart p r i (made_in t) (CameIn pumps)
 
--- The same whether or not the frame comes in chunks, where the pumps are all that are behind the closing tick, so that none of its chunks came before them: behind the
--- first of them no other key frame comes.
+-- and the read group took each of them there
+abbrev pub AllTook : {p : Plan} {r i g w : ℕ} {steps : List Step} {own : WriterTurn} → ClosesInTick p r i g w steps own → List (List Entry) → Type 0
+AllTook {p} {r} {i} {g} {w} {steps} {own} t pumps = EachPart p r i (made_in t) (TookIn p r pumps (ticked t))
+
+-- once all has come in the pumps of the closing tick, no other key frame came to the reader
+abbrev pub QuietOnce : {p : Plan} {r i g w : ℕ} {steps : List Step} {own : WriterTurn} → ClosesInTick p r i g w steps own → (List (List Entry) → Type 0)
+    → Type 0
+QuietOnce {p} {r} {i} {g} {w} {steps} {own} t HasAllCome =
+    NoOtherOnceAll p r i g w t.ends.pumps (ticked t) HasAllCome (row_cut (meta_of p r i) own.row)
+
+-- The same whether or not the frame comes in chunks, where the pumps are all that are behind the closing tick, so that none of its chunks came before: once
+-- each of its datagrams came, no other key frame came. The read group isn't secured, or names the writer's group; nothing is asked of what it accepts.
 pub record ClosingGotSinceLast (p : Plan) (r i g w : ℕ) (steps : List Step) (own : WriterTurn) : Type 0 where
   pub bare : IsBare p r i
-  pub unsecured : is_secured (setting_of p.config r).setup.mode ≡ false
+  pub unsecured_or_named : (is_secured (setting_of p.config r).setup.mode ≡ false) ⊎ ((setting_of p.config r).group.group ≢ 0)
   pub tick : ClosesInTick p r i g w steps own
-  pub came : EachPart p r i (made_in tick) (λ datagram. CameIn tick.ends.pumps datagram × QuietBehind tick datagram)
+  pub came : AllCame tick tick.ends.pumps
+  pub quiet : QuietOnce tick (AllCame tick)
 
--- The same of a secured read group that names the writer's group. Nothing is asked of what the read group accepts.
-pub record ClosingGotSecuredLast (p : Plan) (r i g w : ℕ) (steps : List Step) (own : WriterTurn) : Type 0 where
-  pub bare : IsBare p r i
-  pub secured : is_secured (setting_of p.config r).setup.mode ≡ true
-  pub named : (setting_of p.config r).group.group ≢ 0
-  pub tick : ClosesInTick p r i g w steps own
-  pub came : EachPart p r i (made_in tick) (λ datagram. CameIn tick.ends.pumps datagram × QuietBehind tick datagram)
-
--- The same of a secured read group that may name no group: it took each of these datagrams in one of the pumps, and none of a higher token, behind which a reader
--- that it cuts holds nothing.
+-- The same of a secured read group that may name no group: it took each of these datagrams in one of the pumps, and none of a higher token, behind which a
+-- reader that it cuts holds nothing; and once it took all of them, no other key frame came.
 pub record ClosingTookLast (p : Plan) (r i g w : ℕ) (steps : List Step) (own : WriterTurn) : Type 0 where
   pub bare : IsBare p r i
   pub secured : is_secured (setting_of p.config r).setup.mode ≡ true
   pub tick : ClosesInTick p r i g w steps own
-  pub came : EachPart p r i (made_in tick) (λ datagram. TookIn p r tick.ends.pumps (ticked tick) datagram × QuietBehind tick datagram)
+  pub took : AllTook tick tick.ends.pumps
   pub tokens : NoHigherToken tick
+  pub quiet : QuietOnce tick (AllTook tick)

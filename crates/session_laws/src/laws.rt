@@ -25,7 +25,7 @@ ghost use Rattle.session_model.specs.Sends.{IsRun, journal, sent_by};
 ghost use Rattle.session_model.specs.States.{state_at};
 ghost use Rattle.session_model.specs.Stores.{stores};
 ghost use Rattle.session_model.specs.Turns.{deeds_before};
-ghost use Rattle.session_laws.specs.Bare.{ClosingCameLast, ClosingGotLast, ClosingGotSecuredLast, ClosingGotSinceLast, ClosingTookLast};
+ghost use Rattle.session_laws.specs.Bare.{ClosingCameLast, ClosingGotLast, ClosingGotSinceLast, ClosingTookLast};
 ghost use Rattle.session_laws.specs.Below.{Laws};
 ghost use Rattle.session_laws.specs.Courses.{HaveOneCourse};
 ghost use Rattle.session_laws.specs.Fresh.{BeginWithKeys, keyed_turns, protected_by};
@@ -126,9 +126,10 @@ pub fn a_key_frame_that_comes_last_is_held()
 /// reader is one that the journal has as received in the pumps behind it, whole or in chunks, in whichever order. It came likewise
 /// to a secured read group that names the writer's group, whatever the read group has accepted before; to one that names none
 /// where this took each of its datagrams once, and none of a higher token. A reader with no numbering holds it likewise, whole or
-/// in chunks, where no other key frame came behind any coming of one of its datagrams. Without security its pumps may begin
-/// anywhere behind the turn where the frame isn't cut, and are all that are behind the closing tick where it is: a chunk that
-/// comes again brings nothing.
+/// in chunks, where the pumps are all that are behind the closing tick, and no other key frame came once all of its datagrams had
+/// come, or, to a read group that may name no group, once this took all of them. Without security the datagram of a frame that
+/// isn't cut may come in pumps that begin anywhere behind the turn, and it is enough that no other key frame came behind one of
+/// its comings: a chunk that comes again brings nothing.
 pub fn a_closing_frame_that_came_is_held()
     ensures received { (p : Plan) (r i g w : ℕ) (steps : List Step) (rows : ℕ → ℕ → List DataValue)
         (before : List GroupDeed) (turn : GroupTurn) (own : WriterTurn) → InSession p r i g w steps
@@ -147,9 +148,6 @@ pub fn a_closing_frame_that_came_is_held()
         (before : List GroupDeed) (turn : GroupTurn) (own : WriterTurn) → InSession p r i g w steps
         → AreVersions p steps rows → ClosingGotLast p r i g w steps before turn own
         → HoldsRowOf p r i g w steps rows own.version }
-    ensures secured_last { (p : Plan) (r i g w : ℕ) (steps : List Step) (rows : ℕ → ℕ → List DataValue)
-        (own : WriterTurn) → InSession p r i g w steps → AreVersions p steps rows
-        → ClosingGotSecuredLast p r i g w steps own → HoldsRowOf p r i g w steps rows own.version }
     ensures since_last { (p : Plan) (r i g w : ℕ) (steps : List Step) (rows : ℕ → ℕ → List DataValue)
         (own : WriterTurn) → InSession p r i g w steps → AreVersions p steps rows
         → ClosingGotSinceLast p r i g w steps own → HoldsRowOf p r i g w steps rows own.version }

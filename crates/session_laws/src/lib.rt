@@ -16,6 +16,6 @@ pub use laws::{
 pub use printed::{a_closed_session_tells_the_headline, closed_sessions_tell_published_versions};
 pub use turning::each_turn_of_a_session_holds;
 pub use witness::{
-    sessions_of_each_kind_meet_the_premises, small_sessions_meet_the_premises,
-    what_is_sent_can_come,
+    readers_of_each_kind_get_closing_frames, sessions_of_each_kind_meet_the_premises,
+    small_sessions_meet_the_premises, what_is_sent_can_come,
 };

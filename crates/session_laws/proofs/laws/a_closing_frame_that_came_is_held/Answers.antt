@@ -1,8 +1,8 @@
-use Rattle.session_laws.proofs.BareEnd.{got-last-held, since-last-held}
+use Rattle.session_laws.proofs.BareEnd.{got-last-held}
 use Rattle.session_laws.proofs.BareHeld.{bare-held}
 use Rattle.session_laws.proofs.ClosingGot.{got-held}
 use Rattle.session_laws.proofs.ClosingHeld.{closing-held}
-use Rattle.session_laws.proofs.SignedEnd.{secured-held, secured-last-held, took-held, took-last-held}
+use Rattle.session_laws.proofs.SignedEnd.{secured-held, since-last-held, took-held, took-last-held}
 use Rattle.session_laws.proofs.laws.a_closing_frame_that_came_is_held.Goals as goal
 
 pub returns : goal.returns
@@ -17,7 +17,6 @@ returns c =
       taken = took-held below held;
       came = held;
       received_last = got-last-held below last;
-      secured_last = secured-last-held below last;
       since_last = since-last-held below last;
       taken_last = took-last-held below last;
       came_last = last;
