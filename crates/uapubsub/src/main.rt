@@ -8,6 +8,12 @@ ghost use Rattle.command_parts.specs.Statuses.{number_of, text_of};
 ghost use Rattle.command_parts.specs.Telling.{WritesText};
 
 #[cfg(test)]
+mod gated;
+#[cfg(test)]
+mod order;
+#[cfg(test)]
+mod runs;
+#[cfg(test)]
 mod tests;
 mod top;
 mod words;

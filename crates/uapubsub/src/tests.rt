@@ -1,8 +1,7 @@
-//! Whole runs over an outside in memory, and what each leaves.
-use crate::top::top;
-use command_parts::Word;
+//! What whole runs leave.
+use crate::runs::{Ran, run};
 use itoa::Buffer;
-use mem_edge::{MemoryFolder, MemoryLink, MemorySink, Name, OpenGate};
+use mem_edge::OpenGate;
 use std::alloc::{AllocError, Global};
 use std::sync::Wait;
 use std::test::Fail;
@@ -303,122 +302,6 @@ status 5, error output [cannot read s
 $ check --config s; [publisher]/id = \"u8:5\"/; out0; the answer is not written
 status 6, error output []";
 
-/// What a run left.
-#[derive(Drop)]
-struct Ran {
-    status: u8,
-    lab: MemoryLink,
-    out: MemorySink,
-    err: MemorySink,
-}
-
-/// The numbers of the calls of this name that fail.
-fn failing<N: From<u8> + Drop>(alloc: Global, fails: &str, call: &str) -> Result<Vec<N>, Fail> {
-    let mut numbers = Vec::new(alloc);
-    for word in fails.split(' ') {
-        if let Some(digits) = word.strip_prefix(call) {
-            let number = digits.parse::<u8>().ok().ok_or("no number")?;
-            numbers.push(N::from(number)).ok().ok_or("memory")?;
-        }
-    }
-    Ok(numbers)
-}
-
-/// The folder with the files `s`, `c` and `d`, where there are such.
-fn folder_with(alloc: Global, files: &str, fails: &str) -> Result<MemoryFolder, Fail> {
-    let mut there = Vec::new(alloc);
-    let mut texts = files.split(" | ");
-    for name in ["s", "c", "d"] {
-        let text = texts.next().unwrap_or("no file");
-        add_file(alloc, &mut there, name.as_bytes(), text)?;
-    }
-    Ok(MemoryFolder::new(there, failing(alloc, fails, "read")?))
-}
-
-/// The file that a text stands for.
-fn add_file(
-    alloc: Global,
-    files: &mut Vec<(Name, Vec<u8>)>,
-    name: &[u8],
-    text: &str,
-) -> Result<(), Fail> {
-    if text == "no file" {
-        return Ok(());
-    }
-    let name = Name::new(name).ok_or("no name")?;
-    let bytes = if text == "too long" {
-        vec![in alloc; b'#'; 1_048_577]?
-    } else {
-        with_lines(alloc, text)?
-    };
-    files.push((name, bytes)).ok().ok_or("memory")?;
-    Ok(())
-}
-
-/// The bytes of a text, in which a slash is a line feed.
-fn with_lines(alloc: Global, text: &str) -> Result<Vec<u8>, AllocError> {
-    let mut bytes = Vec::from_slice(alloc, text.as_bytes())?;
-    for byte in &mut bytes {
-        if *byte == b'/' {
-            *byte = b'\n';
-        }
-    }
-    Ok(bytes)
-}
-
-fn link_with(alloc: Global, fails: &str) -> Result<MemoryLink, Fail> {
-    let sends = failing(alloc, fails, "send")?;
-    let receives = failing(alloc, fails, "receive")?;
-    Ok(MemoryLink::new(alloc, Vec::new(alloc), sends, receives, fails == "open0"))
-}
-
-fn sink_with(alloc: Global, fails: &str, call: &str) -> Result<MemorySink, Fail> {
-    MemorySink::new(alloc, failing(alloc, fails, call)?)
-        .ok()
-        .ok_or_else(|| "memory".into())
-}
-
-fn words_in(alloc: Global, text: &str) -> Result<Vec<Word>, AllocError> {
-    let mut words = Vec::new(alloc);
-    for word in text.split(' ') {
-        words.push(Word::new(String::from_str(alloc, word)?))?;
-    }
-    Ok(words)
-}
-
-/// Runs the program with these words, these files, and these calls that fail.
-fn run<R: Threads + Wait + Sync>(
-    rt: &R,
-    alloc: Global,
-    words: &str,
-    files: &str,
-    fails: &str,
-) -> Result<Ran, Fail> {
-    let words = words_in(alloc, words)?;
-    let mut folder = folder_with(alloc, files, fails)?;
-    let mut lab = link_with(alloc, fails)?;
-    let mut wire = link_with(alloc, fails)?;
-    let mut out = sink_with(alloc, fails, "out")?;
-    let mut err = sink_with(alloc, fails, "err")?;
-    let status = top(
-        rt,
-        alloc,
-        &words,
-        &mut folder,
-        &mut lab,
-        &mut wire,
-        &OpenGate,
-        &mut out,
-        &mut err,
-    );
-    Ok(Ran {
-        status,
-        lab,
-        out,
-        err,
-    })
-}
-
 /// The first line of a run, and below it what the run left.
 fn told(alloc: Global, line: &str, ran: &Ran) -> Result<Vec<u8>, AllocError> {
     let mut digits = Buffer::new();
@@ -443,7 +326,7 @@ fn run_line<R: Threads + Wait + Sync>(rt: &R, alloc: Global, line: &str) -> Resu
     let (words, rest) = line.split_once("; ").ok_or("no file")?;
     let (files, rest) = rest.split_once("; ").ok_or("no failing calls")?;
     let (fails, _) = rest.split_once("; ").ok_or("it shows nothing")?;
-    run(rt, alloc, words, files, fails)
+    run(rt, alloc, words, files, fails, &OpenGate)
 }
 
 #[test]
@@ -469,6 +352,7 @@ fn the_first_datagram_is_a_key_frame(rt: HostRuntime) -> Result<(), Fail> {
         "play s",
         "write 0 demo a=7/tick 100/",
         "none",
+        &OpenGate,
     )?;
     let datagrams = [ran.lab.sent(0), ran.lab.received(0), ran.lab.sent(2)];
     assert_eq!(rt; datagrams, [Some(FIRST), Some(FIRST), None]);

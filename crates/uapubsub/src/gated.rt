@@ -1,7 +1,6 @@
-//! Runs, and what their reports tell.
+//! Runs past a gate that orders threads and ticks and counts its calls.
 use crate::order::{Item, Order, Until};
-use mem_edge::{MemoryFolder, MemoryLink, MemorySink, Name};
-use run_command::run;
+use crate::runs::run;
 use std::alloc::Global;
 use std::sync::Wait;
 use std::test::Fail;
@@ -11,61 +10,34 @@ use std::thread::Threads;
 const PUBLISHER: u32 = 8;
 
 /// Five writes of thread 0, five of thread 1, and two ticks.
-const TEN_WRITES: &[u8] =
-    b"write 0 demo a=1\nwrite 0 demo a=2\nwrite 0 demo a=3\nwrite 0 demo a=4\nwrite 0 demo a=5\nwrite 1 demo b=1\nwrite 1 demo b=2\nwrite 1 demo b=3\nwrite 1 demo b=4\nwrite 1 demo b=5\ntick 100\ntick 100\n";
+const TEN_WRITES: &str =
+    "write 0 demo a=1/write 0 demo a=2/write 0 demo a=3/write 0 demo a=4/write 0 demo a=5/write 1 demo b=1/write 1 demo b=2/write 1 demo b=3/write 1 demo b=4/write 1 demo b=5/tick 100/tick 100/";
 
 /// Five writes of thread 0, and five ticks.
-const FIVE_WRITES: &[u8] =
-    b"write 0 demo a=1\nwrite 0 demo a=2\nwrite 0 demo a=3\nwrite 0 demo a=4\nwrite 0 demo a=5\ntick 100\ntick 100\ntick 100\ntick 100\ntick 100\n";
+const FIVE_WRITES: &str =
+    "write 0 demo a=1/write 0 demo a=2/write 0 demo a=3/write 0 demo a=4/write 0 demo a=5/tick 100/tick 100/tick 100/tick 100/tick 100/";
 
 fn item(thread: u32, k: u32) -> Item {
     Item { thread, k }
 }
 
-/// Runs a script with the built-in configuration, over a link that loses nothing, and demands that no hold was missed. The answer is
-/// the report.
+/// Runs the program with these words and this script past a gate, over links that lose nothing, and demands that no hold was missed.
+/// The answer is the report.
 fn report_of<R: Threads + Wait + Sync>(
     rt: &R,
     alloc: Global,
-    script: &[u8],
+    words: &str,
+    script: &str,
     order: &Order,
 ) -> Result<Vec<u8>, Fail> {
-    let mut files = Vec::new(alloc);
-    files
-        .push((
-            Name::new(b"s").ok_or("no name")?,
-            Vec::from_slice(alloc, script)?,
-        ))
-        .ok()
-        .ok_or("memory")?;
-    let mut folder = MemoryFolder::new(files, Vec::new(alloc));
-    let mut wire = MemoryLink::new(
-        alloc,
-        Vec::new(alloc),
-        Vec::new(alloc),
-        Vec::new(alloc),
-        false,
-    );
-    let mut out = MemorySink::new(alloc, Vec::new(alloc))
-        .ok()
-        .ok_or("memory")?;
-    let status = run(
-        rt,
-        alloc,
-        "s",
-        None,
-        &mut folder,
-        &mut wire,
-        order,
-        &mut out,
-    );
-    if status.number() != 0 {
+    let ran = run(rt, alloc, words, script, "none", order)?;
+    if ran.status != 0 {
         return Err("another status than 0".into());
     }
     if order.missed() != 0 {
         return Err("a hold was missed".into());
     }
-    Ok(Vec::from_slice(alloc, out.bytes())?)
+    Ok(Vec::from_slice(alloc, ran.out.bytes())?)
 }
 
 /// The line of a report that begins so, without this beginning.
@@ -113,7 +85,7 @@ fn ten_holds(alloc: Global) -> Result<Vec<(Item, Until)>, Fail> {
 #[test]
 fn threads_write_while_the_publisher_ticks(rt: HostRuntime) -> Result<(), Fail> {
     let order = Order::new(rt.alloc(), ten_holds(rt.alloc())?)?;
-    let report = report_of(&rt, rt.alloc(), TEN_WRITES, &order)?;
+    let report = report_of(&rt, rt.alloc(), "run s", TEN_WRITES, &order)?;
     let text = str::from_utf8(&report).ok().ok_or("no text")?;
     assert_eq!(&rt; order.all_calls(), (12, 12));
     let history = line_of(text, "history demo 10: ").ok_or("no history")?;
@@ -141,11 +113,30 @@ fn holds_in_step(alloc: Global) -> Result<Vec<(Item, Until)>, Fail> {
 #[test]
 fn each_tick_samples_what_is_written_by_then(rt: HostRuntime) -> Result<(), Fail> {
     let order = Order::new(rt.alloc(), holds_in_step(rt.alloc())?)?;
-    let report = report_of(&rt, rt.alloc(), FIVE_WRITES, &order)?;
+    let report = report_of(&rt, rt.alloc(), "run s", FIVE_WRITES, &order)?;
     let text = str::from_utf8(&report).ok().ok_or("no text")?;
     assert_eq!(&rt;
         line_of(text, "writer w1 "),
         Some("operational 6: 0=1 1=2 2=3 3=4 4=5 5=5")
     );
+    Ok(())
+}
+
+/// The least load has 32 writes of four threads and 4 ticks; of the built-in configuration one lane has a turn at the tick, and the
+/// closing one.
+#[test]
+fn load_and_lanes_are_given_the_gate(rt: HostRuntime) -> Result<(), Fail> {
+    let order = Order::new(rt.alloc(), Vec::new(rt.alloc()))?;
+    report_of(&rt, rt.alloc(), "load 1", "no file", &order)?;
+    assert_eq!(&rt; order.all_calls(), (36, 36));
+    let order = Order::new(rt.alloc(), Vec::new(rt.alloc()))?;
+    report_of(
+        &rt,
+        rt.alloc(),
+        "lanes s",
+        "write 0 demo a=7/tick 100/",
+        &order,
+    )?;
+    assert_eq!(&rt; order.all_calls(), (2, 2));
     Ok(())
 }
