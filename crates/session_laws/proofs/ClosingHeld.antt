@@ -21,7 +21,7 @@ use Rattle.session_model.specs.Deeds.{answered_at}
 use Rattle.session_model.specs.Events.{reader_at}
 use Rattle.session_model.specs.Steps.{Plan, Step}
 use Rattle.session_laws.specs.Headline.{ComesFrom, InSession, meta_of}
-use Rattle.session_laws.specs.Newest.{ClosingCame, HoldsRowOf}
+use Rattle.session_laws.specs.Newest.{ClosingCame, HoldsNewest}
 use Rattle.session_laws.specs.Pasts.{settings_at}
 use Rattle.session_laws.specs.Plays.{IsAnswerBy, ItemsAre}
 use Rattle.session_laws.specs.Reading.{ReadsByRecords, arrivals_at, first_number_of}
@@ -101,7 +101,7 @@ module _ (p : Plan) (r i g w : ℕ) (steps : List Step) (before : List WriterDee
       held-last place (row_cut (meta_of p r i) turn.row) (since_cut list) items (contained-reaches place (since_cut list) c.came.item c.came.came c.came.stands)
 
 pub closing-held : SpansLaw → ComesLaw → ReadsLaw → HoldsLaw → (p : Plan) (r i g w : ℕ) (steps : List Step) (rows : ℕ → ℕ → List DataValue) (before : List WriterDeed) (turn : WriterTurn)
-    → InSession p r i g w steps → AreVersions p steps rows → ClosingCame p r i g w steps before turn → HoldsRowOf p r i g w steps rows turn.version
+    → InSession p r i g w steps → AreVersions p steps rows → ClosingCame p r i g w steps before turn → HoldsNewest p r i g w steps rows turn.version
 closing-held spans comes reads holds p r i g w steps rows before turn is versions c =
     let setting = setting_of p.config r in
     let kept : Kept = (reader_at p.config r i steps).kept in

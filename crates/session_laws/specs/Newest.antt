@@ -168,3 +168,10 @@ abbrev pub HoldsRowOf : Plan → ℕ → ℕ → ℕ → ℕ → List Step → (
 HoldsRowOf p r i g w steps rows version =
     (reader_at p.config r i steps).kept.row
     ≡ Some (row_cut (meta_of p r i) (rows (writer_at (group_at p.config g) w).dataset version))
+
+-- The reader holds that row, at the number of the last place in the writer's log, where this version stands.
+pub record HoldsNewest (p : Plan) (r i g w : ℕ) (steps : List Step) (rows : ℕ → ℕ → List DataValue) (version : ℕ) : Type 0 where
+  pub row : HoldsRowOf p r i g w steps rows version
+  pub place : ℕ
+  pub logged : IsLastLogged p g w steps place version
+  pub number : (reader_at p.config r i steps).kept.number ≡ Some (number_of_place place)
