@@ -40,6 +40,7 @@ mod KnownTokens
 mod BareMeeting
 mod BehindAnother
 mod ThreeGroups
+mod SinceCut
 mod Growing
 mod Passing
 mod SignedParts

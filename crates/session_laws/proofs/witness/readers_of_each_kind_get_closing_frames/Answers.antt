@@ -1,5 +1,5 @@
 use Rattle.session_laws.specs.Witness.{GotLast, bare_config, bare_text, chunks_config, chunks_text, lone_config, lone_text}
-use Rattle.session_laws.proofs.BareMeeting.{BareLaws, ChunksLaws, HeldLaw, any-held, bare-is-read, bare-types, bare_any-held, bare_signed-held, bare_slotted-held, chunks-are-read, chunks-held, chunks-types, slotted-came-held, slotted-since-held}
+use Rattle.session_laws.proofs.BareMeeting.{BareLaws, ChunksLaws, HeldLaw, any-newest, bare-is-read, bare-types, bare_any-held, bare_signed-held, bare_slotted-held, chunks-are-read, chunks-held, chunks-types, slotted-came-held, slotted-since-held}
 use Rattle.session_laws.proofs.BehindAnother.{LoneLaws, lone-is-read, received-again, since-old}
 use Rattle.session_laws.proofs.witness.readers_of_each_kind_get_closing_frames.Goals as goal
 
@@ -32,7 +32,7 @@ returns c =
     record {
       accepted = bare-is-read;
       accepted_chunks = chunks-are-read;
-      taken = any-held laws (λ p r i g w steps rows own is versions took. (held.taken p r i g w steps rows own is versions took).row);
+      taken = any-newest laws held.taken;
       taken_last = bare_any-held laws held.taken_last;
       secured_last = bare_signed-held laws held.since_last;
       received_last = bare_slotted-held laws received;
