@@ -67,7 +67,7 @@ pub fn a_matched_reader_holds_what_was_sent()
 
 /// Whatever datagrams of a session are lost, repeated or reordered, each matched reader reads by *Records*, and holds exactly the
 /// published version that the unbroken run of its arrivals from a key frame names: the row of the version that its writer's log
-/// has at the held number, cut to the reader's fields.
+/// has at the held number, cut to the reader's fields, which is that of the writer's turn whose data frame has this place, cut so.
 pub fn matched_readers_hold_published_versions()
     ensures comes { (p : Plan) (r i g w : ℕ) (steps : List Step) → InSession p r i g w steps → ComesFrom p r i g w steps }
     ensures reads { (p : Plan) (r i g w : ℕ) (steps : List Step) → InSession p r i g w steps
