@@ -26,6 +26,7 @@ mod Dividing
 mod Newest
 mod Reaching
 mod LastItems
+mod ClosingVersions
 mod ClosingHeld
 mod SameLines
 mod Anew

@@ -33,7 +33,7 @@ ghost use Rattle.session_laws.specs.Headline.{InSession, ComesFrom, IsPublished,
 ghost use Rattle.session_laws.specs.Newest.{BringsLast, ClosingCame, ClosingGot, ClosingGotSecured, ClosingTook, HoldsNewest, HoldsRowOf, IsLastLogged, IsNewest};
 ghost use Rattle.session_laws.specs.Pasts.{settings_at};
 ghost use Rattle.session_laws.specs.Plays.{Play, IsPlay, ComesFromWriter, HoldsVersion, its_marks, its_member, its_way};
-ghost use Rattle.session_laws.specs.Sessions.{AreVersions, SamplesRise};
+ghost use Rattle.session_laws.specs.Sessions.{AreVersions, ClosesWith, SamplesRise};
 ghost use Rattle.session_laws.specs.Twins.{TwinStep, AddRefused, AreTwins, HasFurther, HasTwins, HaveFurther, firsts, seconds, with_counts_of};
 
 use crate::turning::each_turn_of_a_session_holds;
@@ -67,7 +67,7 @@ pub fn a_matched_reader_holds_what_was_sent()
 
 /// Whatever datagrams of a session are lost, repeated or reordered, each matched reader reads by *Records*, and holds exactly the
 /// published version that the unbroken run of its arrivals from a key frame names: the row of the version that its writer's log
-/// has at the held number, cut to the reader's fields.
+/// has at the held number, cut to the reader's fields, which is that of the writer's turn whose data frame has this place, cut so.
 pub fn matched_readers_hold_published_versions()
     ensures comes { (p : Plan) (r i g w : ℕ) (steps : List Step) → InSession p r i g w steps → ComesFrom p r i g w steps }
     ensures reads { (p : Plan) (r i g w : ℕ) (steps : List Step) → InSession p r i g w steps
@@ -135,6 +135,8 @@ pub fn a_key_frame_that_comes_last_is_held()
 /// higher token, and no other key frame came once it had taken all of them (`taken_last`). Without security the datagram of a frame
 /// that isn't cut may come in pumps that begin anywhere behind the turn, and it is enough that no other key frame came behind one
 /// of its comings (`received_last`): a chunk that comes again brings nothing.
+///
+/// The version of a closing turn is the one that the closing tick sampled of the writer's data set (`sampled`).
 pub fn a_closing_frame_that_came_is_held()
     ensures received { (p : Plan) (r i g w : ℕ) (steps : List Step) (rows : ℕ → ℕ → List DataValue)
         (before : List GroupDeed) (turn : GroupTurn) (own : WriterTurn) → InSession p r i g w steps
@@ -162,6 +164,10 @@ pub fn a_closing_frame_that_came_is_held()
     ensures came_last { (p : Plan) (r i g w : ℕ) (steps : List Step) (rows : ℕ → ℕ → List DataValue)
         (before : List WriterDeed) (turn : WriterTurn) → InSession p r i g w steps → AreVersions p steps rows
         → ClosingCameLast p r i g w steps before turn → HoldsRowOf p r i g w steps rows turn.version }
+    ensures sampled { (p : Plan) (g w : ℕ) (steps : List Step) (later before : List WriterDeed) (turn : WriterTurn)
+        → IsPlan p → AreSteps p steps → g < length p.config.group → w < length (group_at p.config g).writer
+        → writer_deeds p g w steps ≡ later ++ HadTurn turn ∷ before → turn.closing ≡ true
+        → ClosesWith steps (writer_at (group_at p.config g) w).dataset turn.version }
 {
     what_the_laws_below_say();
     answers_have_places_of_their_span();

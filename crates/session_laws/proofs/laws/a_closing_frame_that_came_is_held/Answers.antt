@@ -2,6 +2,7 @@ use Rattle.session_laws.proofs.BareEnd.{got-last-held}
 use Rattle.session_laws.proofs.BareHeld.{bare-held}
 use Rattle.session_laws.proofs.ClosingGot.{got-held}
 use Rattle.session_laws.proofs.ClosingHeld.{closing-held}
+use Rattle.session_laws.proofs.ClosingVersions.{closes-with}
 use Rattle.session_laws.proofs.SignedEnd.{secured-held, since-last-held, took-held, took-last-held}
 use Rattle.session_laws.proofs.laws.a_closing_frame_that_came_is_held.Goals as goal
 
@@ -20,4 +21,5 @@ returns c =
       since_last = since-last-held below last;
       taken_last = took-last-held below last;
       came_last = last;
+      sampled = closes-with below.words;
     }
