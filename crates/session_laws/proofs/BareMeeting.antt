@@ -56,7 +56,7 @@ use Rattle.session_laws.specs.Headline.{InSession}
 use Rattle.session_laws.specs.Newest.{CameIn, ClosingTook, HasPartFor, HoldsRowOf, NoHigherToken, TookIn}
 use Rattle.session_laws.specs.Reading.{IsMatchedIn}
 use Rattle.session_laws.specs.Sessions.{AreVersions}
-use Rattle.session_laws.specs.Witness.{CameAlone, GotLast, IsHeldWhere, IsNewestWhere, any_readers, bare_any_readers, bare_config, bare_cut_readers, bare_plan, bare_reader_of, bare_session, bare_signed_readers, bare_slotted_readers, bare_text, chunks_config, chunks_plan, chunks_session, chunks_text, three_rows}
+use Rattle.session_laws.specs.Witness.{CameAlone, Coming, GotLast, IsHeldWhere, IsNewestWhere, any_readers, bare_any_readers, bare_config, bare_cut_readers, bare_plan, bare_reader_of, bare_session, bare_signed_readers, bare_slotted_readers, bare_text, chunks_config, chunks_plan, chunks_session, chunks_text, three_rows}
 use Rattle.session_laws.proofs.KnownTokens.{known-token}
 use Rattle.session_laws.proofs.OneTick.{closes, config, cut-came, cut-had, cut-only, cut-took, in-session, in_tick, matched-to, its_envelope, its_payload, its_payloads, its_sender, made, nothing-behind, own_at, past_at, plan, plan-is, sent, session, signed-came, signed-had, signed-made, signed-only, signed-took, signed_datagram, slotted-came, slotted-had, slotted-last, slotted-only, slotted-took, three-sends, turn_at, versions-are}
 use Rattle.session_laws.proofs.Quiet.{came-last}
@@ -367,7 +367,7 @@ signed-got laws = record {
 -- ---- so each reader holds the closing row
 
 -- what a clause of the law says of a closing turn that came so
-abbrev pub HeldLaw : (Plan → ℕ → ℕ → ℕ → ℕ → List Step → WriterTurn → Type 0) → Type 0
+abbrev pub HeldLaw : Coming → Type 0
 HeldLaw Came =
     (p : Plan) (r i g w : ℕ) (steps : List Step) (rows : ℕ → ℕ → List DataValue) (own : WriterTurn) → InSession p r i g w steps → AreVersions p steps rows → Came p r i g w steps own
     → HoldsRowOf p r i g w steps rows own.version

@@ -17,7 +17,7 @@ use Rattle.session_laws.specs.Newest.{ClosingGot, ClosingGotSecured, HoldsNewest
 use Rattle.session_laws.specs.Reading.{IsMatchedIn}
 use Rattle.session_laws.specs.Sessions.{AreVersions}
 use Rattle.session_laws.specs.Telling.{HasRun}
-use Rattle.session_laws.specs.Witness.{GotAll, IsNewestWhere, three_plan, three_rows, three_session}
+use Rattle.session_laws.specs.Witness.{Coming, GotAll, IsNewestWhere, three_plan, three_rows, three_session}
 use Rattle.session_laws.proofs.OneTick as OneTick
 use Rattle.session_laws.proofs.OneTick.{closes, config, cut-came, cut-last, cut-took, in-session, in_tick, matched-to, own_at, past_at, plan, plan-is, sent, session, signed-came, signed-had, signed-took, slotted-came, slotted-last, slotted-took, turn_at, versions-are}
 
@@ -99,12 +99,12 @@ signed-got = record {
 }
 
 -- what a clause of the law says of a closing turn that came so
-abbrev pub NewestLaw : (Plan → ℕ → ℕ → ℕ → ℕ → List Step → WriterTurn → Type 0) → Type 0
+abbrev pub NewestLaw : Coming → Type 0
 NewestLaw Came =
     (p : Plan) (r i g w : ℕ) (steps : List Step) (rows : ℕ → ℕ → List DataValue) (own : WriterTurn) → InSession p r i g w steps → AreVersions p steps rows → Came p r i g w steps own
     → HoldsNewest p r i g w steps rows own.version
 
-pub newest-where : (Came : Plan → ℕ → ℕ → ℕ → ℕ → List Step → WriterTurn → Type 0) (p : Plan) (r g : ℕ) (steps : List Step) (rows : ℕ → ℕ → List DataValue) (own : WriterTurn) → NewestLaw Came
+pub newest-where : (Came : Coming) (p : Plan) (r g : ℕ) (steps : List Step) (rows : ℕ → ℕ → List DataValue) (own : WriterTurn) → NewestLaw Came
     → InSession p r 0 g 0 steps → AreVersions p steps rows → Came p r 0 g 0 steps own → IsNewestWhere Came p r g steps rows
 newest-where Came p r g steps rows own law is versions came = record { session = is; versions = versions; own = own; came = came; newest = law p r 0 g 0 steps rows own is versions came }
 
