@@ -222,4 +222,4 @@ growing-got = record {
 pub growing-held : TellingLaws → ReceivedLaw → (reader_at growing_plan.config 0 0 growing_session).kept.row ≡ Some small_row
 unfolding growing_plan telling_config telling_group telling_writer built_in_config built_in_group built_in_writer built_in_read_group built_in_reader demo nine
 growing-held laws law =
-    (law growing_plan 0 0 0 0 growing_session nine_rows its_past its_turn its_own (in-growing laws) versions-growing growing-got).row
+    (law growing_plan 0 0 0 0 growing_session nine_rows its_past its_turn its_own (in-growing laws) versions-growing growing-got).newest.row

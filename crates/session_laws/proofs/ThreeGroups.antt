@@ -14,7 +14,7 @@ use Rattle.session_model.specs.Sends.{sends_of}
 use Rattle.session_model.specs.Steps.{Plan, Step}
 use Rattle.session_laws.specs.Delivered.{sent_on}
 use Rattle.session_laws.specs.Headline.{InSession}
-use Rattle.session_laws.specs.Newest.{ClosingGot, ClosingGotSecured, HoldsNewest}
+use Rattle.session_laws.specs.Newest.{ClosingGot, ClosingGotSecured, HoldsClosing}
 use Rattle.session_laws.specs.Reading.{IsMatchedIn}
 use Rattle.session_laws.specs.Sessions.{AreVersions}
 use Rattle.session_laws.specs.Telling.{HasRun}
@@ -102,22 +102,22 @@ signed-got = record {
 abbrev pub SecuredLaw : Type 0
 SecuredLaw =
     (p : Plan) (r i g w : ℕ) (steps : List Step) (rows : ℕ → ℕ → List DataValue) (own : WriterTurn) → InSession p r i g w steps → AreVersions p steps rows
-    → ClosingGotSecured p r i g w steps own → HoldsNewest p r i g w steps rows own.version
+    → ClosingGotSecured p r i g w steps own → HoldsClosing p r i g w steps rows own.version
 
-pub secured-held : ThreeLaws → SecuredLaw → HoldsNewest three_plan 0 0 0 0 three_session three_rows 1
+pub secured-held : ThreeLaws → SecuredLaw → HoldsClosing three_plan 0 0 0 0 three_session three_rows 1
 unfolding three_plan three_config signed_group ones
 secured-held laws law = law its 0 0 0 0 (session beside) three_rows (own_at beside 0) (in-signed laws) versions-three signed-got
 
 abbrev pub ReceivedLaw : Type 0
 ReceivedLaw =
     (p : Plan) (r i g w : ℕ) (steps : List Step) (rows : ℕ → ℕ → List DataValue) (before : List GroupDeed) (turn : GroupTurn) (own : WriterTurn) → InSession p r i g w steps → AreVersions p steps rows
-    → ClosingGot p r i g w steps before turn own → HoldsNewest p r i g w steps rows own.version
+    → ClosingGot p r i g w steps before turn own → HoldsClosing p r i g w steps rows own.version
 
-pub slotted-held : ThreeLaws → ReceivedLaw → HoldsNewest three_plan 1 0 1 0 three_session three_rows 1
+pub slotted-held : ThreeLaws → ReceivedLaw → HoldsClosing three_plan 1 0 1 0 three_session three_rows 1
 unfolding three_plan three_config slotted_group ones
 slotted-held laws law = law its 1 0 1 0 (session beside) three_rows (past_at beside 1) (turn_at beside 1) (own_at beside 1) (in-slotted laws) versions-three slotted-got
 
-pub cut-held : ThreeLaws → ReceivedLaw → HoldsNewest three_plan 2 0 2 0 three_session three_rows 1
+pub cut-held : ThreeLaws → ReceivedLaw → HoldsClosing three_plan 2 0 2 0 three_session three_rows 1
 unfolding three_plan three_config cut_group ones
 cut-held laws law = law its 2 0 2 0 (session beside) three_rows (past_at beside 2) (turn_at beside 2) (own_at beside 2) (in-cut laws) versions-three cut-got
 

@@ -32,7 +32,7 @@ returns c =
     record {
       accepted = bare-is-read;
       accepted_chunks = chunks-are-read;
-      taken = any-held laws (λ p r i g w steps rows own is versions took. (held.taken p r i g w steps rows own is versions took).row);
+      taken = any-held laws (λ p r i g w steps rows own is versions took. (held.taken p r i g w steps rows own is versions took).newest.row);
       taken_last = bare_any-held laws held.taken_last;
       secured_last = bare_signed-held laws held.since_last;
       received_last = bare_slotted-held laws received;
