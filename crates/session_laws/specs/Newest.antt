@@ -181,3 +181,8 @@ pub record HoldsNewest (p : Plan) (r i g w : ℕ) (steps : List Step) (rows : �
 pub record HoldsClosing (p : Plan) (r i g w : ℕ) (steps : List Step) (rows : ℕ → ℕ → List DataValue) (version : ℕ) : Type 0 where
   pub newest : HoldsNewest p r i g w steps rows version
   pub sampled : ClosesWith steps (writer_at (group_at p.config g) w).dataset version
+
+-- The reader holds the row of the version that the closing tick sampled of the writer's data set, cut to its fields.
+pub record HoldsClosingRow (p : Plan) (r i g w : ℕ) (steps : List Step) (rows : ℕ → ℕ → List DataValue) (version : ℕ) : Type 0 where
+  pub row : HoldsRowOf p r i g w steps rows version
+  pub sampled : ClosesWith steps (writer_at (group_at p.config g) w).dataset version

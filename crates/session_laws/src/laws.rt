@@ -30,7 +30,7 @@ ghost use Rattle.session_laws.specs.Below.{Laws};
 ghost use Rattle.session_laws.specs.Courses.{HaveOneCourse};
 ghost use Rattle.session_laws.specs.Fresh.{BeginWithKeys, keyed_turns, protected_by};
 ghost use Rattle.session_laws.specs.Headline.{InSession, ComesFrom, IsPublished, PublishesVersion, answered_turn};
-ghost use Rattle.session_laws.specs.Newest.{BringsLast, ClosingCame, ClosingGot, ClosingGotSecured, ClosingTook, HoldsClosing, HoldsNewest, HoldsRowOf, IsLastLogged, IsNewest};
+ghost use Rattle.session_laws.specs.Newest.{BringsLast, ClosingCame, ClosingGot, ClosingGotSecured, ClosingTook, HoldsClosing, HoldsClosingRow, HoldsNewest, IsLastLogged, IsNewest};
 ghost use Rattle.session_laws.specs.Pasts.{settings_at};
 ghost use Rattle.session_laws.specs.Plays.{Play, IsPlay, ComesFromWriter, HoldsVersion, its_marks, its_member, its_way};
 ghost use Rattle.session_laws.specs.Sessions.{AreVersions, ClosesWith, SamplesRise};
@@ -131,7 +131,7 @@ pub fn a_key_frame_that_comes_last_is_held()
 /// writer's group, whatever the read group has accepted before (`secured`); to one that names none where this took each of its
 /// datagrams once, and none of a higher token (`taken`).
 ///
-/// A reader with no numbering holds the row of the turn's version, cut to its fields, where the frame came since its last cut,
+/// A reader with no numbering holds the row of this version, cut to its fields, where the frame came since its last cut,
 /// and no other key frame behind it (`came_last`). It came so, whole or in chunks, where the pumps are all that are behind the
 /// closing tick, and no other key frame came once all of its datagrams had come, to a read group that isn't secured, or that
 /// names the writer's group (`since_last`); to a secured one that may name no group where this took each of its datagrams, and
@@ -157,16 +157,16 @@ pub fn a_closing_frame_that_came_is_held()
     ensures received_last { (p : Plan) (r i g w : ℕ) (steps : List Step) (rows : ℕ → ℕ → List DataValue)
         (before : List GroupDeed) (turn : GroupTurn) (own : WriterTurn) → InSession p r i g w steps
         → AreVersions p steps rows → ClosingGotLast p r i g w steps before turn own
-        → HoldsRowOf p r i g w steps rows own.version }
+        → HoldsClosingRow p r i g w steps rows own.version }
     ensures since_last { (p : Plan) (r i g w : ℕ) (steps : List Step) (rows : ℕ → ℕ → List DataValue)
         (own : WriterTurn) → InSession p r i g w steps → AreVersions p steps rows
-        → ClosingGotSinceLast p r i g w steps own → HoldsRowOf p r i g w steps rows own.version }
+        → ClosingGotSinceLast p r i g w steps own → HoldsClosingRow p r i g w steps rows own.version }
     ensures taken_last { (p : Plan) (r i g w : ℕ) (steps : List Step) (rows : ℕ → ℕ → List DataValue)
         (own : WriterTurn) → InSession p r i g w steps → AreVersions p steps rows
-        → ClosingTookLast p r i g w steps own → HoldsRowOf p r i g w steps rows own.version }
+        → ClosingTookLast p r i g w steps own → HoldsClosingRow p r i g w steps rows own.version }
     ensures came_last { (p : Plan) (r i g w : ℕ) (steps : List Step) (rows : ℕ → ℕ → List DataValue)
         (before : List WriterDeed) (turn : WriterTurn) → InSession p r i g w steps → AreVersions p steps rows
-        → ClosingCameLast p r i g w steps before turn → HoldsRowOf p r i g w steps rows turn.version }
+        → ClosingCameLast p r i g w steps before turn → HoldsClosingRow p r i g w steps rows turn.version }
     ensures sampled { (p : Plan) (g w : ℕ) (steps : List Step) (later before : List WriterDeed) (turn : WriterTurn)
         → IsPlan p → AreSteps p steps → g < length p.config.group → w < length (group_at p.config g).writer
         → writer_deeds p g w steps ≡ later ++ HadTurn turn ∷ before → turn.closing ≡ true
