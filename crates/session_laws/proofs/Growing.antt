@@ -225,4 +225,4 @@ growing-newest laws law = newest-where GotAll growing_plan 0 0 growing_session n
 pub growing-held : TellingLaws → NewestLaw GotAll → (reader_at growing_plan.config 0 0 growing_session).kept.row ≡ Some small_row
 unfolding growing_plan telling_config telling_group telling_writer built_in_config built_in_group built_in_writer built_in_read_group built_in_reader demo nine
 growing-held laws law =
-    (law growing_plan 0 0 0 0 growing_session nine_rows its_own (in-growing laws) versions-growing (its_past, its_turn, growing-got)).row
+    (law growing_plan 0 0 0 0 growing_session nine_rows its_own (in-growing laws) versions-growing (its_past, its_turn, growing-got)).newest.row

@@ -13,7 +13,7 @@ use Rattle.session_model.specs.Sends.{sends_of}
 use Rattle.session_model.specs.Steps.{Plan, Step}
 use Rattle.session_laws.specs.Delivered.{sent_on}
 use Rattle.session_laws.specs.Headline.{InSession}
-use Rattle.session_laws.specs.Newest.{ClosingGot, ClosingGotSecured, HoldsNewest}
+use Rattle.session_laws.specs.Newest.{ClosingGot, ClosingGotSecured, HoldsClosing}
 use Rattle.session_laws.specs.Reading.{IsMatchedIn}
 use Rattle.session_laws.specs.Sessions.{AreVersions}
 use Rattle.session_laws.specs.Telling.{HasRun}
@@ -102,7 +102,7 @@ signed-got = record {
 abbrev pub NewestLaw : Coming → Type 0
 NewestLaw Came =
     (p : Plan) (r i g w : ℕ) (steps : List Step) (rows : ℕ → ℕ → List DataValue) (own : WriterTurn) → InSession p r i g w steps → AreVersions p steps rows → Came p r i g w steps own
-    → HoldsNewest p r i g w steps rows own.version
+    → HoldsClosing p r i g w steps rows own.version
 
 pub newest-where : (Came : Coming) (p : Plan) (r g : ℕ) (steps : List Step) (rows : ℕ → ℕ → List DataValue) (own : WriterTurn) → NewestLaw Came
     → InSession p r 0 g 0 steps → AreVersions p steps rows → Came p r 0 g 0 steps own → IsNewestWhere Came p r g steps rows
@@ -120,15 +120,15 @@ pub cut-newest : ThreeLaws → NewestLaw GotAll → IsNewestWhere GotAll three_p
 unfolding three_plan three_config
 cut-newest laws law = newest-where GotAll its 2 2 (session beside) three_rows (own_at beside 2) law (in-cut laws) versions-three (past_at beside 2, turn_at beside 2, cut-got)
 
-pub secured-held : ThreeLaws → NewestLaw ClosingGotSecured → HoldsNewest three_plan 0 0 0 0 three_session three_rows 1
+pub secured-held : ThreeLaws → NewestLaw ClosingGotSecured → HoldsClosing three_plan 0 0 0 0 three_session three_rows 1
 unfolding three_plan three_config signed_group ones
 secured-held laws law = law its 0 0 0 0 (session beside) three_rows (own_at beside 0) (in-signed laws) versions-three signed-got
 
-pub slotted-held : ThreeLaws → NewestLaw GotAll → HoldsNewest three_plan 1 0 1 0 three_session three_rows 1
+pub slotted-held : ThreeLaws → NewestLaw GotAll → HoldsClosing three_plan 1 0 1 0 three_session three_rows 1
 unfolding three_plan three_config slotted_group ones
 slotted-held laws law = law its 1 0 1 0 (session beside) three_rows (own_at beside 1) (in-slotted laws) versions-three (past_at beside 1, turn_at beside 1, slotted-got)
 
-pub cut-held : ThreeLaws → NewestLaw GotAll → HoldsNewest three_plan 2 0 2 0 three_session three_rows 1
+pub cut-held : ThreeLaws → NewestLaw GotAll → HoldsClosing three_plan 2 0 2 0 three_session three_rows 1
 unfolding three_plan three_config cut_group ones
 cut-held laws law = law its 2 0 2 0 (session beside) three_rows (own_at beside 2) (in-cut laws) versions-three (past_at beside 2, turn_at beside 2, cut-got)
 

@@ -10,7 +10,7 @@ pub returns : goal.returns
 returns c =
     let below = c.what_the_laws_below_say.ensures in
     let laws = c.matched_readers_hold_published_versions.ensures in
-    let held = closing-held c.answers_have_places_of_their_span.ensures.each laws.comes laws.reads laws.holds in
+    let held = closing-held below.words c.answers_have_places_of_their_span.ensures.each laws.comes laws.reads laws.holds in
     let last = bare-held below laws.reads in
     record {
       received = got-held below held;
