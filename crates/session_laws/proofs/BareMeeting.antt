@@ -53,7 +53,7 @@ use Rattle.session_model.specs.Turns.{deeds_before}
 use Rattle.session_laws.specs.Bare.{CameQuietly, ClosingGotLast, ClosingGotSinceLast, ClosingTookLast, NoOtherBehind}
 use Rattle.session_laws.specs.Delivered.{all_got}
 use Rattle.session_laws.specs.Headline.{InSession}
-use Rattle.session_laws.specs.Newest.{CameIn, ClosingTook, HasPartFor, HoldsRowOf, NoHigherToken, TookIn}
+use Rattle.session_laws.specs.Newest.{CameIn, ClosingTook, HasPartFor, HoldsClosingRow, NoHigherToken, TookIn}
 use Rattle.session_laws.specs.Reading.{IsMatchedIn}
 use Rattle.session_laws.specs.Sessions.{AreVersions}
 use Rattle.session_laws.specs.Witness.{CameAlone, Coming, GotLast, IsHeldWhere, IsNewestWhere, any_readers, bare_any_readers, bare_config, bare_cut_readers, bare_plan, bare_reader_of, bare_session, bare_signed_readers, bare_slotted_readers, bare_text, chunks_config, chunks_plan, chunks_session, chunks_text, three_rows}
@@ -370,7 +370,7 @@ signed-got laws = record {
 abbrev pub HeldLaw : Coming → Type 0
 HeldLaw Came =
     (p : Plan) (r i g w : ℕ) (steps : List Step) (rows : ℕ → ℕ → List DataValue) (own : WriterTurn) → InSession p r i g w steps → AreVersions p steps rows → Came p r i g w steps own
-    → HoldsRowOf p r i g w steps rows own.version
+    → HoldsClosingRow p r i g w steps rows own.version
 
 pub any-newest : BareLaws → NewestLaw ClosingTook → IsNewestWhere ClosingTook bare_plan 0 0 bare_session three_rows
 unfolding bare_plan bare_config
@@ -414,7 +414,7 @@ slotted-came-held laws law =
       session = is;
       versions = versions-are beside;
       own = own_at beside 1;
-      came = came-last laws.comes its 3 0 1 0 (session beside) (own_at beside 1) is refl (slotted-only beside) laws.reads refl _ held;
+      came = came-last laws.comes its 3 0 1 0 (session beside) (own_at beside 1) is refl (slotted-only beside) laws.reads refl _ held.row;
       held = held;
     }
 

@@ -1,4 +1,3 @@
-use Rattle.session_laws.specs.Bare.{ClosingGotSinceLast}
 use Rattle.session_laws.specs.Witness.{GotLast, bare_config, bare_text, chunks_config, chunks_text, lone_config, lone_text}
 use Rattle.session_laws.proofs.BareMeeting.{BareLaws, ChunksLaws, HeldLaw, any-newest, bare-is-read, bare-types, bare_any-held, bare_signed-held, bare_slotted-held, chunks-are-read, chunks-held, chunks-types, slotted-came-held, slotted-since-held}
 use Rattle.session_laws.proofs.BehindAnother.{LoneLaws, lone-is-read, received-again, since-old}
@@ -29,19 +28,18 @@ returns c =
       fixed = sound.fixed lone_text lone_config lone-is-read;
       types = c.the_built_in_configuration_is_sound.ensures.types;
     } in
-    let received : HeldLaw GotLast = λ p r i g w steps rows own is versions got. (held.received_last p r i g w steps rows got.0 got.1 own is versions got.2).row in
-    let since : HeldLaw ClosingGotSinceLast = λ p r i g w steps rows own is versions got. (held.since_last p r i g w steps rows own is versions got).row in
+    let received : HeldLaw GotLast = λ p r i g w steps rows own is versions got. held.received_last p r i g w steps rows got.0 got.1 own is versions got.2 in
     record {
       accepted = bare-is-read;
       accepted_chunks = chunks-are-read;
       taken = any-newest laws held.taken;
-      taken_last = bare_any-held laws (λ p r i g w steps rows own is versions took. (held.taken_last p r i g w steps rows own is versions took).row);
-      secured_last = bare_signed-held laws since;
+      taken_last = bare_any-held laws held.taken_last;
+      secured_last = bare_signed-held laws held.since_last;
       received_last = bare_slotted-held laws received;
-      since_last = slotted-since-held laws since;
-      chunks_last = chunks-held chunks since;
+      since_last = slotted-since-held laws held.since_last;
+      chunks_last = chunks-held chunks held.since_last;
       accepted_again = lone-is-read;
       received_again = received-again lone received;
-      since_old = since-old lone since;
+      since_old = since-old lone held.since_last;
       came_last = slotted-came-held laws received;
     }
