@@ -22,7 +22,7 @@ use Rattle.session_model.specs.Events.{receives}
 use Rattle.session_model.specs.Steps.{Plan, Step, Pump, is_on}
 use Rattle.session_laws.specs.Bare.{CameQuietly, ClosingCameLast, ClosingGotLast, ClosingGotSinceLast, IsBare}
 use Rattle.session_laws.specs.Headline.{InSession, meta_of}
-use Rattle.session_laws.specs.Newest.{CameIn, ClosesInTick, EachPart, HasPartFor, HoldsRowOf, closing_deeds, ticked}
+use Rattle.session_laws.specs.Newest.{CameIn, ClosesInTick, EachPart, HasPartFor, HoldsClosingRow, closing_deeds, ticked}
 use Rattle.session_laws.specs.Plays.{its_way}
 use Rattle.session_laws.specs.Sessions.{AreVersions, pasts_at}
 use Rattle.session_laws.proofs.BareGot.{and-false}
@@ -39,7 +39,7 @@ use Rattle.session_laws.proofs.Published.{Laws, is-play, play_of}
 abbrev pub LastHeldLaw : Type 0
 LastHeldLaw =
     (p : Plan) (r i g w : ℕ) (steps : List Step) (rows : ℕ → ℕ → List DataValue) (before : List WriterDeed) (turn : WriterTurn) → InSession p r i g w steps → AreVersions p steps rows
-    → ClosingCameLast p r i g w steps before turn → HoldsRowOf p r i g w steps rows turn.version
+    → ClosingCameLast p r i g w steps before turn → HoldsClosingRow p r i g w steps rows turn.version
 
 -- ---- without security each datagram that came is taken
 
@@ -105,7 +105,7 @@ quietly-came p r i g w pumps start row datagram c = subst (λ (l : List (List En
 -- ---- so it is held
 
 pub got-last-held : Laws → LastHeldLaw → (p : Plan) (r i g w : ℕ) (steps : List Step) (rows : ℕ → ℕ → List DataValue) (before : List GroupDeed) (turn : GroupTurn) (own : WriterTurn) → InSession p r i g w steps → AreVersions p steps rows
-    → ClosingGotLast p r i g w steps before turn own → HoldsRowOf p r i g w steps rows own.version
+    → ClosingGotLast p r i g w steps before turn own → HoldsClosingRow p r i g w steps rows own.version
 got-last-held laws held p r i g w steps rows before turn own is versions c =
     let ended = map Pump c.ends.pumps ++ c.start in
     let here : InSession p r i g w ended = subst (InSession p r i g w) c.ends.split is in
@@ -168,7 +168,7 @@ module _ (laws : Laws) (p : Plan) (r i g w : ℕ) (steps : List Step) (own : Wri
   since-came = since-last (part-case laws.turns laws.passed (play_of p r i g w ended) (is-play laws p r i g w ended here) own t.ends.closing its_le last t.ends.took (group_at p.config g).layout refl)
 
 pub unsecured-last-held : Laws → LastHeldLaw → (p : Plan) (r i g w : ℕ) (steps : List Step) (rows : ℕ → ℕ → List DataValue) (own : WriterTurn) → InSession p r i g w steps → AreVersions p steps rows
-    → ClosingGotSinceLast p r i g w steps own → is_secured (setting_of p.config r).setup.mode ≡ false → HoldsRowOf p r i g w steps rows own.version
+    → ClosingGotSinceLast p r i g w steps own → is_secured (setting_of p.config r).setup.mode ≡ false → HoldsClosingRow p r i g w steps rows own.version
 unsecured-last-held laws held p r i g w steps rows own is versions c unsecured =
     let past = its_past laws p r i g w steps own is c unsecured in
     held p r i g w steps rows past own is versions (subst (λ (l : List Step). ClosingCameLast p r i g w l past own) (sym c.tick.ends.split) (since-came laws p r i g w steps own is c unsecured))

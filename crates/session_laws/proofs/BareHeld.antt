@@ -15,9 +15,10 @@ use Rattle.session_model.specs.Events.{reader_at}
 use Rattle.session_model.specs.Steps.{Plan, Step}
 use Rattle.session_laws.specs.Bare.{ClosingCameLast, IsNoOtherKey}
 use Rattle.session_laws.specs.Headline.{InSession, meta_of}
-use Rattle.session_laws.specs.Newest.{HoldsRowOf}
+use Rattle.session_laws.specs.Newest.{HoldsClosingRow}
 use Rattle.session_laws.specs.Reading.{arrivals_at, first_number_of}
 use Rattle.session_laws.specs.Sessions.{AreVersions}
+use Rattle.session_laws.proofs.ClosingVersions.{closes-with}
 use Rattle.session_laws.proofs.ClosingHeld.{ReadsLaw}
 use Rattle.session_laws.proofs.Published.{Laws, turn-published}
 
@@ -42,11 +43,14 @@ since-more (item ∷ items) old = ap (λ (l : List Item). item ∷ l) (since-mor
 
 -- so it holds the row of the closing turn's version
 pub bare-held : Laws → ReadsLaw → (p : Plan) (r i g w : ℕ) (steps : List Step) (rows : ℕ → ℕ → List DataValue) (before : List WriterDeed) (turn : WriterTurn) → InSession p r i g w steps → AreVersions p steps rows
-    → ClosingCameLast p r i g w steps before turn → HoldsRowOf p r i g w steps rows turn.version
+    → ClosingCameLast p r i g w steps before turn → HoldsClosingRow p r i g w steps rows turn.version
 bare-held laws reads p r i g w steps rows before turn is versions c =
     let kept = (reader_at p.config r i steps).kept in
     let list = arrivals_at p.config r i (first_number_of p.config g w) steps in
     let keeps : KeepsBy (numbering_of words.None) list kept = subst (λ (word : NumberingWord). KeepsBy (numbering_of word) list kept) c.bare (reads p r i g w steps is).keeps in
     let row = row_cut (meta_of p r i) turn.row in
-    keeps.row ∙ ap row_in c.came.since ∙ key-last row c.came.later c.came.item c.came.earlier c.came.frame_is c.came.behind
-    ∙ ap (λ (l : List DataValue). Some l) (turn-published laws p r i g w steps rows before turn is versions c.last)
+    record {
+      row = keeps.row ∙ ap row_in c.came.since ∙ key-last row c.came.later c.came.item c.came.earlier c.came.frame_is c.came.behind
+          ∙ ap (λ (l : List DataValue). Some l) (turn-published laws p r i g w steps rows before turn is versions c.last);
+      sampled = closes-with laws.words p g w steps [] before turn is.plan is.steps_are is.there is.matched.reads.within c.last c.closing;
+    }

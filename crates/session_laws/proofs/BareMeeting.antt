@@ -53,13 +53,14 @@ use Rattle.session_model.specs.Turns.{deeds_before}
 use Rattle.session_laws.specs.Bare.{CameQuietly, ClosingGotLast, ClosingGotSinceLast, ClosingTookLast, NoOtherBehind}
 use Rattle.session_laws.specs.Delivered.{all_got}
 use Rattle.session_laws.specs.Headline.{InSession}
-use Rattle.session_laws.specs.Newest.{CameIn, ClosingTook, HasPartFor, HoldsRowOf, NoHigherToken, TookIn}
+use Rattle.session_laws.specs.Newest.{CameIn, ClosingTook, HasPartFor, HoldsClosingRow, NoHigherToken, TookIn}
 use Rattle.session_laws.specs.Reading.{IsMatchedIn}
 use Rattle.session_laws.specs.Sessions.{AreVersions}
-use Rattle.session_laws.specs.Witness.{CameAlone, GotLast, IsHeldWhere, any_readers, bare_any_readers, bare_config, bare_cut_readers, bare_plan, bare_reader_of, bare_session, bare_signed_readers, bare_slotted_readers, bare_text, chunks_config, chunks_plan, chunks_session, chunks_text, three_rows}
+use Rattle.session_laws.specs.Witness.{CameAlone, Coming, GotLast, IsHeldWhere, IsNewestWhere, any_readers, bare_any_readers, bare_config, bare_cut_readers, bare_plan, bare_reader_of, bare_session, bare_signed_readers, bare_slotted_readers, bare_text, chunks_config, chunks_plan, chunks_session, chunks_text, three_rows}
 use Rattle.session_laws.proofs.KnownTokens.{known-token}
 use Rattle.session_laws.proofs.OneTick.{closes, config, cut-came, cut-had, cut-only, cut-took, in-session, in_tick, matched-to, its_envelope, its_payload, its_payloads, its_sender, made, nothing-behind, own_at, past_at, plan, plan-is, sent, session, signed-came, signed-had, signed-made, signed-only, signed-took, signed_datagram, slotted-came, slotted-had, slotted-last, slotted-only, slotted-took, three-sends, turn_at, versions-are}
 use Rattle.session_laws.proofs.Quiet.{came-last}
+use Rattle.session_laws.proofs.ThreeGroups.{NewestLaw, newest-where}
 use Rattle.session_laws.proofs.ClosingHeld.{ComesLaw, ReadsLaw}
 
 pub bare-is-read : configuration bare_text ≡ Ok bare_config
@@ -366,17 +367,14 @@ signed-got laws = record {
 -- ---- so each reader holds the closing row
 
 -- what a clause of the law says of a closing turn that came so
-abbrev pub HeldLaw : (Plan → ℕ → ℕ → ℕ → ℕ → List Step → WriterTurn → Type 0) → Type 0
+abbrev pub HeldLaw : Coming → Type 0
 HeldLaw Came =
     (p : Plan) (r i g w : ℕ) (steps : List Step) (rows : ℕ → ℕ → List DataValue) (own : WriterTurn) → InSession p r i g w steps → AreVersions p steps rows → Came p r i g w steps own
-    → HoldsRowOf p r i g w steps rows own.version
+    → HoldsClosingRow p r i g w steps rows own.version
 
-pub any-held : BareLaws → HeldLaw ClosingTook → IsHeldWhere ClosingTook bare_plan 0 0 bare_session three_rows
+pub any-newest : BareLaws → NewestLaw ClosingTook → IsNewestWhere ClosingTook bare_plan 0 0 bare_session three_rows
 unfolding bare_plan bare_config
-any-held laws law =
-    let is = in-any laws in
-    let came = any-took laws in
-    record { session = is; versions = versions-are beside; own = own_at beside 0; came = came; held = law its 0 0 0 0 (session beside) three_rows (own_at beside 0) is (versions-are beside) came }
+any-newest laws law = newest-where ClosingTook its 0 0 (session beside) three_rows (own_at beside 0) law (in-any laws) (versions-are beside) (any-took laws)
 
 pub bare_any-held : BareLaws → HeldLaw ClosingTookLast → IsHeldWhere ClosingTookLast bare_plan 1 0 bare_session three_rows
 unfolding bare_plan bare_config
@@ -416,7 +414,7 @@ slotted-came-held laws law =
       session = is;
       versions = versions-are beside;
       own = own_at beside 1;
-      came = came-last laws.comes its 3 0 1 0 (session beside) (own_at beside 1) is refl (slotted-only beside) laws.reads refl _ held;
+      came = came-last laws.comes its 3 0 1 0 (session beside) (own_at beside 1) is refl (slotted-only beside) laws.reads refl _ held.row;
       held = held;
     }
 

@@ -1,8 +1,9 @@
--- A session in which another key frame came before the closing one meets the premises of what is said of readers with no numbering.
-use Rattle.std.proofs.Common.{◌≡◌, refl, sym, ap, ◌∙◌, subst, ℕ, zero, suc, ◌≤◌, lit<, lit≤, inl, inr, true, false, List, [], ◌∷◌, ◌++◌, map, All, Contains, Some, None, Ok}
+-- Sessions in which an old key frame comes again behind the closing tick meet the premises of what is said of readers with no numbering.
+use Rattle.std.proofs.Common.{◌≡◌, refl, sym, ap, ◌∙◌, subst, ℕ, zero, suc, ◌+◌, ◌<◌, ◌≤◌, ◌⊎◌, arith, lit<, lit≤, inl, inr, true, false, List, [], ◌∷◌, ◌++◌, length, map, All, Contains, Some, None, Ok}
 use Rattle.std.specs.Prelude.{codes, slice_index_or}
 use Rattle.std.specs.Fmt.{digits}
 use Rattle.std.specs.Str.{is_utf8, chars}
+use Rattle.std.proofs.lemmas.List.{length-append}
 use Rattle.std.proofs.lemmas.List.Elements.{All-cons, All-nil}
 use Rattle.toml.proofs.OnLiterals.{toml_on_literals}
 use Rattle.hex.proofs.OnLiterals.{hex_on_literals}
@@ -12,7 +13,7 @@ use Rattle.uadp_header.specs.Layout.{byte, number, block, when, byte_when, text,
 use Rattle.frame_codec.specs.Contents.{field_at, surplus_at, whole_at, change_at, patch_at, content_at}
 use Rattle.frame_codec.specs.Fronts.{flags1_at, flags2_at, times_past as front_times, parts_at as front_parts, front_at}
 use Rattle.frame_codec.specs.Reading.{behind_front, message_at, frame_at}
-use Rattle.ua_base.specs.Journal.{Entry, Got, Empty}
+use Rattle.ua_base.specs.Journal.{Entry, Sent, Got, Empty}
 use Rattle.dataset_meta.specs.DataValues.{DataValue}
 use Rattle.dataset_meta.specs.Metas.{IsMeta, MetaData}
 use Rattle.dataset_meta.specs.Rows.{row_cut}
@@ -44,19 +45,17 @@ use Rattle.group_laws.specs.TurnItems.{IsUncut}
 use Rattle.session_model.specs.Counts.{most_taken}
 use Rattle.session_model.specs.Deeds.{Deed, group_past, has_turn, turn_input}
 use Rattle.session_model.specs.Keeping.{IsPlan, MayCome}
-use Rattle.session_model.specs.Sends.{IsPump, Send, sends_of}
+use Rattle.session_model.specs.Sends.{IsPump, Send, journal, send_entries, sends_of}
 use Rattle.session_model.specs.Sets.{AreRowsOf, GrowTo, meta_in}
 use Rattle.session_model.specs.Steps.{Step, Pump, Tick}
 use Rattle.session_laws.specs.Bare.{CameQuietly, ClosingGotLast, ClosingGotSinceLast, NoOtherBehind, NoOtherKeys}
-use Rattle.session_laws.specs.Delivered.{all_got, delivered_on, sent_on}
 use Rattle.session_laws.specs.Headline.{InSession, meta_of}
-use Rattle.session_laws.specs.Newest.{CameIn, ClosesBefore, HasPartFor, closing_deeds, closing_turn}
+use Rattle.session_laws.specs.Newest.{CameIn, ClosesBefore, EachPart, HasPartFor, closing_deeds, closing_turn}
 use Rattle.session_laws.specs.Reading.{IsMatchedIn, arrivals_at, first_number_of}
 use Rattle.session_laws.specs.Sessions.{AreVersions, HasSample}
-use Rattle.session_laws.specs.Witness.{GotLast, IsHeldWhere, bare_reader_of, eight, eight_row, first_session, lone_config, lone_plan, lone_readers, lone_text, seven, small_datagram, small_datagram_with, small_frame, small_row, turned_rows, turned_session}
+use Rattle.session_laws.specs.Witness.{GotLast, IsHeldWhere, bare_reader_of, eight, eight_row, first_session, lone_config, lone_plan, lone_readers, lone_text, new, new_again, new_again_session, old, old_first, old_first_session, seven, small_datagram, small_datagram_with, small_frame, small_row, tick_on, turned_on, turned_rows}
 use Rattle.session_laws.proofs.BareMeeting.{HeldLaw, ok-same, only-one, readers-types}
-use Rattle.session_laws.proofs.Delivering.{delivered-session, opening-session}
-use Rattle.session_laws.proofs.Meeting.{grown, seven-belongs}
+use Rattle.session_laws.proofs.Meeting.{AreSent, grown, honest-of, seven-belongs}
 use Rattle.session_laws.proofs.OneTick.{matched-to}
 
 pub lone-is-read : configuration lone_text ≡ Ok lone_config
@@ -107,7 +106,10 @@ matched-is : IsMatchedIn lone_plan.config 0 0 0 0
 unfolding lone_plan lone_config built_in_config built_in_group built_in_writer lone_readers
 matched-is = matched-to lone_config (codes "rg1") 1 built_in_group (bare_reader_of (codes "r1") 1 0 0) refl (inl refl) (record { within = lit< tt; id = refl; dataset = refl; offset = λ fixed. refl; size = λ fixed. refl })
 
--- ---- the session
+-- ---- the sessions
+
+abbrev sent : List Step
+sent = Tick 0 true (eight ∷ []) (true ∷ []) ∷ first_session
 
 eight-belongs : Belongs demo eight.row.words
 unfolding demo row_in statuses_in spelled_row spelled_statuses eight seven
@@ -125,51 +127,58 @@ eight-rows : AreRowsOf lone_plan.full (eight ∷ [])
 unfolding lone_plan
 eight-rows = (eight-belongs, tt)
 
-abbrev first_delivered : List Step
-first_delivered = delivered_on lone_plan 100 false (seven ∷ []) []
-
 may-tick : MayCome lone_plan [] 100 false (seven ∷ [])
 may-tick = record { rows = seven-rows; short = lit≤ tt; running = refl; left = λ is_open. lit< tt; still = λ closing. absurd (cc) }
 
-may-close : MayCome lone_plan first_delivered 0 true (eight ∷ [])
+may-close : MayCome lone_plan first_session 0 true (eight ∷ [])
 may-close = record { rows = eight-rows; short = lit≤ tt; running = refl; left = λ is_open. absurd (cc); still = λ closing. refl }
 
-first-sends : sends_of lone_plan (sent_on lone_plan 100 false (seven ∷ []) []) ≡ record { group = 0; datagram = small_datagram 0 } ∷ []
+first-sends : sends_of lone_plan (tick_on []) ≡ record { group = 0; datagram = small_datagram 0 } ∷ []
 unfolding lone_plan lone_config built_in_config built_in_group built_in_writer demo seven row_in statuses_in spelled_row spelled_statuses cut_words header_len header_bytes flags_bytes group_bytes security_bytes front_bytes frame_bytes
 first-sends = refl
 
-second-sends : sends_of lone_plan (sent_on lone_plan 0 true (eight ∷ []) first_delivered) ≡ record { group = 0; datagram = small_datagram_with 1 8 } ∷ []
+second-sends : sends_of lone_plan sent ≡ record { group = 0; datagram = small_datagram_with 1 8 } ∷ []
 unfolding lone_plan lone_config built_in_config built_in_group built_in_writer demo seven eight row_in statuses_in spelled_row spelled_statuses cut_words header_len header_bytes flags_bytes group_bytes security_bytes front_bytes frame_bytes
 second-sends = refl
-
-first-pump : IsPump most_taken (all_got lone_plan (sent_on lone_plan 100 false (seven ∷ []) []))
-first-pump = subst (λ (sends : List Send). IsPump most_taken (map (λ (send : Send). Got send.datagram) sends ++ Empty ∷ [])) (sym first-sends) (lit≤ tt, refl)
-
-second-pump : IsPump most_taken (all_got lone_plan (sent_on lone_plan 0 true (eight ∷ []) first_delivered))
-second-pump = subst (λ (sends : List Send). IsPump most_taken (map (λ (send : Send). Got send.datagram) sends ++ Empty ∷ [])) (sym second-sends) (lit≤ tt, refl)
 
 rises : (index : ℕ) → (slice_index_or (seven ∷ []) index no_sample).version ≤ (slice_index_or (eight ∷ []) index no_sample).version
 unfolding seven eight
 rises zero = lit≤ tt
 rises (suc index) = lit≤ tt
 
-rise : (index : ℕ) (now : MetaData) (sample : Sampled) → HasSample lone_plan first_delivered index now sample → sample.version ≤ (slice_index_or (eight ∷ []) index no_sample).version
+rise : (index : ℕ) (now : MetaData) (sample : Sampled) → HasSample lone_plan first_session index now sample → sample.version ≤ (slice_index_or (eight ∷ []) index no_sample).version
 rise index now sample (inl has) = subst (λ (s : Sampled). s.version ≤ (slice_index_or (eight ∷ []) index no_sample).version) has.0 (rises index)
 rise index now sample (inr none) = absurd none
 
-first-is : first_delivered ≡ first_session
-first-is = ap (λ (sends : List Send). Pump (map (λ (send : Send). Got send.datagram) sends ++ Empty ∷ []) ∷ Tick 100 false (seven ∷ []) (map (λ (send : Send). true) sends) ∷ []) first-sends
+there-is : 0 < length lone_plan.config.group
+unfolding lone_plan lone_config built_in_config
+there-is = lit< tt
 
-session-is : delivered_on lone_plan 0 true (eight ∷ []) first_delivered ≡ turned_session
-session-is =
-    ap (λ (sends : List Send). Pump (map (λ (send : Send). Got send.datagram) sends ++ Empty ∷ []) ∷ Tick 0 true (eight ∷ []) (map (λ (send : Send). true) sends) ∷ first_delivered) second-sends
-    ∙ ap (λ (before : List Step). Pump (Got (small_datagram_with 1 8) ∷ Empty ∷ []) ∷ Tick 0 true (eight ∷ []) (true ∷ []) ∷ before) first-is
+-- what is in the journal before the last pump
+abbrev sent_so_far : List Entry
+sent_so_far = Sent (small_datagram 0) ∷ old ∷ Empty ∷ Sent (small_datagram_with 1 8) ∷ []
 
-in-turned : LoneLaws → InSession lone_plan 0 0 0 0 turned_session
-in-turned laws =
-    subst (InSession lone_plan 0 0 0 0) session-is
-    (delivered-session lone_plan 0 0 0 0 0 true (eight ∷ []) first_delivered
-    (delivered-session lone_plan 0 0 0 0 100 false (seven ∷ []) [] (opening-session lone_plan 0 0 0 0 (plan-is laws) matched-is) may-tick (λ index now sample none. absurd none) first-pump) may-close rise second-pump)
+journal-is : (entries : List Entry) → journal lone_plan (turned_on entries) ≡ sent_so_far ++ entries
+journal-is entries =
+    ap (λ (l : List Send). ((send_entries l (true ∷ []) ++ old ∷ Empty ∷ []) ++ send_entries (sends_of lone_plan sent) (true ∷ [])) ++ entries) first-sends
+    ∙ ap (λ (l : List Send). Sent (small_datagram 0) ∷ old ∷ Empty ∷ (send_entries l (true ∷ []) ++ entries)) second-sends
+
+in-turned : LoneLaws → (entries : List Entry) → IsPump most_taken entries → AreSent sent_so_far entries → InSession lone_plan 0 0 0 0 (turned_on entries)
+in-turned laws entries pump are = record {
+  plan = plan-is laws;
+  steps_are = (lit< tt, (may-close, (lit< tt, (may-tick, tt))));
+  run = (pump, (sym (ap (λ (l : List Send). length l) second-sends), ((lit≤ tt, refl), (sym (ap (λ (l : List Send). length l) first-sends), tt))));
+  rise = (rise, (λ index now sample has. absurd has, tt));
+  there = there-is;
+  matched = matched-is;
+  honest = honest-of (setting_of lone_plan.config 0) (sent_so_far ++ entries) (journal lone_plan (turned_on entries)) (journal-is entries) ((0, lit< tt, refl), are);
+}
+
+in-old_first : LoneLaws → InSession lone_plan 0 0 0 0 old_first_session
+in-old_first laws = in-turned laws old_first (lit≤ tt, (lit≤ tt, refl)) ((0, lit< tt, refl), ((3, lit< tt, refl), tt))
+
+in-new_again : LoneLaws → InSession lone_plan 0 0 0 0 new_again_session
+in-new_again laws = in-turned laws new_again (lit≤ tt, (lit≤ tt, (lit≤ tt, refl))) ((3, lit< tt, refl), ((0, lit< tt, refl), ((3, lit< tt, refl), tt)))
 
 row-of-seven : (index : ℕ) → row_in (meta_in lone_plan.full index).fields (slice_index_or (seven ∷ []) index no_sample).row.words ≡ turned_rows index (slice_index_or (seven ∷ []) index no_sample).version
 unfolding lone_plan demo seven row_in statuses_in
@@ -181,10 +190,10 @@ unfolding lone_plan demo eight row_in statuses_in
 row-of-eight zero = refl
 row-of-eight (suc index) = refl
 
-versions-turned : AreVersions lone_plan turned_session turned_rows
-versions-turned index now sample (inl has) = subst (λ (s : Sampled). row_in (meta_in lone_plan.full index).fields s.row.words ≡ turned_rows index s.version) has.0 (row-of-eight index)
-versions-turned index now sample (inr (inl has)) = subst (λ (s : Sampled). row_in (meta_in lone_plan.full index).fields s.row.words ≡ turned_rows index s.version) has.0 (row-of-seven index)
-versions-turned index now sample (inr (inr none)) = absurd none
+versions-turned : (entries : List Entry) → AreVersions lone_plan (turned_on entries) turned_rows
+versions-turned entries index now sample (inl has) = subst (λ (s : Sampled). row_in (meta_in lone_plan.full index).fields s.row.words ≡ turned_rows index s.version) has.0 (row-of-eight index)
+versions-turned entries index now sample (inr (inl has)) = subst (λ (s : Sampled). row_in (meta_in lone_plan.full index).fields s.row.words ≡ turned_rows index s.version) has.0 (row-of-seven index)
+versions-turned entries index now sample (inr (inr none)) = absurd none
 
 -- ---- what came to the reader
 
@@ -194,49 +203,38 @@ item_with row = record { moment = 100; stamp = None; frame = Whole 0 row }
 abbrev arrived : List Step → List Arrival
 arrived steps = arrivals_at lone_plan.config 0 0 (first_number_of lone_plan.config 0 0) steps
 
-abbrev sent : List Step
-sent = Tick 0 true (eight ∷ []) (true ∷ []) ∷ first_session
+abbrev old_came : Arrival
+old_came = Came (item_with small_row)
 
-abbrev before_it : List Arrival
-before_it = Came (item_with small_row) ∷ []
+abbrev new_came : Arrival
+new_came = Came (item_with eight_row)
 
-abbrev its_arrivals : List Arrival
-its_arrivals = Came (item_with eight_row) ∷ before_it
+abbrev came_old_first : List Arrival
+came_old_first = new_came ∷ old_came ∷ old_came ∷ []
 
-seven-came : arrived sent ≡ before_it
+abbrev came_new_again : List Arrival
+came_new_again = new_came ∷ old_came ∷ new_came ∷ old_came ∷ []
+
+all-old_first : arrived old_first_session ≡ came_old_first
 unfolding lone_plan lone_config built_in_config built_in_group built_in_writer lone_readers demo seven byte number block when byte_when text publisher_id group_numbers group_when payload_header ids_when extras security_header parts header header_at ◌>>=◌ read flags1_at flags2_at front_times front_parts front_at behind_front message_at frame_at field_at surplus_at whole_at change_at patch_at content_at block_at text_at kind_at variant_at times_past parts_at data_value_at no_keys
-seven-came = refl
+all-old_first = refl
 
-eight-came : arrived turned_session ≡ its_arrivals
+both-old_first : arrived (turned_on (old ∷ new ∷ [])) ≡ came_old_first
 unfolding lone_plan lone_config built_in_config built_in_group built_in_writer lone_readers demo seven byte number block when byte_when text publisher_id group_numbers group_when payload_header ids_when extras security_header parts header header_at ◌>>=◌ read flags1_at flags2_at front_times front_parts front_at behind_front message_at frame_at field_at surplus_at whole_at change_at patch_at content_at block_at text_at kind_at variant_at times_past parts_at data_value_at no_keys
-eight-came = refl
+both-old_first = refl
 
-none-came : arrived (Pump [] ∷ sent) ≡ before_it
+all-new_again : arrived new_again_session ≡ came_new_again
 unfolding lone_plan lone_config built_in_config built_in_group built_in_writer lone_readers demo seven byte number block when byte_when text publisher_id group_numbers group_when payload_header ids_when extras security_header parts header header_at ◌>>=◌ read flags1_at flags2_at front_times front_parts front_at behind_front message_at frame_at field_at surplus_at whole_at change_at patch_at content_at block_at text_at kind_at variant_at times_past parts_at data_value_at no_keys
-none-came = refl
+all-new_again = refl
 
-one-came : arrived (Pump (Got (small_datagram_with 1 8) ∷ []) ∷ sent) ≡ its_arrivals
+last-new_again : arrived (turned_on (new ∷ old ∷ new ∷ [])) ≡ came_new_again
 unfolding lone_plan lone_config built_in_config built_in_group built_in_writer lone_readers demo seven byte number block when byte_when text publisher_id group_numbers group_when payload_header ids_when extras security_header parts header header_at ◌>>=◌ read flags1_at flags2_at front_times front_parts front_at behind_front message_at frame_at field_at surplus_at whole_at change_at patch_at content_at block_at text_at kind_at variant_at times_past parts_at data_value_at no_keys
-one-came = refl
+last-new_again = refl
 
--- behind the datagram nothing came, and before it no other key frame than its own
-none-behind : (row : List DataValue) (newer : List Arrival) → its_arrivals ≡ newer ++ its_arrivals → NoOtherKeys row newer
-none-behind row [] e = tt
-none-behind row (x ∷ []) e = absurd (let rest : before_it ≡ its_arrivals = cc in let no : [] ≡ before_it = cc in cc)
-none-behind row (x ∷ y ∷ newer) e = absurd (let rest : [] ≡ newer ++ its_arrivals = cc in no-more newer rest)
-  where
-    no-more : (newer : List Arrival) → Path (List Arrival) [] (newer ++ its_arrivals) → ⊥
-    no-more [] e = cc
-    no-more (z ∷ newer) e = cc
-
-own-alone : (newer : List Arrival) → its_arrivals ≡ newer ++ before_it → NoOtherKeys eight_row newer
-own-alone [] e = absurd (let no : before_it ≡ [] = cc in cc)
-own-alone (x ∷ []) e = let same : Came (item_with eight_row) ≡ x = cc in subst (λ (a : Arrival). NoOtherKeys eight_row (a ∷ [])) same (inr refl, tt)
-own-alone (x ∷ y ∷ newer) e = absurd (let rest : [] ≡ newer ++ before_it = cc in no-more newer rest)
-  where
-    no-more : (newer : List Arrival) → Path (List Arrival) [] (newer ++ before_it) → ⊥
-    no-more [] e = cc
-    no-more (z ∷ newer) e = cc
+-- nothing came behind steps by which all of it came
+none-behind : (row : List DataValue) (list newer : List Arrival) → list ≡ newer ++ list → NoOtherKeys row newer
+none-behind row list [] e = tt
+none-behind row list (x ∷ newer) e = absurd (let same : length list ≡ suc (length newer + length list) = ap (λ (l : List Arrival). length l) e ∙ ap suc (length-append newer list) in omega (arith, same))
 
 -- ---- the closing turn
 
@@ -252,41 +250,12 @@ its_past = group_past lone_plan.config 0 deeds_so_far
 abbrev its_own : WriterTurn
 its_own = writer_turn (group_at lone_plan.config 0) (turn_input lone_plan first_session 100 true (eight ∷ []) deeds_so_far 0).told 0
 
-its-row : row_cut (meta_of lone_plan 0 0) its_own.row ≡ eight_row
-unfolding lone_plan lone_config built_in_config built_in_group built_in_writer lone_readers demo eight row_in statuses_in cut_words spelled_row spelled_statuses
-its-row = refl
+abbrev its_row : List DataValue
+its_row = row_cut (meta_of lone_plan 0 0) its_own.row
 
-abbrev NoOther : List Step → Type 0
-NoOther here = NoOtherBehind lone_plan 0 0 0 0 turned_session here (row_cut (meta_of lone_plan 0 0) its_own.row)
-
-once-came : (here : List Step) → arrived here ≡ its_arrivals → NoOther here
-once-came here is newer e = none-behind (row_cut (meta_of lone_plan 0 0) its_own.row) newer (sym eight-came ∙ e ∙ ap (λ (l : List Arrival). newer ++ l) is)
-
-before-came : (here : List Step) → arrived here ≡ before_it → NoOther here
-before-came here is newer e = subst (λ (row : List DataValue). NoOtherKeys row newer) (sym its-row) (own-alone newer (sym eight-came ∙ e ∙ ap (λ (l : List Arrival). newer ++ l) is))
-
-abbrev entries : List Entry
-entries = Got (small_datagram_with 1 8) ∷ Empty ∷ []
-
-at-moment : (first behind : List Entry) → entries ≡ first ++ behind → NoOther (Pump first ∷ sent)
-at-moment [] behind e = before-came (Pump [] ∷ sent) none-came
-at-moment (a ∷ []) behind e = let same : Got (small_datagram_with 1 8) ≡ a = cc in subst (λ (x : Entry). NoOther (Pump (x ∷ []) ∷ sent)) same (once-came (Pump (Got (small_datagram_with 1 8) ∷ []) ∷ sent) one-came)
-at-moment (a ∷ b ∷ []) behind e =
-    let same : Got (small_datagram_with 1 8) ≡ a = cc in
-    let last : Empty ≡ b = cc in
-    subst (λ (y : Entry). NoOther (Pump (a ∷ y ∷ []) ∷ sent)) last (subst (λ (x : Entry). NoOther (Pump (x ∷ Empty ∷ []) ∷ sent)) same (once-came turned_session eight-came))
-at-moment (a ∷ b ∷ c ∷ first) behind e = absurd (let rest : [] ≡ c ∷ first ++ behind = cc in cc)
-
-at-moments : (later before : List (List Entry)) (first behind : List Entry) → entries ∷ [] ≡ later ++ (first ++ behind) ∷ before → NoOther (Pump first ∷ map Pump before ++ sent)
-at-moments [] before first behind e =
-    let head : entries ≡ first ++ behind = cc in
-    let tail : [] ≡ before = cc in
-    subst (λ (l : List (List Entry)). NoOther (Pump first ∷ map Pump l ++ sent)) tail (at-moment first behind head)
-at-moments (x ∷ later) before first behind e = absurd (let rest : [] ≡ later ++ (first ++ behind) ∷ before = cc in no-more later rest)
-  where
-    no-more : (later : List (List Entry)) → Path (List (List Entry)) [] (later ++ (first ++ behind) ∷ before) → ⊥
-    no-more [] e = cc
-    no-more (z ∷ later) e = cc
+-- behind these steps no other key frame came
+quiet-behind : (entries : List Entry) (here : List Step) (list : List Arrival) → arrived (turned_on entries) ≡ list → arrived here ≡ list → NoOtherBehind lone_plan 0 0 0 0 (turned_on entries) here its_row
+quiet-behind entries here list all is newer e = none-behind its_row list newer (sym all ∙ e ∙ ap (λ (l : List Arrival). newer ++ l) is)
 
 its-made : its_turn.made ≡ small_datagram_with 1 8 ∷ []
 unfolding lone_plan lone_config built_in_config built_in_group built_in_writer demo seven eight row_in statuses_in spelled_row spelled_statuses cut_words header_len header_bytes flags_bytes group_bytes security_bytes front_bytes frame_bytes
@@ -313,11 +282,8 @@ comes-whole datagram has part =
     let same : opened ≡ part.opened = ok-same opened part.opened (sym opens ∙ part.opens) in
     subst (λ (o : Opened). All IsUncut (pieces (seat_at setting.seats 0).part o.payload)) same uncut
 
-came : (datagram : List ℕ) → Contains its_turn.made datagram → CameIn (entries ∷ []) datagram
-came datagram has = inl (0, lit< tt, ap (λ (d : List ℕ). Got d) (own-datagram datagram has))
-
-abbrev its_ends : took_by 0 its_turn ≡ Some its_own → ClosesBefore lone_plan 0 0 0 turned_session sent its_turn its_own
-its_ends took = record { took = took; closing = refl; pumps = entries ∷ []; split = refl; operational = refl; enabled = refl }
+abbrev its_ends : (entries : List Entry) → took_by 0 its_turn ≡ Some its_own → ClosesBefore lone_plan 0 0 0 (turned_on entries) sent its_turn its_own
+its_ends entries took = record { took = took; closing = refl; pumps = entries ∷ []; split = refl; operational = refl; enabled = refl }
 
 its-took : took_by 0 its_turn ≡ Some its_own
 unfolding lone_plan lone_config built_in_config built_in_group
@@ -327,38 +293,94 @@ its-had : has_turn lone_plan first_session 100 true deeds_so_far 0 ≡ true
 unfolding lone_plan lone_config built_in_config built_in_group
 its-had = refl
 
-received : ClosingGotLast lone_plan 0 0 0 0 turned_session its_past its_turn its_own
+-- the closing datagram has a part for the reader
+its-part : HasPartFor (setting_of lone_plan.config 0) 0 (small_datagram_with 1 8)
+unfolding lone_plan lone_config lone_readers
+its-part = record { opened = opened; opens = is-opened; part = λ none. cc }
+
+made-it : Contains its_turn.made (small_datagram_with 1 8)
+made-it = subst (λ (xs : List (List ℕ)). Contains xs (small_datagram_with 1 8)) (sym its-made) (0, lit< tt, refl)
+
+-- ---- the old one first
+
+-- each datagram of the closing turn with a part for the reader came in these entries
+abbrev AllIn : List Entry → Type 0
+AllIn entries = EachPart lone_plan 0 0 its_turn.made (CameIn (entries ∷ []))
+
+its-in : (entries : List Entry) → AllIn entries → Contains entries new
+its-in entries all = on (all (small_datagram_with 1 8) made-it its-part)
+  where
+    on : Contains entries new ⊎ ⊥ → Contains entries new
+    on (inl has) = has
+    on (inr none) = absurd none
+
+not-old : Path Entry old new → ⊥
+not-old e = let same : small_datagram 0 ≡ small_datagram_with 1 8 = cc in let numbers : Path ℕ 0 1 = ap (λ (l : List ℕ). slice_index_or l 5 0) same in cc
+
+abbrev QuietAt : List Entry → Type 0
+QuietAt first = NoOtherBehind lone_plan 0 0 0 0 old_first_session (turned_on first) its_row
+
+at-moment : (first behind : List Entry) → old_first ≡ first ++ behind → AllIn first → QuietAt first
+at-moment [] behind e all = absurd (let has = its-in [] all in let below = has.1 in omega (arith, below))
+at-moment (a ∷ []) behind e all = absurd (not-old (let same : old ≡ a = cc in same ∙ only-one a new (its-in (a ∷ []) all)))
+at-moment (a ∷ b ∷ []) behind e all =
+    let head : old ≡ a = cc in
+    let next : new ≡ b = cc in
+    subst (λ (y : Entry). QuietAt (a ∷ y ∷ [])) next (subst (λ (x : Entry). QuietAt (x ∷ new ∷ [])) head (quiet-behind old_first (turned_on (old ∷ new ∷ [])) came_old_first all-old_first both-old_first))
+at-moment (a ∷ b ∷ c ∷ []) behind e all =
+    let head : old ≡ a = cc in
+    let next : new ≡ b = cc in
+    let last : Empty ≡ c = cc in
+    subst (λ (z : Entry). QuietAt (a ∷ b ∷ z ∷ [])) last (subst (λ (y : Entry). QuietAt (a ∷ y ∷ Empty ∷ [])) next (subst (λ (x : Entry). QuietAt (x ∷ new ∷ Empty ∷ [])) head (quiet-behind old_first old_first_session came_old_first all-old_first all-old_first)))
+at-moment (a ∷ b ∷ c ∷ d ∷ first) behind e all = absurd (let rest : [] ≡ d ∷ first ++ behind = cc in cc)
+
+at-moments : (later before : List (List Entry)) (first behind : List Entry) → old_first ∷ [] ≡ later ++ (first ++ behind) ∷ before → EachPart lone_plan 0 0 its_turn.made (CameIn (first ∷ before))
+    → NoOtherBehind lone_plan 0 0 0 0 old_first_session (Pump first ∷ map Pump before ++ sent) its_row
+at-moments [] before first behind e all =
+    let head : old_first ≡ first ++ behind = cc in
+    let tail : before ≡ [] = cc in
+    subst (λ (l : List (List Entry)). NoOtherBehind lone_plan 0 0 0 0 old_first_session (Pump first ∷ map Pump l ++ sent) its_row) (sym tail)
+    (at-moment first behind head (subst (λ (l : List (List Entry)). EachPart lone_plan 0 0 its_turn.made (CameIn (first ∷ l))) tail all))
+at-moments (x ∷ later) before first behind e all = absurd (let rest : [] ≡ later ++ (first ++ behind) ∷ before = cc in no-more later rest)
+  where
+    no-more : (later : List (List Entry)) → Path (List (List Entry)) [] (later ++ (first ++ behind) ∷ before) → ⊥
+    no-more [] e = cc
+    no-more (z ∷ later) e = cc
+
+since : ClosingGotSinceLast lone_plan 0 0 0 0 old_first_session its_own
+unfolding lone_plan lone_config built_in_config lone_readers
+since = record {
+  bare = refl;
+  unsecured_or_named = inl refl;
+  tick = record { start = first_session; ms = 0; samples = eight ∷ []; done = true ∷ []; had = its-had; ends = its_ends old_first its-took };
+  came = λ datagram has part. inl (1, lit< tt, ap (λ (d : List ℕ). Got d) (own-datagram datagram has));
+  quiet = λ later before first behind split all_came. at-moments later before first behind split all_came;
+}
+
+-- ---- the closing one again
+
+received : ClosingGotLast lone_plan 0 0 0 0 new_again_session its_past its_turn its_own
 unfolding lone_plan lone_config built_in_config built_in_group built_in_writer lone_readers
 received = record {
   bare = refl;
   unsecured = refl;
   last = refl;
   start = sent;
-  ends = its_ends its-took;
+  ends = its_ends new_again its-took;
   whole = comes-whole;
-  came = λ datagram has part. subst (CameQuietly lone_plan 0 0 0 0 (entries ∷ []) sent (row_cut (meta_of lone_plan 0 0) its_own.row)) (own-datagram datagram has)
-      (record { later = []; before = []; first = []; behind = Empty ∷ []; is = refl; quiet = once-came (Pump (Got (small_datagram_with 1 8) ∷ []) ∷ sent) one-came });
-}
-
-since : ClosingGotSinceLast lone_plan 0 0 0 0 turned_session its_own
-unfolding lone_plan lone_config built_in_config lone_readers
-since = record {
-  bare = refl;
-  unsecured_or_named = inl refl;
-  tick = record { start = first_session; ms = 0; samples = eight ∷ []; done = true ∷ []; had = its-had; ends = its_ends its-took };
-  came = λ datagram has part. came datagram has;
-  quiet = λ later before first behind split all_came. at-moments later before first behind split;
+  came = λ datagram has part. subst (CameQuietly lone_plan 0 0 0 0 (new_again ∷ []) sent its_row) (own-datagram datagram has)
+      (record { later = []; before = []; first = new ∷ old ∷ []; behind = Empty ∷ []; is = refl; quiet = quiet-behind new_again (turned_on (new ∷ old ∷ new ∷ [])) came_new_again all-new_again last-new_again });
 }
 
 -- ---- so it is held
 
-pub received-after : LoneLaws → HeldLaw GotLast → IsHeldWhere GotLast lone_plan 0 0 turned_session turned_rows
-received-after laws law =
-    let is = in-turned laws in
-    let got : GotLast lone_plan 0 0 0 0 turned_session its_own = (its_past, its_turn, received) in
-    record { session = is; versions = versions-turned; own = its_own; came = got; held = law lone_plan 0 0 0 0 turned_session turned_rows its_own is versions-turned got }
+pub received-again : LoneLaws → HeldLaw GotLast → IsHeldWhere GotLast lone_plan 0 0 new_again_session turned_rows
+received-again laws law =
+    let is = in-new_again laws in
+    let got : GotLast lone_plan 0 0 0 0 new_again_session its_own = (its_past, its_turn, received) in
+    record { session = is; versions = versions-turned new_again; own = its_own; came = got; held = law lone_plan 0 0 0 0 new_again_session turned_rows its_own is (versions-turned new_again) got }
 
-pub since-after : LoneLaws → HeldLaw ClosingGotSinceLast → IsHeldWhere ClosingGotSinceLast lone_plan 0 0 turned_session turned_rows
-since-after laws law =
-    let is = in-turned laws in
-    record { session = is; versions = versions-turned; own = its_own; came = since; held = law lone_plan 0 0 0 0 turned_session turned_rows its_own is versions-turned since }
+pub since-old : LoneLaws → HeldLaw ClosingGotSinceLast → IsHeldWhere ClosingGotSinceLast lone_plan 0 0 old_first_session turned_rows
+since-old laws law =
+    let is = in-old_first laws in
+    record { session = is; versions = versions-turned old_first; own = its_own; came = since; held = law lone_plan 0 0 0 0 old_first_session turned_rows its_own is (versions-turned old_first) since }

@@ -58,7 +58,7 @@ use Rattle.session_model.specs.Events.{events}
 use Rattle.session_model.specs.Steps.{Plan, Step}
 use Rattle.session_model.proofs.Sending.{count-append}
 use Rattle.session_laws.specs.Headline.{InSession}
-use Rattle.session_laws.specs.Newest.{CameIn, ClosingCame, ClosingGot, HasPartFor, HoldsRowOf}
+use Rattle.session_laws.specs.Newest.{CameIn, ClosingCame, ClosingGot, HasPartFor, HoldsClosing}
 use Rattle.session_laws.specs.Pasts.{AreTurns, CameAsMade, IsTurn, settings_at}
 use Rattle.session_laws.specs.Plays.{Play, IsPlay, its_answers, its_marks, its_meta, its_past, its_setting, its_way}
 use Rattle.session_laws.specs.Reading.{arrivals_at, first_number_of}
@@ -517,8 +517,8 @@ closing-came laws p r i g w steps before turn own is c =
 abbrev pub HeldLaw : Type 0
 HeldLaw =
     (p : Plan) (r i g w : ℕ) (steps : List Step) (rows : ℕ → ℕ → List DataValue) (before : List WriterDeed) (turn : WriterTurn) → InSession p r i g w steps → AreVersions p steps rows
-    → ClosingCame p r i g w steps before turn → HoldsRowOf p r i g w steps rows turn.version
+    → ClosingCame p r i g w steps before turn → HoldsClosing p r i g w steps rows turn.version
 
 pub got-held : Laws → HeldLaw → (p : Plan) (r i g w : ℕ) (steps : List Step) (rows : ℕ → ℕ → List DataValue) (before : List GroupDeed) (turn : GroupTurn) (own : WriterTurn) → InSession p r i g w steps → AreVersions p steps rows
-    → ClosingGot p r i g w steps before turn own → HoldsRowOf p r i g w steps rows own.version
+    → ClosingGot p r i g w steps before turn own → HoldsClosing p r i g w steps rows own.version
 got-held laws held p r i g w steps rows before turn own is versions c = held p r i g w steps rows (writer_past w before) own is versions (closing-came laws p r i g w steps before turn own is c)

@@ -1,5 +1,5 @@
 -- A closing frame that came is held, and is of the newest version.
-use Rattle.std.proofs.Common.{◌≡◌, refl, sym, ap, ◌∙◌, subst, arith, ℕ, ◌<◌, ◌⊎◌, inl, inr, List, ◌∷◌, Option, Some, All}
+use Rattle.std.proofs.Common.{◌≡◌, refl, sym, ap, ◌∙◌, subst, arith, ℕ, ◌<◌, ◌⊎◌, inl, inr, List, [], ◌∷◌, Option, Some, All}
 use Rattle.std.specs.Prelude.{◌%◌, option_map}
 use Rattle.std.proofs.lemmas.List.Elements.{All-weaker}
 use Rattle.dataset_meta.specs.DataValues.{DataValue}
@@ -20,12 +20,14 @@ use Rattle.writer_group.specs.Parts.{group_at}
 use Rattle.session_model.specs.Deeds.{answered_at}
 use Rattle.session_model.specs.Events.{reader_at}
 use Rattle.session_model.specs.Steps.{Plan, Step}
+use Rattle.session_laws.specs.Below.{WordLaws}
 use Rattle.session_laws.specs.Headline.{ComesFrom, InSession, meta_of}
-use Rattle.session_laws.specs.Newest.{ClosingCame, HoldsRowOf}
+use Rattle.session_laws.specs.Newest.{ClosingCame, HoldsClosing}
 use Rattle.session_laws.specs.Pasts.{settings_at}
 use Rattle.session_laws.specs.Plays.{IsAnswerBy, ItemsAre}
 use Rattle.session_laws.specs.Reading.{ReadsByRecords, arrivals_at, first_number_of}
 use Rattle.session_laws.specs.Sessions.{AreVersions}
+use Rattle.session_laws.proofs.ClosingVersions.{closes-with}
 use Rattle.session_laws.proofs.LastItems.{IsLastOrEarlier, contained-reaches, held-last}
 use Rattle.session_laws.proofs.Near.{items-since}
 use Rattle.session_laws.proofs.Newest.{HoldsLaw, closing-answer, closing-logged, holds-logged}
@@ -100,9 +102,9 @@ module _ (p : Plan) (r i g w : ℕ) (steps : List Step) (before : List WriterDee
   held-is =
       held-last place (row_cut (meta_of p r i) turn.row) (since_cut list) items (contained-reaches place (since_cut list) c.came.item c.came.came c.came.stands)
 
-pub closing-held : SpansLaw → ComesLaw → ReadsLaw → HoldsLaw → (p : Plan) (r i g w : ℕ) (steps : List Step) (rows : ℕ → ℕ → List DataValue) (before : List WriterDeed) (turn : WriterTurn)
-    → InSession p r i g w steps → AreVersions p steps rows → ClosingCame p r i g w steps before turn → HoldsRowOf p r i g w steps rows turn.version
-closing-held spans comes reads holds p r i g w steps rows before turn is versions c =
+pub closing-held : WordLaws → SpansLaw → ComesLaw → ReadsLaw → HoldsLaw → (p : Plan) (r i g w : ℕ) (steps : List Step) (rows : ℕ → ℕ → List DataValue) (before : List WriterDeed) (turn : WriterTurn)
+    → InSession p r i g w steps → AreVersions p steps rows → ClosingCame p r i g w steps before turn → HoldsClosing p r i g w steps rows turn.version
+closing-held rows_law spans comes reads holds p r i g w steps rows before turn is versions c =
     let setting = setting_of p.config r in
     let kept : Kept = (reader_at p.config r i steps).kept in
     let list = arrivals_at p.config r i (first_number_of p.config g w) steps in
@@ -113,4 +115,7 @@ closing-held spans comes reads holds p r i g w steps rows before turn is version
     let held-row = held-is p r i g w steps before turn spans comes is c in
     let row : kept.row ≡ Some (row_cut (meta_of p r i) turn.row) = keeps.over.row ∙ ap (λ (o : Option Held). option_map (λ (h : Held). h.row) o) held-row in
     let number : kept.number ≡ Some (place % 65536) = keeps.over.number ∙ ap (λ (o : Option Held). option_map (λ (h : Held). number_of_place h.place) o) held-row in
-    holds-logged holds p r i g w steps rows (row_cut (meta_of p r i) turn.row) place turn.version is versions row number (closing-logged p g w steps before turn c.last c.closing)
+    record {
+      newest = holds-logged holds p r i g w steps rows (row_cut (meta_of p r i) turn.row) place turn.version is versions row number (closing-logged p g w steps before turn c.last c.closing);
+      sampled = closes-with rows_law p g w steps [] before turn is.plan is.steps_are is.there is.matched.reads.within c.last c.closing;
+    }

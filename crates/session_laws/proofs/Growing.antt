@@ -40,10 +40,10 @@ use Rattle.session_laws.specs.Headline.{InSession}
 use Rattle.session_laws.specs.Newest.{ClosingGot}
 use Rattle.session_laws.specs.Reading.{IsMatchedIn}
 use Rattle.session_laws.specs.Sessions.{AreVersions}
-use Rattle.session_laws.specs.Witness.{growing_plan, growing_session, new_field, nine, nine_rows, small_row, telling_config, telling_group, telling_text, telling_writer}
+use Rattle.session_laws.specs.Witness.{GotAll, IsNewestWhere, growing_plan, growing_session, new_field, nine, nine_rows, small_row, telling_config, telling_group, telling_text, telling_writer}
 use Rattle.session_laws.proofs.Delivering.{appended-session, delivered-session, opening-session, pump-of}
 use Rattle.session_laws.proofs.OneTick.{all-sends, got-of, sent-by, short-of}
-use Rattle.session_laws.proofs.ThreeGroups.{ReceivedLaw}
+use Rattle.session_laws.proofs.ThreeGroups.{NewestLaw, newest-where}
 
 pub telling-is-read : configuration telling_text ≡ Ok telling_config
 unfolding toml_on_literals hex_on_literals is_utf8 chars digits configuration table_faults stands config_of publisher_part data_set_of key_of key_group_of writer_of group_of reader_of read_group_of settings_at header_len demo built_in_writer built_in_group built_in_reader built_in_read_group built_in_config telling_writer telling_group telling_config
@@ -219,7 +219,10 @@ growing-got = record {
       (subst (λ (l : List Send). Contains l (record { group = 0; datagram = datagram })) (sym sends-are) (sent-by 0 its_turn.made datagram has)));
 }
 
-pub growing-held : TellingLaws → ReceivedLaw → (reader_at growing_plan.config 0 0 growing_session).kept.row ≡ Some small_row
+pub growing-newest : TellingLaws → NewestLaw GotAll → IsNewestWhere GotAll growing_plan 0 0 growing_session nine_rows
+growing-newest laws law = newest-where GotAll growing_plan 0 0 growing_session nine_rows its_own law (in-growing laws) versions-growing (its_past, its_turn, growing-got)
+
+pub growing-held : TellingLaws → NewestLaw GotAll → (reader_at growing_plan.config 0 0 growing_session).kept.row ≡ Some small_row
 unfolding growing_plan telling_config telling_group telling_writer built_in_config built_in_group built_in_writer built_in_read_group built_in_reader demo nine
 growing-held laws law =
-    law growing_plan 0 0 0 0 growing_session nine_rows its_past its_turn its_own (in-growing laws) versions-growing growing-got
+    (law growing_plan 0 0 0 0 growing_session nine_rows its_own (in-growing laws) versions-growing (its_past, its_turn, growing-got)).newest.row

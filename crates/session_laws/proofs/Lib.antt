@@ -26,6 +26,7 @@ mod Dividing
 mod Newest
 mod Reaching
 mod LastItems
+mod ClosingVersions
 mod ClosingHeld
 mod SameLines
 mod Anew
@@ -40,6 +41,7 @@ mod KnownTokens
 mod BareMeeting
 mod BehindAnother
 mod ThreeGroups
+mod SinceCut
 mod Growing
 mod Passing
 mod SignedParts

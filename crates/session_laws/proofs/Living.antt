@@ -49,7 +49,7 @@ TurnsAre P [] = Unit {0}
 TurnsAre P (Refreshed ∷ before) = TurnsAre P before
 TurnsAre P (HadTurn turn ∷ before) = P turn × TurnsAre P before
 
-turns-more : (P Q : WriterTurn → Type 0) → ((turn : WriterTurn) → P turn → Q turn) → (deeds : List WriterDeed) → TurnsAre P deeds → TurnsAre Q deeds
+pub turns-more : (P Q : WriterTurn → Type 0) → ((turn : WriterTurn) → P turn → Q turn) → (deeds : List WriterDeed) → TurnsAre P deeds → TurnsAre Q deeds
 turns-more P Q more [] h = tt
 turns-more P Q more (Refreshed ∷ before) h = turns-more P Q more before h
 turns-more P Q more (HadTurn turn ∷ before) h = (more turn h.0, turns-more P Q more before h.1)

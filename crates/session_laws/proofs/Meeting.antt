@@ -172,7 +172,7 @@ all-sent (e ∷ list) so_far (b ∷ before) after d are same =
     subst (λ (l : List Entry). Contains l (Sent d)) (append_assoc so_far (e ∷ []) before ∙ ap (λ (x : Entry). so_far ++ x ∷ before) head)
     (all-sent list (so_far ++ e ∷ []) before after d (later-sent so_far e list are) rest)
 
-honest-of : (setting : Setting) (list given : List Entry) → given ≡ list → AreSent [] list → IsHonestFor setting given
+pub honest-of : (setting : Setting) (list given : List Entry) → given ≡ list → AreSent [] list → IsHonestFor setting given
 honest-of setting list given same are = λ before after d split signed. all-sent list [] before after d are (sym same ∙ split)
 
 -- ---- what is held

@@ -22,7 +22,7 @@ use Rattle.session_model.specs.Deeds.{log_at, writer_deeds}
 use Rattle.session_model.specs.Events.{events, got_on, plain_at, reader_at, readers_on}
 use Rattle.session_model.specs.Steps.{Plan, Step, Pump, moment_of}
 use Rattle.session_laws.specs.Headline.{InSession, IsPublished, meta_of}
-use Rattle.session_laws.specs.Newest.{BringsLast, HoldsRowOf, IsLastLogged, IsNewest}
+use Rattle.session_laws.specs.Newest.{BringsLast, HoldsNewest, IsLastLogged, IsNewest}
 use Rattle.session_laws.specs.Pasts.{settings_at}
 use Rattle.session_laws.specs.Sessions.{AreVersions}
 
@@ -87,18 +87,23 @@ HoldsLaw =
 -- a row that is held at the number of the last place in the writer's log is that of the version there
 pub holds-logged : HoldsLaw → (p : Plan) (r i g w : ℕ) (steps : List Step) (rows : ℕ → ℕ → List DataValue) (row : List DataValue) (place version : ℕ)
     → InSession p r i g w steps → AreVersions p steps rows → (reader_at p.config r i steps).kept.row ≡ Some row → (reader_at p.config r i steps).kept.number ≡ Some (place % 65536)
-    → IsLastLogged p g w steps place version → HoldsRowOf p r i g w steps rows version
+    → IsLastLogged p g w steps place version → HoldsNewest p r i g w steps rows version
 holds-logged holds p r i g w steps rows row place version is versions kept told logged =
     let index = (writer_at (group_at p.config g) w).dataset in
     let published = holds p r i g w steps rows row is versions kept in
     let number : place % 65536 ≡ published.place % 65536 = published.number_is (place % 65536) told in
     let same : published.version ≡ version =
     some-same published.version version (sym published.named ∙ ap (version_of (log_at p g w steps)) (sym number) ∙ version-last (log_at p g w steps) logged.0 place version logged.1) in
-    kept ∙ ap (λ (l : List DataValue). Some l) (published.row_is ∙ ap (λ (v : ℕ). row_cut (meta_of p r i) (rows index v)) same)
+    record {
+      row = kept ∙ ap (λ (l : List DataValue). Some l) (published.row_is ∙ ap (λ (v : ℕ). row_cut (meta_of p r i) (rows index v)) same);
+      place = place;
+      logged = logged;
+      number = told;
+    }
 
 pub holds-newest : WholesAreHeld → HoldsLaw → (p : Plan) (r i g w : ℕ) (before : List Step) (entries : List Entry) (rows : ℕ → ℕ → List DataValue) (row : List DataValue) (version : ℕ)
     → InSession p r i g w (Pump entries ∷ before) → AreVersions p (Pump entries ∷ before) rows → (b : BringsLast p r i before entries row) → IsNewest p r i g w before entries b.brings.frame.number version
-    → HoldsRowOf p r i g w (Pump entries ∷ before) rows version
+    → HoldsNewest p r i g w (Pump entries ∷ before) rows version
 holds-newest law holds p r i g w before entries rows row version is versions b newest =
     let steps = Pump entries ∷ before in
     let kept = (reader_at p.config r i steps).kept in

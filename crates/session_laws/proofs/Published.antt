@@ -1,5 +1,5 @@
 -- THE HEADLINE, for a session.
-use Rattle.std.proofs.Common.{◌≡◌, sym, ap, ◌∙◌, subst, arith, ℕ, zero, suc, ◌<◌, Bool, true, List, [], ◌∷◌, ◌++◌, length, Option, Some, Contains}
+use Rattle.std.proofs.Common.{◌≡◌, refl, sym, ap, ◌∙◌, subst, arith, ℕ, zero, suc, ◌<◌, Bool, true, List, [], ◌∷◌, ◌++◌, length, Option, Some, Contains}
 use Rattle.std.specs.Prelude.{if◌then◌else◌}
 use Rattle.pubsub_model.specs.Frames.{PlacedFrame}
 use Rattle.std.specs.List.Sorted.{IsNonDecreasingBy}
@@ -122,6 +122,8 @@ published laws p r i g w steps rows row is versions e =
     record {
       place = h.place;
       version = h.sent.turn.turn.version;
+      sent = h.sent;
+      its_version = refl;
       logged = h.logged.entry;
       named = h.logged.named;
       number_is = h.number_is;

@@ -116,7 +116,7 @@ module _ (laws : WordLaws) (p : Plan) (before : List Step) (plan : IsPlan p) (ar
 
 -- ---- the turns that a group's writers had
 
-turns-at : (group : GroupPart) (told : Told) (from k : ℕ) (on : List Bool) (turn : WriterTurn) → slice_index_or (turns_from group told from on) k None ≡ Some turn → turn ≡ writer_turn group told (from + k)
+pub turns-at : (group : GroupPart) (told : Told) (from k : ℕ) (on : List Bool) (turn : WriterTurn) → slice_index_or (turns_from group told from on) k None ≡ Some turn → turn ≡ writer_turn group told (from + k)
 turns-at group told from k [] turn e = absurd (none-some e)
   where
     none-some : Path (Option WriterTurn) None (Some turn) → ⊥

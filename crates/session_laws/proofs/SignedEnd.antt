@@ -47,7 +47,7 @@ use Rattle.pubsub_states.specs.declared.component.Component.TheVariants.{Reader}
 use Rattle.config_tables.specs.declared.words.Layout.TheVariants as layouts
 use Rattle.config_tables.specs.declared.words.NumberingWord.TheVariants as words
 use Rattle.session_model.specs.Events.{events, readers_on, receives}
-use Rattle.session_laws.specs.Newest.{CameIn, ClosesInTick, ClosingCame, ClosingGotSecured, ClosingTook, EachPart, HasPartFor, HoldsRowOf, NoHigherToken, TookIn, closing_deeds, closing_turn, made_in, ticked as ticked_in}
+use Rattle.session_laws.specs.Newest.{CameIn, ClosesInTick, ClosingCame, ClosingGotSecured, ClosingTook, EachPart, HasPartFor, HoldsClosing, HoldsClosingRow, NoHigherToken, TookIn, closing_deeds, closing_turn, made_in, ticked as ticked_in}
 use Rattle.session_laws.specs.Reading.{arrivals_at, first_number_of}
 use Rattle.session_laws.specs.Sessions.{AreVersions, pasts_at}
 use Rattle.session_laws.proofs.ClosingGot as ClosingGot
@@ -746,7 +746,7 @@ module _ (laws : Laws) (p : Plan) (r i g w : ℕ) (list : List Step) (own : Writ
     took-come = named-took laws p r i g w t.ms t.samples t.done t.start t.ends.pumps own here t.had t.ends.took t.ends.closing secured keyed.0 keyed.1 named t.ends.operational t.ends.enabled
 
 pub took-held : Laws → HeldLaw → (p : Plan) (r i g w : ℕ) (list : List Step) (rows : ℕ → ℕ → List DataValue) (own : WriterTurn) → InSession p r i g w list → AreVersions p list rows → ClosingTook p r i g w list own
-    → HoldsRowOf p r i g w list rows own.version
+    → HoldsClosing p r i g w list rows own.version
 took-held laws held p r i g w list rows own is versions c =
     let t = c.tick in
     let its_past = past laws p r i g w list own is t c.secured in
@@ -754,7 +754,7 @@ took-held laws held p r i g w list rows own is versions c =
     (subst (λ (l : List Step). ClosingCame p r i g w l its_past own) (sym t.ends.split) (came-taken laws p r i g w list own is t c.secured c.numbered c.tokens c.came))
 
 pub secured-held : Laws → HeldLaw → (p : Plan) (r i g w : ℕ) (list : List Step) (rows : ℕ → ℕ → List DataValue) (own : WriterTurn) → InSession p r i g w list → AreVersions p list rows → ClosingGotSecured p r i g w list own
-    → HoldsRowOf p r i g w list rows own.version
+    → HoldsClosing p r i g w list rows own.version
 secured-held laws held p r i g w list rows own is versions c =
     took-held laws held p r i g w list rows own is versions
     (record {
@@ -766,7 +766,7 @@ secured-held laws held p r i g w list rows own is versions c =
     })
 
 pub took-last-held : Laws → LastHeldLaw → (p : Plan) (r i g w : ℕ) (list : List Step) (rows : ℕ → ℕ → List DataValue) (own : WriterTurn) → InSession p r i g w list → AreVersions p list rows → ClosingTookLast p r i g w list own
-    → HoldsRowOf p r i g w list rows own.version
+    → HoldsClosingRow p r i g w list rows own.version
 took-last-held laws held p r i g w list rows own is versions c =
     let t = c.tick in
     let its_past = past laws p r i g w list own is t c.secured in
@@ -779,10 +779,10 @@ took-came p r pumps start datagram t = subst (λ (l : List (List Entry)). CameIn
 
 -- not secured, or naming the group
 pub since-last-held : Laws → LastHeldLaw → (p : Plan) (r i g w : ℕ) (list : List Step) (rows : ℕ → ℕ → List DataValue) (own : WriterTurn) → InSession p r i g w list → AreVersions p list rows → ClosingGotSinceLast p r i g w list own
-    → HoldsRowOf p r i g w list rows own.version
+    → HoldsClosingRow p r i g w list rows own.version
 since-last-held laws held p r i g w list rows own is versions c = on (is_secured (setting_of p.config r).setup.mode) refl c.unsecured_or_named
   where
-    on : (b : Bool) → is_secured (setting_of p.config r).setup.mode ≡ b → (is_secured (setting_of p.config r).setup.mode ≡ false) ⊎ ((setting_of p.config r).group.group ≢ 0) → HoldsRowOf p r i g w list rows own.version
+    on : (b : Bool) → is_secured (setting_of p.config r).setup.mode ≡ b → (is_secured (setting_of p.config r).setup.mode ≡ false) ⊎ ((setting_of p.config r).group.group ≢ 0) → HoldsClosingRow p r i g w list rows own.version
     on false unsecured either = unsecured-last-held laws held p r i g w list rows own is versions c unsecured
     on true secured (inl unsecured) = absurd (let wrong : false ≡ true = sym unsecured ∙ secured in cc)
     on true secured (inr named) =

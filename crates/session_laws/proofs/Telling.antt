@@ -171,6 +171,7 @@ log-found p r i g w steps closed writer is ends =
 pub reader-tells : (laws : HeadlineLaws) (p : Plan) (r i g w : ℕ) (steps : List Step) (rows : ℕ → ℕ → List DataValue) (closed : Closed) (reader : ReaderEnd) (writer : WriterEnd)
     → InSession p r i g w steps → AreVersions p steps rows → IsClosedAfter p steps closed → EndsReader p.config closed r i reader → EndsWriter p.config closed g w writer
     → TellsReader p r i g w steps rows writer.log reader
+unfolding published-told
 reader-tells laws p r i g w steps rows closed reader writer is versions after ends ends_writer =
     let member = reader_at p.config r i steps in
     let numbering = (seat_at (setting_of p.config r).seats i).part.numbering in
@@ -179,16 +180,19 @@ reader-tells laws p r i g w steps rows closed reader writer is versions after en
     let shows = (reader-end p r i steps closed reader after ends).shows in
     let log_is = (writer-end p g w steps closed writer after ends_writer).log in
     let values : HeldEnd → List DataValue = λ held. row_in (meta_of p r i).fields held.row.words in
+    let kept_row : (held : HeldEnd) → reader.held ≡ Some held → member.kept.row ≡ Some (values held) = λ held e. sym shows.row ∙ ap (option_map values) e in
+    let its_published : (held : HeldEnd) → reader.held ≡ Some held → IsPublished p r i g w steps rows member.kept.number (values held) =
+    λ held e. laws.holds p r i g w steps rows (values held) is versions (kept_row held e) in
     record {
       held = shows.row ∙ row-kept numbering arrivals member.kept keeps;
       number = λ held e. if-some (λ held. held.number ≡ member.kept.number) reader.held held e shows.number ∙ number-kept numbering arrivals member.kept keeps;
       holds = λ held e.
           let tells = if-some (λ held. TellsHeld p.config closed.writers (read_group_at p.config r) (part_at (read_group_at p.config r) i) held) reader.held held e (reader-told p r i steps closed reader after ends) in
           let number = if-some (λ held. held.number ≡ member.kept.number) reader.held held e shows.number in
-          let row : member.kept.row ≡ Some (values held) = sym shows.row ∙ ap (option_map values) e in
           let own = tells.own is.matched.groups.publisher ∙ ap (λ (l : List (ℕ × ℕ)). option_and_then (version_of l) held.number) (log-found p r i g w steps closed writer is ends_writer) in
           let its = subst (λ (part : ReaderPart). TellsNumber part.numbering held.number) (sym (seat-part p.config r i is.matched.within)) tells.number in
-          published-told p r i g w steps rows writer.log held member (values held) log_is refl number its own (laws.holds p r i g w steps rows (values held) is versions row);
+          published-told p r i g w steps rows writer.log held member (values held) log_is refl number its own (its_published held e);
+      sent = λ held e. let published = its_published held e in record { row = published.sent; its_version = published.its_version };
       waits = λ e. shows.why ∙ why-kept numbering arrivals member.kept keeps (sym shows.row ∙ ap (option_map values) e);
       breaks = shows.breaks ∙ breaks-kept numbering arrivals member.kept keeps;
       recent = shows.recent ∙ ap reverse (recent-kept numbering arrivals member.kept keeps);

@@ -7,18 +7,17 @@ use Rattle.ps_config.specs.declared.parts.ReadGroupPart.{ReadGroupPart}
 use Rattle.ps_config.specs.FixedSound.{IsFixedSound}
 use Rattle.ps_config.specs.Sound.{IsSound}
 use Rattle.ps_config.specs.Types.{HasTypes}
-use Rattle.writer_group.specs.Turns.{GroupDeed, GroupTurn}
 use Rattle.group_laws.specs.Witness.{cut_group, cut_readers, ones, reader_of, signed_group, signed_readers, slotted_group, slotted_readers, three_config}
 use Rattle.session_model.specs.Keeping.{IsPlan}
 use Rattle.session_model.specs.Sends.{sends_of}
 use Rattle.session_model.specs.Steps.{Plan, Step}
 use Rattle.session_laws.specs.Delivered.{sent_on}
 use Rattle.session_laws.specs.Headline.{InSession}
-use Rattle.session_laws.specs.Newest.{ClosingGot, ClosingGotSecured, HoldsRowOf}
+use Rattle.session_laws.specs.Newest.{ClosingGot, ClosingGotSecured, HoldsClosing}
 use Rattle.session_laws.specs.Reading.{IsMatchedIn}
 use Rattle.session_laws.specs.Sessions.{AreVersions}
 use Rattle.session_laws.specs.Telling.{HasRun}
-use Rattle.session_laws.specs.Witness.{three_plan, three_rows, three_session}
+use Rattle.session_laws.specs.Witness.{Coming, GotAll, IsNewestWhere, three_plan, three_rows, three_session}
 use Rattle.session_laws.proofs.OneTick as OneTick
 use Rattle.session_laws.proofs.OneTick.{closes, config, cut-came, cut-last, cut-took, in-session, in_tick, matched-to, own_at, past_at, plan, plan-is, sent, session, signed-came, signed-had, signed-took, slotted-came, slotted-last, slotted-took, turn_at, versions-are}
 
@@ -99,27 +98,39 @@ signed-got = record {
   came = λ datagram has part. signed-came beside datagram has;
 }
 
-abbrev pub SecuredLaw : Type 0
-SecuredLaw =
-    (p : Plan) (r i g w : ℕ) (steps : List Step) (rows : ℕ → ℕ → List DataValue) (own : WriterTurn) → InSession p r i g w steps → AreVersions p steps rows
-    → ClosingGotSecured p r i g w steps own → HoldsRowOf p r i g w steps rows own.version
+-- what a clause of the law says of a closing turn that came so
+abbrev pub NewestLaw : Coming → Type 0
+NewestLaw Came =
+    (p : Plan) (r i g w : ℕ) (steps : List Step) (rows : ℕ → ℕ → List DataValue) (own : WriterTurn) → InSession p r i g w steps → AreVersions p steps rows → Came p r i g w steps own
+    → HoldsClosing p r i g w steps rows own.version
 
-pub secured-held : ThreeLaws → SecuredLaw → HoldsRowOf three_plan 0 0 0 0 three_session three_rows 1
+pub newest-where : (Came : Coming) (p : Plan) (r g : ℕ) (steps : List Step) (rows : ℕ → ℕ → List DataValue) (own : WriterTurn) → NewestLaw Came
+    → InSession p r 0 g 0 steps → AreVersions p steps rows → Came p r 0 g 0 steps own → IsNewestWhere Came p r g steps rows
+newest-where Came p r g steps rows own law is versions came = record { session = is; versions = versions; own = own; came = came; newest = law p r 0 g 0 steps rows own is versions came }
+
+pub signed-newest : ThreeLaws → NewestLaw ClosingGotSecured → IsNewestWhere ClosingGotSecured three_plan 0 0 three_session three_rows
+unfolding three_plan three_config
+signed-newest laws law = newest-where ClosingGotSecured its 0 0 (session beside) three_rows (own_at beside 0) law (in-signed laws) versions-three signed-got
+
+pub slotted-newest : ThreeLaws → NewestLaw GotAll → IsNewestWhere GotAll three_plan 1 1 three_session three_rows
+unfolding three_plan three_config
+slotted-newest laws law = newest-where GotAll its 1 1 (session beside) three_rows (own_at beside 1) law (in-slotted laws) versions-three (past_at beside 1, turn_at beside 1, slotted-got)
+
+pub cut-newest : ThreeLaws → NewestLaw GotAll → IsNewestWhere GotAll three_plan 2 2 three_session three_rows
+unfolding three_plan three_config
+cut-newest laws law = newest-where GotAll its 2 2 (session beside) three_rows (own_at beside 2) law (in-cut laws) versions-three (past_at beside 2, turn_at beside 2, cut-got)
+
+pub secured-held : ThreeLaws → NewestLaw ClosingGotSecured → HoldsClosing three_plan 0 0 0 0 three_session three_rows 1
 unfolding three_plan three_config signed_group ones
 secured-held laws law = law its 0 0 0 0 (session beside) three_rows (own_at beside 0) (in-signed laws) versions-three signed-got
 
-abbrev pub ReceivedLaw : Type 0
-ReceivedLaw =
-    (p : Plan) (r i g w : ℕ) (steps : List Step) (rows : ℕ → ℕ → List DataValue) (before : List GroupDeed) (turn : GroupTurn) (own : WriterTurn) → InSession p r i g w steps → AreVersions p steps rows
-    → ClosingGot p r i g w steps before turn own → HoldsRowOf p r i g w steps rows own.version
-
-pub slotted-held : ThreeLaws → ReceivedLaw → HoldsRowOf three_plan 1 0 1 0 three_session three_rows 1
+pub slotted-held : ThreeLaws → NewestLaw GotAll → HoldsClosing three_plan 1 0 1 0 three_session three_rows 1
 unfolding three_plan three_config slotted_group ones
-slotted-held laws law = law its 1 0 1 0 (session beside) three_rows (past_at beside 1) (turn_at beside 1) (own_at beside 1) (in-slotted laws) versions-three slotted-got
+slotted-held laws law = law its 1 0 1 0 (session beside) three_rows (own_at beside 1) (in-slotted laws) versions-three (past_at beside 1, turn_at beside 1, slotted-got)
 
-pub cut-held : ThreeLaws → ReceivedLaw → HoldsRowOf three_plan 2 0 2 0 three_session three_rows 1
+pub cut-held : ThreeLaws → NewestLaw GotAll → HoldsClosing three_plan 2 0 2 0 three_session three_rows 1
 unfolding three_plan three_config cut_group ones
-cut-held laws law = law its 2 0 2 0 (session beside) three_rows (past_at beside 2) (turn_at beside 2) (own_at beside 2) (in-cut laws) versions-three cut-got
+cut-held laws law = law its 2 0 2 0 (session beside) three_rows (own_at beside 2) (in-cut laws) versions-three (past_at beside 2, turn_at beside 2, cut-got)
 
 pub run-three : ThreeLaws → HasRun three_plan three_session three_rows
 run-three laws = let is = in-signed laws in record { plan = is.plan; steps_are = is.steps_are; run = is.run; rise = is.rise; versions = versions-three }

@@ -15,7 +15,7 @@ use Rattle.writer_group.specs.Parts.{group_at}
 use Rattle.session_model.specs.Keeping.{AreSteps, IsPlan}
 use Rattle.session_laws.specs.Reading.{IsMatchedIn, arrivals_at, first_number_of}
 use Rattle.session_model.specs.Sends.{IsRun, journal}
-use Rattle.pubsub_model.specs.Answers.{version_of}
+use Rattle.pubsub_model.specs.Answers.{IsRowSent, version_of}
 use Rattle.session_laws.specs.Plays.{ItemsAre, IsAnswerBy}
 use Rattle.session_laws.specs.Sessions.{HasSample, IsHonestFor, SamplesRise}
 
@@ -40,11 +40,13 @@ ComesFrom p r i g w steps =
     ItemsAre (IsAnswerBy (seat_at (setting_of p.config r).seats i).part.numbering (meta_of p r i) (answered_at p g w steps))
     (arrivals_at p.config r i (first_number_of p.config g w) steps)
 
--- The row is that of the version which the writer's log has at the place of the number, and names by it, cut to the reader's fields; `rows` are those of the
--- versions of each data set.
+-- The row is that of the version which the writer's log has at the place of the number, and names by it, cut to the reader's fields: that of the writer's turn
+-- whose data frame has this place, of this version. `rows` are those of the versions of each data set.
 pub record IsPublished (p : Plan) (r i g w : ℕ) (steps : List Step) (rows : ℕ → ℕ → List DataValue) (number : Option ℕ) (row : List DataValue) : Type 0 where
   pub place : ℕ
   pub version : ℕ
+  pub sent : IsRowSent (meta_of p r i) (answered_at p g w steps) (record { place = place; row = row })
+  pub its_version : sent.turn.turn.version ≡ version
   pub logged : Contains (log_at p g w steps) (place, version)
   pub named : version_of (log_at p g w steps) (place % 65536) ≡ Some version
   pub number_is : (n : ℕ) → number ≡ Some n → n ≡ place % 65536

@@ -28,6 +28,7 @@ use Rattle.writer_group.specs.Turns.{GroupDeed, GroupTurn, HadGroupTurn, took_by
 use Rattle.session_laws.specs.Headline.{meta_of}
 use Rattle.session_laws.specs.Pasts.{settings_at}
 use Rattle.session_laws.specs.Reading.{arrivals_at, first_number_of}
+use Rattle.session_laws.specs.Sessions.{ClosesWith}
 
 -- The last datagram of a pump comes to a read group that is Operational, which takes it, and has one part for the reader, which is enabled: a key frame with this
 -- row, that may follow what came before.
@@ -168,3 +169,20 @@ abbrev pub HoldsRowOf : Plan → ℕ → ℕ → ℕ → ℕ → List Step → (
 HoldsRowOf p r i g w steps rows version =
     (reader_at p.config r i steps).kept.row
     ≡ Some (row_cut (meta_of p r i) (rows (writer_at (group_at p.config g) w).dataset version))
+
+-- The reader holds that row, at the number of the last place in the writer's log, where this version stands.
+pub record HoldsNewest (p : Plan) (r i g w : ℕ) (steps : List Step) (rows : ℕ → ℕ → List DataValue) (version : ℕ) : Type 0 where
+  pub row : HoldsRowOf p r i g w steps rows version
+  pub place : ℕ
+  pub logged : IsLastLogged p g w steps place version
+  pub number : (reader_at p.config r i steps).kept.number ≡ Some (number_of_place place)
+
+-- The reader holds so the version that the closing tick sampled of the writer's data set.
+pub record HoldsClosing (p : Plan) (r i g w : ℕ) (steps : List Step) (rows : ℕ → ℕ → List DataValue) (version : ℕ) : Type 0 where
+  pub newest : HoldsNewest p r i g w steps rows version
+  pub sampled : ClosesWith steps (writer_at (group_at p.config g) w).dataset version
+
+-- The reader holds the row of the version that the closing tick sampled of the writer's data set, cut to its fields.
+pub record HoldsClosingRow (p : Plan) (r i g w : ℕ) (steps : List Step) (rows : ℕ → ℕ → List DataValue) (version : ℕ) : Type 0 where
+  pub row : HoldsRowOf p r i g w steps rows version
+  pub sampled : ClosesWith steps (writer_at (group_at p.config g) w).dataset version

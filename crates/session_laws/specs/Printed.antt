@@ -5,6 +5,7 @@ use Rattle.seq_number.specs.Numbers.{number_of_place}
 use Rattle.dataset_meta.specs.DataValues.{DataValue}
 use Rattle.dataset_meta.specs.Rows.{row_cut}
 use Rattle.row_words.specs.Belonging.{row_in}
+use Rattle.pubsub_model.specs.Answers.{IsRowSent}
 use Rattle.pubsub_model.specs.declared.reading.Break.{Break}
 use Rattle.pubsub_model.specs.declared.reading.Why.{Why}
 use Rattle.pubsub_model.specs.Records.{Arrival, held, why, breaks, cut_reason, unnumbered_row}
@@ -19,7 +20,7 @@ use Rattle.reader_group.specs.Members.{seat_at}
 use Rattle.reader_group.specs.Settings.{setting_of}
 use Rattle.writer_group.specs.Payloads.{writer_at}
 use Rattle.session_model.specs.Steps.{Plan, Step}
-use Rattle.session_model.specs.Deeds.{log_at}
+use Rattle.session_model.specs.Deeds.{answered_at, log_at}
 use Rattle.writer_group.specs.Parts.{group_at}
 use Rattle.session_model.specs.Closing.{reader_places, writer_places}
 use Rattle.session_laws.specs.Reading.{arrivals_at, first_number_of}
@@ -72,8 +73,13 @@ pub record TellsPublished (p : Plan) (r i g w : ℕ) (rows : ℕ → ℕ → Lis
   pub tells : TellsVersion (seat_at (setting_of p.config r).seats i).part.numbering told place version
   pub row : row_in (meta_of p r i).fields told.row.words ≡ row_cut (meta_of p r i) (rows (writer_at (group_at p.config g) w).dataset version)
 
--- What the reader holds by *Records*, and nothing else, is told, with the number of the record that is held; it is of a published version; else its reason is told,
--- and always its breaks, the last eight in order.
+-- the row that is told is that of the writer's turn whose data frame has this place, of this version, cut to the reader's fields
+pub record TellsSent (p : Plan) (r i g w : ℕ) (steps : List Step) (told : HeldEnd) (place version : ℕ) : Type 0 where
+  pub row : IsRowSent (meta_of p r i) (answered_at p g w steps) (record { place = place; row = row_in (meta_of p r i).fields told.row.words })
+  pub its_version : row.turn.turn.version ≡ version
+
+-- What the reader holds by *Records*, and nothing else, is told, with the number of the record that is held; it is of a published version, and is
+-- the row of the writer's turn whose data frame has its place, cut to the reader's fields; else its reason is told, and always its breaks, the last eight in order.
 pub record TellsReader (p : Plan) (r i g w : ℕ) (steps : List Step) (rows : ℕ → ℕ → List DataValue) (log : List (ℕ × ℕ)) (end : ReaderEnd) : Type 0 where
   pub held : let numbering = (seat_at (setting_of p.config r).seats i).part.numbering in
       option_map (λ told. row_in (meta_of p r i).fields told.row.words) end.held
@@ -81,6 +87,7 @@ pub record TellsReader (p : Plan) (r i g w : ℕ) (steps : List Step) (rows : �
   pub number : let numbering = (seat_at (setting_of p.config r).seats i).part.numbering in
       (told : HeldEnd) → end.held ≡ Some told → told.number ≡ number_by numbering (arrivals_at p.config r i (first_number_of p.config g w) steps)
   pub holds : (told : HeldEnd) → end.held ≡ Some told → TellsPublished p r i g w rows log told
+  pub sent : (told : HeldEnd) (is : end.held ≡ Some told) → let of = holds told is in TellsSent p r i g w steps told of.place of.version
   pub waits : let numbering = (seat_at (setting_of p.config r).seats i).part.numbering in
       end.held ≡ None → end.why ≡ why_by numbering (arrivals_at p.config r i (first_number_of p.config g w) steps)
   pub breaks : let numbering = (seat_at (setting_of p.config r).seats i).part.numbering in

@@ -35,6 +35,16 @@ HasSample p (Tick ms closing samples done ∷ before) index now sample =
     ((slice_index_or samples index no_sample ≡ sample) × (meta_in (metas_at p.config before) index ≡ now)) ⊎ HasSample p before index now sample
 HasSample p (Pump entries ∷ before) index now sample = HasSample p before index now sample
 
+-- the closing tick, of which a session has one at most, sampled this version of the data set
+abbrev pub ClosesWith : List Step → ℕ → ℕ → Type 0
+ClosesWith [] index version = ⊥
+ClosesWith (Enable id ∷ before) index version = ClosesWith before index version
+ClosesWith (Disable id ∷ before) index version = ClosesWith before index version
+ClosesWith (Append set field ∷ before) index version = ClosesWith before index version
+ClosesWith (Tick ms closing samples done ∷ before) index version =
+    ((closing ≡ true) × ((slice_index_or samples index no_sample).version ≡ version)) ⊎ ClosesWith before index version
+ClosesWith (Pump entries ∷ before) index version = ClosesWith before index version
+
 -- the versions that are sampled of a data set never fall
 abbrev pub SamplesRise : Plan → List Step → Type 0
 SamplesRise p [] = ⊤

@@ -30,10 +30,10 @@ ghost use Rattle.session_laws.specs.Below.{Laws};
 ghost use Rattle.session_laws.specs.Courses.{HaveOneCourse};
 ghost use Rattle.session_laws.specs.Fresh.{BeginWithKeys, keyed_turns, protected_by};
 ghost use Rattle.session_laws.specs.Headline.{InSession, ComesFrom, IsPublished, PublishesVersion, answered_turn};
-ghost use Rattle.session_laws.specs.Newest.{BringsLast, ClosingCame, ClosingGot, ClosingGotSecured, ClosingTook, HoldsRowOf, IsLastLogged, IsNewest};
+ghost use Rattle.session_laws.specs.Newest.{BringsLast, ClosingCame, ClosingGot, ClosingGotSecured, ClosingTook, HoldsClosing, HoldsClosingRow, HoldsNewest, IsLastLogged, IsNewest};
 ghost use Rattle.session_laws.specs.Pasts.{settings_at};
 ghost use Rattle.session_laws.specs.Plays.{Play, IsPlay, ComesFromWriter, HoldsVersion, its_marks, its_member, its_way};
-ghost use Rattle.session_laws.specs.Sessions.{AreVersions, SamplesRise};
+ghost use Rattle.session_laws.specs.Sessions.{AreVersions, ClosesWith, SamplesRise};
 ghost use Rattle.session_laws.specs.Twins.{TwinStep, AddRefused, AreTwins, HasFurther, HasTwins, HaveFurther, firsts, seconds, with_counts_of};
 
 use crate::turning::each_turn_of_a_session_holds;
@@ -67,7 +67,8 @@ pub fn a_matched_reader_holds_what_was_sent()
 
 /// Whatever datagrams of a session are lost, repeated or reordered, each matched reader reads by *Records*, and holds exactly the
 /// published version that the unbroken run of its arrivals from a key frame names: the row of the version that its writer's log
-/// has at the held number, cut to the reader's fields.
+/// has at the held number, cut to the reader's fields, which is that of the writer's turn whose data frame has this place, cut
+/// so.
 pub fn matched_readers_hold_published_versions()
     ensures comes { (p : Plan) (r i g w : ℕ) (steps : List Step) → InSession p r i g w steps → ComesFrom p r i g w steps }
     ensures reads { (p : Plan) (r i g w : ℕ) (steps : List Step) → InSession p r i g w steps
@@ -99,8 +100,9 @@ pub fn data_messages_stand_for_versions()
 }
 
 /// A reader to which the last datagram of a pump brings a key frame, alone and taken, holds its row; where it is matched to a
-/// writer, and the frame has the number of the last place in the writer's log, this is the row of that newest version, cut to the
-/// reader's fields. A closing turn is answered by a key frame, whose place and version are the last in the writer's log.
+/// writer, and the frame has the number of the last place in the writer's log, it holds that newest version: the version's row,
+/// cut to the reader's fields, at the number of that place. A closing turn is answered by a key frame, whose place and version
+/// are the last in the writer's log.
 pub fn a_key_frame_that_comes_last_is_held()
     ensures held { (p : Plan) (r i : ℕ) (before : List Step) (entries : List Entry) (row : List DataValue)
         → BringsLast p r i before entries row
@@ -110,7 +112,7 @@ pub fn a_key_frame_that_comes_last_is_held()
         → InSession p r i g w (Pump entries ∷ before) → AreVersions p (Pump entries ∷ before) rows
         → (last : BringsLast p r i before entries row)
         → IsNewest p r i g w before entries last.brings.frame.number version
-        → HoldsRowOf p r i g w (Pump entries ∷ before) rows version }
+        → HoldsNewest p r i g w (Pump entries ∷ before) rows version }
     ensures closing { (p : Plan) (g w : ℕ) (steps : List Step) (before : List WriterDeed) (turn : WriterTurn)
         → writer_deeds p g w steps ≡ HadTurn turn ∷ before → turn.closing ≡ true
         → let s = settings_at (group_at p.config g) w in
@@ -121,42 +123,54 @@ pub fn a_key_frame_that_comes_last_is_held()
 }
 
 /// Where the last turn of a writer was a closing one, and its frame came to a matched reader that goes by numbers, since its last
-/// cut, the reader holds the row of the turn's version, cut to its fields: at whatever place of a pump the frame came, however
-/// often, and whatever came before or behind it. It came where, without security, each datagram of the turn with a part for the
-/// reader is one that the journal has as received in the pumps behind it, whole or in chunks, in whichever order. It came likewise
-/// to a secured read group that names the writer's group, whatever the read group has accepted before; to one that names none
-/// where this took each of its datagrams once, and none of a higher token. A reader with no numbering holds it likewise, whole or
-/// in chunks, where the pumps are all that are behind the closing tick, and no other key frame came once all of its datagrams had
-/// come, or, to a read group that may name no group, once this took all of them. Without security the datagram of a frame that
-/// isn't cut may come in pumps that begin anywhere behind the turn, and it is enough that no other key frame came behind one of
-/// its comings: a chunk that comes again brings nothing.
+/// cut, the reader holds the turn's version: the version's row, cut to its fields, at the number of the last place in the
+/// writer's log, where this version stands; and this is the version that the closing tick sampled of the writer's data set. It
+/// does so at whatever place of a pump the frame came, however often, and whatever came before or behind it (`came`). It came
+/// where, without security, each datagram of the turn with a part for the reader is one that the journal has as received in the
+/// pumps behind it, whole or in chunks, in whichever order (`received`). It came likewise to a secured read group that names the
+/// writer's group, whatever the read group has accepted before (`secured`); to one that names none where this took each of its
+/// datagrams once, and none of a higher token (`taken`).
+///
+/// A reader with no numbering holds the row of this version, cut to its fields, where the frame came since its last cut,
+/// and no other key frame behind it (`came_last`). It came so, whole or in chunks, where the pumps are all that are behind the
+/// closing tick, and no other key frame came once all of its datagrams had come, to a read group that isn't secured, or that
+/// names the writer's group (`since_last`); to a secured one that may name no group where this took each of its datagrams, and
+/// none of a higher token, and no other key frame came once it had taken all of them (`taken_last`). Without security the
+/// datagram of a frame that isn't cut may come in pumps that begin anywhere behind the turn, and it is enough that no other key
+/// frame came behind one of its comings (`received_last`): a chunk that comes again brings nothing.
+///
+/// The version of each closing turn is the one that the closing tick sampled of the writer's data set (`sampled`).
 pub fn a_closing_frame_that_came_is_held()
     ensures received { (p : Plan) (r i g w : ℕ) (steps : List Step) (rows : ℕ → ℕ → List DataValue)
         (before : List GroupDeed) (turn : GroupTurn) (own : WriterTurn) → InSession p r i g w steps
         → AreVersions p steps rows → ClosingGot p r i g w steps before turn own
-        → HoldsRowOf p r i g w steps rows own.version }
+        → HoldsClosing p r i g w steps rows own.version }
     ensures secured { (p : Plan) (r i g w : ℕ) (steps : List Step) (rows : ℕ → ℕ → List DataValue) (own : WriterTurn)
         → InSession p r i g w steps → AreVersions p steps rows → ClosingGotSecured p r i g w steps own
-        → HoldsRowOf p r i g w steps rows own.version }
+        → HoldsClosing p r i g w steps rows own.version }
     ensures taken { (p : Plan) (r i g w : ℕ) (steps : List Step) (rows : ℕ → ℕ → List DataValue) (own : WriterTurn)
         → InSession p r i g w steps → AreVersions p steps rows → ClosingTook p r i g w steps own
-        → HoldsRowOf p r i g w steps rows own.version }
+        → HoldsClosing p r i g w steps rows own.version }
     ensures came { (p : Plan) (r i g w : ℕ) (steps : List Step) (rows : ℕ → ℕ → List DataValue)
         (before : List WriterDeed) (turn : WriterTurn) → InSession p r i g w steps → AreVersions p steps rows
-        → ClosingCame p r i g w steps before turn → HoldsRowOf p r i g w steps rows turn.version }
+        → ClosingCame p r i g w steps before turn → HoldsClosing p r i g w steps rows turn.version }
     ensures received_last { (p : Plan) (r i g w : ℕ) (steps : List Step) (rows : ℕ → ℕ → List DataValue)
         (before : List GroupDeed) (turn : GroupTurn) (own : WriterTurn) → InSession p r i g w steps
         → AreVersions p steps rows → ClosingGotLast p r i g w steps before turn own
-        → HoldsRowOf p r i g w steps rows own.version }
+        → HoldsClosingRow p r i g w steps rows own.version }
     ensures since_last { (p : Plan) (r i g w : ℕ) (steps : List Step) (rows : ℕ → ℕ → List DataValue)
         (own : WriterTurn) → InSession p r i g w steps → AreVersions p steps rows
-        → ClosingGotSinceLast p r i g w steps own → HoldsRowOf p r i g w steps rows own.version }
+        → ClosingGotSinceLast p r i g w steps own → HoldsClosingRow p r i g w steps rows own.version }
     ensures taken_last { (p : Plan) (r i g w : ℕ) (steps : List Step) (rows : ℕ → ℕ → List DataValue)
         (own : WriterTurn) → InSession p r i g w steps → AreVersions p steps rows
-        → ClosingTookLast p r i g w steps own → HoldsRowOf p r i g w steps rows own.version }
+        → ClosingTookLast p r i g w steps own → HoldsClosingRow p r i g w steps rows own.version }
     ensures came_last { (p : Plan) (r i g w : ℕ) (steps : List Step) (rows : ℕ → ℕ → List DataValue)
         (before : List WriterDeed) (turn : WriterTurn) → InSession p r i g w steps → AreVersions p steps rows
-        → ClosingCameLast p r i g w steps before turn → HoldsRowOf p r i g w steps rows turn.version }
+        → ClosingCameLast p r i g w steps before turn → HoldsClosingRow p r i g w steps rows turn.version }
+    ensures sampled { (p : Plan) (g w : ℕ) (steps : List Step) (later before : List WriterDeed) (turn : WriterTurn)
+        → IsPlan p → AreSteps p steps → g < length p.config.group → w < length (group_at p.config g).writer
+        → writer_deeds p g w steps ≡ later ++ HadTurn turn ∷ before → turn.closing ≡ true
+        → ClosesWith steps (writer_at (group_at p.config g) w).dataset turn.version }
 {
     what_the_laws_below_say();
     answers_have_places_of_their_span();

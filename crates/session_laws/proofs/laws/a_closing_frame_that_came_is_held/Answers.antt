@@ -2,6 +2,7 @@ use Rattle.session_laws.proofs.BareEnd.{got-last-held}
 use Rattle.session_laws.proofs.BareHeld.{bare-held}
 use Rattle.session_laws.proofs.ClosingGot.{got-held}
 use Rattle.session_laws.proofs.ClosingHeld.{closing-held}
+use Rattle.session_laws.proofs.ClosingVersions.{closes-with}
 use Rattle.session_laws.proofs.SignedEnd.{secured-held, since-last-held, took-held, took-last-held}
 use Rattle.session_laws.proofs.laws.a_closing_frame_that_came_is_held.Goals as goal
 
@@ -9,7 +10,7 @@ pub returns : goal.returns
 returns c =
     let below = c.what_the_laws_below_say.ensures in
     let laws = c.matched_readers_hold_published_versions.ensures in
-    let held = closing-held c.answers_have_places_of_their_span.ensures.each laws.comes laws.reads laws.holds in
+    let held = closing-held below.words c.answers_have_places_of_their_span.ensures.each laws.comes laws.reads laws.holds in
     let last = bare-held below laws.reads in
     record {
       received = got-held below held;
@@ -20,4 +21,5 @@ returns c =
       since_last = since-last-held below last;
       taken_last = took-last-held below last;
       came_last = last;
+      sampled = closes-with below.words;
     }

@@ -1,6 +1,6 @@
 use Rattle.session_laws.specs.Witness.{GotLast, bare_config, bare_text, chunks_config, chunks_text, lone_config, lone_text}
-use Rattle.session_laws.proofs.BareMeeting.{BareLaws, ChunksLaws, HeldLaw, any-held, bare-is-read, bare-types, bare_any-held, bare_signed-held, bare_slotted-held, chunks-are-read, chunks-held, chunks-types, slotted-came-held, slotted-since-held}
-use Rattle.session_laws.proofs.BehindAnother.{LoneLaws, lone-is-read, received-after, since-after}
+use Rattle.session_laws.proofs.BareMeeting.{BareLaws, ChunksLaws, HeldLaw, any-newest, bare-is-read, bare-types, bare_any-held, bare_signed-held, bare_slotted-held, chunks-are-read, chunks-held, chunks-types, slotted-came-held, slotted-since-held}
+use Rattle.session_laws.proofs.BehindAnother.{LoneLaws, lone-is-read, received-again, since-old}
 use Rattle.session_laws.proofs.witness.readers_of_each_kind_get_closing_frames.Goals as goal
 
 pub returns : goal.returns
@@ -32,14 +32,14 @@ returns c =
     record {
       accepted = bare-is-read;
       accepted_chunks = chunks-are-read;
-      taken = any-held laws held.taken;
+      taken = any-newest laws held.taken;
       taken_last = bare_any-held laws held.taken_last;
       secured_last = bare_signed-held laws held.since_last;
       received_last = bare_slotted-held laws received;
       since_last = slotted-since-held laws held.since_last;
       chunks_last = chunks-held chunks held.since_last;
-      accepted_after = lone-is-read;
-      received_after = received-after lone received;
-      since_after = since-after lone held.since_last;
+      accepted_again = lone-is-read;
+      received_again = received-again lone received;
+      since_old = since-old lone held.since_last;
       came_last = slotted-came-held laws received;
     }

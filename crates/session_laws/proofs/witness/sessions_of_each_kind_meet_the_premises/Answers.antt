@@ -1,7 +1,8 @@
 use Rattle.group_laws.specs.Witness.{three_config, three_text}
-use Rattle.session_laws.specs.Witness.{telling_config, telling_text}
-use Rattle.session_laws.proofs.Growing.{TellingLaws, growing-held, in-growing, telling-is-read}
-use Rattle.session_laws.proofs.ThreeGroups.{ThreeLaws, cut-held, four-sends, in-cut, in-signed, in-slotted, run-three, secured-held, slotted-held}
+use Rattle.session_laws.specs.Witness.{CameSinceCut, GotAll, telling_config, telling_text}
+use Rattle.session_laws.proofs.Growing.{TellingLaws, growing-held, growing-newest, in-growing, telling-is-read}
+use Rattle.session_laws.proofs.SinceCut.{whole-newest}
+use Rattle.session_laws.proofs.ThreeGroups.{NewestLaw, ThreeLaws, cut-held, cut-newest, four-sends, in-cut, in-signed, in-slotted, run-three, secured-held, signed-newest, slotted-held, slotted-newest}
 use Rattle.session_laws.proofs.witness.sessions_of_each_kind_meet_the_premises.Goals as goal
 
 pub returns : goal.returns
@@ -14,8 +15,11 @@ returns c =
       fixed = sound.fixed telling_text telling_config telling-is-read;
       types = c.the_built_in_configuration_is_sound.ensures.types;
     } in
-    let received = c.a_closing_frame_that_came_is_held.ensures.received in
-    let secured = c.a_closing_frame_that_came_is_held.ensures.secured in
+    let law = c.a_closing_frame_that_came_is_held.ensures in
+    let received : NewestLaw GotAll = λ p r i g w steps rows own is versions got. law.received p r i g w steps rows got.0 got.1 own is versions got.2 in
+    let secured = law.secured in
+    let came : NewestLaw CameSinceCut = λ p r i g w steps rows own is versions came. law.came p r i g w steps rows came.0 own is versions came.1 in
+    let small = c.small_sessions_meet_the_premises.ensures in
     record {
       signed = in-signed three;
       fixed = in-slotted three;
@@ -26,5 +30,10 @@ returns c =
       signed_held = secured-held three secured;
       fixed_held = slotted-held three received;
       chunked_held = cut-held three received;
+      signed_got = signed-newest three secured;
+      fixed_got = slotted-newest three received;
+      chunked_got = cut-newest three received;
+      growing_got = growing-newest telling received;
+      whole_came = whole-newest small.whole small.versions came;
       growing_held = growing-held telling received;
     }
