@@ -40,6 +40,16 @@ fn report_of<R: Threads + Wait + Sync>(
     Ok(Vec::from_slice(alloc, ran.out.bytes())?)
 }
 
+/// Whether there was one call before and one after each of a thread's first items.
+fn are_once(order: &Order, thread: u32, items: u32) -> bool {
+    for k in 0..items {
+        if order.calls(item(thread, k)) != (1, 1) {
+            return false;
+        }
+    }
+    true
+}
+
 /// The line of a report that begins so, without this beginning.
 fn line_of<'t>(report: &'t str, front: &str) -> Option<&'t str> {
     for line in report.split('\n') {
@@ -87,6 +97,8 @@ fn threads_write_while_the_publisher_ticks(rt: HostRuntime) -> Result<(), Fail> 
     let order = Order::new(rt.alloc(), ten_holds(rt.alloc())?)?;
     let report = report_of(&rt, rt.alloc(), "run s", TEN_WRITES, &order)?;
     let text = str::from_utf8(&report).ok().ok_or("no text")?;
+    assert!(&rt; are_once(&order, 0, 5) && are_once(&order, 1, 5));
+    assert!(&rt; are_once(&order, PUBLISHER, 2));
     assert_eq!(&rt; order.all_calls(), (12, 12));
     let history = line_of(text, "history demo 10: ").ok_or("no history")?;
     assert_eq!(&rt; (times_of(history, "0"), times_of(history, "1")), (5, 5));
@@ -115,6 +127,7 @@ fn each_tick_samples_what_is_written_by_then(rt: HostRuntime) -> Result<(), Fail
     let order = Order::new(rt.alloc(), holds_in_step(rt.alloc())?)?;
     let report = report_of(&rt, rt.alloc(), "run s", FIVE_WRITES, &order)?;
     let text = str::from_utf8(&report).ok().ok_or("no text")?;
+    assert!(&rt; are_once(&order, 0, 5) && are_once(&order, PUBLISHER, 5));
     assert_eq!(&rt;
         line_of(text, "writer w1 "),
         Some("operational 6: 0=1 1=2 2=3 3=4 4=5 5=5")
@@ -122,13 +135,30 @@ fn each_tick_samples_what_is_written_by_then(rt: HostRuntime) -> Result<(), Fail
     Ok(())
 }
 
-/// The least load has 32 writes of four threads and 4 ticks; of the built-in configuration one lane has a turn at the tick, and the
-/// closing one.
+/// The first writes of two threads come to the gate before either is made: no body on one thread passes these.
+fn meeting(alloc: Global) -> Result<Vec<(Item, Until)>, Fail> {
+    let mut holds = Vec::new(alloc);
+    holds.push((item(0, 0), Until::Came(item(1, 0))))?;
+    holds.push((item(1, 0), Until::Came(item(0, 0))))?;
+    Ok(holds)
+}
+
+/// The least load has 32 writes of four threads and 4 ticks.
 #[test]
-fn load_and_lanes_are_given_the_gate(rt: HostRuntime) -> Result<(), Fail> {
-    let order = Order::new(rt.alloc(), Vec::new(rt.alloc()))?;
+fn threads_of_load_write_at_once(rt: HostRuntime) -> Result<(), Fail> {
+    let order = Order::new(rt.alloc(), meeting(rt.alloc())?)?;
     report_of(&rt, rt.alloc(), "load 1", "no file", &order)?;
+    for thread in 0..4u32 {
+        assert!(&rt; are_once(&order, thread, 8));
+    }
+    assert!(&rt; are_once(&order, PUBLISHER, 4));
     assert_eq!(&rt; order.all_calls(), (36, 36));
+    Ok(())
+}
+
+/// Of the built-in configuration one lane has a turn at the tick, and the closing one.
+#[test]
+fn lanes_are_given_the_gate(rt: HostRuntime) -> Result<(), Fail> {
     let order = Order::new(rt.alloc(), Vec::new(rt.alloc()))?;
     report_of(
         &rt,
@@ -137,6 +167,7 @@ fn load_and_lanes_are_given_the_gate(rt: HostRuntime) -> Result<(), Fail> {
         "write 0 demo a=7/tick 100/",
         &order,
     )?;
+    assert!(&rt; are_once(&order, 0, 2));
     assert_eq!(&rt; order.all_calls(), (2, 2));
     Ok(())
 }
