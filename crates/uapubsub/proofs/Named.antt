@@ -1,20 +1,31 @@
 -- What the statuses of the commands say, by their numbers.
-use Rattle.std.proofs.Common.{◌≡◌, ◌⊎◌, inl, inr, ℕ, Bool, true, false, List, length, map, Option, refl, sym, ap, ◌∙◌, arith}
+use Rattle.std.proofs.Common.{◌≡◌, ◌<◌, ◌⊎◌, inl, inr, ℕ, Bool, true, false, List, ◌∷◌, length, map, Option, refl, sym, ap, ◌∙◌, subst, arith}
+use Rattle.std.specs.Prelude.{reverse}
 use Rattle.std.specs.List.{range_with_len}
+use Rattle.std.proofs.lemmas.List.{length-map}
+use Rattle.std.proofs.lemmas.List.Elements.{length_all_zip}
+use Rattle.std.proofs.lemmas.List.FromFn.{get_or-map-range_with_len}
 use Rattle.ua_base.specs.Files.{ToldFile}
-use Rattle.ua_base.specs.Journal.{LinkState}
+use Rattle.ua_base.specs.Journal.{Entry, LinkState}
 use Rattle.ua_base.specs.Output.{appended}
 use Rattle.app_threads.specs.Marks.{authors}
+use Rattle.dataset_meta.specs.Metas.{HasGrown, MetaData}
 use Rattle.ps_config.specs.declared.parts.Config.{Config}
 use Rattle.ps_report.specs.declared.closed.Closed.{Closed}
 use Rattle.ps_script.specs.declared.script.Script.{Script}
 use Rattle.session_model.specs.Closing.{IsClosedAfter}
 use Rattle.session_model.specs.Sends.{TellsRun}
-use Rattle.session_model.specs.Steps.{Step}
+use Rattle.session_model.specs.Sets.{GrowTo, meta_in}
+use Rattle.session_model.specs.Steps.{Pump, Step, Tick}
+use Rattle.session_laws.specs.Sessions.{ClosesWith}
 use Rattle.session_laws.specs.Telling.{HasRun, TellsHeadline}
+use Rattle.script_player.specs.Playing.{log_after, sample_after}
 use Rattle.script_player.specs.Plays.{IsPlayOf, plan_by, row_written, writers_in}
 use Rattle.script_runner.specs.Legal.{row_made}
+use Rattle.script_runner.specs.Running.{sample_at}
 use Rattle.script_runner.specs.Runs.{IsRunOf}
+use Rattle.writer_group.specs.declared.sampled.Sampled.{Sampled}
+use Rattle.writer_group.specs.Turns.{no_sample}
 use Rattle.command_parts.specs.declared.status.Status.{Status}
 use Rattle.command_parts.specs.declared.status.Status.TheVariants.{Done, BadWords, ConfigRefused, NoSource, ScriptRefused, NotInLanes, Unread, Unwritten, OutOfMemory, Unopened, Long}
 use Rattle.command_parts.specs.Outside.{Outside, Wire}
@@ -42,7 +53,17 @@ record HasHeadline (Makes : Config → Script → Threads → Rows → Type 0) (
   tells : TellsRun (plan_by config script) steps told
   closed_after : IsClosedAfter (plan_by config script) steps closed
   histories : map (λ history. history.threads) closed.histories ≡ map threads (range_with_len 0 (length config.dataset))
+  closes : (set : ℕ) → set < length config.dataset → ClosesWith steps set (length (threads set))
   headline : TellsHeadline (plan_by config script) steps rows closed
+
+-- the closing tick sampled each data set at the end of its history
+closes-by : (config : Config) (full : List MetaData) (sample : ℕ → Sampled) (threads : Threads) (earlier steps : List Step) (done : List Bool) (entries : List Entry) → GrowTo config.dataset full
+    → ((set : ℕ) → (sample set).version ≡ length (threads set)) → steps ≡ Pump entries ∷ Tick 0 true (map sample (range_with_len 0 (length full))) done ∷ earlier
+    → (set : ℕ) → set < length config.dataset → ClosesWith steps set (length (threads set))
+closes-by config full sample threads earlier steps done entries grow whole is set lt =
+    let there : set < length full = omega (arith, lt, length_all_zip HasGrown config.dataset full grow) in
+    let sampled = get_or-map-range_with_len sample 0 (length full) set set no_sample there (omega arith) in
+    subst (λ (l : List Step). ClosesWith l set (length (threads set))) (sym is) (inl (refl, ap (λ (s : Sampled). s.version) sampled ∙ whole set))
 
 -- `check` doesn't end as words without a shape do
 pub check_is_no_usage : (status : Status) (name : List ℕ) (file : ToldFile) (old new : Option (List ℕ)) → Checks status name file old new → number_of status ≡ 2 → ⊥
@@ -147,6 +168,7 @@ headline_by Performs fates Makes has Done script_name config_name old new after 
       tells = headline.tells;
       closed_after = headline.closed_after;
       histories = headline.histories;
+      closes = headline.closes;
       headline = headline.headline;
       written = h.2 ∙ ap (appended old.written) h.1.is_text.2;
     }
@@ -172,6 +194,9 @@ played_headline = headline_by IsPlayOf true AreWritten (λ config script told cl
   tells = play.tells;
   closed_after = play.closed_after;
   histories = play.histories;
+  closes =
+      closes-by config script.metas (λ set. sample_after (meta_in script.metas set) set (reverse script.lines)) (writers_in script) play.earlier play.steps play.ends.0 play.ends.1 play.lived.plan.grow
+      (λ set. sym (length-map (log_after (meta_in script.metas set) set (reverse script.lines)) (λ write. write.author))) play.ends.2;
   headline = play.headline;
 })
 
@@ -186,6 +211,9 @@ run_headline = headline_by IsRunOf false AreLegal (λ config script told closed 
   tells = run.tells;
   closed_after = run.closed_after;
   histories = run.histories;
+  closes =
+      closes-by config script.metas (λ set. sample_at (run.logs set) (length (run.logs set))) (λ set. authors (run.logs set)) run.earlier run.steps run.ends.0 run.ends.1 run.lived.plan.grow
+      (λ set. sym (length-map (run.logs set) (λ e. e.author))) run.ends.2;
   headline = run.headline;
 })
 

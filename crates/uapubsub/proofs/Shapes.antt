@@ -1,5 +1,5 @@
 -- What the words ask for, and the command that it is.
-use Rattle.std.proofs.Common.{◌≡◌, List, ℕ, Option, Some, None, sym, ap, ◌∙◌, subst}
+use Rattle.std.proofs.Common.{◌≡◌, List, ℕ, Option, Some, None, sym, ◌∙◌}
 use Rattle.std.specs.Prelude.{option_map}
 use Rattle.uapubsub.specs.declared.words.Command.{Command}
 use Rattle.uapubsub.specs.Words.{Shape, shape_by, shape_of}

@@ -11,6 +11,7 @@ use Rattle.app_threads.specs.Marks.{authors}
 use Rattle.session_model.specs.Closing.{IsClosedAfter}
 use Rattle.session_model.specs.Sends.{TellsRun}
 use Rattle.session_model.specs.Steps.{Step}
+use Rattle.session_laws.specs.Sessions.{ClosesWith}
 use Rattle.session_laws.specs.Telling.{HasRun, TellsHeadline}
 use Rattle.script_player.specs.Plays.{plan_by, row_written, writers_in}
 use Rattle.script_runner.specs.Legal.{IsLegalLog, row_made}
@@ -29,7 +30,7 @@ Rows = ℕ → ℕ → List DataValue
 -- What was written is the report of a closed session of the accepted configuration and script, whose steps the link tells. Each data message of a writer
 -- stands for one whole version of its data set's single history, that of the script's writes, and never for an older one than the message before; and whatever
 -- datagrams were lost, repeated or reordered, each reader that the report tells holds exactly the version that its unbroken run of messages names, or has said
--- why it waits. The report tells the threads whose writes made each history. `fates`: whether the script may give datagrams fates; `Makes`: what the histories are
+-- why it waits. The report tells the threads whose writes made each history, and the closing tick sampled each history's last version. `fates`: whether the script may give datagrams fates; `Makes`: what the histories are
 pub record WritesHeadline (fates : Bool) (Makes : Config → Script → Threads → Rows → Type 0) (script_name : List ℕ) (config_name : Option (List ℕ)) (old new : Outside) (after : Wire) : Type 0 where
   pub config : Config
   pub script : Script
@@ -43,6 +44,7 @@ pub record WritesHeadline (fates : Bool) (Makes : Config → Script → Threads 
   pub tells : TellsRun (plan_by config script) steps after.told
   pub closed_after : IsClosedAfter (plan_by config script) steps closed
   pub histories : map (λ history. history.threads) closed.histories ≡ map threads (range_with_len 0 (length config.dataset))
+  pub closes : (set : ℕ) → set < length config.dataset → ClosesWith steps set (length (threads set))
   pub headline : TellsHeadline (plan_by config script) steps rows closed
   pub written : new.written ≡ appended old.written (report_text config closed)
 

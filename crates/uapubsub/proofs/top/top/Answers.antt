@@ -1,4 +1,4 @@
-use Rattle.std.proofs.Common.{◌≡◌, ℕ, List, Option, sym, ◌∙◌, subst}
+use Rattle.std.proofs.Common.{sym, ◌∙◌, subst}
 use Rattle.command_parts.specs.Outside.{outside_of, wire_of}
 use Rattle.play_command.specs.Plays.{PlayEnds}
 use Rattle.run_command.specs.Runs.{RunEnds}
