@@ -1,4 +1,5 @@
-// A socket of this machine that sends to itself, as `uapubsub run` has it: a receive waits at most 10 ms.
+// A socket of this machine that sends to itself, as `uapubsub run` has it: a receive looks, and where nothing is there it waits at most
+// 10 ms for what it sent, or where it has sent nothing. What it sent it knows by the address.
 #ifndef UDP_LINK_H
 #define UDP_LINK_H
 #include "../groups/plain.h"
@@ -13,7 +14,7 @@ enum { WAIT_US = 10000, BUFFER_ROOM = 65537 };
 
 static int udp_socket;
 static struct sockaddr_in own_address;
-static size_t sent_count, sent_bytes;
+static size_t sent_count, sent_bytes, own_count;
 
 static void demand(bool holds, const char *what) {
     if (holds) return;
@@ -39,10 +40,20 @@ static void put_on_link(const uint8_t *datagram, size_t length) {
     sent_bytes += length;
 }
 
+static ssize_t look(uint8_t *buffer, int flags) {
+    struct sockaddr_in from;
+    socklen_t size = sizeof from;
+    ssize_t length = recvfrom(udp_socket, buffer, BUFFER_ROOM, flags, (struct sockaddr *)&from, &size);
+    if (length < 0) return length;
+    if (from.sin_port == own_address.sin_port && from.sin_addr.s_addr == own_address.sin_addr.s_addr) own_count++;
+    return length;
+}
+
 // By way of a buffer that no datagram fills.
 static size_t take_off_link(uint8_t *into) {
     static uint8_t buffer[BUFFER_ROOM];
-    ssize_t length = recv(udp_socket, buffer, sizeof buffer, 0);
+    ssize_t length = look(buffer, MSG_DONTWAIT);
+    if (length < 0 && (sent_count == 0 || own_count != sent_count)) length = look(buffer, 0);
     if (length < 0) return 0;
     memcpy(into, buffer, (size_t)length);
     return (size_t)length;

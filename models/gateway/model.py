@@ -18,7 +18,7 @@ def session_model():
 
 
 session = session_model()
-Link, Session, value_text = session.Link, session.Session, session.value_text
+Link, Session = session.Link, session.Session
 
 
 # ---- which writer a reader is matched to
@@ -105,17 +105,13 @@ class Gateway(Session):
         logged = [s for p, s in self.groups[g].writers[w].log if x.number is not None and p % 65536 == x.number]
         store = logged[-1] if logged else None
         version = next((v for s, v in self.kept[x.part["set"]] if s == store), "-")
-        fields = zip(self.configured_names[x.part["set"]], x.meta["fields"], x.row)
-        words = "".join(f" {n}" + (f"!0x{s:08x}" if s else "") + "=" + value_text(f["kind"], v) for n, f, (v, s) in fields)
         told = lambda it: "-" if it is None else it
-        return f"relayed {name} number {told(x.number)} store {told(store)} version {version}:{words}"
+        return f"relayed {name} number {told(x.number)} store {told(store)} version {version}:" + self.row_words(x)
 
 
 def relayed(first_text, second_text, script, lab_fails, wire_fails):
-    lines = [line.split() for line in script.split("\n")]
-    lines = [w for w in lines if w and not w[0].startswith("#")]
-    fates = {int(w[1]): (w[2], int(w[3]) if len(w) > 3 else 0) for w in lines if w[0] == "fate"}
-    first = Session(first_text, Link(fates, *lab_fails))
+    lines = session.lines_of(script)
+    first = Session(first_text, Link(session.fates_of(lines), *lab_fails))
     gateway = Gateway(second_text, Link({}, *wire_fails), first, first_text)
     def follow(ms, closing):
         gateway.collect()

@@ -83,6 +83,9 @@ say("#   bits READGROUP NOW DATAGRAM      it comes with each of its bits altered
 say("#   damaged READGROUP NOW SEED COUNT so many datagrams come, random ones and damaged ones of those that were made: how often each answer came")
 say("#   on READGROUP ON           which readers are enabled")
 say("#   expire READGROUP NOW      timers are looked at")
+say("#   pull KEYGROUP SERVED COUNT NOW    its sender goes on with the ring that is pulled at the moment of a key service that serves the ring of the")
+say("#                             key group SERVED: so many keys from the current one on; whether the ring keeps its token, the token, and its last number")
+say("#   follow READGROUP SERVED COUNT NOW its guard goes on with such a ring")
 say("#   cut READGROUP READER WHY  cuts a reader")
 say("#   reader READGROUP READER   what it holds, or why it waits; how many breaks, and the last eight; late, ready")
 
@@ -453,5 +456,106 @@ c("numbers: newer by less than 16,384, else older; the count of breaks, and the 
 config(ONE, readgroup(1, [reader(1)]))
 for n in [65535, 0, 16384, 16385, 32768, 49152, 32768, 49151, 65534, 16381, 16382, 65535, 0, 16383, 16384, 16386, 16388, 16390, 16392, 16394, 16396, 16398, 16400, 16402]:
     say(f"take 0 0 {plain(whole(n, n))}"); say("reader 0 0")
+
+# what other software sends by the standard's tables, and what it is sent (docs/WIRE.md): spelled by hand, not by an encoder of ours
+OTHER_SOFTWARE = r"""
+# another publisher by the standard's tables: a DateTime, each message with a time stamp and the version of the data set, without a number
+with publisher={id="u16:1"}\n[[dataset]]\nname="clock"\nmajor=3\nminor=1\nfield=[{name="now",kind="DateTime"}]\n[[readgroup]]\nname="server"\npublisher="u16:2234"\ngroup=100\nreader=[{name="server_time",writer=62541,dataset="clock",numbering="none",timeout=1000}]
+reader 0 0
+take 0 0 f1 01 ba 08 01 64 00 01 4d f4 e1 10 00 80 3e d5 de b1 9d 01 03 00 00 00 01 00 00 00 01 00 0d 00 80 3e d5 de b1 9d 01
+reader 0 0
+# without either
+take 0 50 f1 01 ba 08 01 64 00 01 4d f4 01 01 00 0d 06 80 3e d5 de b1 9d 01
+reader 0 0
+# another major version is passed over, and the timeout doesn't begin anew
+take 0 100 f1 01 ba 08 01 64 00 01 4d f4 e1 10 00 80 3e d5 de b1 9d 01 04 00 00 00 01 00 00 00 01 00 0d 01 80 3e d5 de b1 9d 01
+reader 0 0
+expire 0 1050
+reader 0 0
+# a greater minor version with a field more, and the same one
+take 0 1100 f1 01 ba 08 01 64 00 01 4d f4 e1 10 00 80 3e d5 de b1 9d 01 03 00 00 00 02 00 00 00 02 00 0d 02 80 3e d5 de b1 9d 01 07 05 00 00 00
+reader 0 0
+take 0 1100 f1 01 ba 08 01 64 00 01 4d f4 e1 10 00 80 3e d5 de b1 9d 01 03 00 00 00 01 00 00 00 02 00 0d 02 80 3e d5 de b1 9d 01 07 05 00 00 00
+reader 0 0
+# a delta frame is passed over, and the timeout doesn't begin anew
+take 0 1200 f1 01 ba 08 01 64 00 01 4d f4 e1 11 00 80 3e d5 de b1 9d 01 03 00 00 00 01 00 00 00 01 00 00 00 0d 03 80 3e d5 de b1 9d 01
+reader 0 0
+expire 0 2100
+reader 0 0
+# a keep-alive begins it anew
+take 0 2200 f1 01 ba 08 01 64 00 01 4d f4 e1 10 00 80 3e d5 de b1 9d 01 03 00 00 00 01 00 00 00 01 00 0d 00 80 3e d5 de b1 9d 01
+take 0 3000 f1 01 ba 08 01 64 00 01 4d f4 e1 13 00 80 3e d5 de b1 9d 01 03 00 00 00 01 00 00 00
+expire 0 3900
+reader 0 0
+# a DataValue with its source time
+take 0 3950 f1 01 ba 08 01 64 00 01 4d f4 e5 10 00 80 3e d5 de b1 9d 01 03 00 00 00 01 00 00 00 01 00 05 0d 04 80 3e d5 de b1 9d 01 00 80 3e d5 de b1 9d 01
+reader 0 0
+# RawData behind a payload header, an array, a null value, a value of another kind: bad parts
+take 0 4000 f1 01 ba 08 01 64 00 01 4d f4 e3 10 00 80 3e d5 de b1 9d 01 03 00 00 00 01 00 00 00 05 80 3e d5 de b1 9d 01
+take 0 4000 f1 01 ba 08 01 64 00 01 4d f4 01 01 00 8d 01 00 00 00 06 80 3e d5 de b1 9d 01
+take 0 4000 f1 01 ba 08 01 64 00 01 4d f4 01 01 00 00
+take 0 4000 f1 01 ba 08 01 64 00 01 4d f4 01 01 00 08 06 80 3e d5 de b1 9d 01
+reader 0 0
+# two writers in one datagram
+take 0 4100 f1 01 ba 08 01 64 00 02 4d f4 4e f4 0c 00 0c 00 01 01 00 0d 07 80 3e d5 de b1 9d 01 01 01 00 0d 08 80 3e d5 de b1 9d 01
+reader 0 0
+# without a payload header, of another group, without a group header, of another type of id, discovery
+take 0 4200 b1 01 ba 08 01 64 00 01 01 00 0d 06 80 3e d5 de b1 9d 01
+take 0 4200 f1 01 ba 08 01 65 00 01 4d f4 01 01 00 0d 06 80 3e d5 de b1 9d 01
+take 0 4200 d1 01 ba 08 01 4d f4 01 01 00 0d 06 80 3e d5 de b1 9d 01
+take 0 4200 f1 02 ba 08 00 00 01 64 00 01 4d f4 01 01 00 0d 06 80 3e d5 de b1 9d 01
+take 0 4200 81 80 04
+reader 0 0
+# any group: without a group header too
+with publisher={id="u16:1"}\n[[dataset]]\nname="clock"\nmajor=3\nminor=1\nfield=[{name="now",kind="DateTime"}]\n[[readgroup]]\nname="server"\npublisher="u16:2234"\ngroup=0\nreader=[{name="server_time",writer=62541,dataset="clock",numbering="none",timeout=1000}]
+take 0 0 d1 01 ba 08 01 4d f4 01 01 00 0d 06 80 3e d5 de b1 9d 01
+reader 0 0
+# a fixed layout without a payload header: 2.0 and true; with a time stamp in the header the slot is eight bytes later
+with publisher={id="u16:1"}\n[[dataset]]\nname="drive"\nfield=[{name="speed",kind="Float"},{name="running",kind="Boolean"}]\n[[readgroup]]\nname="server"\npublisher="u16:2234"\ngroup=100\nversion=7\nlayout="fixed"\nreader=[{name="drive_reader",writer=2,dataset="drive",offset=15,size=8}]
+take 0 0 b1 01 ba 08 0f 64 00 07 00 00 00 01 00 05 00 0b 09 00 00 00 00 40 01
+reader 0 0
+take 0 0 b1 21 ba 08 0f 64 00 07 00 00 00 01 00 05 00 00 80 3e d5 de b1 9d 01 0b 09 00 00 00 00 40 01
+reader 0 0
+# what another subscriber is sent: a key frame, a delta frame, a keep-alive, with versions and without the group's number
+with publisher={id="u16:1"}\n[[dataset]]\nname="clock"\nmajor=3\nminor=1\nfield=[{name="now",kind="DateTime"}]\n[[group]]\nname="g1"\nid=100\ninterval=100\nsequence=false\nwriter=[{name="w1",id=62541,dataset="clock",key_frame_count=3,keep_alive=100,versions=true}]
+write 0 0:132000000000000000
+turn 0 100 1
+write 0 0:132000000000000001
+turn 0 200 1
+turn 0 300 1
+"""
+out.extend(OTHER_SOFTWARE.strip("\n").splitlines())
+say()
+c("ten rings are pulled one after another, by the publisher and a little later by the subscriber, of a service with a key for each second")
+def served(token): return key(token, (token - 1) * 1000, f"{0x40 + token:02x}", f"{0x60 + token:02x}", f"{0x80 + token:02x}")
+RINGS = [keygroup("k1", [served(1)]), keygroup("k2", [served(t) for t in range(1, 13)]), keygroup("k3", [key(12, 0), key(13, 1000)])]
+config(ONE, *RINGS, group(1, [writer(1)], SEC.format("encrypt")), readgroup(1, [reader(1)], SEC.format("encrypt")))
+made = 0
+def turned(now, value):
+    global made
+    say(f"write 0 0:{value}"); say(f"turn 0 {now} 1"); made += 1
+    return made - 1
+for i in range(10):
+    now = 1000 * i + 500
+    say(f"pull 0 1 2 {now}")
+    if i == 0: say(f"follow 0 1 2 {now}")
+    say(f"moment {now}")
+    first = turned(now, 10 * i + 1)
+    say(f"take 0 {now} #{first}"); say("reader 0 0")
+    late = turned(now + 400, 10 * i + 2)
+    say(f"moment {now + 500}")
+    new = turned(now + 500, 10 * i + 3)
+    say(f"take 0 {now + 500} #{new}"); say("reader 0 0")
+    say(f"take 0 {now + 510} #{late}"); say(f"take 0 {now + 520} #{new}")
+    say(f"follow 0 1 2 {now + 600}")
+    say(f"take 0 {now + 610} #{late}"); say(f"take 0 {now + 620} #{new}"); say("reader 0 0")
+c("a ring without the token in use: it is used until the next one has come, by a guard that knows it still")
+say("pull 0 1 1 11500"); gone = turned(11600, 120); say(f"take 0 11600 #{gone}"); say("moment 11600"); come = turned(11700, 121)
+say(f"take 0 11700 #{come}"); say("follow 0 1 1 11700"); say(f"take 0 11700 #{come}"); say(f"take 0 11700 #{gone}"); say("reader 0 0")
+c("a ring of lower tokens alone changes nothing that is sent")
+say("pull 0 1 2 500"); say("moment 12000"); low = turned(12000, 122); say(f"take 0 12000 #{low}"); say("reader 0 0"); say("pull 0 1 1 11500"); say("pull 0 1 1 11500")
+c("a guard with other keys under the token, and then with those of the sender again: what it took stays taken")
+last = turned(12100, 123); say("follow 0 2 2 0"); say(f"take 0 12100 #{last}"); say("reader 0 0")
+say("follow 0 1 12 0"); say(f"take 0 12100 #{low}"); say(f"take 0 12200 #{last}"); say(f"take 0 12200 #{last}"); say("reader 0 0"); say("pull 0 2 2 0")
 
 print("\n".join(out))

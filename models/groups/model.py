@@ -260,7 +260,7 @@ def read_header(data):
         if kind > 2 or ext2 & 0xe0: no("ReservedBits")
         is_chunk = ext2 & 1
         if is_chunk and not flags & 0x40: no("ReservedBits")
-        h = dict(publisher=None, class_id=None, group=None, version=None, ids=None, chunk=None, security=None)
+        h = dict(publisher=None, class_id=None, group=None, version=None, message_number=None, sequence=None, ids=None, chunk=None, security=None)
         if flags & 0x10:
             t = ext1 & 7
             if t == 4:
@@ -278,8 +278,8 @@ def read_header(data):
             if gf & 0xf0: no("ReservedBits")
             if gf & 1: h["group"] = c.num("<H")
             if gf & 2: h["version"] = c.num("<I")
-            if gf & 4: c.take(2)
-            if gf & 8: c.take(2)
+            if gf & 4: h["message_number"] = c.num("<H")
+            if gf & 8: h["sequence"] = c.num("<H")
         if flags & 0x40:
             if is_chunk: h["chunk"] = c.num("<H")
             else:
@@ -412,17 +412,38 @@ class Writer:
         if frame and frame[0] != "Alive": self.log.append((place, version))
         return frame
 
+def same_key(a, b):
+    return all(a[x] == b[x] for x in ("token", "signing", "encrypting", "nonce"))
+
+def pulled(ring, count, now):
+    """The ring of a puller whose clock stands at now, of what a service of this ring answers it then to start 0 (OPC 10000-14 8.3.2):
+    the current key and those behind it, count in all and at least one; the first one stands from 0."""
+    lifetime = ring[1]["start"] - ring[0]["start"]
+    current = max(i for i, k in enumerate(ring) if k["start"] <= now)
+    left = max(ring[current]["start"] + lifetime - now, 0)
+    keys = ring[current:current + max(count, 1)]
+    return [dict(k, start=now + left + (i - 1) * lifetime if i else 0) for i, k in enumerate(keys)]
+
 class Sender:
     def __init__(self, part):
         self.part, self.used, self.now = part, part["used"], 0
-        self.token = part["ring"][0]["token"]
+        self.ring = part["ring"]
+        self.keys = self.ring[0]        # those in use: they stay where a ring lacks them
     def keyset(self):
-        return next(k for k in self.part["ring"] if k["token"] == self.token)
+        return self.keys
+    @property
+    def token(self):
+        return self.keys["token"]
     def turn_to(self, now):
-        token = [k for k in self.part["ring"] if k["start"] <= now][-1]["token"]
-        changed = token != self.token
-        if changed: self.token, self.used = token, 0
+        key = [k for k in self.ring if k["start"] <= now][-1]
+        changed = key["token"] > self.token
+        if changed: self.keys, self.used = key, 0
         return changed
+    def renew(self, ring):
+        """whether both rings have the token in use, with the same keys"""
+        old, new = ([k for k in r if k["token"] == self.token] for r in (self.ring, ring))
+        self.ring = ring
+        return bool(old) and bool(new) and same_key(old[0], new[0])
     def spent(self):
         return 4294967295 - self.used < 1024
     def front(self):
@@ -615,6 +636,8 @@ class ReaderGroup:
         self.readers = [Reader(r, config.sets[r["set"]]) for r in self.part["readers"]]
         self.on = [True] * len(self.readers)
         self.accepted = []    # (token, number)
+        keygroup = self.part["keygroup"]
+        self.ring = [] if keygroup is None else config.keys[keygroup]["ring"]
     def guard(self, h, data, payload):
         """(token, number, end)"""
         def no(why): raise Refused(f"Guard({why})")
@@ -628,8 +651,7 @@ class ReaderGroup:
         if len(s["nonce"]) != 8: no(f"BadNonceLength {{ got: {len(s['nonce'])} }}")
         if len(data) - payload < 32: no("Short")
         token = s["token"]
-        keys = self.config.keys[self.part["keygroup"]]
-        keyset = next((k for k in keys["ring"] if k["token"] == token), None)
+        keyset = next((k for k in self.ring if k["token"] == token), None)
         if keyset is None: no(f"UnknownToken {{ got: {token} }}")
         high = max((t for t, _ in self.accepted), default=None)
         if high is not None and token < high: no(f"OldToken {{ got: {token}, high: {high} }}")
@@ -653,7 +675,7 @@ class ReaderGroup:
         body = data[payload:end]
         if p["security"] == "encrypt":
             keys = self.config.keys[p["keygroup"]]
-            k = next(k for k in keys["ring"] if k["token"] == token)
+            k = next(k for k in self.ring if k["token"] == token)
             s = stream(k["encrypting"], k["nonce"], h["security"]["nonce"], keys["first_block"], len(body))
             body = bytes(a ^ b for a, b in zip(body, s))
         plain = data[:payload] + body
@@ -810,7 +832,14 @@ class Bench:
             self.made += out
             if call == "sizes": return f"made {len(out)}" + "".join(f" {len(d)}" for d in out)
             return f"made {len(out)}" + "".join(" " + d.hex() for d in out)
+        if call == "pull":
+            s = self.senders[int(a[0])]
+            kept = s.renew(pulled(self.c.keys[int(a[1])]["ring"], int(a[2]), int(a[3])))
+            return f"{'kept' if kept else 'lost'} {s.token} {s.used}"
         r = self.readers[int(a[0])]
+        if call == "follow":
+            r.ring = pulled(self.c.keys[int(a[1])]["ring"], int(a[2]), int(a[3]))
+            return "done"
         if call == "on":
             r.on = [x == "1" for x in a[1]]
             return "done"

@@ -11,10 +11,8 @@ from tap import groups, session, Tap
 
 def session_of(text, script, sends, receives):
     """the closed session of the script"""
-    lines = [line.split() for line in script.split("\n")]
-    lines = [w for w in lines if w and not w[0].startswith("#")]
-    fates = {int(w[1]): (w[2], int(w[3]) if len(w) > 3 else 0) for w in lines if w[0] == "fate"}
-    played = session.Session(text, session.Link(fates, sends, receives))
+    lines = session.lines_of(script)
+    played = session.Session(text, session.Link(session.fates_of(lines), sends, receives))
     for words in lines: played.line(words)
     played.tick(0, True)
     played.pump()

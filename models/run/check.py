@@ -70,8 +70,7 @@ class Report:
 class Script:
     """what the threads of a script write, and the other lines"""
     def __init__(self, text, config):
-        lines = [line.split() for line in text.split("\n")]
-        self.lines = [w for w in lines if w and not w[0].startswith("#")]
+        self.lines = session.lines_of(text)
         demand(all(w[0] != "fate" for w in self.lines), "no line gives a fate")
         whole = Session(config, Link({}))
         for words in self.lines:

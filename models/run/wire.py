@@ -10,12 +10,12 @@ def may_tap():
     return True
 
 def waits(port):
-    """the bytes that wait at this port of 127.0.0.1, with what the system keeps beside them"""
+    """the bytes that wait at this port of 127.0.0.1, with what the system keeps beside them; None where no socket has it"""
     with open("/proc/net/udp") as file:
         for line in file:
             words = line.split()
             if words[1] == f"0100007F:{port:04X}": return int(words[4].split(":")[1], 16)
-    return 0
+    return None
 
 def datagram_of(packet, port):
     """the datagram that the port's own socket sends to itself in this IPv4 packet, or None"""

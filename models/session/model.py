@@ -235,6 +235,9 @@ class Session:
         if x.number is None or self.reads[r].part["publisher"] != self.own: return "-"
         log = [v for g in self.groups for w in g.writers if w.part["id"] == x.part["writer"] for p, v in w.log if p % 65536 == x.number]
         return str(log[-1]) if log else "-"
+    def row_words(self, x):
+        names = self.configured_names[x.part["set"]]
+        return "".join(f" {n}" + (f"!0x{s:08x}" if s else "") + "=" + value_text(f["kind"], v) for n, f, (v, s) in zip(names, x.meta["fields"], x.row))
     def report(self):
         out = []
         for name, threads in zip(self.set_names, self.threads):
@@ -249,11 +252,7 @@ class Session:
             for c, x in zip(self.reader_at[r], group.readers):
                 head = f"reader {c.name} {self.state(c)} "
                 if x.row is None: out.append(head + f"waits {x.why.lower()}")
-                else:
-                    names = self.configured_names[x.part["set"]]
-                    words = "".join(f" {n}" + (f"!0x{s:08x}" if s else "") + "=" + value_text(f["kind"], v)
-                                    for n, f, (v, s) in zip(names, x.meta["fields"], x.row))
-                    out.append(head + f"number {'-' if x.number is None else x.number} version {self.version(r, x)}:" + words)
+                else: out.append(head + f"number {'-' if x.number is None else x.number} version {self.version(r, x)}:" + self.row_words(x))
                 out.append(f"gaps {c.name} {len(x.breaks)}:" + "".join(f" {e}/{g}" for e, g in x.breaks[-8:]))
         for thread, looks in enumerate(self.looks):
             for name, counts in looks:
@@ -262,11 +261,17 @@ class Session:
         out.append(f"link sent {l.done} failed {l.failed} received {l.got} broken {l.broken} long {l.long} limit {self.limit}")
         return out + ["end"]
 
-def played(text, script, send_fails=(), receive_fails=(), injected=()):
+def lines_of(script):
+    """the words of each line that does something"""
     lines = [line.split() for line in script.split("\n")]
-    lines = [w for w in lines if w and not w[0].startswith("#")]
-    fates = {int(w[1]): (w[2], int(w[3]) if len(w) > 3 else 0) for w in lines if w[0] == "fate"}
-    session = Session(text or BUILT_IN, Link(fates, send_fails, receive_fails, injected))
+    return [w for w in lines if w and not w[0].startswith("#")]
+
+def fates_of(lines):
+    return {int(w[1]): (w[2], int(w[3]) if len(w) > 3 else 0) for w in lines if w[0] == "fate"}
+
+def played(text, script, send_fails=(), receive_fails=(), injected=()):
+    lines = lines_of(script)
+    session = Session(text or BUILT_IN, Link(fates_of(lines), send_fails, receive_fails, injected))
     for words in lines: session.line(words)
     session.tick(0, True)
     session.pump()

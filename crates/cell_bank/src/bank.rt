@@ -1,16 +1,19 @@
 //! The bank, and what its calls do to a set of passes.
-ghost use Rattle.std.specs.Prelude.{◌≡◌, ◌<◌, length, map, IsSome, IfOk};
+ghost use Rattle.std.specs.Prelude.{◌≡◌, ◌<◌, length, map, All, IsSome, IfOk};
+ghost use Rattle.row_words.specs.Belonging.{Belongs};
 ghost use Rattle.row_words.specs.Patches.{IsPatchOf};
+ghost use Rattle.version_cell.specs.Cells.{IsCell};
+ghost use Rattle.version_cell.specs.Histories.{row_after};
 ghost use Rattle.version_cell.specs.Passes.{SeesLawful, SeesMore, Tried, WasPlaced, shared_by};
 ghost use Rattle.version_cell.specs.Sets.{cell_at, pass_at, ArePassesOf, ChangesAt, EachSeesLawful, JoinEach};
 
 use crate::passes::Passes;
-use row_words::Patch;
+use row_words::{Patch, Row};
 use std::alloc::Global;
 use std::marker::Model;
 use std::sync::Wait;
 use ua_base::NoMemory;
-use version_cell::{Cell, Placed, Wrote, join_each, split_each};
+use version_cell::{Cell, Placed, Wrote, histories_are_the_models, join_each, split_each};
 
 /// One cell for each data set. To a contract it is the list of its cells, in the order of the data sets.
 #[derive(Drop)]
@@ -40,6 +43,24 @@ impl Bank {
     {
         let pass = &mut passes.items[usize::from(set)];
         self.cells[usize::from(set)].read(rt, pass)
+    }
+
+    /// One load of the cell of a data set, and the answer is what its pass has then seen: the version, and its row, which belongs to
+    /// the cell's meta.
+    pub fn sample<R: Wait>(&self, rt: &R, passes: &mut Passes, set: u8) -> (u64, Row)
+        requires own { ArePassesOf self.now passes.old }
+        requires set { set < length self.now }
+        ensures seen { SeesMore (pass_at passes.old set) (pass_at passes.new set) }
+        ensures version { result.0 ≡ length (pass_at passes.new set).seen }
+        ensures row { result.1.words ≡ row_after (pass_at passes.new set).seen }
+        ensures belongs { All IsCell self.now → Belongs (cell_at self.now set).meta result.1.words }
+        ensures lawful { SeesLawful (pass_at passes.new set) }
+        ensures others { ChangesAt set passes.old passes.new }
+        ensures own { ArePassesOf self.now passes.new }
+    {
+        histories_are_the_models();
+        let version = self.read(rt, passes, set);
+        (version, *passes.pass(set).row())
     }
 
     /// One exchange of the cell of a data set, as `Cell::try_write`.

@@ -11,3 +11,4 @@ mod CountLaws
 mod PassedLaws
 mod Rows
 mod Places
+pub mod Passing

@@ -5,6 +5,7 @@ use Rattle.dataset_meta.specs.Metas.{MetaData}
 use Rattle.pubsub_model.specs.Records.{Item, Arrival}
 use Rattle.frame_codec.specs.declared.frame.Frame.{Frame}
 use Rattle.frame_codec.specs.Words.{frame_in}
+use Rattle.dataset_reader.specs.declared.passed.Passed.{Passed}
 use Rattle.dataset_reader.specs.declared.reader.Reader.{Reader}
 use Rattle.dataset_reader.specs.declared.took.Numbering.{Numbering}
 use Rattle.dataset_reader.specs.declared.took.Took.{Took}
@@ -20,6 +21,10 @@ numbering_of reader = reader.numbering
 -- what it keeps, its words being those of a row of these fields
 abbrev pub kept_by : List Field → Reader → Kept
 kept_by fields reader = kept_in fields reader.state
+
+-- how many frames it passed over
+abbrev pub passed_of : Reader → Passed
+passed_of reader = reader.passed
 
 -- what a frame does to it, for a data set with this meta, and what it answers
 abbrev pub after_frame : MetaData → Reader → Frame → Option ℕ → Kept × Took

@@ -6,10 +6,12 @@ ghost use Rattle.pubsub_model.specs.Records.{Item, Arrival, Came, Cut, breaks};
 ghost use Rattle.frame_codec.specs.Frames.{Frame as AnyFrame, Alive};
 ghost use Rattle.frame_codec.specs.Carrying.{content_of};
 ghost use Rattle.dataset_reader.specs.declared.took.Numbering.{Numbering as AnyNumbering};
+ghost use Rattle.dataset_reader.specs.declared.took.Outcome.{Outcome as AnyOutcome};
 ghost use Rattle.dataset_reader.specs.Kept.{Kept, fresh, cut_kept};
 ghost use Rattle.dataset_reader.specs.Cases.{frame_case};
 ghost use Rattle.dataset_reader.specs.Answers.{BeginsEmpty, IsOlder, IsJump, TellsCause, WaitsFor, CountsBreak};
 ghost use Rattle.dataset_reader.specs.Keeping.{Keeps, KeepsUnnumbered, NumbersItsRow, IsMessageOf, IsOfMajor, IsNoItem, IsReading, Event, AreShort, AreArrivals, AreNear, AreNearInEach, kept_after, came_on, with_jumps, and_broken};
+ghost use Rattle.dataset_reader.specs.Passed.{AreCounted, passed_in};
 
 use crate::took::{Numbering, Outcome};
 
@@ -124,6 +126,11 @@ pub fn each_answer_has_its_cause()
         → BeginsEmpty kept
         → BeginsEmpty (frame_case Numbering.Message major kept message stamp).0 }
     ensures cut { (kept : Kept) (why : AnyWhy) → BeginsEmpty (cut_kept why kept) }
+{}
+
+/// The counts of what a reader passed over are how many of its answers had each cause, up to 2^64 - 1.
+pub fn answers_are_counted()
+    ensures { (answers : List AnyOutcome) → AreCounted answers (passed_in answers) }
 {}
 
 /// What brings no row, and shows no break, is answered for the first thing that it lacks: the data set's major version; by

@@ -6,7 +6,9 @@ ghost use Rattle.row_words.specs.Belonging.{Belongs, row_in};
 ghost use Rattle.frame_codec.specs.Words.{IsFrameOf};
 ghost use Rattle.pubsub_model.specs.Records.{Arrival, Item, Cut};
 ghost use Rattle.dataset_reader.specs.Kept.{fresh, cut_kept};
+ghost use Rattle.dataset_reader.specs.Passed.{counted, none_passed};
 
+use crate::passed::Passed;
 use crate::progress::Progress;
 use crate::took::{Numbering, Took};
 use dataset_meta::Meta;
@@ -21,10 +23,11 @@ use row_words::Row;
 pub struct Reader {
     numbering: Numbering,
     state: Progress,
+    passed: Passed,
 }
 
 impl Reader {
-    ghost use Rattle.dataset_reader.specs.Reader.{numbering_of, kept_by, after_frame, IsReaderOf, IsNext, HasRecords, came_on_to};
+    ghost use Rattle.dataset_reader.specs.Reader.{numbering_of, kept_by, after_frame, IsReaderOf, IsNext, HasRecords, came_on_to, passed_of};
 
     /// A reader that waits for its first key frame.
     pub fn new(numbering: Numbering) -> Reader
@@ -32,10 +35,12 @@ impl Reader {
         ensures records { (meta : MetaData) → HasRecords meta [] result }
         ensures fresh { (fields : List Field) → kept_by fields result ≡ fresh }
         ensures reader { (meta : MetaData) → IsReaderOf meta result }
+        ensures passed { passed_of result ≡ none_passed }
     {
         Reader {
             numbering,
             state: Progress::new(),
+            passed: Passed::default(),
         }
     }
 
@@ -52,11 +57,14 @@ impl Reader {
         ensures took { result ≡ (after_frame meta.now self.old frame.now stamp).1 }
         ensures reader { IsReaderOf meta.now self.new }
         ensures numbering { numbering_of self.new ≡ numbering_of self.old }
+        ensures passed { passed_of self.new ≡ counted (passed_of self.old) result.outcome }
     {
-        self.state.take(self.numbering, meta, frame, stamp)
+        let took = self.state.take(self.numbering, meta, frame, stamp);
+        self.passed.count(took.outcome);
+        took
     }
 
-    /// Forgets where the run of messages was, and the row. The breaks stay counted.
+    /// Forgets where the run of messages was, and the row. The breaks stay counted, and so does what was passed over.
     pub fn cut(&mut self, why: Why)
         ensures records { (meta : MetaData) (arrivals : List Arrival)
             → HasRecords meta arrivals self.old
@@ -65,6 +73,7 @@ impl Reader {
             ≡ cut_kept why (kept_by fields self.old) }
         ensures reader { (meta : MetaData) → IsReaderOf meta self.new }
         ensures numbering { numbering_of self.new ≡ numbering_of self.old }
+        ensures passed { passed_of self.new ≡ passed_of self.old }
     {
         self.state.cut(why);
     }
@@ -107,5 +116,12 @@ impl Reader {
         ensures few { length result.now ≤ 8 }
     {
         self.state.recent.as_slice()
+    }
+
+    /// How many frames were passed over since the reader was made, over all cuts: by their causes in the answers of `frame`.
+    pub fn passed(&self) -> Passed
+        ensures { result ≡ passed_of self.now }
+    {
+        self.passed
     }
 }

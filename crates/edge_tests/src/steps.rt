@@ -11,7 +11,7 @@ use ua_base::{Fate, Folder, Link, Opened, ReadEnd, Received, Sent, Sink, WriteEn
 const MAX_BYTES: usize = 100_000;
 
 /// A call of a link, and what it is to answer.
-#[derive(Drop)]
+#[derive(Clone, Copy)]
 pub(crate) enum Step<'a> {
     Send(&'a [u8], Sent),
     /// A receive with room for so many bytes, and the bytes that come.

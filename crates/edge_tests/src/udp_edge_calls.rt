@@ -4,9 +4,9 @@ use std::alloc::Global;
 use std::fmt::Display;
 use std::fs;
 use std::io::{self, Error, ErrorKind, PipeWriter, Print, Read, Write};
-use std::net::{Ipv4Addr, SocketAddr, UdpSocket};
+use std::net::{IpAddr, Ipv4Addr, SocketAddr, UdpSocket};
 use std::process::Abort;
-use std::time::Instant;
+use std::time::{Duration, Instant};
 use ua_base::{Fate, ReadEnd, Received, Sent, WriteEnd};
 use udp_edge::{DirFolder, StdSink, UdpLink, received, sent};
 
@@ -136,6 +136,57 @@ fn a_socket_gives_back_what_was_sent(rt: HostRuntime) {
     let waited = start.elapsed(&rt).expect(&rt, "a clock");
     // it waits 10 ms
     assert!(rt; waited.as_secs() == 0);
+}
+
+#[test]
+fn a_link_has_a_peer(rt: HostRuntime) {
+    let alloc = rt.alloc();
+    let here = IpAddr::V4(Ipv4Addr::LOCALHOST);
+    let any = SocketAddr::new(here, 0);
+    let held = UdpSocket::bind(&rt, any).expect(&rt, "a socket");
+    let to = held.local_addr().expect(&rt, "an address");
+    let mut link = UdpLink::to_peer(&rt, alloc, here, to, Duration::ZERO);
+    assert!(rt; link.address().is_none());
+    opens(&rt, &mut link, 0);
+    play(&rt, alloc, &mut link, &[Step::Send(b"one", Sent::Done)]);
+    let mut into = [0u8; 8];
+    let (count, from) = held.recv_from(&mut into).expect(&rt, "a datagram");
+    assert!(rt; count == 3 && into.starts_with(b"one"));
+    assert!(rt; link.address() == Some(from));
+    held.send_to(b"two", from).expect(&rt, "a send");
+    let steps = [
+        Step::Receive(8, Received::Datagram(3), b"two"),
+        Step::Receive(8, Received::Nothing, b""),
+    ];
+    play(&rt, alloc, &mut link, &steps);
+}
+
+#[test]
+fn a_link_waits_for_what_it_sent_alone(rt: HostRuntime) {
+    let alloc = rt.alloc();
+    let mut link = UdpLink::new(&rt, alloc);
+    opens(&rt, &mut link, 0);
+    let start = Instant::now(&rt).expect(&rt, "a clock");
+    play(
+        &rt,
+        alloc,
+        &mut link,
+        &[Step::Receive(8, Received::Nothing, b"")],
+    );
+    let waited = start.elapsed(&rt).expect(&rt, "a clock");
+    // it has sent nothing, and waits 10 ms for others
+    assert!(rt; waited.as_millis() >= 9);
+    let steps = [
+        Step::Send(b"one", Sent::Done),
+        Step::Receive(8, Received::Datagram(3), b"one"),
+    ];
+    play(&rt, alloc, &mut link, &steps);
+    let looks = [Step::Receive(8, Received::Nothing, b""); 500];
+    let start = Instant::now(&rt).expect(&rt, "a clock");
+    play(&rt, alloc, &mut link, &looks);
+    let waited = start.elapsed(&rt).expect(&rt, "a clock");
+    // as long as 500 waits of 10 ms it isn't
+    assert!(rt; waited.as_secs() < 4);
 }
 
 #[test]

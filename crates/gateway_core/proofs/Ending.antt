@@ -1,5 +1,5 @@
 -- The end of a tick: where it leaves the gateway, as a session.
-use Rattle.std.proofs.Common.{◌≡◌, sym, ap, ◌∙◌, subst, arith, ℕ, ◌+◌, ◌<◌, ◌≤◌, Bool, true, false, List, ◌∷◌, length, Option}
+use Rattle.std.proofs.Common.{◌≡◌, sym, ap, ◌∙◌, subst, arith, ℕ, ◌+◌, ◌-◌, ◌<◌, ◌≤◌, Bool, true, false, List, ◌∷◌, length, Option}
 use Rattle.std.specs.Prelude.{◌||◌, Vec}
 use Rattle.std.specs.declared.alloc.Global.{Global}
 use Rattle.ua_base.specs.Journal.{LinkState}
@@ -7,14 +7,14 @@ use Rattle.pubsub_states.specs.Changes.{TreeValue}
 use Rattle.session_model.specs.Steps.{Plan, Step, Tick}
 use Rattle.session_model.specs.Sets.{AreRowsOf}
 use Rattle.session_model.specs.Deeds.{deeds}
-use Rattle.session_model.specs.Counts.{is_closed, most_ticks, ticks_in}
-use Rattle.session_model.specs.Keeping.{MayCome}
+use Rattle.session_model.specs.Counts.{is_closed, ticks_in}
+use Rattle.session_model.specs.Keeping.{AreStepsOf, MayComeOf}
 use Rattle.session_model.specs.Sends.{journal, TellsRun}
 use Rattle.session_parts.specs.declared.tally.Tally.{Tally}
 use Rattle.gateway_core.specs.declared.gateway.Gateway.{Gateway}
 use Rattle.session_parts.specs.declared.publisher.Publisher.{Publisher}
 use Rattle.session_parts.specs.Standing.{HaveTallied, AreReceivesIn}
-use Rattle.gateway_core.specs.Holding.{MayTick, plan_of, sampled_by, ticks_needed}
+use Rattle.gateway_core.specs.Holding.{MayTick, plan_of, sampled_by, ticks_needed, ticks_of}
 use Rattle.gateway_core.specs.Standing.{StandsAsSession}
 use Rattle.session_parts.specs.Ticking.{Holds, IsAt, TellsSoFar, deeds_to}
 use Rattle.gateway_core.specs.Beginning.{HasBegun, tick_of}
@@ -26,17 +26,17 @@ use Rattle.session_parts.proofs.Ended.{flags-end, or-none, receives-stay}
 not-closed : (p : Plan) (before : List Step) (ms : ℕ) (closing : Bool) (old : Gateway) → MayTick ms closing old → StandsAsSession p before old → is_closed before ≡ false
 not-closed p before ms closing old may stands = sym stands.closed ∙ may.running
 
-ticks-left : (closing : Bool) (before most left : ℕ) → before + left ≤ most + 1 → ticks_needed closing ≤ left → closing ≡ false → before < most
-ticks-left true before most left all needed is = absurd (let apart : true ≡ false → ⊥ = λ same. cc in apart is)
-ticks-left false before most left all needed is = omega (arith, all, needed)
+ticks-left : (closing : Bool) (before turns left : ℕ) → before + left ≤ turns → ticks_needed closing ≤ left → closing ≡ false → before < turns - 1
+ticks-left true before turns left all needed is = absurd (let apart : true ≡ false → ⊥ = λ same. cc in apart is)
+ticks-left false before turns left all needed is = omega (arith, all, needed)
 
 may-come : (p : Plan) (before : List Step) (ms : ℕ) (closing : Bool) (old : Gateway) → MayTick ms closing old → StandsAsSession p before old
-    → MayCome p before ms closing (sampled_by old)
+    → MayComeOf (ticks_of old) p before ms closing (sampled_by old)
 may-come p before ms closing old may stands = record {
   rows = subst (λ (q : Plan). AreRowsOf q.full (sampled_by old)) stands.plan may.gateway.collected.rows;
   short = may.short;
   running = not-closed p before ms closing old may stands;
-  left = ticks-left closing (ticks_in before) most_ticks old.left.ticks stands.ticks may.left;
+  left = ticks-left closing (ticks_in before) old.left.turns old.left.ticks stands.ticks may.left;
   still = may.still;
 }
 
@@ -58,11 +58,11 @@ ends p before ms closing old mid publisher tree done told after may stands begun
   stands = record {
     plan = ap plan_of begun.changed ∙ stands.plan;
     run = (at.sent, stands.run);
-    steps_are = (may-come p before ms closing old may stands, stands.steps_are);
+    steps_are = subst (λ (n : ℕ). AreStepsOf (n - 1) p (Tick ms closing (sampled_by old) done ∷ before)) (sym begun.counts_tick.turns) (may-come p before ms closing old may stands, stands.steps_are);
     turns = (holds, stands.turns);
     moment = ap (λ (s : Gateway). s.moment) begun.changed ∙ ap (λ (m : ℕ). m + ms) stands.moment;
     closed = begun.counts_tick.is_closed ∙ sym (ap (λ (b : Bool). closing || b) (not-closed p before ms closing old may stands) ∙ or-none closing);
-    ticks = omega (arith, stands.ticks, begun.counts_tick.ticks);
+    ticks = omega (arith, stands.ticks, begun.counts_tick.ticks, begun.counts_tick.turns);
     pumps = omega (arith, stands.pumps, begun.counts_tick.pumps);
     metas = stands.metas;
     groups = at.groups;

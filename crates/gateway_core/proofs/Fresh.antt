@@ -3,9 +3,9 @@ use Rattle.std.proofs.Common.{◌≡◌, refl, sym, ap, ◌∙◌, subst, arith,
 use Rattle.std.specs.List.{HoldsAt}
 use Rattle.ps_config.specs.declared.parts.Config.{Config}
 use Rattle.writer_group.specs.Standing.{IsGood}
-use Rattle.session_model.specs.Counts.{most_ticks}
+use Rattle.session_model.specs.Counts.{life_ticks}
 use Rattle.session_model.specs.Sets.{AreRowsOf}
-use Rattle.session_parts.specs.Holding.{MayAllGoOn}
+use Rattle.session_parts.specs.Holding.{AreAllLogged, MayAllGoOn}
 use Rattle.gateway_core.specs.declared.collected.Collected.{Collected}
 use Rattle.gateway_core.specs.declared.gateway.Left.{Left}
 use Rattle.gateway_core.specs.declared.gateway.Gateway.{Gateway}
@@ -16,48 +16,50 @@ use Rattle.session_parts.proofs.Fresh.{IsFreshPublisher, IsFreshReceiving, IsFre
 
 -- ---- the parts
 
-pub record IsFreshCollected (config : Config) (turns : ℕ) (c : Collected) : Type 0 where
+pub record IsFreshCollected (config : Config) (logged : ℕ) (c : Collected) : Type 0 where
   pub sources : length c.sources.items ≡ length config.dataset
   pub samples : c.samples.items ≡ map (λ source. opening_sample) c.sources.items
   pub rows : AreRowsOf config.dataset c.samples.items
   pub count : length c.versions.items ≡ length c.sources.items
-  pub kept : HaveKept c.sources.items [] c.versions.items
-  pub room : (set : ℕ) → set < length c.sources.items → HoldsAt (HasRoom turns) c.versions.items set
+  pub kept : HaveKept logged c.sources.items [] c.versions.items
+  pub room : (set : ℕ) → set < length c.sources.items → HoldsAt (HasRoom logged) c.versions.items set
+  pub logged_is : c.logged ≡ logged
 
-pub record IsFresh (turns : ℕ) (s : Gateway) : Type 0 where
+pub record IsFresh (turns logged : ℕ) (s : Gateway) : Type 0 where
   pub good : IsGood s.config.now
-  pub few : turns ≤ most_ticks + 1
+  pub few : turns ≤ life_ticks + 1
   pub moment : s.moment ≡ 0
   pub left : s.left ≡ opening_left turns
-  pub collected : IsFreshCollected s.config.now turns s.collected
+  pub collected : IsFreshCollected s.config.now logged s.collected
   pub publisher : IsFreshPublisher s.config.now turns s.publisher
+  pub logs : AreAllLogged logged s.publisher.groups.items
   pub subscriber : IsFreshSubscriber s.config.now s.subscriber
   pub receiving : IsFreshReceiving s.receiving
   pub tree : IsFreshTree s.config.now s.publisher s.tree
 
 -- where it was made of these sources
-pub fresh-collected : (config : Config) (turns : ℕ) (sources : List ℕ) (c : Collected) → c.sources.items ≡ sources → length sources ≡ length config.dataset
+pub fresh-collected : (config : Config) (logged : ℕ) (sources : List ℕ) (c : Collected) → c.sources.items ≡ sources → length sources ≡ length config.dataset
     → c.samples.items ≡ map (λ source. opening_sample) sources → AreRowsOf config.dataset c.samples.items → length c.versions.items ≡ length sources
-    → HaveKept sources [] c.versions.items → ((set : ℕ) → set < length sources → HoldsAt (HasRoom turns) c.versions.items set) → IsFreshCollected config turns c
-fresh-collected config turns sources c same count samples rows made kept room = record {
+    → HaveKept logged sources [] c.versions.items → ((set : ℕ) → set < length sources → HoldsAt (HasRoom logged) c.versions.items set) → c.logged ≡ logged → IsFreshCollected config logged c
+fresh-collected config logged sources c same count samples rows made kept room logged_is = record {
   sources = ap (λ (l : List ℕ). length l) same ∙ count;
   samples = samples ∙ ap (λ (l : List ℕ). map (λ source. opening_sample) l) (sym same);
   rows = rows;
   count = made ∙ ap (λ (l : List ℕ). length l) (sym same);
-  kept = subst (λ (l : List ℕ). HaveKept l [] c.versions.items) (sym same) kept;
+  kept = subst (λ (l : List ℕ). HaveKept logged l [] c.versions.items) (sym same) kept;
   room = λ set low. room set (subst (λ (l : List ℕ). set < length l) same low);
+  logged_is = logged_is;
 }
 
 -- ---- it may be called
 
-pub fresh-gateway : (turns : ℕ) (s : Gateway) → IsFresh turns s → IsGateway s
-fresh-gateway turns s fresh =
+pub fresh-gateway : (turns logged : ℕ) (s : Gateway) → IsFresh turns logged s → IsGateway s
+fresh-gateway turns logged s fresh =
     let config = s.config.now in
     let ticks : s.left.ticks ≡ turns = ap (λ (l : Left). l.ticks) fresh.left in
-    let collects : s.left.collects ≡ turns = ap (λ (l : Left). l.collects) fresh.left in
     let pumps : s.left.pumps ≡ 0 = ap (λ (l : Left). l.pumps) fresh.left in
     let start : s.moment ≡ 0 = fresh.moment in
-    let few : turns ≤ 4097 = fresh.few in
+    let few : turns ≤ 4398046511105 = fresh.few in
     record {
       good = fresh.good;
       collected = record {
@@ -65,11 +67,12 @@ fresh-gateway turns s fresh =
         rows = fresh.collected.rows;
         versions = fresh.collected.count ∙ fresh.collected.sources;
         room = λ set low.
-            subst (λ (n : ℕ). HoldsAt (HasRoom n) s.collected.versions.items set) (sym collects)
+            subst (λ (n : ℕ). HoldsAt (HasRoom n) s.collected.versions.items set) (sym fresh.collected.logged_is)
             (fresh.collected.room set (subst (λ (n : ℕ). set < n) (sym fresh.collected.sources) low));
       };
       publisher = fresh.publisher.holds;
       goes_on = subst (λ (t : ℕ). MayAllGoOn config config.dataset t s.publisher.groups.items) (sym ticks) fresh.publisher.goes_on;
+      logs = subst (λ (n : ℕ). AreAllLogged n s.publisher.groups.items) (sym fresh.collected.logged_is) fresh.logs;
       subscriber = fresh.subscriber.holds;
       tree = fresh.tree.counts ∙ fresh.tree.opening.counts;
       buffers = fresh.receiving.room;
@@ -79,11 +82,12 @@ fresh-gateway turns s fresh =
 
 -- ---- it stands where no step was
 
-pub fresh-stands : (turns : ℕ) (s : Gateway) → IsFresh turns s → Stands s.config.now [] s
-fresh-stands turns s fresh =
+pub fresh-stands : (turns logged : ℕ) (s : Gateway) → IsFresh turns logged s → Stands s.config.now [] s
+fresh-stands turns logged s fresh =
+    let all : s.left.turns ≡ turns = ap (λ (l : Left). l.turns) fresh.left in
     let ticks : s.left.ticks ≡ turns = ap (λ (l : Left). l.ticks) fresh.left in
+    let collects : s.left.collects ≡ turns = ap (λ (l : Left). l.collects) fresh.left in
     let pumps : s.left.pumps ≡ 0 = ap (λ (l : Left). l.pumps) fresh.left in
-    let few : turns ≤ 4097 = fresh.few in
     record {
       session = record {
         plan = refl;
@@ -92,7 +96,7 @@ fresh-stands turns s fresh =
         turns = tt;
         moment = fresh.moment;
         closed = ap (λ (l : Left). l.is_closed) fresh.left;
-        ticks = omega (arith, ticks, few);
+        ticks = omega (arith, ticks, all);
         pumps = omega (arith, pumps);
         metas = refl;
         groups = fresh.publisher.past;
@@ -110,5 +114,6 @@ fresh-stands turns s fresh =
         flags = fresh-flags s.config.now.dataset s.config.now turns s.publisher s.tree fresh.good fresh.publisher fresh.tree;
       };
       samples = fresh.collected.samples;
-      kept = fresh.collected.kept;
+      kept = subst (λ (n : ℕ). HaveKept n s.collected.sources.items [] s.collected.versions.items) (sym fresh.collected.logged_is) fresh.collected.kept;
+      collects = omega (arith, collects, all);
     }

@@ -1,11 +1,11 @@
 -- What a gateway shows of its writers, readers and versions.
-use Rattle.std.proofs.Common.{◌≡◌, sym, ap, ◌∙◌, subst, arith, ℕ, ◌<◌, List, length, get_or}
-use Rattle.std.specs.Prelude.{vec_len}
+use Rattle.std.proofs.Common.{◌≡◌, refl, sym, ap, ◌∙◌, subst, arith, ℕ, ◌+◌, ◌<◌, ◌≤◌, List, [], ◌∷◌, length, get_or}
+use Rattle.std.specs.Prelude.{vec_len, ◌==◌}
 use Rattle.dataset_meta.specs.Metas.{MetaData}
 use Rattle.dataset_reader.specs.declared.reader.Reader.{Reader}
 use Rattle.dataset_reader.specs.Reader.{IsReaderOf, kept_by}
 use Rattle.dataset_writer.specs.declared.writer.Writer.{Writer}
-use Rattle.dataset_writer.specs.Standing.{IsWriter}
+use Rattle.dataset_writer.specs.Standing.{IsWriter, logged_by}
 use Rattle.ps_config.specs.declared.parts.Config.{Config}
 use Rattle.ps_config.specs.declared.parts.GroupPart.{GroupPart}
 use Rattle.reader_group.specs.declared.group.ReaderGroup.{ReaderGroup}
@@ -17,15 +17,17 @@ use Rattle.std.proofs.lemmas.List.{length-map}
 use Rattle.writer_group.specs.declared.group.Group.{Group}
 use Rattle.writer_group.specs.Parts.{group_at}
 use Rattle.writer_group.specs.Payloads.{meta_at, writer_at}
-use Rattle.writer_group.specs.Standing.{IsGroup, IsWriterIn, metas_for, writer_count}
+use Rattle.writer_group.specs.Standing.{AreLogged, IsGroup, IsLoggedIn, IsWriterIn, metas_for, writer_count}
 use Rattle.writer_group.specs.Turns.{settings_of}
 use Rattle.session_model.specs.Steps.{Plan, Step}
-use Rattle.session_model.specs.Deeds.{deeds, group_past, writer_deeds}
+use Rattle.session_model.specs.Deeds.{deeds, group_past, log_at, writer_deeds}
 use Rattle.session_model.specs.Events.{events, reader_at}
 use Rattle.gateway_core.specs.declared.gateway.Gateway.{Gateway}
-use Rattle.gateway_core.specs.Lived.{GatewayStep, plan_again, session_steps}
-use Rattle.gateway_core.specs.Holding.{IsGateway, sources_of}
+use Rattle.session_model.proofs.Ticks.{log-few}
+use Rattle.gateway_core.specs.Lived.{GatewayStep, Collect, Pump, Tick, collects_in, first_kept, last_store, no_origin, plan_again, session_steps, version_by, versions_kept}
+use Rattle.gateway_core.specs.Holding.{IsGateway, KeepsAll, logged_of, sources_of}
 use Rattle.gateway_core.specs.Standing.{Stands}
+use Rattle.gateway_core.proofs.Notes.{first-all, one-more}
 
 same-config : (second : Config) (lived : List GatewayStep) (s : Gateway) → Stands second lived s → s.config.now ≡ second
 same-config second lived s stands = ap (λ (p : Plan). p.config) stands.session.plan
@@ -57,6 +59,36 @@ writer-lived second lived s g w group writer stands low within is there =
 
     same : s.config.now ≡ second
     same = same-config second lived s stands
+
+-- its log keeps as many data frames as the gateway's
+pub writer-logged : (s : Gateway) (g : ℕ) (group : Group) (writer : Writer) → IsGateway s → g < length s.config.now.group → group ≡ get_or s.publisher.groups.items g group
+    → IsLoggedIn group writer → logged_by writer ≡ logged_of s
+writer-logged s g group writer gateway low is there =
+    there.logged (logged_of s) (subst (AreLogged (logged_of s)) (sym is) (gateway.logs g group (omega (arith, low, gateway.publisher.groups.count))))
+
+-- and each one, where it keeps as many as there are ticks
+pub writer-all : (second : Config) (lived : List GatewayStep) (s : Gateway) (g w : ℕ) → KeepsAll s → Stands second lived s
+    → length (log_at (plan_again second) g w (session_steps (sources_of s) lived)) ≤ logged_of s
+writer-all second lived s g w keeps stands =
+    let steps = session_steps (sources_of s) lived in
+    let few = log-few (plan_again second) g w steps in let ticks = stands.session.ticks in omega (arith, few, ticks, keeps)
+
+-- ---- versions
+
+-- no more are kept than were collected, and that of store 0
+kept-few : (source : ℕ) (lived : List GatewayStep) → length (versions_kept source lived) ≤ collects_in lived + 1
+kept-few source [] = omega arith
+kept-few source (Collect passes origins ∷ before) =
+    let version = version_by (get_or origins source no_origin) in
+    let few = kept-few source before in let one = one-more (versions_kept source before) version (version.store == last_store (versions_kept source before)) refl in omega (arith, few, one)
+kept-few source (Tick ms closing done ∷ before) = kept-few source before
+kept-few source (Pump entries ∷ before) = kept-few source before
+
+-- so all are kept, where as many are as there are ticks
+pub versions-all : (second : Config) (lived : List GatewayStep) (s : Gateway) (source : ℕ) → KeepsAll s → Stands second lived s
+    → first_kept (logged_of s) (versions_kept source lived) ≡ versions_kept source lived
+versions-all second lived s source keeps stands =
+    first-all (logged_of s) (versions_kept source lived) (let few = kept-few source lived in let collects = stands.collects in omega (arith, few, collects, keeps))
 
 -- ---- readers
 

@@ -1,10 +1,11 @@
 -- A pump: where its receives, and what the tree is told of readers, leave the gateway, as a session.
-use Rattle.std.proofs.Common.{◌≡◌, sym, ap, ◌∙◌, subst, arith, ℕ, ◌*◌, List, ◌∷◌, ◌++◌, Option}
+use Rattle.std.proofs.Common.{◌≡◌, sym, ap, ◌∙◌, subst, arith, ℕ, ◌-◌, ◌*◌, List, ◌∷◌, ◌++◌, Option}
 use Rattle.ua_base.specs.Journal.{LinkState, Entry}
 use Rattle.pubsub_states.specs.Components.{counts_of}
 use Rattle.pubsub_states.specs.Changes.{TreeValue}
 use Rattle.session_model.specs.Steps.{Plan, Step, Pump}
 use Rattle.session_model.specs.Counts.{most_ms, most_taken}
+use Rattle.session_model.specs.Keeping.{AreStepsOf}
 use Rattle.session_model.specs.Sets.{metas_at}
 use Rattle.session_model.specs.Deeds.{deeds}
 use Rattle.session_model.specs.Sends.{journal}
@@ -17,7 +18,7 @@ use Rattle.session_parts.specs.Pumping.{HaveGot, Pumps, PumpsTo, TellsReaders}
 use Rattle.session_parts.proofs.Entries.{pump_sends}
 use Rattle.gateway_core.specs.declared.gateway.Left.{Left}
 use Rattle.gateway_core.specs.declared.gateway.Gateway.{Gateway}
-use Rattle.gateway_core.specs.Holding.{CountsPump, HoldCollected, IsGateway, plan_of}
+use Rattle.gateway_core.specs.Holding.{CountsPump, IsGateway, plan_of}
 use Rattle.gateway_core.specs.Standing.{StandsAsSession}
 use Rattle.gateway_core.proofs.Ending.{LeadsAsSession}
 use Rattle.session_parts.proofs.Pumped.{flags-pumped, receives-pumped, sends-pumped, switches, tells-pumped}
@@ -38,9 +39,10 @@ pub pumped-gateway : (old : Gateway) (left : Left) (tree : TreeValue) (subscribe
     → IsGateway (record old { left = left; tree = tree; subscriber = subscriber; receiving = receiving })
 pumped-gateway old left tree subscriber receiving gateway counts kept holds buffers = record {
   good = gateway.good;
-  collected = subst (λ (n : ℕ). HoldCollected old.config.now n old.collected) (sym (ap (λ (l : Left). l.collects) counts.rest)) gateway.collected;
+  collected = gateway.collected;
   publisher = gateway.publisher;
   goes_on = subst (λ (n : ℕ). MayAllGoOn old.config.now old.config.now.dataset n old.publisher.groups.items) (sym ticks) gateway.goes_on;
+  logs = gateway.logs;
   subscriber = holds;
   tree = kept ∙ gateway.tree;
   buffers = buffers;
@@ -56,11 +58,12 @@ pumped-stands : (before : List Step) (old new : Gateway) (taken : ℕ) (told aft
 pumped-stands before old new taken told after does stands = record {
   plan = ap plan_of does.changed;
   run = (pumps.pump, stands.run);
-  steps_are = (omega (arith, stands.pumps, does.left.pumps), stands.steps_are);
+  steps_are = subst (λ (n : ℕ). AreStepsOf (n - 1) (plan_of old) (Pump does.pumps.entries ∷ before)) (sym (ap (λ (l : Left). l.turns) does.left.rest))
+      (omega (arith, stands.pumps, does.left.pumps), stands.steps_are);
   turns = stands.turns;
   moment = ap (λ (s : Gateway). s.moment) does.changed ∙ stands.moment;
   closed = ap (λ (l : Left). l.is_closed) does.left.rest ∙ stands.closed;
-  ticks = omega (arith, ap (λ (l : Left). l.ticks) does.left.rest, stands.ticks);
+  ticks = omega (arith, ap (λ (l : Left). l.ticks) does.left.rest, ap (λ (l : Left). l.turns) does.left.rest, stands.ticks);
   pumps = omega (arith, stands.pumps, does.left.pumps);
   metas = stands.metas;
   groups = subst (λ (s : Gateway). HavePast p.config (metas_at p.config before) (deeds p before) s.publisher.groups.items) (sym does.changed) stands.groups;

@@ -12,13 +12,13 @@ use Rattle.session_model.specs.Steps.{Plan, Step, Tick}
 use Rattle.session_model.specs.Sets.{AreRowsOf, metas_at, rows_cut}
 use Rattle.session_parts.specs.declared.publisher.Publisher.{Publisher}
 use Rattle.session_parts.specs.declared.publisher.Told.{Told}
-use Rattle.session_parts.specs.Holding.{HoldPublisher, MayAllGoOn}
+use Rattle.session_parts.specs.Holding.{AreStillLogged, HoldPublisher, MayAllGoOn}
 use Rattle.session_parts.specs.Ticking.{HasPassed, IsToldOf, KnowsSpent, MayPassAll}
 use Rattle.session_parts.proofs.Few.{sound-group}
 use Rattle.session_parts.proofs.Ticks.{go-one}
 use Rattle.pubsub_states.specs.Changes.{TreeValue}
 use Rattle.gateway_core.specs.declared.gateway.Gateway.{Gateway}
-use Rattle.gateway_core.specs.Holding.{HoldCollected, IsGateway, KeepsCollected, MayTick, sampled_by}
+use Rattle.gateway_core.specs.Holding.{IsGateway, KeepsCollected, MayTick, logged_of, sampled_by}
 use Rattle.gateway_core.specs.Standing.{StandsAsSession}
 use Rattle.gateway_core.specs.Beginning.{HasBegun, tick_of}
 use Rattle.gateway_core.proofs.Ending.{LeadsAsSession, ends}
@@ -39,12 +39,13 @@ after-is ms closing old mid s begun rest = rest ∙ ap (λ (m : Gateway). record
 
 pub ticked-gateway : (ms : ℕ) (closing : Bool) (old mid s : Gateway) → MayTick ms closing old → HasBegun ms closing old mid → s ≡ record mid { publisher = s.publisher; tree = s.tree }
     → HoldPublisher old.config.now s.publisher → s.tree.counts ≡ old.tree.counts → MayAllGoOn old.config.now old.config.now.dataset mid.left.ticks s.publisher.groups.items
-    → IsGateway s
-ticked-gateway ms closing old mid s may begun rest holds counts goes = subst IsGateway (sym (after-is ms closing old mid s begun rest)) (record {
+    → AreStillLogged mid.publisher.groups.items s.publisher.groups.items → IsGateway s
+ticked-gateway ms closing old mid s may begun rest holds counts goes logs = subst IsGateway (sym (after-is ms closing old mid s begun rest)) (record {
   good = may.gateway.good;
-  collected = subst (λ (n : ℕ). HoldCollected old.config.now n old.collected) (sym begun.counts_tick.collects) may.gateway.collected;
+  collected = may.gateway.collected;
   publisher = holds;
   goes_on = goes;
+  logs = logs (logged_of old) (begun.logs (logged_of old) may.gateway.logs);
   subscriber = begun.subscriber;
   tree = counts ∙ may.gateway.tree;
   buffers = may.gateway.buffers;

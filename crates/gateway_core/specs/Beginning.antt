@@ -1,7 +1,7 @@
 -- A gateway within a tick, whose senders and timers came to the moment.
 use Rattle.std.specs.Prelude.{◌≡◌, ℕ, ◌+◌, List, [], ◌∷◌, Bool}
 use Rattle.session_model.specs.Steps.{Plan, Step, Tick}
-use Rattle.session_parts.specs.Holding.{HoldPublisher, HoldSubscriber, MayAllGoOn}
+use Rattle.session_parts.specs.Holding.{AreStillLogged, HoldPublisher, HoldSubscriber, MayAllGoOn}
 use Rattle.session_parts.specs.Standing.{HaveRead}
 use Rattle.session_parts.specs.Ticking.{IsAt, KnowsSpent, TickData, begun}
 use Rattle.gateway_core.specs.declared.gateway.Gateway.{Gateway}
@@ -26,6 +26,7 @@ pub record HasBegun (ms : ℕ) (closing : Bool) (old new : Gateway) : Type 0 whe
   pub publisher : HoldPublisher old.config.now new.publisher
   pub spent : KnowsSpent old.config.now new.publisher.senders.items new.tree
   pub goes_on : MayAllGoOn old.config.now old.config.now.dataset old.left.ticks new.publisher.groups.items
+  pub logs : AreStillLogged old.publisher.groups.items new.publisher.groups.items
   pub subscriber : HoldSubscriber old.config.now new.subscriber
   pub sent : (p : Plan) (before : List Step) → StandsAsSession p before old
       → IsAt (tick_of p before ms closing old) (begun (tick_of p before ms closing old)) [] new.publisher new.tree

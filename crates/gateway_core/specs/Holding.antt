@@ -1,5 +1,5 @@
 -- What holds of a gateway between its calls, whatever it lived through: the conditions of the calls.
-use Rattle.std.specs.Prelude.{◌≡◌, ℕ, ◌+◌, ◌*◌, ◌^◌, ◌<◌, ◌≤◌, Bool, true, false, List, length, vec_len, vec_capacity}
+use Rattle.std.specs.Prelude.{◌≡◌, ℕ, ◌+◌, ◌-◌, ◌*◌, ◌^◌, ◌<◌, ◌≤◌, Bool, true, false, List, length, vec_len, vec_capacity}
 use Rattle.std.specs.List.{HoldsAt}
 use Rattle.ps_config.specs.declared.parts.Config.{Config}
 use Rattle.pubsub_states.specs.Components.{counts_of}
@@ -10,7 +10,7 @@ use Rattle.writer_group.specs.Standing.{IsGood}
 use Rattle.session_model.specs.Counts.{most_ms}
 use Rattle.session_model.specs.Steps.{Plan}
 use Rattle.session_model.specs.Sets.{AreRowsOf}
-use Rattle.session_parts.specs.Holding.{HasBuffers, HoldPublisher, HoldSubscriber, MayAllGoOn}
+use Rattle.session_parts.specs.Holding.{AreAllLogged, HasBuffers, HoldPublisher, HoldSubscriber, MayAllGoOn}
 use Rattle.gateway_core.specs.declared.collected.Collected.{Collected}
 use Rattle.gateway_core.specs.declared.collected.Versions.{Versions}
 use Rattle.gateway_core.specs.declared.gateway.Left.{Left}
@@ -37,30 +37,44 @@ left_of s = s.left
 
 -- before anything, with so many ticks, the closing one included
 abbrev pub opening_left : ℕ → Left
-opening_left turns = record { ticks = turns; collects = turns; pumps = 0; is_closed = false }
+opening_left turns = record { turns = turns; ticks = turns; collects = turns; pumps = 0; is_closed = false }
+
+-- the ticks that it was opened for, beside the closing one
+abbrev pub ticks_of : Gateway → ℕ
+ticks_of s = s.left.turns - 1
+
+-- so many data frames of each writer are logged, and the versions of so many stores of each source are kept
+abbrev pub logged_of : Gateway → ℕ
+logged_of s = s.collected.logged
+
+-- as many as there are ticks
+abbrev pub KeepsAll : Gateway → Type 0
+KeepsAll s = s.left.turns ≤ logged_of s
 
 -- ---- the condition of every call, which each call keeps
 
--- there is room for so many versions more
-abbrev pub HasRoom : ℕ → Versions → Type 0
-HasRoom collects versions = vec_len versions.kept + collects ≤ vec_capacity versions.kept
+-- no more versions are kept than so many beside that of store 0, and there is room for them
+pub record HasRoom (most : ℕ) (versions : Versions) : Type 0 where
+  pub few : vec_len versions.kept ≤ most + 1
+  pub room : most + 1 ≤ vec_capacity versions.kept
 
-pub record HoldCollected (config : Config) (collects : ℕ) (c : Collected) : Type 0 where
+pub record HoldCollected (config : Config) (c : Collected) : Type 0 where
   pub sources : length c.sources.items ≡ length config.dataset
   pub rows : AreRowsOf config.dataset c.samples.items
   pub versions : length c.versions.items ≡ length config.dataset
-  pub room : (set : ℕ) → set < length config.dataset → HoldsAt (HasRoom collects) c.versions.items set
+  pub room : (set : ℕ) → set < length config.dataset → HoldsAt (HasRoom c.logged) c.versions.items set
 
 pub record IsGateway (s : Gateway) : Type 0 where
   pub good : IsGood s.config.now
-  pub collected : HoldCollected s.config.now s.left.collects s.collected
+  pub collected : HoldCollected s.config.now s.collected
   pub publisher : HoldPublisher s.config.now s.publisher
   pub goes_on : MayAllGoOn s.config.now s.config.now.dataset s.left.ticks s.publisher.groups.items
+  pub logs : AreAllLogged (logged_of s) s.publisher.groups.items
   pub subscriber : HoldSubscriber s.config.now s.subscriber
   pub tree : s.tree.counts ≡ counts_of s.config.now
   pub buffers : HasBuffers s.receiving
   pub time : s.moment + s.left.ticks * most_ms < 2 ^ 64
-  pub calls : s.left.ticks + s.left.pumps < 2 ^ 32
+  pub calls : s.left.ticks + s.left.pumps < 2 ^ 64
 
 -- what a call of `collect` is given belongs to the gateway
 pub record MayTake (s : Gateway) (passes : List Known) (origins : List Origin) : Type 0 where
@@ -94,6 +108,7 @@ pub record CountsCollect (old new : Left) : Type 0 where
 
 -- a tick came
 pub record CountsTick (closing : Bool) (old new : Left) : Type 0 where
+  pub turns : new.turns ≡ old.turns
   pub ticks : new.ticks + 1 ≡ old.ticks
   pub pumps : new.pumps ≡ old.pumps + 1
   pub collects : new.collects ≡ old.collects

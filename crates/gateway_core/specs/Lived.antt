@@ -1,5 +1,5 @@
 -- What a gateway lives through, the latest first, and the session that this is: ticks and pumps, whose samples are what was collected.
-use Rattle.std.specs.Prelude.{ℕ, ◌==◌, List, [], ◌∷◌, length, map, find, Bool, Option, Some, None, slice_index_or, option_and_then, if◌then◌else◌}
+use Rattle.std.specs.Prelude.{ℕ, ◌+◌, ◌==◌, List, [], ◌∷◌, length, map, find, reverse, take, Bool, Option, Some, None, slice_index_or, option_and_then, if◌then◌else◌}
 use Rattle.ua_base.specs.Journal.{Entry}
 use Rattle.target_cells.specs.declared.origin.Origin.{Origin}
 use Rattle.version_cell.specs.Known.{Known}
@@ -51,6 +51,15 @@ session_steps sources (Tick ms closing done ∷ before) =
     steps.Tick ms closing (samples_after sources before) done ∷ session_steps sources before
 session_steps sources (Pump entries ∷ before) = steps.Pump entries ∷ session_steps sources before
 
+-- ---- counts
+
+-- how often there was a collect
+abbrev pub collects_in : List GatewayStep → ℕ
+collects_in [] = 0
+collects_in (Collect passes origins ∷ before) = collects_in before + 1
+collects_in (Tick ms closing done ∷ before) = collects_in before
+collects_in (Pump entries ∷ before) = collects_in before
+
 -- ---- versions of stores
 
 -- store 0 is the opening row
@@ -78,6 +87,10 @@ versions_kept source (Collect passes origins ∷ before) =
     kept_on (versions_kept source before) (version_by (slice_index_or origins source no_origin))
 versions_kept source (Tick ms closing done ∷ before) = versions_kept source before
 versions_kept source (Pump entries ∷ before) = versions_kept source before
+
+-- the versions of so many stores, the first ones, and that of store 0; the last first
+abbrev pub first_kept : ℕ → List StoreVersion → List StoreVersion
+first_kept most kept = reverse (take (most + 1) (reverse kept))
 
 -- none where no such store was collected, or its version wasn't known
 abbrev pub version_in : List StoreVersion → ℕ → Option ℕ

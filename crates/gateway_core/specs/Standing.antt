@@ -3,21 +3,21 @@ use Rattle.std.specs.Prelude.{◌≡◌, ℕ, ◌+◌, ◌<◌, ◌≤◌, List,
 use Rattle.std.specs.List.{HoldsAt}
 use Rattle.ua_base.specs.Journal.{LinkState}
 use Rattle.ps_config.specs.declared.parts.Config.{Config}
-use Rattle.session_model.specs.Counts.{most_ticks, ticks_in, pumps_in, is_closed}
+use Rattle.session_model.specs.Counts.{ticks_in, pumps_in, is_closed}
 use Rattle.session_model.specs.Steps.{Plan, Step, moment_of}
 use Rattle.session_model.specs.Sets.{metas_at}
 use Rattle.session_model.specs.Deeds.{deeds}
 use Rattle.session_model.specs.Turns.{TurnsHold}
 use Rattle.session_model.specs.Sends.{IsRun, TellsRun, journal}
 use Rattle.session_model.specs.States.{flags_at}
-use Rattle.session_model.specs.Keeping.{AreSteps}
+use Rattle.session_model.specs.Keeping.{AreStepsOf}
 use Rattle.session_parts.specs.Standing.{AreReceivesIn, AreSendsIn, HasFlags, HaveOutcomes, HavePast, HaveRead, HaveSent, HaveTallied}
 use Rattle.session_parts.specs.Ticking as parts
 use Rattle.gateway_core.specs.declared.collected.StoreVersion.{StoreVersion}
 use Rattle.gateway_core.specs.declared.collected.Versions.{Versions}
 use Rattle.gateway_core.specs.declared.gateway.Gateway.{Gateway}
-use Rattle.gateway_core.specs.Lived.{GatewayStep, plan_again, samples_after, session_steps, versions_kept}
-use Rattle.gateway_core.specs.Holding.{plan_of, sampled_by, sources_of}
+use Rattle.gateway_core.specs.Lived.{GatewayStep, collects_in, first_kept, kept_on, plan_again, samples_after, session_steps, versions_kept}
+use Rattle.gateway_core.specs.Holding.{logged_of, plan_of, sampled_by, sources_of, ticks_of}
 
 -- ---- as a session
 
@@ -25,11 +25,11 @@ use Rattle.gateway_core.specs.Holding.{plan_of, sampled_by, sources_of}
 pub record StandsAsSession (p : Plan) (steps : List Step) (s : Gateway) : Type 0 where
   pub plan : plan_of s ≡ p
   pub run : IsRun p steps
-  pub steps_are : AreSteps p steps
+  pub steps_are : AreStepsOf (ticks_of s) p steps
   pub turns : TurnsHold p steps
   pub moment : s.moment ≡ moment_of steps
   pub closed : s.left.is_closed ≡ is_closed steps
-  pub ticks : ticks_in steps + s.left.ticks ≤ most_ticks + 1
+  pub ticks : ticks_in steps + s.left.ticks ≤ s.left.turns
   pub pumps : pumps_in steps + s.left.pumps ≡ ticks_in steps
   pub metas : metas_at p.config steps ≡ p.config.dataset
   pub groups : HavePast p.config (metas_at p.config steps) (deeds p steps) s.publisher.groups.items
@@ -47,10 +47,15 @@ pub record StandsAsSession (p : Plan) (steps : List Step) (s : Gateway) : Type 0
 abbrev pub versions_in : Versions → List StoreVersion
 versions_in versions = reverse versions.kept.items
 
--- for each data set those of its source
-abbrev pub HaveKept : List ℕ → List GatewayStep → List Versions → Type 0
-HaveKept sources lived versions =
-    (set : ℕ) → set < length sources → HoldsAt (λ kept. versions_in kept ≡ versions_kept (slice_index_or sources set 0) lived) versions set
+-- with the version of a store, whatever versions came before it: so many are kept, the first ones
+abbrev pub KeepsOn : ℕ → StoreVersion → Versions → Versions → Type 0
+KeepsOn most version old new =
+    (kept : List StoreVersion) → versions_in old ≡ first_kept most kept → versions_in new ≡ first_kept most (kept_on kept version)
+
+-- for each data set so many of those of its source, the first ones
+abbrev pub HaveKept : ℕ → List ℕ → List GatewayStep → List Versions → Type 0
+HaveKept most sources lived versions =
+    (set : ℕ) → set < length sources → HoldsAt (λ kept. versions_in kept ≡ first_kept most (versions_kept (slice_index_or sources set 0) lived)) versions set
 
 -- ---- the gateway
 
@@ -58,7 +63,8 @@ HaveKept sources lived versions =
 pub record Stands (second : Config) (lived : List GatewayStep) (s : Gateway) : Type 0 where
   pub session : StandsAsSession (plan_again second) (session_steps (sources_of s) lived) s
   pub samples : sampled_by s ≡ samples_after (sources_of s) lived
-  pub kept : HaveKept (sources_of s) lived s.collected.versions.items
+  pub kept : HaveKept (logged_of s) (sources_of s) lived s.collected.versions.items
+  pub collects : collects_in lived + s.left.collects ≤ s.left.turns
 
 -- where one step more leads, and what the link tells: it is then the journal, if it was before
 pub record Leads (second : Config) (before : List GatewayStep) (step : GatewayStep) (told after : Option LinkState) (s : Gateway) : Type 0 where

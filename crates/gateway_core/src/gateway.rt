@@ -1,9 +1,9 @@
 //! A gateway over a link: what is collected, ticks and pumps.
-ghost use Rattle.std.specs.Prelude.{◌≡◌, ◌<◌, ◌∷◌, ◌↔◌, [], IsTrue, IsSome, ℕ, List, Bool, count_by, length, slice_index_or};
+ghost use Rattle.std.specs.Prelude.{◌≡◌, ◌<◌, ◌≤◌, ◌∷◌, ◌↔◌, [], IsTrue, IsSome, ℕ, List, Bool, count_by, length, slice_index_or};
 ghost use Rattle.ua_base.specs.Journal.{Entry};
 ghost use Rattle.ua_base.specs.Links.{KeepsLink};
 ghost use Rattle.dataset_reader.specs.Reader.{IsReaderOf, kept_by};
-ghost use Rattle.dataset_writer.specs.Standing.{IsWriter};
+ghost use Rattle.dataset_writer.specs.Standing.{IsWriter, logged_by};
 ghost use Rattle.ps_config.specs.declared.parts.Config.{Config as ConfigValue};
 ghost use Rattle.reader_group.specs.Members.{seat_at};
 ghost use Rattle.reader_group.specs.Settings.{setting_of, group_at as read_group_at};
@@ -13,11 +13,11 @@ ghost use Rattle.writer_group.specs.Turns.{settings_of};
 ghost use Rattle.session_model.specs.Answers.{counted};
 ghost use Rattle.session_model.specs.Closing.{is_datagram, is_got, is_send_failed, is_sent};
 ghost use Rattle.session_model.specs.Counts.{most_taken};
-ghost use Rattle.session_model.specs.Deeds.{writer_deeds};
+ghost use Rattle.session_model.specs.Deeds.{log_at, writer_deeds};
 ghost use Rattle.session_model.specs.Events.{reader_at};
 ghost use Rattle.session_model.specs.Sends.{journal};
-ghost use Rattle.gateway_core.specs.Lived.{Collect, GatewayStep, Pump, Tick, plan_again, session_steps, version_in, versions_kept};
-ghost use Rattle.gateway_core.specs.Holding.{CountsCollect, CountsPump, CountsTick, IsGateway, KeepsCollected, MayPump, MayTake, MayTick, left_of, sources_of};
+ghost use Rattle.gateway_core.specs.Lived.{Collect, GatewayStep, Pump, Tick, first_kept, plan_again, session_steps, version_in, versions_kept};
+ghost use Rattle.gateway_core.specs.Holding.{CountsCollect, CountsPump, CountsTick, IsGateway, KeepsAll, KeepsCollected, MayPump, MayTake, MayTick, left_of, logged_of, sources_of};
 ghost use Rattle.gateway_core.specs.Standing.{HaltsTick, Leads, Stands};
 ghost use Rattle.gateway_core.specs.Beginning.{HasBegun};
 
@@ -30,15 +30,17 @@ use session_parts::{Publisher, Receiving, Subscriber, Told};
 use target_cells::{Origin, Passes};
 use ua_base::{Link, Pumped, Ticked};
 
-/// What may still come.
+/// How long a gateway lasts, and what may still come.
 #[derive(Clone, Copy, Debug)]
 pub(crate) struct Left {
-    /// Ticks, the closing one included.
-    pub(crate) ticks: u32,
+    /// The ticks that it was opened for, the closing one included.
+    pub(crate) turns: u64,
+    /// Those that are left.
+    pub(crate) ticks: u64,
     /// What may still be collected.
-    pub(crate) collects: u32,
+    pub(crate) collects: u64,
     /// Pumps of ticks that came.
-    pub(crate) pumps: u32,
+    pub(crate) pumps: u64,
     /// Whether the closing tick came.
     pub(crate) is_closed: bool,
 }
@@ -59,13 +61,14 @@ pub struct Gateway<'c> {
 
 impl<'c> Gateway<'c> {
     /// The samples of the next tick are what the passes have seen of the sources' targets, each
-    /// with its count of stores as version. The version of each store is kept, as far as its origin
-    /// tells it.
+    /// with its count of stores as version. The versions of the first stores are kept, as far as their
+    /// origins tell them.
     pub fn collect(&mut self, passes: &Passes, origins: &[Origin])
         requires may { MayTake self.old passes.now origins.now }
         ensures gateway { IsGateway self.new }
         ensures left { CountsCollect (left_of self.old) (left_of self.new) }
         ensures sources { sources_of self.new ≡ sources_of self.old }
+        ensures logged { logged_of self.new ≡ logged_of self.old }
         ensures stands { (second : ConfigValue) (lived : List GatewayStep)
             → Stands second lived self.old
             → Stands second (Collect passes.now origins.now ∷ lived) self.new }
@@ -154,7 +157,8 @@ impl<'c> Gateway<'c> {
         pumped
     }
 
-    /// A writer, by its group and its index in this.
+    /// A writer, by its group and its index in this. Its log keeps the first data frames, and each one where the gateway was opened
+    /// with room for as many as it has ticks.
     pub fn writer(&self, group: u8, index: u8) -> &Writer
         requires gateway { IsGateway self.now }
         requires group { group < length self.now.config.now.group }
@@ -165,6 +169,10 @@ impl<'c> Gateway<'c> {
             (settings_of (writer_at (group_at second group) index))
             (writer_deeds (plan_again second) group index
             (session_steps (sources_of self.now) lived)) result.now }
+        ensures logged { logged_by result.now ≡ logged_of self.now }
+        ensures all { KeepsAll self.now → (second : ConfigValue) (lived : List GatewayStep)
+            → Stands second lived self.now → length (log_at (plan_again second) group index
+            (session_steps (sources_of self.now) lived)) ≤ logged_of self.now }
     {
         self.publisher.groups[usize::from(group)].writer(index)
     }
@@ -201,11 +209,16 @@ impl<'c> Gateway<'c> {
     }
 
     /// The version that a store of a data set's source came with, that of store 0 being 0: none
-    /// exactly where no such store was collected, or its version isn't known.
+    /// exactly where no such store was collected, its version isn't known, or it isn't one of the first
+    /// that are kept.
     pub fn version_of(&self, set: u8, store: u64) -> Option<u64>
         requires gateway { IsGateway self.now }
         requires set { set < length self.now.config.now.dataset }
-        ensures version { (second : ConfigValue) (lived : List GatewayStep)
+        ensures first { (second : ConfigValue) (lived : List GatewayStep)
+            → Stands second lived self.now
+            → let source = slice_index_or (sources_of self.now) set 0 in
+            result ≡ version_in (first_kept (logged_of self.now) (versions_kept source lived)) store }
+        ensures all { KeepsAll self.now → (second : ConfigValue) (lived : List GatewayStep)
             → Stands second lived self.now
             → let source = slice_index_or (sources_of self.now) set 0 in
             result ≡ version_in (versions_kept source lived) store }

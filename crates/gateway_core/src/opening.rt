@@ -2,11 +2,11 @@
 ghost use Rattle.std.specs.Prelude.{◌≡◌, ◌≤◌, ◌+◌, [], ℕ, List, IfOk};
 ghost use Rattle.pubsub_states.specs.Components.{counts_of};
 ghost use Rattle.writer_group.specs.Standing.{IsGood};
-ghost use Rattle.session_model.specs.Counts.{most_ticks};
+ghost use Rattle.session_model.specs.Counts.{life_ticks};
 ghost use Rattle.session_parts.specs.Holding.{HoldPublisher};
 ghost use Rattle.session_parts.specs.Ticking.{TellsFaults};
 ghost use Rattle.gateway_core.specs.Sources.{HaveSources};
-ghost use Rattle.gateway_core.specs.Holding.{IsGateway, left_of, opening_left, sources_of};
+ghost use Rattle.gateway_core.specs.Holding.{IsGateway, left_of, logged_of, opening_left, sources_of};
 ghost use Rattle.gateway_core.specs.Standing.{Stands};
 
 use crate::collected::Collected;
@@ -20,20 +20,23 @@ use ua_base::NoMemory;
 
 impl<'c> Gateway<'c> {
     /// A gateway of the second configuration, each of whose data sets has a source in the first,
-    /// for so many ticks, the closing one included, and for as many collects: all memory is taken
-    /// here. An error says that it ran out.
+    /// for so many ticks, the closing one included, and for as many collects. Each writer logs its
+    /// first `logged` data frames, and of each source the versions of as many stores are kept: all
+    /// memory is taken here. An error says that it ran out.
     pub fn open(
         alloc: Global,
         first: &Config,
         second: &'c Config,
-        turns: u32,
+        turns: u64,
+        logged: u32,
     ) -> Result<Gateway<'c>, NoMemory>
         requires first { IsGood first.now }
         requires second { IsGood second.now }
         requires sources { (sources : List ℕ) × HaveSources first.now second.now sources }
-        requires turns { turns ≤ most_ticks + 1 }
+        requires turns { turns ≤ life_ticks + 1 }
         ensures gateway { IfOk result IsGateway }
         ensures left { IfOk result (λ s. left_of s ≡ opening_left turns) }
+        ensures logged { IfOk result (λ s. logged_of s ≡ logged) }
         ensures sources { IfOk result (λ s. HaveSources first.now second.now (sources_of s)) }
         ensures stands { IfOk result (λ s. Stands second.now [] s) }
     {
@@ -42,14 +45,15 @@ impl<'c> Gateway<'c> {
             config: second,
             moment: 0,
             left: Left {
+                turns,
                 ticks: turns,
                 collects: turns,
                 pumps: 0,
                 is_closed: false,
             },
             tree: Tree::new(alloc, second)?,
-            collected: Collected::new(alloc, sources, turns)?,
-            publisher: publisher_of(alloc, second, turns)?,
+            collected: Collected::new(alloc, sources, logged)?,
+            publisher: publisher_of(alloc, second, turns, logged)?,
             subscriber: subscriber_of(alloc, second)?,
             receiving: Receiving::new(alloc)?,
         };

@@ -16,6 +16,7 @@ pub turner-set : (config : Config) (metas : List MetaData) (rows : List Sampled)
     (k : ℕ) (turner : Turner) → IsPublishing config metas rows groups senders out → IsTurner config metas turner
     → IsPublishing config metas rows (set groups k turner) senders out
 turner-set config metas rows groups senders out k turner is new = record {
+  good = is.good;
   rows_are = is.rows_are;
   groups_are = All-set (IsTurner config metas) groups k turner new is.groups_are;
   senders_are = is.senders_are;
@@ -27,6 +28,7 @@ pub turned-set : (config : Config) (metas : List MetaData) (rows : List Sampled)
     (k : ℕ) (turner : Turner) → IsPublishing config metas rows groups senders out → IsTurner config metas turner → IsReserved then_out
     → IsPublishing config metas rows (set groups k turner) senders then_out
 turned-set config metas rows groups senders out then_out k turner is new reserved = record {
+  good = is.good;
   rows_are = is.rows_are;
   groups_are = All-set (IsTurner config metas) groups k turner new is.groups_are;
   senders_are = is.senders_are;
@@ -38,6 +40,7 @@ pub sender-set : (config : Config) (metas : List MetaData) (rows : List Sampled)
     (k : ℕ) (sender : SenderState) → IsPublishing config metas rows groups senders out → IsSender sender
     → IsPublishing config metas rows groups (set senders k sender) out
 sender-set config metas rows groups senders out k sender is new = record {
+  good = is.good;
   rows_are = is.rows_are;
   groups_are = is.groups_are;
   senders_are = All-set IsSender senders k sender new is.senders_are;

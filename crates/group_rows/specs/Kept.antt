@@ -40,9 +40,10 @@ pub record IsTaker (config : Config) (part : ReadGroupPart) (group : ReaderGroup
 abbrev pub AreTurners : Config → List MetaData → List Turner → Type 0
 AreTurners config metas turners = All (IsTurner config metas) turners
 
--- the rows and the groups go with these metas
+-- the configuration is good, and the rows and the groups go with these metas
 pub record IsPublishing (config : Config) (metas : List MetaData) (rows : List Sampled) (groups : List Turner) (senders : List SenderState)
     (out : Datagrams) : Type 0 where
+  pub good : IsGood config
   pub rows_are : AreRows metas rows
   pub groups_are : AreTurners config metas groups
   pub senders_are : All IsSender senders

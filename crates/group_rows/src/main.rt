@@ -10,6 +10,7 @@ mod damage;
 mod groups;
 mod growth;
 mod publishing;
+mod pulls;
 mod runs;
 mod senders;
 mod sets;

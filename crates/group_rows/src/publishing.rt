@@ -3,7 +3,8 @@ ghost use Rattle.writer_group.specs.Standing.{IsGood};
 
 use crate::groups::{grown_turners, refresh_all, turners_of};
 use crate::growth::{field_of, grown_sets};
-use crate::senders::{has_turned, senders_of};
+use crate::pulls::pulled_ring;
+use crate::senders::{has_kept, has_turned, senders_of};
 use crate::sets::{opening_rows, write};
 use crate::shown::{made_text, version_text};
 use crate::turners::{Turner, Turning};
@@ -77,6 +78,7 @@ impl<'c> Publishing<'c> {
             "write" => self.write(index, line),
             "append" => self.append(index, line),
             "spent" => self.spent(index),
+            "pull" => self.pull(index, line),
             "due" => self.due(index, line.u64()?),
             "refresh" => self.refresh(index, line.u8()?),
             "log" => self.log(index, line.u8()?),
@@ -147,6 +149,19 @@ impl<'c> Publishing<'c> {
             Some(sender) => yes_or_no(self.alloc, sender.spent()),
             None => Err(LineFault::Condition),
         }
+    }
+
+    /// `KEYGROUP SERVED COUNT NOW`: its sender goes on with a ring that is pulled; whether that keeps its token, the token, and its
+    /// last number
+    fn pull(&mut self, keygroup: usize, line: &mut Line) -> Answer {
+        let ring = pulled_ring(self.config.keygroup.as_slice(), line)?;
+        if keygroup >= self.senders.len() {
+            return Err(LineFault::Condition);
+        }
+        let kept = has_kept(&mut self.senders[keygroup], ring);
+        let (token, used) = self.senders[keygroup].standing();
+        let word = if kept { "kept" } else { "lost" };
+        Ok(Some(format!(in self.alloc; "{word} {token} {used}")?))
     }
 
     /// `GROUP NOW`: whether a turn is due

@@ -4,6 +4,7 @@ ghost use Rattle.message_guard.specs.Senders.{IsSender};
 ghost use Rattle.ps_config.specs.Sound.{IsKeyGroup};
 
 use case_lines::LineFault;
+use group_keys::Ring;
 use message_guard::Sender;
 use ps_config::{KeyGroupPart, ring_of};
 use std::alloc::Global;
@@ -33,4 +34,14 @@ pub fn has_turned(sender: &mut Sender, now: u64) -> bool
     ensures { IsSender sender.new }
 {
     sender.turn_to(now)
+}
+
+/// A sender goes on with another ring; tells whether the token in use stays in it.
+pub fn has_kept(sender: &mut Sender, ring: Ring) -> bool
+    requires { IsSender sender.old }
+    ensures { IsSender sender.new }
+{
+    let kept = sender.keeps_token(&ring);
+    sender.renew(ring);
+    kept
 }

@@ -4,6 +4,7 @@ ghost use Rattle.writer_group.specs.Standing.{IsGood};
 
 use crate::damage::damaged;
 use crate::publishing::switches;
+use crate::pulls::pulled_ring;
 use crate::runs::Runs;
 use crate::shown::{copied, count, marked, reader_text, receipt_text};
 use case_lines::{Answer, Line, LineFault, Numbers, Tally, number, said, told};
@@ -72,8 +73,16 @@ impl<'c> Taker<'c> {
             "reader" => self.reader(line.u8()?),
             "on" => self.switch(line.word()?),
             "cut" => self.cut(line.u8()?, line.word()?),
+            "follow" => self.follow(line),
             _ => self.at_moment(line.u64()?, made, call, line),
         }
+    }
+
+    /// `SERVED COUNT NOW`: its guard goes on with a ring that is pulled
+    fn follow(&mut self, line: &mut Line) -> Answer {
+        let ring = pulled_ring(self.config.keygroup.as_slice(), line)?;
+        self.group.renew(ring);
+        said(self.alloc, "done")
     }
 
     /// `NOW`, a call at a moment: timers are looked at, or datagrams come

@@ -7,9 +7,9 @@ use Rattle.ps_script.specs.declared.script.Script.{Script}
 use Rattle.json_frames.specs.Parts.{Part}
 use Rattle.json_tap.specs.Keeping.{IsOfLink}
 use Rattle.script_player.specs.Plays.{IsPlayOf}
-use Rattle.command_parts.specs.declared.status.Status.{Status}
-use Rattle.command_parts.specs.Outside.{Outside, Wire}
-use Rattle.session_command.specs.Sessions.{SessionEnds, takes_all}
+use Rattle.commands.specs.declared.status.Status.{Status}
+use Rattle.commands.specs.Outside.{Outside, Wire}
+use Rattle.commands.specs.Sessions.{SessionEnds, takes_all}
 use Rattle.json_text.specs.Matching.{json_readers}
 use Rattle.json_text.specs.Reading.{ReadsLines}
 use Rattle.json_text.specs.Readers.{HasRecords}

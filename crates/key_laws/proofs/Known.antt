@@ -14,7 +14,7 @@ use Rattle.key_service.specs.Laws.{HasKeysOf, IsServedRing}
 use Rattle.key_service.specs.Answers.{answer}
 use Rattle.key_service.specs.Pulled.{as_read, pulled_sets}
 use Rattle.key_service.proofs.Served.{covered_moments, pulled_read_back}
-use Rattle.key_laws.specs.Pulled.{pulled_keys, made_pass, moment_after, AreInOrder, HasSendersKeys, IsCoveredSender, IsPublisherAt, IsPullersGuard, IsReadersGuard, OpensMade, PassesMade, RestoresMade, StaysPublisher}
+use Rattle.key_laws.specs.Pulled.{pulled_keys, made_pass, moment_after, AreInOrder, AreOfRing, HasSendersKeys, IsCoveredSender, IsPublisherAt, IsPullersGuard, IsReadersGuard, OpensMade, PassesMade, RestoresMade, StaysPublisher}
 use Rattle.message_guard.specs.declared.keys.TokenKeys.{TokenKeys}
 use Rattle.message_guard.specs.declared.guard.Guard.{Guard}
 use Rattle.message_guard.specs.declared.mode.Mode.{Mode}
@@ -22,7 +22,7 @@ use Rattle.message_guard.specs.Acceptance.{is_acceptable}
 use Rattle.message_guard.specs.Guards.{Setup, opened_by, setup_of}
 use Rattle.message_guard.specs.Opening.{opened, verdict}
 use Rattle.message_guard.specs.Protection.{keys_in, keys_with, payload_in, signature_of}
-use Rattle.message_guard.specs.Senders.{SenderState, SenderStep, TurnTo, Front, Protect, advanced, after, front_value, made_of, turned, turned_by}
+use Rattle.message_guard.specs.Senders.{SenderState, SenderStep, TurnTo, Renew, Front, Protect, advanced, after, front_value, made_of, renewed, turned, turned_by}
 use Rattle.message_guard.proofs.Restoring.{sent_is_passed, payload_restored}
 use Rattle.message_guard.proofs.Rings.{keys_with-map, set_of, keys_of_moment}
 
@@ -75,13 +75,14 @@ turns_on ring s earlier now served order is = record {
       (subst (λ (sets : List KeySet). option_map keys_in (current sets earlier) ≡ Some s.keys) (sym is.sets) is.keys));
 }
 
-goes_on : (ring : Ring) (moment : ℕ) (s : SenderState) (steps : List SenderStep) → IsServedRing ring → AreInOrder moment steps → IsPublisherAt ring moment s
+goes_on : (ring : Ring) (moment : ℕ) (s : SenderState) (steps : List SenderStep) → IsServedRing ring → AreInOrder moment steps → AreOfRing ring steps → IsPublisherAt ring moment s
     → IsPublisherAt ring (moment_after moment steps) (after s steps)
-goes_on ring moment s [] served order is = is
-goes_on ring moment s (TurnTo now ∷ steps) served order is = goes_on ring now (turned s now) steps served order.1 (turns_on ring s moment now served order.0 is)
-goes_on ring moment s (Front mode ∷ steps) served order is = goes_on ring moment (advanced mode s) steps served order (record { sets = is.sets; keys = is.keys })
-goes_on ring moment s (Protect mode datagram payload ∷ steps) served order is =
-    goes_on ring moment (record s { fronted = None }) steps served order (record { sets = is.sets; keys = is.keys })
+goes_on ring moment s [] served order of_ring is = is
+goes_on ring moment s (TurnTo now ∷ steps) served order of_ring is = goes_on ring now (turned s now) steps served order.1 of_ring (turns_on ring s moment now served order.0 is)
+goes_on ring moment s (Renew sets ∷ steps) served order of_ring is = goes_on ring moment (renewed s sets) steps served order of_ring.1 (record { sets = of_ring.0; keys = is.keys })
+goes_on ring moment s (Front mode ∷ steps) served order of_ring is = goes_on ring moment (advanced mode s) steps served order of_ring (record { sets = is.sets; keys = is.keys })
+goes_on ring moment s (Protect mode datagram payload ∷ steps) served order of_ring is =
+    goes_on ring moment (record s { fronted = None }) steps served order of_ring (record { sets = is.sets; keys = is.keys })
 
 pub publisher_goes_on : (ring : Ring) (s : SenderState) → StaysPublisher ring s
 publisher_goes_on ring s moment steps = goes_on ring moment s steps

@@ -20,7 +20,7 @@ use Rattle.message_guard.specs.Modes.{is_secured}
 use Rattle.message_guard.specs.Opened.{sent_pass}
 use Rattle.message_guard.specs.Opening.{opened, verdict}
 use Rattle.message_guard.specs.Protection.{keys_in, keys_with, payload_in, signature_of}
-use Rattle.message_guard.specs.Senders.{IsSender, MayProtect, SenderState, SenderStep, TurnTo, Front, Protect, after, front_value, made_of}
+use Rattle.message_guard.specs.Senders.{IsSender, MayProtect, SenderState, SenderStep, TurnTo, Renew, Front, Protect, after, front_value, made_of}
 
 -- The keys of a guard over the ring that a puller makes of the answer to start 0. `Guard::new` has these of the ring that `pulled` gives.
 abbrev pub pulled_keys : Ring → ℕ → ℕ → List TokenKeys
@@ -42,6 +42,7 @@ pub record IsCoveredSender (ring : Ring) (now count moment : ℕ) (s : SenderSta
 abbrev pub moment_after : ℕ → List SenderStep → ℕ
 moment_after moment [] = moment
 moment_after moment (TurnTo now ∷ steps) = moment_after now steps
+moment_after moment (Renew sets ∷ steps) = moment_after moment steps
 moment_after moment (Front mode ∷ steps) = moment_after moment steps
 moment_after moment (Protect mode datagram payload ∷ steps) = moment_after moment steps
 
@@ -49,13 +50,22 @@ moment_after moment (Protect mode datagram payload ∷ steps) = moment_after mom
 abbrev pub AreInOrder : ℕ → List SenderStep → Type 0
 AreInOrder moment [] = ⊤
 AreInOrder moment (TurnTo now ∷ steps) = (moment ≤ now) × AreInOrder now steps
+AreInOrder moment (Renew sets ∷ steps) = AreInOrder moment steps
 AreInOrder moment (Front mode ∷ steps) = AreInOrder moment steps
 AreInOrder moment (Protect mode datagram payload ∷ steps) = AreInOrder moment steps
+
+-- where it is renewed, it is by the sets of this ring
+abbrev pub AreOfRing : Ring → List SenderStep → Type 0
+AreOfRing ring [] = ⊤
+AreOfRing ring (TurnTo now ∷ steps) = AreOfRing ring steps
+AreOfRing ring (Renew sets ∷ steps) = (sets ≡ key_sets ring) × AreOfRing ring steps
+AreOfRing ring (Front mode ∷ steps) = AreOfRing ring steps
+AreOfRing ring (Protect mode datagram payload ∷ steps) = AreOfRing ring steps
 
 -- the publisher's sender stays the publisher's, at the last moment that it turned to, whatever is sent with it in between
 abbrev pub StaysPublisher : Ring → SenderState → Type 0
 StaysPublisher ring s = (moment : ℕ) (steps : List SenderStep) → IsServedRing ring → AreInOrder moment steps
-    → IsPublisherAt ring moment s → IsPublisherAt ring (moment_after moment steps) (after s steps)
+    → AreOfRing ring steps → IsPublisherAt ring moment s → IsPublisherAt ring (moment_after moment steps) (after s steps)
 
 -- the guard has the sender's keys, under their token
 abbrev pub HasSendersKeys : Ring → ℕ → ℕ → SenderState → Type 0

@@ -36,7 +36,8 @@ pub fn a_guard_of_a_pulled_ring_has_the_senders_keys()
         → IsCoveredSender ring now count moment s → HasSendersKeys ring now count s }
 {}
 
-/// The publisher's sender, whatever is sent with it while its moments don't fall, is the publisher's sender at the last of these.
+/// The publisher's sender, whatever is sent with it while its moments don't fall, and where nothing but its own ring renews it, is the
+/// publisher's sender at the last of these.
 pub fn a_publishers_sender_goes_on()
     ensures { (ring : Ring) (s : SenderState) → StaysPublisher ring s }
 {}

@@ -7,3 +7,4 @@ pub mod Covered
 pub mod Pullable
 pub mod Served
 pub mod Used
+pub mod Later

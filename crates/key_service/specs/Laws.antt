@@ -9,7 +9,7 @@ use Rattle.group_keys.specs.KeySets.{current, encrypting_length, with_token}
 use Rattle.group_keys.specs.Ring.{is_long, key_sets}
 use Rattle.key_service.specs.declared.service.Keys.{Keys}
 use Rattle.key_service.specs.Answers.{answered, next_of}
-use Rattle.key_service.specs.Pulled.{as_read, from_moment, IsPullable, moments_fit, pulled_sets}
+use Rattle.key_service.specs.Pulled.{later, as_read, from_moment, IsPullable, moments_fit, pulled_sets}
 use Rattle.key_service.specs.Reading.{reply_in, request_in}
 use Rattle.key_service.specs.Services.{IsServed, lifetime_of}
 use Rattle.key_service.specs.Spelling.{reply_bytes, request_bytes}
@@ -81,3 +81,9 @@ abbrev pub UsesKeyOfMoment : Ring → ℕ → ℕ → Keys → Type 0
 UsesKeyOfMoment ring now count keys = (moment : ℕ) (set : KeySet)
     → IsCovered (key_sets ring) now count moment → current (key_sets ring) moment ≡ Some set
     → (from : ℕ) × (current (pulled_sets keys) (moment - now) ≡ Some (from_moment set from))
+
+-- a puller whose clock stood at this moment when it was answered uses, so much later, the keys that it uses where its clock stood at 0
+abbrev pub UsesKeysLater : Keys → ℕ → Type 0
+UsesKeysLater keys clock = (span : ℕ) (set : KeySet)
+    → current (pulled_sets keys) span ≡ Some set
+    → (from : ℕ) × (current (pulled_sets (later clock keys)) (clock + span) ≡ Some (from_moment set from))

@@ -2,7 +2,7 @@
 ghost use Rattle.std.specs.Prelude.{◌≡◌, ℕ, List, Ok};
 ghost use Rattle.group_keys.specs.declared.ring.Ring.{Ring};
 ghost use Rattle.key_service.specs.Answers.{answer};
-ghost use Rattle.key_service.specs.Laws.{HasKeysOfMoment, IsPulledReadBack, IsReply, IsRequest, IsRequestReadBack, IsServedRing, UsesKeyOfMoment};
+ghost use Rattle.key_service.specs.Laws.{HasKeysOfMoment, IsPulledReadBack, IsReply, IsRequest, IsRequestReadBack, IsServedRing, UsesKeyOfMoment, UsesKeysLater};
 ghost use Rattle.key_service.specs.Pulled.{as_read, IsPullable, pulled_sets};
 ghost use Rattle.key_service.specs.Reading.{reply_in};
 ghost use Rattle.key_service.specs.Spelling.{reply_bytes};
@@ -60,4 +60,9 @@ pub fn the_keys_of_covered_moments_are_pulled()
 pub fn a_puller_uses_the_publishers_keys()
     ensures { (ring : Ring) (now count : ℕ) → IsServedRing ring
         → UsesKeyOfMoment ring now count (answer ring now 0 count) }
+{}
+
+/// A puller uses the same keys whatever its clock told when it was answered, as long after.
+pub fn a_later_clock_uses_the_same_keys()
+    ensures { (keys : Keys) (clock : ℕ) → UsesKeysLater keys clock }
 {}

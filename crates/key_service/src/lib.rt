@@ -14,11 +14,12 @@ mod wire_fault;
 mod writing;
 
 pub use laws::{
-    a_current_answer_can_be_pulled, a_puller_uses_the_publishers_keys,
-    a_read_answer_is_pulled_as_the_answer, a_written_answer_is_pulled, a_written_reply_is_read,
-    a_written_request_is_read, an_answer_is_a_reply, the_keys_of_covered_moments_are_pulled,
+    a_current_answer_can_be_pulled, a_later_clock_uses_the_same_keys,
+    a_puller_uses_the_publishers_keys, a_read_answer_is_pulled_as_the_answer,
+    a_written_answer_is_pulled, a_written_reply_is_read, a_written_request_is_read,
+    an_answer_is_a_reply, the_keys_of_covered_moments_are_pulled,
 };
-pub use puller::{can_be_pulled, pulled};
+pub use puller::{can_be_pulled, pulled, pulled_at};
 pub use reading::{Request, read_reply, read_request};
 pub use service::{Keys, Service};
 pub use service_fault::{KeyFault, ServiceFault};

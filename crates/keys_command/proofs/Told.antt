@@ -6,14 +6,14 @@ use Rattle.ua_base.specs.Cause.{HasCause, Rose}
 use Rattle.ua_base.specs.Files.{ToldFile}
 use Rattle.ps_config.specs.declared.parts.Config.{Config}
 use Rattle.ps_config.specs.Reading.{Judgement, configuration}
-use Rattle.command_parts.specs.declared.status.Status.{Status}
-use Rattle.command_parts.specs.declared.status.Status.TheVariants.{Done, BadWords, ConfigRefused, NoSource, ScriptRefused, NotInLanes, Unread, Unwritten, OutOfMemory, Unopened, Long}
-use Rattle.command_parts.specs.Outside.{Outside}
-use Rattle.command_parts.specs.Outputs.{EndsWriting}
-use Rattle.command_parts.specs.Statuses.{number_of, IsDone, IsConfigRefused, IsUnread, IsUnwritten, IsOutOfMemory, IsTooLong}
-use Rattle.command_parts.specs.Files.{IsLong, IsTold}
-use Rattle.command_parts.specs.Configurations.{EndsConfigFile, IsJudged}
-use Rattle.command_parts.proofs.Told.{judged_told, long_judged, long_is, long_short}
+use Rattle.commands.specs.declared.status.Status.{Status}
+use Rattle.commands.specs.declared.status.Status.TheVariants.{Done, BadWords, ConfigRefused, NoSource, ScriptRefused, NotInLanes, Unread, Unwritten, OutOfMemory, Unopened, Long}
+use Rattle.commands.specs.Outside.{Outside}
+use Rattle.commands.specs.Outputs.{EndsWriting}
+use Rattle.commands.specs.Statuses.{number_of, IsDone, IsConfigRefused, IsUnread, IsUnwritten, IsOutOfMemory, IsTooLong}
+use Rattle.commands.specs.Files.{IsLong, IsTold}
+use Rattle.commands.specs.Configurations.{EndsConfigFile, IsJudged}
+use Rattle.commands.proofs.Told.{judged_told, long_judged, long_is, long_short}
 use Rattle.keys_command.specs.declared.words.Asked.{Asked}
 use Rattle.keys_command.specs.Ends.{KeysEnds, Says, TellsAnswer, TellsKeys}
 

@@ -6,12 +6,12 @@ use Rattle.ua_base.specs.Output.{appended, AppendsPrefix}
 use Rattle.key_service.specs.declared.service.Keys.{Keys}
 use Rattle.ps_config.specs.declared.parts.Config.{Config}
 use Rattle.ps_config.specs.Reading.{configuration}
-use Rattle.command_parts.specs.declared.status.Status.{Status}
-use Rattle.command_parts.specs.declared.status.Status.TheVariants.{Done, Unwritten}
-use Rattle.command_parts.specs.Outside.{Outside, IsQuiet}
-use Rattle.command_parts.specs.Statuses.{IsDone, IsConfigRefused, IsUnread, IsUnwritten, IsOutOfMemory, IsTooLong}
-use Rattle.command_parts.specs.Files.{IsLong, IsTold}
-use Rattle.command_parts.specs.Configurations.{IsJudged, EndsConfigFile}
+use Rattle.commands.specs.declared.status.Status.{Status}
+use Rattle.commands.specs.declared.status.Status.TheVariants.{Done, Unwritten}
+use Rattle.commands.specs.Outside.{Outside, IsQuiet}
+use Rattle.commands.specs.Statuses.{IsDone, IsConfigRefused, IsUnread, IsUnwritten, IsOutOfMemory, IsTooLong}
+use Rattle.commands.specs.Files.{IsLong, IsTold}
+use Rattle.commands.specs.Configurations.{IsJudged, EndsConfigFile}
 use Rattle.keys_command.specs.declared.refusal.Refusal.{Refusal}
 use Rattle.keys_command.specs.declared.words.Asked.{Asked}
 use Rattle.keys_command.specs.Answers.{IsAnswer}

@@ -1,14 +1,14 @@
 //! Asking for keys.
 ghost use Rattle.std.specs.Prelude.{◌≡◌, IfOk, IfErr};
 ghost use Rattle.ua_base.specs.Cause.{Rose};
-ghost use Rattle.command_parts.specs.Outside.{KeepsFolder, outside_of};
-ghost use Rattle.command_parts.specs.Statuses.{IsDone, IsUnread, IsUnwritten};
-ghost use Rattle.command_parts.specs.Configurations.{EndsConfigFile};
+ghost use Rattle.commands.specs.Outside.{KeepsFolder, outside_of};
+ghost use Rattle.commands.specs.Statuses.{IsDone, IsUnread, IsUnwritten};
+ghost use Rattle.commands.specs.Configurations.{EndsConfigFile};
 ghost use Rattle.keys_command.specs.Ends.{KeysEnds, TellsKeys};
 
 use crate::text::answer_text;
 use crate::words::Asked;
-use command_parts::{Status, read_configuration, write_text};
+use commands::{Status, read_configuration, write_text};
 use std::alloc::Global;
 use ua_base::{Folder, NoMemory, Sink};
 

@@ -1,6 +1,6 @@
 //! Runs of the command over a folder and an output in memory.
 use case_lines::{Answer, Line, LineFault, said};
-use command_parts::Word;
+use commands::Word;
 use keys_command::{keys, keys_in};
 use mem_edge::{MemoryFolder, MemorySink, Name};
 use std::alloc::{AllocError, Global};

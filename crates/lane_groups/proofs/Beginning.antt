@@ -35,6 +35,7 @@ module _ (config : Config) (g : ℕ) where
     record {
       index = is.0.index ∙ was.1.index;
       made = is.0.made config (group_at config g) was.1.made;
+      logs = is.0.logs.all was.1.logs;
       reserved = subst (λ (p : Place). IsReserved p.out) (sym is.1) was.1.reserved;
     },
   )

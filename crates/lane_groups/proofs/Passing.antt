@@ -19,7 +19,7 @@ use Rattle.writer_group.specs.declared.group.Group.{Group}
 use Rattle.writer_group.specs.declared.sampled.Sampled.{Sampled}
 use Rattle.writer_group.specs.Parts.{group_at, no_group}
 use Rattle.writer_group.specs.Sealing.{advanced_by}
-use Rattle.writer_group.specs.Standing.{HasTicked, IsGroup, IsMadeFor, MayGoOn, TellsDue, datagrams_in, index_of, input_of, metas_for}
+use Rattle.writer_group.specs.Standing.{HasTicked, IsGroup, IsMadeFor, KeepsLogs, MayGoOn, TellsDue, datagrams_in, index_of, input_of, metas_for}
 use Rattle.writer_group.specs.Limits.{most_datagrams}
 use Rattle.writer_group.specs.Payloads.{meta_at}
 use Rattle.writer_group.specs.Turning.{MakesBytes, OfEachTurn}
@@ -184,6 +184,7 @@ module _ (told : Told) (g : ℕ) (old mid : Place) (before : Option SenderState)
   mid-place = record {
     index = ap index_of is.group ∙ may.place_is.index;
     made = subst (λ (w : Group). IsMadeFor told.config.now (group_at told.config.now g) w) (sym is.group) may.place_is.made;
+    logs = subst KeepsLogs (sym is.group) may.place_is.logs;
     reserved = is.shown.reserved;
   }
 
@@ -265,7 +266,7 @@ module _ (told : Told) (g : ℕ) (place : Place) (sender : Option SenderState) (
       → TakesTurn told g on sender count place.group group out → count ≤ most_datagrams → HasAdvanced told g count sender after
       → Turns told g place (record { group = group; out = out; count = count }) sender after
   turns-are on count group out after on_is takes few advanced = record {
-    place_is = record { index = takes.index ∙ may.place_is.index; made = takes.made; reserved = takes.reserved };
+    place_is = record { index = takes.index ∙ may.place_is.index; made = takes.made; logs = takes.logs.all may.place_is.logs; reserved = takes.reserved };
     shown = record { reserved = takes.reserved; count = takes.count_is; few = few };
     sender_is = record { there = ap is_some advanced.advanced ∙ same-there count sender ∙ may.sender_is.there; sender_is = advanced.sender_is };
     goes_on = subst (λ (l : List MetaData). (turns : ℕ) → MayGoOn (metas_for (group_at told.config.now g) l) (group_at told.config.now g) (turns + 1) place.group

@@ -5,7 +5,7 @@ use Rattle.message_guard.specs.Senders.{SenderState, IsSender}
 use Rattle.ps_config.specs.declared.parts.Config.{Config}
 use Rattle.writer_group.specs.declared.group.Group.{Group}
 use Rattle.writer_group.specs.Parts.{group_at}
-use Rattle.writer_group.specs.Standing.{IsGood, IsGroup, IsMadeFor, metas_for}
+use Rattle.writer_group.specs.Standing.{IsGood, IsGroup, IsMadeFor, KeepsLogs, metas_for}
 use Rattle.session_model.specs.Sets.{AreRowsOf}
 use Rattle.session_model.specs.Deeds.{Deed, group_past, sender_after}
 use Rattle.group_threads.specs.Pairs.{Pair}
@@ -64,6 +64,10 @@ IsGroupIn lane g group =
 -- it was made for that group of the configuration whose lane it is
 abbrev pub IsMadeIn : Lane → ℕ → Group → Type 0
 IsMadeIn lane g group = (config : Config) → g < length config.group → IsLane config lane → IsMadeFor config (group_at config g) group
+
+-- the logs of its writers keep each data frame, in a lane of whichever configuration
+abbrev pub IsLoggedIn : Lane → ℕ → Group → Type 0
+IsLoggedIn lane g group = (config : Config) → g < length config.group → IsLane config lane → KeepsLogs group
 
 -- the datagrams of its last turn
 abbrev pub made_by : Lane → List Pair

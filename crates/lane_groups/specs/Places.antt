@@ -8,7 +8,7 @@ use Rattle.ps_config.specs.declared.parts.GroupPart.{GroupPart}
 use Rattle.writer_group.specs.declared.group.Group.{Group}
 use Rattle.writer_group.specs.Limits.{most_datagrams}
 use Rattle.writer_group.specs.Parts.{group_at}
-use Rattle.writer_group.specs.Standing.{IsGroup, IsMadeFor, IsReserved, MayGoOn, datagrams_in, index_of, metas_for}
+use Rattle.writer_group.specs.Standing.{IsGroup, IsMadeFor, IsReserved, KeepsLogs, KeepsOnLogging, MayGoOn, datagrams_in, index_of, metas_for}
 use Rattle.writer_group.specs.Turns.{GroupDeed}
 use Rattle.session_model.specs.Deeds.{Deed, group_past, refreshed_where, shares}
 use Rattle.group_threads.specs.Pairs.{Pair}
@@ -33,10 +33,11 @@ pub record IsShown (place : Place) : Type 0 where
   pub count : place.count ≡ length (datagrams_in place.out)
   pub few : place.count ≤ most_datagrams
 
--- it has the group with this index of the configuration
+-- it has the group with this index of the configuration, and the logs of its writers keep each data frame
 pub record IsPlaceOf (config : Config) (g : ℕ) (place : Place) : Type 0 where
   pub index : index_of place.group ≡ g
   pub made : IsMadeFor config (group_at config g) place.group
+  pub logs : KeepsLogs place.group
   pub reserved : IsReserved place.out
 
 -- the group with this index isn't of this key group
@@ -82,6 +83,7 @@ pub record IsRefreshed (writers : ℕ) (old new : Group) : Type 0 where
   pub stands : (metas : ℕ → MetaData) (part : GroupPart) (past : List GroupDeed) → IsGroup metas part past old
       → IsGroup metas part (refreshed_where (λ writer. true) past (range_with_len 0 writers)) new
   pub goes_on : (metas : ℕ → MetaData) (part : GroupPart) (turns : ℕ) → MayGoOn metas part turns old → MayGoOn metas part turns new
+  pub logs : KeepsOnLogging old new
 
 -- if there is a group
 abbrev pub IsRefreshedIf : ℕ → Option Place → Option Place → Type 0

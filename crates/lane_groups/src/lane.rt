@@ -3,7 +3,7 @@ ghost use Rattle.std.specs.Prelude.{◌≡◌, ◌<◌, IfSome, is_some, length,
 ghost use Rattle.message_guard.specs.Senders.{IsSender};
 ghost use Rattle.writer_group.specs.Standing.{IsGood};
 ghost use Rattle.lane_groups.specs.Finding.{HasDatagram, IsFound, count_of, datagram_of};
-ghost use Rattle.lane_groups.specs.Lanes.{HasMade, IsGroupIn, IsLane, IsMadeIn, has_group, made_by};
+ghost use Rattle.lane_groups.specs.Lanes.{HasMade, IsGroupIn, IsLane, IsLoggedIn, IsMadeIn, has_group, made_by};
 ghost use Rattle.lane_groups.specs.Passing.{AreRefreshable, AreRefreshed, HasCome, HaveBegun, HavePassed, IsToldBy, MayPassAll};
 
 use crate::place::{Place, pass, refresh, writers_in};
@@ -90,6 +90,7 @@ impl Lane {
         ensures there { is_some result ≡ has_group self.now index }
         ensures stands { IfSome result (λ group. IsGroupIn self.now index group.now) }
         ensures made { IfSome result (λ group. IsMadeIn self.now index group.now) }
+        ensures logs { IfSome result (λ group. IsLoggedIn self.now index group.now) }
     {
         let g = usize::from(index);
         if g >= self.places.len() {

@@ -2,7 +2,7 @@
 ghost use Rattle.std.specs.Prelude.{◌<◌};
 
 use case_lines::{Answer, LineFault};
-use command_parts::tell;
+use commands::tell;
 use lanes_command::lanes_by;
 use mem_edge::{MemoryFolder, MemorySink, Name, OpenGate};
 use std::alloc::Global;

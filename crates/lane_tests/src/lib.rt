@@ -1,9 +1,9 @@
 //! Lanes over small makers, at a gate and at queues of one place and of many, and the command `lanes` past the same gate.
 #![tactic(auto)]
 
-#[cfg(test)]
-mod commands;
 mod few;
+#[cfg(test)]
+mod lanes;
 #[cfg(test)]
 mod meeting;
 #[cfg(test)]

@@ -6,7 +6,7 @@ use Rattle.std.proofs.lemmas.Option.{slice_get_cases}
 use Rattle.ps_config.specs.declared.parts.Config.{Config}
 use Rattle.writer_group.specs.declared.group.Group.{Group}
 use Rattle.writer_group.specs.Parts.{group_at}
-use Rattle.writer_group.specs.Standing.{IsGroup, IsMadeFor, metas_for}
+use Rattle.writer_group.specs.Standing.{IsGroup, IsMadeFor, KeepsLogs, metas_for}
 use Rattle.session_model.specs.Deeds.{Deed, group_past}
 use Rattle.session_parts.proofs.Counting.{range-more}
 use Rattle.lane_groups.specs.declared.lane.Lane.{Lane}
@@ -26,6 +26,13 @@ pub group-made : (config : Config) (lanes : List Lane) (g : ℕ) (group : Group)
 group-made config lanes g group have low is =
     elim ((slice_get_cases lanes is.lane).1) [
       | inl at ↦ is.made at.0 config low (have.each is.lane at.0 is.within)
+      | inr past ↦ absurd (omega (arith, is.within, past.0))
+    ]
+
+pub group-logs : (config : Config) (lanes : List Lane) (g : ℕ) (group : Group) → HaveGroups config lanes → g < length config.group → IsGroupOf lanes g group → KeepsLogs group
+group-logs config lanes g group have low is =
+    elim ((slice_get_cases lanes is.lane).1) [
+      | inl at ↦ is.logs at.0 config low (have.each is.lane at.0 is.within)
       | inr past ↦ absurd (omega (arith, is.within, past.0))
     ]
 

@@ -7,9 +7,9 @@ use Rattle.session_model.specs.Deeds.{deeds, log_at}
 use Rattle.session_model.specs.Sends.{Send}
 use Rattle.script_player.specs.Plays.{plan_by}
 use Rattle.lane_groups.specs.Deeds.{datagrams_by}
-use Rattle.command_parts.specs.declared.status.Status.{Status}
-use Rattle.command_parts.specs.Outside.{Outside, Wire}
-use Rattle.session_command.specs.Sessions.{SessionEnds}
+use Rattle.commands.specs.declared.status.Status.{Status}
+use Rattle.commands.specs.Outside.{Outside, Wire}
+use Rattle.commands.specs.Sessions.{SessionEnds}
 use Rattle.lanes_command.specs.Scripts.{refusal, ticks_of}
 use Rattle.lanes_command.specs.Sends.{AreSent, Counts, datagrams_to}
 use Rattle.lanes_command.specs.Texts.{lanes_text}

@@ -12,7 +12,7 @@ use Rattle.session_model.specs.Answers.{counted}
 use Rattle.session_model.specs.Deeds.{Deed, group_past}
 use Rattle.lane_groups.specs.declared.lane.Lane.{Lane}
 use Rattle.lane_groups.specs.declared.running.Ran.{Ran}
-use Rattle.lane_groups.specs.Lanes.{IsGroupIn, IsLane, IsMadeIn, Stands, has_group}
+use Rattle.lane_groups.specs.Lanes.{IsGroupIn, IsLane, IsLoggedIn, IsMadeIn, Stands, has_group}
 use Rattle.lanes_command.specs.Sends.{Counts}
 
 -- the group with this index stands in one of these lanes
@@ -36,6 +36,7 @@ pub record IsGroupOf (lanes : List Lane) (g : ℕ) (group : Group) : Type 0 wher
   pub within : lane < length lanes
   pub stands : (none : Lane) → IsGroupIn (slice_index_or lanes lane none) g group
   pub made : (none : Lane) → IsMadeIn (slice_index_or lanes lane none) g group
+  pub logs : (none : Lane) → IsLoggedIn (slice_index_or lanes lane none) g group
 
 -- the log of a writer of a group with this past
 abbrev pub log_in : GroupPart → List GroupDeed → ℕ → List (ℕ × ℕ)

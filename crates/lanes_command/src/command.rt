@@ -1,14 +1,13 @@
 //! The command `lanes`.
 ghost use Rattle.std.specs.Prelude.{◌≡◌, ◌≢◌, ◌≤◌, ◌<◌, None, Some, Err, IfOk, OnOk, option_copied};
-ghost use Rattle.command_parts.specs.Outside.{outside_of, wire_of};
-ghost use Rattle.command_parts.specs.Statuses.{IsDone, IsUnwritten};
-ghost use Rattle.session_command.specs.Links.{IsBeforeLink};
+ghost use Rattle.commands.specs.Outside.{outside_of, wire_of};
+ghost use Rattle.commands.specs.Statuses.{IsDone, IsUnwritten};
+ghost use Rattle.commands.specs.Links.{IsBeforeLink};
 ghost use Rattle.lanes_command.specs.Runs.{LanesEnds};
 
 use crate::playing::play_lanes;
 use crate::refusal::refused;
-use command_parts::{Status, write_text};
-use session_command::{accept, status_of};
+use commands::{Status, accept, status_of, write_text};
 use std::alloc::Global;
 use std::sync::Wait;
 use std::thread::Threads;

@@ -2,7 +2,7 @@
 ghost use Rattle.std.specs.Prelude.{◌≡◌, ◌<◌, ◌≤◌, ◌++◌, ℕ, List, IfOk, OnOk, length};
 ghost use Rattle.std.specs.List.{flat_map};
 ghost use Rattle.dataset_meta.specs.Metas.{MetaData};
-ghost use Rattle.writer_group.specs.Standing.{IsGood, IsGroup, writer_count};
+ghost use Rattle.writer_group.specs.Standing.{IsGood, IsGroup, KeepsLogs, writer_count};
 ghost use Rattle.writer_group.specs.Turns.{GroupDeed};
 ghost use Rattle.session_model.specs.Answers.{counted};
 ghost use Rattle.session_model.specs.Deeds.{Deed, group_indexes};
@@ -54,6 +54,7 @@ fn put_groups(out: &mut Vec<u8>, config: &Config, ran: &Ran) -> Result<(), NoMem
 fn put_writers(out: &mut Vec<u8>, part: &GroupPart, group: &Group) -> Result<(), NoMemory>
     requires count { writer_count group.now ≡ length part.now.writer }
     requires few { length part.now.writer ≤ 16 }
+    requires logs { KeepsLogs group.now }
     ensures { (metas : ℕ → MetaData) (past : List GroupDeed)
         → IsGroup metas part.now past group.now → OnOk result (out.new.items
         ≡ out.old.items ++ writer_lines part.now (log_in part.now past)) }

@@ -1,16 +1,16 @@
 -- How the command ends, from what its status says and from the counts.
 use Rattle.std.proofs.Common.{◌≡◌, ◌⊎◌, inl, inr, ℕ, List, Result, Err, refl, ap, arith}
 use Rattle.ua_base.specs.Cause.{HasCause}
-use Rattle.command_parts.specs.declared.status.Status.{Status}
-use Rattle.command_parts.specs.declared.status.Status.TheVariants.{Done, BadWords, ConfigRefused, NoSource, ScriptRefused, NotInLanes, Unread, Unwritten, OutOfMemory, Unopened, Long}
-use Rattle.command_parts.specs.Outputs.{EndsWriting}
-use Rattle.command_parts.specs.Outside.{Wire}
-use Rattle.command_parts.specs.Statuses.{IsDone, IsUnwritten, IsOutOfMemory, IsUnopened}
+use Rattle.commands.specs.declared.status.Status.{Status}
+use Rattle.commands.specs.declared.status.Status.TheVariants.{Done, BadWords, ConfigRefused, NoSource, ScriptRefused, NotInLanes, Unread, Unwritten, OutOfMemory, Unopened, Long}
+use Rattle.commands.specs.Outputs.{EndsWriting}
+use Rattle.commands.specs.Outside.{Wire}
+use Rattle.commands.specs.Statuses.{IsDone, IsUnwritten, IsOutOfMemory, IsUnopened}
 use Rattle.script_player.specs.declared.play.PlayEnd.{PlayEnd}
 use Rattle.script_player.specs.declared.play.PlayEnd.TheVariants as ends
-use Rattle.session_command.specs.Endings.{status_of}
-use Rattle.session_command.specs.Links.{UsesLink}
-use Rattle.session_command.proofs.Ended.{written_late}
+use Rattle.commands.specs.Endings.{status_of}
+use Rattle.commands.specs.Links.{UsesLink}
+use Rattle.commands.proofs.Ended.{written_late}
 use Rattle.load_command.specs.Loads.{LoadEnds, Loads, OpensForWork, Output, Summarizes}
 
 abbrev pub ended : {T : Type 0} → PlayEnd → Result T PlayEnd

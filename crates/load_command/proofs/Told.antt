@@ -37,7 +37,7 @@ use Rattle.session_laws.specs.Telling.{IsReaderTold}
 use Rattle.script_player.specs.Plays.{opening_of, plan_by}
 use Rattle.script_runner.specs.Legal.{fields_in, history_by, row_made, writes_to}
 use Rattle.script_runner.specs.Runs.{IsRunOf}
-use Rattle.command_parts.specs.Outside.{Wire}
+use Rattle.commands.specs.Outside.{Wire}
 use Rattle.load_command.specs.Loads.{HoldsVersion, OpensForWork, Summarizes, TellsHonestly}
 use Rattle.load_command.specs.Newest.{newest_row, newest_text}
 use Rattle.load_command.proofs.Last.{law_newest, law_ticks, law_versions}

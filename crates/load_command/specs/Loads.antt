@@ -12,11 +12,11 @@ use Rattle.ps_report.specs.Reports.{load_text, load_versions}
 use Rattle.ps_script.specs.Generated.{generated}
 use Rattle.script_player.specs.Plays.{opening_of}
 use Rattle.script_runner.specs.Runs.{IsRunOf}
-use Rattle.command_parts.specs.declared.status.Status.{Status}
-use Rattle.command_parts.specs.declared.status.Status.TheVariants.{Done, Unwritten, OutOfMemory, Unopened}
-use Rattle.command_parts.specs.Outside.{Wire, IsQuiet}
-use Rattle.command_parts.specs.Statuses.{IsDone, IsUnwritten, IsOutOfMemory, IsUnopened}
-use Rattle.session_command.specs.Links.{UsesLink}
+use Rattle.commands.specs.declared.status.Status.{Status}
+use Rattle.commands.specs.declared.status.Status.TheVariants.{Done, Unwritten, OutOfMemory, Unopened}
+use Rattle.commands.specs.Outside.{Wire, IsQuiet}
+use Rattle.commands.specs.Statuses.{IsDone, IsUnwritten, IsOutOfMemory, IsUnopened}
+use Rattle.commands.specs.Links.{UsesLink}
 use Rattle.load_command.specs.Newest.{newest_text}
 
 -- ---- the outside

@@ -2,6 +2,7 @@
 use Rattle.std.specs.Prelude.{◌≡◌, ◌≢◌, ℕ, ◌<◌, ◌≤◌, List, ◌++◌, length, map, true, Bool, AllPairs, Option, Some, Ok, option_map}
 use Rattle.group_keys.specs.Faults.{IsAccepted}
 use Rattle.group_keys.specs.KeySets.{Rises, current}
+use Rattle.group_keys.specs.declared.key_set.KeySet.{KeySet}
 use Rattle.uadp_header.specs.Headers.{HeaderValue, SecurityValue}
 use Rattle.uadp_header.specs.Reading.{IsSecured}
 use Rattle.uadp_header.specs.Spelling.{IsWritten, IsSendersSecurity, header_bytes}
@@ -11,10 +12,10 @@ use Rattle.message_guard.specs.declared.mode.Mode.TheVariants as modes
 use Rattle.message_guard.specs.declared.pass.Pass1.{Pass1}
 use Rattle.message_guard.specs.Modes.{is_secured}
 use Rattle.message_guard.specs.Protection.{keys_in, keys_with, with_stream, signature_of}
-use Rattle.message_guard.specs.Acceptance.{Accepted, AreAcceptable, is_acceptable}
+use Rattle.message_guard.specs.Acceptance.{Accepted, AreAcceptable, AreAcceptableCalls, GuardCall, accepted_in, is_acceptable}
 use Rattle.message_guard.specs.Opening.{has_mode, open_pass, signed_pass, verdict, opened}
 use Rattle.message_guard.specs.Opened.{MayOpen, IsPassed, sent_pass}
-use Rattle.message_guard.specs.Senders.{SenderState, SenderStep, IsSender, AreAllowed, HaveOtherNumbers, after, datagrams_of, front_value, fronts_in, numbers_left, sent, turned}
+use Rattle.message_guard.specs.Senders.{SenderState, SenderStep, IsSender, AreAllowed, AreLives, HaveOtherNumbers, Life, after, KeepsToken, datagrams_of, datagrams_over, front_value, fronts_in, numbers_left, renewed, sent, turned}
 
 -- the stream added twice to any payload leaves it
 abbrev pub StreamCancels : Mode → TokenKeys → Type 0
@@ -91,10 +92,19 @@ abbrev pub AcceptsOnce : List TokenKeys → Type 0
 AcceptsOnce keys = (accepted : Accepted) → AreAcceptable keys accepted
     → AllPairs (λ a b. a ≢ b) accepted
 
+-- the same where rings came in between: where each pair was acceptable with the keys of its time
+abbrev pub AcceptsOnceRenewed : List TokenKeys → Type 0
+AcceptsOnceRenewed first = (calls : List GuardCall) → AreAcceptableCalls first calls
+    → AllPairs (λ a b. a ≢ b) (accepted_in calls)
+
 -- the datagrams that the steps protect have numbers of their own, where each step is allowed when it comes
 abbrev pub HasOtherNumbersEach : SenderState → List SenderStep → Type 0
 HasOtherNumbersEach s steps = IsSender s → AreAllowed s steps
     → AllPairs HaveOtherNumbers (datagrams_of s steps)
+
+-- the datagrams of all lives of a device have numbers of their own
+abbrev pub HaveOtherNumbersOver : List Life → Type 0
+HaveOtherNumbersOver lives = AreLives lives → AllPairs HaveOtherNumbers (datagrams_over lives)
 
 -- a sender that isn't spent has a number for each front of the steps, fewer than 1,024, and one more
 abbrev pub HasNumbersFor : SenderState → List SenderStep → Type 0
@@ -106,6 +116,23 @@ abbrev pub HasKeysOfMoments : Bool → SenderState → Type 0
 HasKeysOfMoments long s = (earlier now : ℕ) → IsAccepted long s.sets → earlier ≤ now
     → option_map keys_in (current s.sets earlier) ≡ Some s.keys
     → option_map keys_in (current s.sets now) ≡ Some (turned s now).keys
+
+-- a ring in which a later set has come gives its keys to a sender that is renewed by it, whatever the sender had
+abbrev pub GoesOnToRing : SenderState → List KeySet → Type 0
+GoesOnToRing s sets = (now : ℕ) (set : KeySet) → current sets now ≡ Some set → s.keys.token < set.token
+    → (turned (renewed s sets) now).keys ≡ keys_in set
+
+-- a guard of the sender's ring has the keys in use
+abbrev pub IsKnown : SenderState → Type 0
+IsKnown s = keys_with (map keys_in s.sets) s.keys.token ≡ Some s.keys
+
+-- where the other ring has the token in use with the same keys, they are still known in the ring
+abbrev pub StaysKnown : SenderState → List KeySet → Type 0
+StaysKnown s sets = KeepsToken s sets → IsKnown s → IsKnown (renewed s sets)
+
+-- and they are at each moment that it turns to
+abbrev pub StaysKnownAt : SenderState → ℕ → Type 0
+StaysKnownAt s now = Rises s.sets → IsKnown s → IsKnown (turned s now)
 
 -- where the sender has the keys of the moment, a guard of its ring has them
 abbrev pub IsKnownInRing : SenderState → ℕ → Type 0

@@ -1,6 +1,6 @@
 -- A sender's state, and what its calls make of it.
-use Rattle.std.specs.Prelude.{◌≡◌, ◌≢◌, ℕ, ◌+◌, ◌-◌, ◌^◌, ◌<◌, ◌≤◌, List, [], ◌∷◌, length, take, true, false, nat_lt, Option, Some, None, if◌then◌else◌}
-use Rattle.group_keys.specs.KeySets.{current}
+use Rattle.std.specs.Prelude.{◌≡◌, ◌≢◌, ◌⊎◌, ℕ, ◌+◌, ◌-◌, ◌^◌, ◌<◌, ◌≤◌, List, [], ◌∷◌, ◌++◌, length, take, true, false, nat_lt, Option, Some, None, if◌then◌else◌}
+use Rattle.group_keys.specs.KeySets.{current, with_token}
 use Rattle.group_keys.specs.declared.key_set.KeySet.{KeySet}
 use Rattle.message_guard.specs.declared.keys.TokenKeys.{TokenKeys}
 use Rattle.uadp_header.specs.Headers.{SecurityValue}
@@ -47,6 +47,27 @@ front_value mode s = record {
 abbrev pub sent : Mode → SenderState → List ℕ → List ℕ → List ℕ
 sent mode s header payload = protected mode s.keys (message_nonce s.random s.used) s.first_block header payload
 
+-- the sender with the sets of another ring: the keys in use stay, and the numbers go on
+abbrev pub renewed : SenderState → List KeySet → SenderState
+renewed s sets = record s { sets = sets }
+
+-- two sets give the same keys, whenever each is used
+pub record HaveSameKeys (one other : KeySet) : Type 0 where
+  pub token : one.token ≡ other.token
+  pub nonce : one.nonce ≡ other.nonce
+  pub signing : one.signing ≡ other.signing
+  pub encrypting : one.encrypting.items ≡ other.encrypting.items
+
+-- both of two sets are there, and they give the same keys
+abbrev pub AreSame : Option KeySet → Option KeySet → Type 0
+AreSame (Some one) (Some other) = HaveSameKeys one other
+AreSame (Some one) None = ⊥
+AreSame None other = ⊥
+
+-- the sender's ring and the other sets have the token in use, with the same keys
+abbrev pub KeepsToken : SenderState → List KeySet → Type 0
+KeepsToken s sets = AreSame (with_token s.sets s.keys.token) (with_token sets s.keys.token)
+
 -- how many numbers are left under the token
 abbrev pub numbers_left : SenderState → ℕ
 numbers_left s = 4294967295 - s.used
@@ -61,18 +82,21 @@ pub record MayProtect (mode : Mode) (s : SenderState) (datagram : List ℕ) (pay
 -- the calls of those who share a sender
 pub data SenderStep : Type 0 where
   TurnTo : (now : ℕ) → SenderStep
+  Renew : (sets : List KeySet) → SenderStep
   Front : (mode : Mode) → SenderStep
   Protect : (mode : Mode) (datagram : List ℕ) (payload : ℕ) → SenderStep
 
--- the condition of the call
+-- The condition of the call. A renewal has none: no ring makes a number come again.
 abbrev pub IsAllowed : SenderState → SenderStep → Type 0
 IsAllowed s (TurnTo now) = Unit {0}
+IsAllowed s (Renew sets) = Unit {0}
 IsAllowed s (Front mode) = (is_secured mode ≡ true) × (s.used < 4294967295)
 IsAllowed s (Protect mode datagram payload) = MayProtect mode s datagram payload
 
 -- the sender after the step, where a front serves one datagram alone
 abbrev pub stepped : SenderState → SenderStep → SenderState
 stepped s (TurnTo now) = turned s now
+stepped s (Renew sets) = renewed s sets
 stepped s (Front mode) = advanced mode s
 stepped s (Protect mode datagram payload) = record s { fronted = None }
 
@@ -89,6 +113,7 @@ after s (step ∷ steps) = after (stepped s step) steps
 abbrev pub fronts_in : List SenderStep → ℕ
 fronts_in [] = 0
 fronts_in (TurnTo now ∷ steps) = fronts_in steps
+fronts_in (Renew sets ∷ steps) = fronts_in steps
 fronts_in (Front mode ∷ steps) = fronts_in steps + 1
 fronts_in (Protect mode datagram payload ∷ steps) = fronts_in steps
 
@@ -100,6 +125,7 @@ made_of mode s datagram payload = sent mode s (take payload datagram) (payload_i
 abbrev pub datagrams_of : SenderState → List SenderStep → List (List ℕ)
 datagrams_of s [] = []
 datagrams_of s (TurnTo now ∷ steps) = datagrams_of (turned s now) steps
+datagrams_of s (Renew sets ∷ steps) = datagrams_of (renewed s sets) steps
 datagrams_of s (Front mode ∷ steps) = datagrams_of (advanced mode s) steps
 datagrams_of s (Protect mode datagram payload ∷ steps) =
     made_of mode s datagram payload ∷ datagrams_of (record s { fronted = None }) steps
@@ -118,3 +144,33 @@ abbrev pub HaveOtherNumbers : List ℕ → List ℕ → Type 0
 HaveOtherNumbers one other =
     (a b : SecurityValue) (at end : ℕ) → IsSecured one (Some a) at → IsSecured other (Some b) end
     → number_of a ≢ number_of b
+
+-- ---- over restarts
+
+-- a sender and its steps, from the start of a device until it stops
+pub record Life : Type 0 where
+  pub first : SenderState
+  pub steps : List SenderStep
+
+-- A sender that begins behind where one ended: no front of it waits for a datagram, and its token is higher, or is the same and its last number isn't below.
+pub record IsBehind (ended begun : SenderState) : Type 0 where
+  pub unfronted : begun.fronted ≡ None
+  pub above : (ended.keys.token < begun.keys.token)
+      ⊎ ((begun.keys.token ≡ ended.keys.token) × (ended.used ≤ begun.used))
+
+-- the first of these lives, if there is one, begins behind where the sender ended
+abbrev pub BeginBehind : SenderState → List Life → Type 0
+BeginBehind ended [] = Unit {0}
+BeginBehind ended (life ∷ lives) = IsBehind ended life.first
+
+-- the steps of each life are allowed when they come, and the next one begins behind where it ended
+abbrev pub AreLives : List Life → Type 0
+AreLives [] = Unit {0}
+AreLives (life ∷ lives) =
+    IsSender life.first × AreAllowed life.first life.steps
+    × BeginBehind (after life.first life.steps) lives × AreLives lives
+
+-- the datagrams of all lives, the first first
+abbrev pub datagrams_over : List Life → List (List ℕ)
+datagrams_over [] = []
+datagrams_over (life ∷ lives) = datagrams_of life.first life.steps ++ datagrams_over lives

@@ -1,5 +1,6 @@
 //! What the definitions owe the reader, each law the contract of a function that does nothing.
 ghost use Rattle.std.specs.Prelude.{◌≡◌, ℕ, List, Bool};
+ghost use Rattle.group_keys.specs.declared.key_set.KeySet.{KeySet};
 ghost use Rattle.uadp_header.specs.Headers.{HeaderValue};
 ghost use Rattle.message_guard.specs.declared.keys.TokenKeys.{TokenKeys};
 ghost use Rattle.message_guard.specs.declared.mode.Mode.{Mode};
@@ -7,8 +8,8 @@ ghost use Rattle.message_guard.specs.declared.mode.Mode.TheVariants as modes;
 ghost use Rattle.message_guard.specs.declared.pass.Pass1.{Pass1};
 ghost use Rattle.message_guard.specs.Acceptance.{Accepted};
 ghost use Rattle.message_guard.specs.Opening.{accepts};
-ghost use Rattle.message_guard.specs.Senders.{SenderState, SenderStep};
-ghost use Rattle.message_guard.specs.Laws.{StreamCancels, StreamKeepsLength, IsReadSecured, SendsItsFront, IsSendersFront, IsPassedOn, IsFound, IsRestored, PassesOpen, LeavesOpen, PassesSigned, PassesAcceptable, AcceptsOnce, HasOtherNumbersEach, HasNumbersFor, HasKeysOfMoments, IsKnownInRing};
+ghost use Rattle.message_guard.specs.Senders.{Life, SenderState, SenderStep};
+ghost use Rattle.message_guard.specs.Laws.{StreamCancels, StreamKeepsLength, IsReadSecured, SendsItsFront, IsSendersFront, IsPassedOn, IsFound, IsRestored, PassesOpen, LeavesOpen, PassesSigned, PassesAcceptable, AcceptsOnce, AcceptsOnceRenewed, GoesOnToRing, StaysKnown, StaysKnownAt, HasOtherNumbersEach, HaveOtherNumbersOver, HasNumbersFor, HasKeysOfMoments, IsKnownInRing};
 
 /// A payload with the stream added is as long as the payload, and with the stream added once more it is the payload.
 pub fn a_stream_added_twice_is_gone()
@@ -50,21 +51,36 @@ pub fn a_passed_datagram_is_signed_and_acceptable()
     ensures acceptable { (mode : Mode) (keys : List TokenKeys) → PassesAcceptable mode keys }
 {}
 
-/// No pair of token and number is accepted twice.
-#[tactic(auto, using(crate::proofs::Once::accepted_once))]
+/// No pair of token and number is accepted twice, also where the guard is renewed in between.
+#[tactic(auto, using(crate::proofs::Once::accepted_once, crate::proofs::Once::called_once))]
 pub fn no_pair_is_accepted_twice()
-    ensures { (keys : List TokenKeys) → AcceptsOnce keys }
+    ensures once { (keys : List TokenKeys) → AcceptsOnce keys }
+    ensures renewed { (first : List TokenKeys) → AcceptsOnceRenewed first }
 {}
 
-/// No two datagrams of a sender are read with the same token and number, whatever the moments that it turns to, where
-/// each call keeps its conditions and each datagram has a front of its own.
+/// No two datagrams of a sender are read with the same token and number, whatever the moments that it turns to and whatever the
+/// rings that renew it, where each call keeps its conditions and each datagram has a front of its own.
 pub fn no_token_and_number_come_twice()
     ensures { (s : SenderState) (steps : List SenderStep) → HasOtherNumbersEach s steps }
+{}
+
+/// The same over restarts: no two datagrams of all lives of a device are read with the same token and number, where each life
+/// begins behind where the one before ended.
+pub fn no_token_and_number_come_twice_over_restarts()
+    ensures { (lives : List Life) → HaveOtherNumbersOver lives }
 {}
 
 /// A sender that isn't spent may give 1,024 more fronts, whatever the moments that it turns to in between.
 pub fn an_unspent_sender_has_1024_numbers()
     ensures { (s : SenderState) (steps : List SenderStep) → HasNumbersFor s steps }
+{}
+
+/// A sender that is renewed goes on to the keys of the other ring, where a set with a higher token has come in it; and where the
+/// ring has the keys in use, they are known in it, at that time and at each moment that the sender turns to.
+pub fn a_renewed_sender_has_keys_of_its_ring()
+    ensures goes_on { (s : SenderState) (sets : List KeySet) → GoesOnToRing s sets }
+    ensures known { (s : SenderState) (sets : List KeySet) → StaysKnown s sets }
+    ensures turned { (s : SenderState) (now : ℕ) → StaysKnownAt s now }
 {}
 
 /// A sender whose moments don't fall has the keys of the set whose moment came last.

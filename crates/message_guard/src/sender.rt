@@ -9,11 +9,11 @@ ghost use Rattle.uadp_header.specs.Reading.{IsSecured};
 ghost use Rattle.uadp_header.specs.Spelling.{IsSendersSecurity};
 ghost use Rattle.message_guard.specs.Modes.{is_secured};
 ghost use Rattle.message_guard.specs.Protection.{keys_in};
-ghost use Rattle.message_guard.specs.Senders.{SenderState, turned, advanced, front_value, made_of, numbers_left, IsSender, MayProtect};
+ghost use Rattle.message_guard.specs.Senders.{SenderState, turned, renewed, advanced, front_value, HaveSameKeys, KeepsToken, made_of, numbers_left, IsSender, MayProtect};
 
 use crate::Mode;
 use crate::keys::{TokenKeys, message_nonce};
-use group_keys::Ring;
+use group_keys::{KeySet, Ring};
 use std::marker::Model;
 use uadp_header::{SecurityPart, read_header};
 
@@ -66,7 +66,22 @@ impl Sender {
         ensures unfronted { result.fronted ≡ None }
         ensures sender { IsSender result }
     {
-        let keys = TokenKeys::new(ring.at(0));
+        Sender::resume(ring, random, first_block, 0, used)
+    }
+
+    /// The sender that goes on after a restart, as `new` does, but with the last key set whose moment has come at `now`, in
+    /// milliseconds. It sends no token and number of its life before where its token isn't lower than the one that `standing` told
+    /// last, and, under the same token, `used` isn't below the number that it told.
+    pub fn resume(ring: Ring, random: [u8; 4], first_block: u32, now: u64, used: u32) -> Sender
+        ensures sets { result.sets ≡ key_sets ring }
+        ensures token { option_map keys_in (current (key_sets ring) now) ≡ Some result.keys }
+        ensures random { result.random ≡ random }
+        ensures first_block { result.first_block ≡ first_block }
+        ensures used { result.used ≡ used }
+        ensures unfronted { result.fronted ≡ None }
+        ensures sender { IsSender result }
+    {
+        let keys = TokenKeys::new(ring.at(now));
         let nonce = message_nonce(&random, used);
         Sender {
             ring,
@@ -95,6 +110,32 @@ impl Sender {
         self.used = 0;
         self.fronted = None;
         true
+    }
+
+    /// The token in use, and the last number used under it: what a device stores so that it goes on behind it.
+    pub fn standing(&self) -> (u32, u32)
+        ensures { result ≡ (self.now.keys.token, self.now.used) }
+    {
+        (self.keys.token, self.used)
+    }
+
+    /// Goes on with another ring, of the same key length. The keys in use stay, and their numbers go on, until `turn_to` finds a
+    /// set with a higher token: no token and number come twice, whatever the ring. A ring that `keeps_token` passes has the keys
+    /// in use, so that a guard of it opens what is sent until then.
+    pub fn renew(&mut self, ring: Ring)
+        ensures state { self.new ≡ renewed self.old (key_sets ring) }
+    {
+        self.ring = ring;
+    }
+
+    /// Whether the sender's ring and this one have the token in use, with the same keys.
+    pub fn keeps_token(&self, ring: &Ring) -> bool
+        ensures { IsTrue result ↔ KeepsToken self.now (key_sets ring.now) }
+    {
+        match (self.ring.find(self.keys.token), ring.find(self.keys.token)) {
+            (Some(old), Some(new)) => has_same_keys(old, new),
+            _ => false,
+        }
     }
 
     /// Whether fewer than 1,024 numbers are left under the token.
@@ -188,4 +229,14 @@ impl Sender {
         let signature = self.keys.signing.sign(&datagram[..end]);
         datagram[end..].copy_from_slice(&signature);
     }
+}
+
+// Two sets give the same keys.
+fn has_same_keys(one: &KeySet, other: &KeySet) -> bool
+    ensures { IsTrue result ↔ HaveSameKeys one.now other.now }
+{
+    one.token == other.token
+        && one.nonce == other.nonce
+        && one.signing == other.signing
+        && one.encrypting.as_slice() == other.encrypting.as_slice()
 }

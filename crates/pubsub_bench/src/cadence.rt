@@ -97,7 +97,7 @@ fn writer(alloc: Global, meta: &Meta, turns: u32) -> Result<Writer, Unmeasured>
     ensures { IfOk result (HoldsRowOf meta.now) }
 {
     let _ = meta.fields();
-    match Writer::new(alloc, settings(), turns) {
+    match Writer::new(alloc, settings(), u64::from(turns), turns) {
         Ok(writer) => Ok(writer),
         Err(_) => Err(Unmeasured),
     }

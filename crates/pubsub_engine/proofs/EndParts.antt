@@ -1,5 +1,5 @@
 -- What the parts of a session tell when it is closed.
-use Rattle.std.proofs.Common.{◌≡◌, refl, sym, ap, ◌∙◌, subst, arith, ℕ, zero, suc, ◌<◌, List, [], ◌∷◌, length, get_or, Option, Some, None}
+use Rattle.std.proofs.Common.{◌≡◌, refl, sym, ap, ◌∙◌, subst, arith, ℕ, zero, suc, ◌<◌, List, [], ◌∷◌, length, take, get_or, Option, Some, None}
 use Rattle.std.specs.Prelude.{IfSome, IsSomeAnd, option_map, option_and_then, slice_index}
 use Rattle.std.proofs.lemmas.List.{length-map}
 use Rattle.dataset_meta.specs.DataValues.{DataValue}
@@ -9,7 +9,7 @@ use Rattle.pubsub_model.specs.Cadence.{WriterDeed, log_of}
 use Rattle.dataset_meta.specs.Metas.{MetaData}
 use Rattle.dataset_writer.specs.declared.settings.WriterSettings.{WriterSettings}
 use Rattle.dataset_writer.specs.declared.writer.Writer.{Writer as DataSetWriter}
-use Rattle.dataset_writer.specs.Standing.{IsWriter}
+use Rattle.dataset_writer.specs.Standing.{IsWriter, logged_by}
 use Rattle.dataset_writer.specs.Turns.{model_settings}
 use Rattle.dataset_reader.specs.declared.reader.Reader.{Reader as DataSetReader}
 use Rattle.dataset_reader.specs.Kept.{Kept}
@@ -41,23 +41,24 @@ use Rattle.reader_group.specs.Plain.{Event, Setting, plain}
 use Rattle.reader_group.specs.Settings.{group_at as read_group_at, seat_in, setting_of}
 use Rattle.writer_group.specs.declared.group.Group.{Group as WriterGroup}
 use Rattle.writer_group.specs.Parts.{group_at}
-use Rattle.writer_group.specs.Standing.{IsGroup, IsWriterIn, metas_for}
+use Rattle.writer_group.specs.Standing.{AreLogged, IsGroup, IsLoggedIn, IsWriterIn, metas_for}
 use Rattle.session_model.specs.Steps.{Plan, Step}
 use Rattle.session_model.specs.Sets.{metas_at}
-use Rattle.session_model.specs.Deeds.{deeds, group_past}
+use Rattle.session_model.specs.Deeds.{deeds, group_past, log_at, logs_cut}
 use Rattle.session_model.specs.Events.{events, reader_at}
 use Rattle.session_model.specs.States.{flags_at}
-use Rattle.session_model.specs.Closing.{IsWriterEnd, Shows, group_end, read_group_end}
+use Rattle.session_model.specs.Closing.{IsWriterEndWith, Shows, group_end, read_group_end}
 use Rattle.session_parts.specs.declared.publisher.Publisher.{Publisher}
 use Rattle.session_parts.specs.declared.sends.GroupSends.{GroupSends}
 use Rattle.session_parts.specs.declared.subscriber.Subscriber.{Subscriber}
 use Rattle.session_parts.specs.declared.tally.Tally.{Tally}
-use Rattle.session_parts.specs.Holding.{MayReceive}
-use Rattle.session_parts.specs.Standing.{HasFlags, HavePast}
+use Rattle.session_parts.specs.Holding.{AreAllLogged, HoldSubscriber, MayReceive}
+use Rattle.session_parts.specs.Standing.{HasFlags, HavePast, HaveRead}
 use Rattle.session_parts.proofs.Few.{group-among, writer-among}
 use Rattle.session_parts.proofs.TellingReaders.{low-among}
 use Rattle.pubsub_engine.specs.Ending.{HavePublished, HaveReceived, IsNumbered, IsToldAt, MayTellReaders, MayTellWriters, reader_in}
 use Rattle.pubsub_engine.specs.Logs.{IsLogRead}
+use Rattle.pubsub_engine.specs.Showing.{IsReaderAt}
 
 -- ---- states
 
@@ -89,11 +90,11 @@ read-group-among config counts r is low =
 
 -- ---- groups
 
-pub group-told : (config : Config) (p : Plan) (steps : List Step) (tree : TreeValue) (publisher : Publisher) (g : ℕ) (state : State) (sends : GroupSends)
-    → MayTellWriters config tree publisher → HavePublished config p steps tree publisher → g < length config.group
+pub group-told : (config : Config) (most : ℕ) (p : Plan) (steps : List Step) (tree : TreeValue) (publisher : Publisher) (g : ℕ) (state : State) (sends : GroupSends)
+    → MayTellWriters config tree publisher → HavePublished config most p steps tree publisher → g < length config.group
     → state ≡ state_of (flags_in tree) (Group g) → sends ≡ get_or publisher.sends.items g sends
     → ◌≡◌ {A = GroupEnd} (record { state = state; sent = sends.done }) (group_end p steps g)
-group-told config p steps tree publisher g state sends may have low is at = λ i. record { state = of_state i; sent = of_sends i }
+group-told config most p steps tree publisher g state sends may have low is at = λ i. record { state = of_state i; sent = of_sends i }
   where
     of_state : state ≡ state_of (flags_at p steps) (Group g)
     of_state = is ∙ state-told (flags_at p steps) tree (Group g) (group-among config tree.counts g may.counts low) have.flags
@@ -106,14 +107,15 @@ group-told config p steps tree publisher g state sends may have low is at = λ i
 
 -- ---- writers
 
-pub writer-told : (config : Config) (p : Plan) (steps : List Step) (tree : TreeValue) (publisher : Publisher) (g w : ℕ) (group : WriterGroup) (writer : DataSetWriter) (log : List (ℕ × ℕ))
-    (end : WriterEnd) → MayTellWriters config tree publisher → HavePublished config p steps tree publisher → g < length config.group → w < length (group_at config g).writer
-    → group ≡ get_or publisher.groups.items g group → IsWriterIn group w writer
-    → ((meta : MetaData) (settings : WriterSettings) (past : List WriterDeed) → IsWriter meta settings past writer → log ≡ log_of (model_settings settings) past)
-    → end.state ≡ state_of (flags_in tree) (Writer g w) → end.log ≡ log → IsWriterEnd p steps (g, w) end
-writer-told config p steps tree publisher g w group writer log end may have low within at own logged is_state is_log = record {
+pub writer-told : (config : Config) (most : ℕ) (p : Plan) (steps : List Step) (tree : TreeValue) (publisher : Publisher) (g w : ℕ) (group : WriterGroup) (writer : DataSetWriter) (log : List (ℕ × ℕ))
+    (end : WriterEnd) → MayTellWriters config tree publisher → HavePublished config most p steps tree publisher → g < length config.group → w < length (group_at config g).writer
+    → group ≡ get_or publisher.groups.items g group → IsWriterIn group w writer → IsLoggedIn group writer
+    → ((meta : MetaData) (settings : WriterSettings) (past : List WriterDeed) → IsWriter meta settings past writer → log ≡ take (logged_by writer) (log_of (model_settings settings) past))
+    → end.state ≡ state_of (flags_in tree) (Writer g w) → end.log ≡ log → IsWriterEndWith (logs_cut most p steps) p steps (g, w) end
+writer-told config most p steps tree publisher g w group writer log end may have low within at own keeps logged is_state is_log = record {
   state = is_state ∙ state-told (flags_at p steps) tree (Writer g w) (writer-among config tree.counts g w may.counts low within) have.flags;
-  log = is_log ∙ logged _ _ _ (own (metas_for (group_at p.config g) (metas_at p.config steps)) (group_at p.config g) (group_past p.config g (deeds p steps)) within_in stands);
+  log = is_log ∙ logged _ _ _ (own (metas_for (group_at p.config g) (metas_at p.config steps)) (group_at p.config g) (group_past p.config g (deeds p steps)) within_in stands)
+      ∙ ap (λ (n : ℕ). take n (log_at p g w steps)) (keeps.logged most (subst (AreLogged most) (sym at) (have.logged g group (omega (arith, low, may.holds.groups.count)))));
 }
   where
     low_in : g < length p.config.group
@@ -155,33 +157,48 @@ none-logged : (number : Option ℕ) → option_and_then (version_of []) number �
 none-logged None = refl
 none-logged (Some n) = refl
 
-numbered-if : (p : Plan) (steps : List Step) (publisher : Publisher) (at : ReadGroupPart × ReaderPart) (meta : MetaData) (kept : Kept) (log : List (ℕ × ℕ)) (held : Option HeldEnd)
-    → HavePast p.config (metas_at p.config steps) (deeds p steps) publisher.groups.items → IsLogRead p.config publisher at log → HasItsNumber at.1.numbering kept
+numbered-if : (most : ℕ) (p : Plan) (steps : List Step) (publisher : Publisher) (at : ReadGroupPart × ReaderPart) (meta : MetaData) (kept : Kept) (log : List (ℕ × ℕ)) (held : Option HeldEnd)
+    → AreAllLogged most publisher.groups.items → HavePast p.config (metas_at p.config steps) (deeds p steps) publisher.groups.items → IsLogRead p.config publisher at log → HasItsNumber at.1.numbering kept
     → option_map (λ held. row_in meta.fields held.row.words) held ≡ kept.row → IfSome held (λ held. held.number ≡ kept.number)
-    → IfSome held (λ held. held.version ≡ option_and_then (version_of log) held.number) → IfSome held (IsNumbered p steps at)
-numbered-if p steps publisher at meta kept log None past read has row number version = tt
-numbered-if p steps publisher at meta kept log (Some held) past read has row number version = record {
+    → IfSome held (λ held. held.version ≡ option_and_then (version_of log) held.number) → IfSome held (IsNumbered (logs_cut most p steps) p at)
+numbered-if most p steps publisher at meta kept log None logged past read has row number version = tt
+numbered-if most p steps publisher at meta kept log (Some held) logged past read has row number version = record {
   number = subst (TellsNumber at.1.numbering) (sym number) (tells-number at.1.numbering kept (row_in meta.fields held.row.words) (sym row) has);
-  own = λ same. version ∙ ap (λ (l : List (ℕ × ℕ)). option_and_then (version_of l) held.number) (read.own same (metas_at p.config steps) (deeds p steps) past);
+  own = λ same. version ∙ ap (λ (l : List (ℕ × ℕ)). option_and_then (version_of l) held.number) (read.own same most (metas_at p.config steps) (deeds p steps) logged past);
   other = λ differ. version ∙ ap (λ (l : List (ℕ × ℕ)). option_and_then (version_of l) held.number) (read.other differ) ∙ none-logged held.number;
 }
 
-pub reader-told : (config : Config) (p : Plan) (steps : List Step) (tree : TreeValue) (publisher : Publisher) (subscriber : Subscriber) (r i : ℕ)
+-- whatever it is asked for, while the session runs and when it ends
+pub reader-at : (config : Config) (p : Plan) (steps : List Step) (subscriber : Subscriber) (r i : ℕ) (group : ReaderGroup) (reader : DataSetReader)
+    → HoldSubscriber config subscriber → p.config ≡ config → HaveRead p.config steps subscriber.groups.items → r < length config.readgroup
+    → group ≡ get_or subscriber.groups.items r group → IsKeptAt group i reader → IsMadeAt group i reader → IsReaderAt p steps (r, i) reader
+reader-at config p steps subscriber r i group reader holds plan readings low at is_kept is_made = record {
+  made = subst (λ (c : Config). IsReaderOf (seat_at (setting_of c r).seats i).meta reader) (sym plan)
+      (subst (λ (q : ℕ). IsReaderOf (seat_at (setting_of config q).seats i).meta reader) own.index (is_made config own.made));
+  kept = is_kept (setting_of p.config r) (plain (setting_of p.config r) (events p.config r steps))
+      (subst (ReadingStands (setting_of p.config r) (plain (setting_of p.config r) (events p.config r steps))) (sym at)
+      (readings r (subst (λ (c : Config). r < length c.readgroup) (sym plan) low) group));
+}
+  where
+    own : MayReceive config r group
+    own = subst (MayReceive config r) (sym at) (holds.groups.each r low group)
+
+pub reader-told : (config : Config) (most : ℕ) (p : Plan) (steps : List Step) (tree : TreeValue) (publisher : Publisher) (subscriber : Subscriber) (r i : ℕ)
     (group : ReaderGroup) (reader : DataSetReader) (log : List (ℕ × ℕ)) (end : ReaderEnd)
-    → MayTellReaders config tree subscriber → HavePublished config p steps tree publisher → HaveReceived config p steps tree subscriber
+    → MayTellReaders config tree subscriber → HavePublished config most p steps tree publisher → HaveReceived config p steps tree subscriber
     → r < length config.readgroup → i < length (read_group_at config r).reader
     → ((setting : Setting) (events : List Event) → HaveTheirNumbers setting events)
     → group ≡ get_or subscriber.groups.items r group → IsKeptAt group i reader → IsMadeAt group i reader → IsLogRead config publisher (reader_in config (r, i)) log
     → end.state ≡ state_of (flags_in tree) (Reader r i)
     → ((meta : MetaData) (member : MemberValue) → IsReaderOf meta reader → kept_by meta.fields reader ≡ member.kept → Shows meta member end)
     → IfSome end.held (λ held. held.version ≡ option_and_then (version_of log) held.number)
-    → IsToldAt p steps (r, i) end
-reader-told config p steps tree publisher subscriber r i group reader log end may published have low within numbers at is_kept is_made read is_state shows version = record {
+    → IsToldAt (logs_cut most p steps) p steps (r, i) end
+reader-told config most p steps tree publisher subscriber r i group reader log end may published have low within numbers at is_kept is_made read is_state shows version = record {
   is = record {
     state = is_state ∙ state-told (flags_at p steps) tree (Reader r i) (low-among config tree.counts r i may.counts low within) have.flags;
     shows = shown;
   };
-  numbered = numbered-if p steps publisher (reader_in p.config (r, i)) meta member.kept log end.held published.groups
+  numbered = numbered-if most p steps publisher (reader_in p.config (r, i)) meta member.kept log end.held published.logged published.groups
       (subst (λ (c : Config). IsLogRead c publisher (reader_in c (r, i)) log) (sym have.plan) read)
       (numbers (setting_of p.config r) (events p.config r steps) i seat_there)
       shown.row shown.number version;
@@ -193,25 +210,14 @@ reader-told config p steps tree publisher subscriber r i group reader log end ma
     member : MemberValue
     member = reader_at p.config r i steps
 
-    low_in : r < length p.config.readgroup
-    low_in = subst (λ (c : Config). r < length c.readgroup) (sym have.plan) low
-
     within_in : i < length (read_group_at p.config r).reader
     within_in = subst (λ (c : Config). i < length (read_group_at c r).reader) (sym have.plan) within
 
     seat_there : i < length (setting_of p.config r).seats
     seat_there = subst (λ (n : ℕ). i < n) (sym (length-map (read_group_at p.config r).reader (seat_in p.config))) within_in
 
-    holds : MayReceive config r group
-    holds = subst (MayReceive config r) (sym at) (may.holds.groups.each r low group)
-
-    made : IsReaderOf meta reader
-    made = subst (λ (c : Config). IsReaderOf (seat_at (setting_of c r).seats i).meta reader) (sym have.plan)
-        (subst (λ (q : ℕ). IsReaderOf (seat_at (setting_of config q).seats i).meta reader) holds.index (is_made config holds.made))
-
-    kept : kept_by meta.fields reader ≡ member.kept
-    kept = is_kept (setting_of p.config r) (plain (setting_of p.config r) (events p.config r steps))
-        (subst (ReadingStands (setting_of p.config r) (plain (setting_of p.config r) (events p.config r steps))) (sym at) (have.readings r low_in group))
+    at_place : IsReaderAt p steps (r, i) reader
+    at_place = reader-at config p steps subscriber r i group reader may.holds have.plan have.readings low at is_kept is_made
 
     shown : Shows meta member end
-    shown = shows meta member made kept
+    shown = shows meta member at_place.made at_place.kept

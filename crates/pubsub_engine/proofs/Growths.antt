@@ -11,22 +11,22 @@ use Rattle.ps_script.specs.Past.{grown_at}
 use Rattle.pubsub_states.specs.declared.component.Component.TheVariants.{Root, Connection, Group, Writer, ReadGroup, Reader}
 use Rattle.pubsub_states.specs.Changes.{TreeValue}
 use Rattle.session_model.specs.Steps.{Plan, Step, Append}
-use Rattle.session_model.specs.Counts.{most_ticks, pumps_in, ticks_in}
+use Rattle.session_model.specs.Counts.{pumps_in, ticks_in}
 use Rattle.session_model.specs.Sets.{MayAppend, GrowTo, metas_at, meta_in}
-use Rattle.session_model.specs.Keeping.{MayGrow}
+use Rattle.session_model.specs.Keeping.{AreStepsOf, MayGrow}
 use Rattle.session_model.specs.Deeds.{RefreshedSet, deeds}
 use Rattle.session_model.specs.Events.{events}
 use Rattle.session_model.specs.Sends.{journal}
 use Rattle.session_model.specs.States.{flags_at}
 use Rattle.session_model.specs.Stores.{stores}
 use Rattle.session_parts.specs.declared.publisher.Publisher.{Publisher}
-use Rattle.session_parts.specs.Holding.{AreGroups, AreSameButSet, HoldPublisher, MayAllGoOn}
+use Rattle.session_parts.specs.Holding.{AreGroups, AreSameButSet, AreStillLogged, HoldPublisher, MayAllGoOn}
 use Rattle.session_parts.specs.Refreshed.{AllGoOnGrown, HaveRefreshedSet}
 use Rattle.session_parts.specs.Standing.{AreReceivesIn, AreSendsIn, HasFlags, HaveOutcomes, HavePast, HaveReadAll, HaveSent, HaveTallied}
 use Rattle.pubsub_engine.specs.declared.session.Session.{Session}
 use Rattle.pubsub_engine.specs.declared.sets.Sets.{Sets}
 use Rattle.pubsub_engine.specs.declared.sets.Growth.{Growth}
-use Rattle.pubsub_engine.specs.Holding.{AreSets, AreToCome, Grows, HoldSamples, HoldSets, IsSession, KeepsPasses, MayAppendNext, appends_left, plan_of}
+use Rattle.pubsub_engine.specs.Holding.{AreSets, AreToCome, Grows, HoldSamples, HoldSets, IsSession, KeepsPasses, MayAppendNext, appends_left, plan_of, ticks_of}
 use Rattle.pubsub_engine.specs.Standing.{Stands}
 use Rattle.pubsub_engine.specs.Storing.{HaveStored}
 use Rattle.session_parts.proofs.Passed.{some-of}
@@ -117,6 +117,7 @@ pub record Refreshes (config : Config) (set : ℕ) (old new : Publisher) : Type 
   pub groups : AreGroups config new.groups.items
   pub past : HaveRefreshedSet config set old.groups.items new.groups.items
   pub goes_on : AllGoOnGrown config set old.groups.items new.groups.items
+  pub logs : AreStillLogged old.groups.items new.groups.items
   pub rest : new ≡ record old { groups = new.groups }
 
 -- the next growth is made, and the writers of its data set are refreshed
@@ -152,6 +153,7 @@ appended-session old new set growth session appends = subst IsSession (sym appen
   publisher = holds-refreshed old.config.now set old.publisher new.publisher session.publisher appends.refreshes;
   goes_on = subst (λ (m : List MetaData). MayAllGoOn old.config.now m old.left.ticks new.publisher.groups.items) (sym next.metas)
       (refreshes.goes_on old.sets.metas.items (slice_set old.sets.metas.items growth.set growth.meta) old.left.ticks (same-but old.sets.metas.items growth.set growth.meta) session.goes_on);
+  logged = refreshes.logs old.left.logged session.logged;
   subscriber = session.subscriber;
   tree = session.tree;
   buffers = session.buffers;
@@ -173,6 +175,7 @@ appended-keeps old new set growth appends = subst (KeepsPasses old) (sym appends
   sampled = refl;
   keeper = refl;
   stores = refl;
+  logged = refl;
 })
 
 pub appended-next : (old new : Session) (set : ℕ) (growth : Growth) → AppendsNext old new set growth → appends_left old ≡ set ∷ appends_left new
@@ -206,11 +209,11 @@ appended-stands : (p : Plan) (before : List Step) (set : ℕ) (field : Field) (o
 appended-stands p before set field old new stands same changed parts metas may past = record {
   plan = same ∙ stands.plan;
   run = stands.run;
-  steps_are = (may, stands.steps_are);
+  steps_are = subst (λ (s : Session). AreStepsOf (ticks_of s) p (Append set field ∷ before)) (sym changed) (may, stands.steps_are);
   turns = stands.turns;
   moment = ap (λ (s : Session). s.moment) changed ∙ stands.moment;
   closed = ap (λ (s : Session). s.left.is_closed) changed ∙ stands.closed;
-  ticks = subst (λ (s : Session). ticks_in before + s.left.ticks ≤ most_ticks + 1) (sym changed) stands.ticks;
+  ticks = subst (λ (s : Session). ticks_in before + s.left.ticks ≤ ticks_of s + 1) (sym changed) stands.ticks;
   pumps = subst (λ (s : Session). pumps_in before + s.left.pumps ≡ ticks_in before) (sym changed) stands.pumps;
   metas = metas;
   groups = past;

@@ -13,9 +13,9 @@ use Rattle.version_cell.specs.Passes.{new_pass}
 use Rattle.version_cell.specs.Sets.{new_passes, no_cell, pass_at}
 use Rattle.writer_group.specs.Standing.{IsGood}
 use Rattle.writer_group.specs.declared.sampled.Sampled.{Sampled}
-use Rattle.session_model.specs.Counts.{most_ticks}
+use Rattle.session_model.specs.Counts.{life_ticks}
 use Rattle.session_model.specs.Sets.{AreRowsOf}
-use Rattle.session_parts.specs.Holding.{MayAllGoOn}
+use Rattle.session_parts.specs.Holding.{AreAllLogged, MayAllGoOn}
 use Rattle.pubsub_engine.specs.declared.size.Append.{Append}
 use Rattle.pubsub_engine.specs.declared.sampling.Samples.{Samples}
 use Rattle.pubsub_engine.specs.declared.storing.Last.{Last}
@@ -42,20 +42,22 @@ pub record AreFreshStores (count : ℕ) (stores : Stores) : Type 0 where
   pub keepers : length stores.keeper ≡ count
   pub unseen : (k : ℕ) → k < count → (pass_at stores.keeper k).seen ≡ []
 
-abbrev pub left_by : ℕ → Left
-left_by turns = record { ticks = turns; pumps = 0; stores = turns; is_closed = false }
+abbrev pub left_by : ℕ → ℕ → Left
+left_by turns logged = record { ticks = turns; pumps = 0; stores = turns; logged = logged; is_closed = false }
 
-pub record IsFresh (appends : List Append) (turns : ℕ) (s : Session) : Type 0 where
+pub record IsFresh (appends : List Append) (turns logged : ℕ) (s : Session) : Type 0 where
   pub good : IsGood s.config.now
-  pub few : turns ≤ most_ticks + 1
+  pub few : turns ≤ life_ticks + 1
+  pub one : 1 ≤ turns
   pub may : AreAppends s.config.now s.config.now.dataset appends
   pub moment : s.moment ≡ 0
-  pub left : s.left ≡ left_by turns
+  pub left : s.left ≡ left_by turns logged
   pub sets : HoldSets s.config.now s.sets
   pub first : s.sets.metas.items ≡ s.config.now.dataset
   pub full : s.sets.full.items ≡ full_of s.config.now.dataset appends
   pub samples : IsFreshSamples (length s.config.now.dataset) s.samples
   pub publisher : IsFreshPublisher s.config.now turns s.publisher
+  pub logs : AreAllLogged logged s.publisher.groups.items
   pub subscriber : IsFreshSubscriber s.config.now s.subscriber
   pub receiving : IsFreshReceiving s.receiving
   pub stores : AreFreshStores (length (readers s.config.now)) s.stores
@@ -86,8 +88,8 @@ count-passes cells author metas are =
 pub full-count : (metas : List MetaData) (appends : List Append) → length (full_of metas appends) ≡ length metas
 full-count metas appends = sym (length_all_zip HasGrown metas (full_of metas appends) (grow-full metas appends))
 
-pub fresh-session : (appends : List Append) (turns : ℕ) (s : Session) → IsFresh appends turns s → IsSession s
-fresh-session appends turns s fresh =
+pub fresh-session : (appends : List Append) (turns logged : ℕ) (s : Session) → IsFresh appends turns logged s → IsSession s
+fresh-session appends turns logged s fresh =
     let config = s.config.now in
     let whole : All (λ meta. IsMeta meta.fields) s.sets.full.items =
     subst (All (λ (meta : MetaData). IsMeta meta.fields)) (sym fresh.full) (full-metas config config.dataset appends fresh.good.sound.metas fresh.may) in
@@ -96,7 +98,7 @@ fresh-session appends turns s fresh =
     let pumps : s.left.pumps ≡ 0 = ap (λ (l : Left). l.pumps) fresh.left in
     let limit : s.left.stores ≡ turns = ap (λ (l : Left). l.stores) fresh.left in
     let start : s.moment ≡ 0 = fresh.moment in
-    let few : turns ≤ 4097 = fresh.few in
+    let few : turns ≤ 4398046511105 = fresh.few in
     record {
       good = fresh.good;
       sets = fresh.sets;
@@ -108,6 +110,7 @@ fresh-session appends turns s fresh =
       publisher = fresh.publisher.holds;
       goes_on = subst (λ (t : ℕ). MayAllGoOn config s.sets.metas.items t s.publisher.groups.items) (sym ticks)
           (subst (λ (l : List MetaData). MayAllGoOn config l turns s.publisher.groups.items) (sym fresh.first) fresh.publisher.goes_on);
+      logged = subst (λ (n : ℕ). AreAllLogged n s.publisher.groups.items) (sym (ap (λ (l : Left). l.logged) fresh.left)) fresh.logs;
       subscriber = fresh.subscriber.holds;
       tree = fresh.tree.counts ∙ fresh.tree.opening.counts;
       buffers = fresh.receiving.room;
@@ -122,11 +125,11 @@ fresh-session appends turns s fresh =
 
 -- ---- it stands where no step was
 
-pub fresh-stands : (appends : List Append) (turns : ℕ) (s : Session) → IsFresh appends turns s → Stands (plan_of s) [] s
-fresh-stands appends turns s fresh =
+pub fresh-stands : (appends : List Append) (turns logged : ℕ) (s : Session) → IsFresh appends turns logged s → Stands (plan_of s) [] s
+fresh-stands appends turns logged s fresh =
     let ticks : s.left.ticks ≡ turns = ap (λ (l : Left). l.ticks) fresh.left in
     let pumps : s.left.pumps ≡ 0 = ap (λ (l : Left). l.pumps) fresh.left in
-    let few : turns ≤ 4097 = fresh.few in
+    let limit : s.left.stores ≡ turns = ap (λ (l : Left). l.stores) fresh.left in
     record {
       plan = refl;
       run = tt;
@@ -134,7 +137,7 @@ fresh-stands appends turns s fresh =
       turns = tt;
       moment = fresh.moment;
       closed = ap (λ (l : Left). l.is_closed) fresh.left;
-      ticks = omega (arith, ticks, few);
+      ticks = omega (arith, ticks, limit, fresh.one);
       pumps = omega (arith, pumps);
       metas = fresh.first;
       groups = fresh.publisher.past;

@@ -1,5 +1,5 @@
 -- A pump: where its receives, what the tree is told of readers and the stores leave the session.
-use Rattle.std.proofs.Common.{◌≡◌, sym, ap, ◌∙◌, subst, arith, ℕ, ◌+◌, ◌*◌, List, ◌∷◌, ◌++◌, Option}
+use Rattle.std.proofs.Common.{◌≡◌, sym, ap, ◌∙◌, subst, arith, ℕ, ◌+◌, ◌-◌, ◌*◌, List, ◌∷◌, ◌++◌, Option}
 use Rattle.ua_base.specs.Journal.{LinkState, Entry}
 use Rattle.pubsub_states.specs.Components.{counts_of}
 use Rattle.pubsub_states.specs.Changes.{TreeValue}
@@ -14,13 +14,14 @@ use Rattle.session_model.specs.Stores.{Store, stores}
 use Rattle.session_model.specs.Closing.{MemberPlace}
 use Rattle.session_parts.specs.declared.receiving.Receiving.{Receiving}
 use Rattle.session_parts.specs.declared.subscriber.Subscriber.{Subscriber}
-use Rattle.session_parts.specs.Holding.{HasBuffers, HoldSubscriber, MayAllGoOn}
+use Rattle.session_parts.specs.Holding.{AreAllLogged, HasBuffers, HoldSubscriber, MayAllGoOn}
 use Rattle.session_parts.specs.Standing.{AreSendsIn, HaveOutcomes, HavePast, HaveReadAll, HaveSent}
 use Rattle.session_parts.specs.Pumping.{HaveGot, Pumps, PumpsTo, TellsReaders}
 use Rattle.session_parts.proofs.Entries.{pump_sends}
 use Rattle.pubsub_engine.specs.declared.session.Left.{Left}
 use Rattle.pubsub_engine.specs.declared.session.Session.{Session}
 use Rattle.pubsub_engine.specs.declared.storing.Stores.{Stores}
+use Rattle.session_model.specs.Keeping.{AreStepsOf}
 use Rattle.pubsub_engine.specs.Holding.{CountsPump, HoldStores, IsSession, plan_of}
 use Rattle.pubsub_engine.specs.Standing.{Leads, Stands}
 use Rattle.pubsub_engine.specs.Storing.{HaveStored, stored_at}
@@ -49,6 +50,7 @@ pumped-session old left tree subscriber receiving stores session counts kept hol
   samples = session.samples;
   publisher = session.publisher;
   goes_on = subst (λ (n : ℕ). MayAllGoOn old.config.now old.sets.metas.items n old.publisher.groups.items) (sym ticks) session.goes_on;
+  logged = subst (λ (n : ℕ). AreAllLogged n old.publisher.groups.items) (sym (ap (λ (l : Left). l.logged) counts.rest)) session.logged;
   subscriber = holds;
   tree = kept ∙ session.tree;
   buffers = buffers;
@@ -69,11 +71,11 @@ pumped-stands : (before : List Step) (old new : Session) (taken : ℕ) (told aft
 pumped-stands before old new taken told after does stands = record {
   plan = ap plan_of does.changed;
   run = (pumps.pump, stands.run);
-  steps_are = (omega (arith, stands.pumps, does.left.pumps), stands.steps_are);
+  steps_are = subst (λ (n : ℕ). AreStepsOf (n - 1) (plan_of old) (Pump does.pumps.entries ∷ before)) (sym (ap (λ (l : Left). l.stores) does.left.rest)) (omega (arith, stands.pumps, does.left.pumps), stands.steps_are);
   turns = stands.turns;
   moment = ap (λ (s : Session). s.moment) does.changed ∙ stands.moment;
   closed = ap (λ (l : Left). l.is_closed) does.left.rest ∙ stands.closed;
-  ticks = omega (arith, ap (λ (l : Left). l.ticks) does.left.rest, stands.ticks);
+  ticks = omega (arith, ap (λ (l : Left). l.ticks) does.left.rest, ap (λ (l : Left). l.stores) does.left.rest, stands.ticks);
   pumps = omega (arith, stands.pumps, does.left.pumps);
   metas = ap (λ (s : Session). s.sets.metas.items) does.changed ∙ stands.metas;
   groups = subst (λ (s : Session). HavePast p.config (metas_at p.config before) (deeds p before) s.publisher.groups.items) (sym does.changed) stands.groups;

@@ -52,6 +52,7 @@ session-sampled old new session changed samples = subst IsSession (sym changed) 
   samples = samples;
   publisher = session.publisher;
   goes_on = session.goes_on;
+  logged = session.logged;
   subscriber = session.subscriber;
   tree = session.tree;
   buffers = session.buffers;

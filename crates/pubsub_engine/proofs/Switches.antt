@@ -1,5 +1,5 @@
 -- Switches: where they leave the session.
-use Rattle.std.proofs.Common.{◌≡◌, refl, sym, ap, ◌∙◌, subst, arith, ℕ, Bool, true, false, List, [], ◌∷◌, Some, get_or}
+use Rattle.std.proofs.Common.{◌≡◌, refl, sym, ap, ◌∙◌, subst, arith, ℕ, ◌-◌, Bool, true, false, List, [], ◌∷◌, Some, get_or}
 use Rattle.std.specs.Prelude.{fold, slice_get, unwrap_or, vec_len, ◌==◌, if◌then◌else◌}
 use Rattle.std.proofs.lemmas.Option.{slice_get-get_or}
 use Rattle.dataset_meta.specs.Rows.{cons_if}
@@ -28,11 +28,12 @@ use Rattle.session_parts.specs.declared.publisher.Publisher.{Publisher}
 use Rattle.session_parts.specs.declared.subscriber.Subscriber.{Subscriber}
 use Rattle.session_parts.specs.declared.tally.Tally.{Tally}
 use Rattle.session_parts.specs.Standing.{AreReceivesIn, AreSendsIn, HasFlags, HaveOutcomes, HavePast, HaveRead, HaveReadAll, HaveSent, HaveTallied, HaveTalliedAll, IsTallyOf}
-use Rattle.session_parts.specs.Holding.{AreGroups, AreSenders}
+use Rattle.session_parts.specs.Holding.{AreGroups, AreSenders, AreStillLogged}
 use Rattle.session_parts.specs.Refreshed.{AllGoOn, HaveDone}
 use Rattle.session_parts.specs.Befalling.{HaveStoppedBelow}
 use Rattle.session_parts.specs.Pumping.{TellsReaders, late_at, ready_at}
 use Rattle.pubsub_engine.specs.declared.session.Session.{Session}
+use Rattle.session_model.specs.Keeping.{AreStepsOf}
 use Rattle.pubsub_engine.specs.Holding.{IsRunning, IsSession, plan_of}
 use Rattle.pubsub_engine.specs.Standing.{Stands}
 use Rattle.pubsub_engine.specs.Storing.{HaveStored}
@@ -158,8 +159,8 @@ pub record DoesEnable (id : ℕ) (component : Component) (old new : Session) : T
 
 pub enabled-session : (old : Session) (tree : TreeValue) (publisher : Publisher) → IsSession old → tree.counts ≡ old.tree.counts
     → publisher ≡ record old.publisher { groups = publisher.groups } → AreGroups old.config.now publisher.groups.items
-    → AllGoOn old.config.now old.publisher.groups.items publisher.groups.items → IsSession (record old { tree = tree; publisher = publisher })
-enabled-session old tree publisher session kept parts groups goes_on = record {
+    → AllGoOn old.config.now old.publisher.groups.items publisher.groups.items → AreStillLogged old.publisher.groups.items publisher.groups.items → IsSession (record old { tree = tree; publisher = publisher })
+enabled-session old tree publisher session kept parts groups goes_on logs = record {
   good = session.good;
   sets = session.sets;
   samples = session.samples;
@@ -170,6 +171,7 @@ enabled-session old tree publisher session kept parts groups goes_on = record {
     sends = ap (λ (q : Publisher). vec_len q.sends) parts ∙ session.publisher.sends;
   };
   goes_on = goes_on old.sets.metas.items old.left.ticks session.goes_on;
+  logged = logs old.left.logged session.logged;
   subscriber = session.subscriber;
   tree = kept ∙ session.tree;
   buffers = session.buffers;
@@ -183,7 +185,7 @@ enabled-of : (before : List Step) (id : ℕ) (component : Component) (old new : 
 enabled-of before id component old new does stands = record {
   plan = ap plan_of does.changed;
   run = stands.run;
-  steps_are = (
+  steps_are = subst (λ (n : ℕ). AreStepsOf (n - 1) (plan_of old) (Enable id ∷ before)) (sym (ap (λ (s : Session). s.left.stores) does.changed)) (
     record {
       there = does.there;
       was = sym (is-on p before id old.tree does.counts does.there stands.flags) ∙ does.was;
@@ -194,7 +196,7 @@ enabled-of before id component old new does stands = record {
   turns = stands.turns;
   moment = ap (λ (s : Session). s.moment) does.changed ∙ stands.moment;
   closed = ap (λ (s : Session). s.left.is_closed) does.changed ∙ stands.closed;
-  ticks = omega (arith, ap (λ (s : Session). s.left.ticks) does.changed, stands.ticks);
+  ticks = omega (arith, ap (λ (s : Session). s.left.ticks) does.changed, ap (λ (s : Session). s.left.stores) does.changed, stands.ticks);
   pumps = omega (arith, ap (λ (s : Session). s.left.pumps) does.changed, stands.pumps);
   metas = ap (λ (s : Session). s.sets.metas.items) does.changed ∙ stands.metas;
   groups = subst (λ (c : Component). HavePast p.config (metas_at p.config before) (RefreshedBelow c ∷ deeds p before) new.publisher.groups.items) (sym does.is_component)
@@ -256,7 +258,7 @@ disabled-of : (before : List Step) (id : ℕ) (component : Component) (old new :
 disabled-of before id component old new tree does stands = record {
   plan = ap plan_of does.changed;
   run = stands.run;
-  steps_are = (
+  steps_are = subst (λ (n : ℕ). AreStepsOf (n - 1) (plan_of old) (Disable id ∷ before)) (sym (ap (λ (s : Session). s.left.stores) does.changed)) (
     record {
       there = does.there;
       was = sym (is-on p before id old.tree does.counts does.there stands.flags) ∙ does.was;
@@ -267,7 +269,7 @@ disabled-of before id component old new tree does stands = record {
   turns = stands.turns;
   moment = ap (λ (s : Session). s.moment) does.changed ∙ stands.moment;
   closed = ap (λ (s : Session). s.left.is_closed) does.changed ∙ stands.closed;
-  ticks = omega (arith, ap (λ (s : Session). s.left.ticks) does.changed, stands.ticks);
+  ticks = omega (arith, ap (λ (s : Session). s.left.ticks) does.changed, ap (λ (s : Session). s.left.stores) does.changed, stands.ticks);
   pumps = omega (arith, ap (λ (s : Session). s.left.pumps) does.changed, stands.pumps);
   metas = ap (λ (s : Session). s.sets.metas.items) does.changed ∙ stands.metas;
   groups = subst (λ (s : Session). HavePast p.config (metas_at p.config before) (deeds p before) s.publisher.groups.items) (sym does.changed) stands.groups;

@@ -22,7 +22,7 @@ use Rattle.session_parts.proofs.Ticks.{go-one}
 use Rattle.session_parts.specs.declared.publisher.Publisher.{Publisher}
 use Rattle.pubsub_engine.specs.declared.sampling.Samples.{Samples}
 use Rattle.pubsub_engine.specs.declared.session.Session.{Session}
-use Rattle.session_parts.specs.Holding.{HoldPublisher, MayAllGoOn}
+use Rattle.session_parts.specs.Holding.{AreAllLogged, AreStillLogged, HoldPublisher, MayAllGoOn}
 use Rattle.pubsub_engine.specs.Holding.{HoldSamples, IsSession, KeepsPasses, MayTick}
 use Rattle.pubsub_engine.specs.Standing.{Leads, Stands}
 use Rattle.pubsub_engine.specs.Ticking.{HasBegun, tick_of}
@@ -47,13 +47,14 @@ after-is ms closing old mid s begun rest = rest ∙ ap (λ (m : Session). record
 
 pub ticked-session : (ms : ℕ) (closing : Bool) (old mid s : Session) → MayTick ms closing old → HasBegun ms closing old mid → s ≡ record mid { publisher = s.publisher; tree = s.tree }
     → HoldPublisher old.config.now s.publisher → s.tree.counts ≡ old.tree.counts → MayAllGoOn old.config.now old.sets.metas.items mid.left.ticks s.publisher.groups.items
-    → IsSession s
-ticked-session ms closing old mid s may begun rest holds counts goes = subst IsSession (sym (after-is ms closing old mid s begun rest)) (record {
+    → AreStillLogged mid.publisher.groups.items s.publisher.groups.items → IsSession s
+ticked-session ms closing old mid s may begun rest holds counts goes logs = subst IsSession (sym (after-is ms closing old mid s begun rest)) (record {
   good = session.good;
   sets = session.sets;
   samples = samples;
   publisher = holds;
   goes_on = goes;
+  logged = subst (λ (n : ℕ). AreAllLogged n s.publisher.groups.items) (sym begun.counts_tick.logged) (logs old.left.logged begun.logged);
   subscriber = begun.subscriber;
   tree = counts ∙ session.tree;
   buffers = session.buffers;
@@ -88,6 +89,7 @@ ticked-keeps ms closing old mid s begun rest = subst (KeepsPasses old) (sym (aft
   sampled = ap (λ (x : Samples). x.taken) begun.taken;
   keeper = refl;
   stores = begun.counts_tick.stores;
+  logged = begun.counts_tick.logged;
 })
 
 pub ticked-leads : (p : Plan) (before : List Step) (ms n : ℕ) (closing : Bool) (old mid s : Session) (told after : Option LinkState) → MayTick ms closing old → HasBegun ms closing old mid

@@ -21,9 +21,9 @@ use Rattle.session_model.specs.Events.{reader_indexes}
 use Rattle.session_model.specs.Closing.{IsReaderEnd, MemberPlace}
 use Rattle.session_parts.specs.declared.publisher.Publisher.{Publisher}
 use Rattle.session_parts.specs.declared.subscriber.Subscriber.{Subscriber}
-use Rattle.session_parts.specs.Holding.{HoldPublisher, HoldSubscriber}
+use Rattle.session_parts.specs.Holding.{AreAllLogged, HoldPublisher, HoldSubscriber}
 use Rattle.session_parts.specs.Standing.{HasFlags, HaveOutcomes, HavePast, HaveRead, HaveTallied}
-use Rattle.pubsub_engine.specs.Standing.{log_named}
+use Rattle.pubsub_engine.specs.Logs.{log_by}
 
 -- ---- what the ends are told of
 
@@ -39,11 +39,12 @@ pub record MayTellReaders (config : Config) (tree : TreeValue) (subscriber : Sub
   pub counts : tree.counts ≡ counts_of config
   pub holds : HoldSubscriber config subscriber
 
--- these steps of a plan of the configuration leave the tree and the publisher as they are
-pub record HavePublished (config : Config) (p : Plan) (steps : List Step) (tree : TreeValue) (publisher : Publisher) : Type 0 where
+-- these steps of a plan of the configuration leave the tree and the publisher as they are, whose logs keep so many data frames
+pub record HavePublished (config : Config) (most : ℕ) (p : Plan) (steps : List Step) (tree : TreeValue) (publisher : Publisher) : Type 0 where
   pub plan : p.config ≡ config
   pub flags : HasFlags (flags_at p steps) tree
   pub groups : HavePast p.config (metas_at p.config steps) (deeds p steps) publisher.groups.items
+  pub logged : AreAllLogged most publisher.groups.items
   pub outcomes : HaveOutcomes p steps publisher.sends.items
 
 -- so they leave the subscriber
@@ -69,13 +70,13 @@ places_of_read_group config r = map (λ i. (r, i)) (reader_indexes config r)
 abbrev pub reader_in : Config → MemberPlace → ReadGroupPart × ReaderPart
 reader_in config place = (read_group_at config place.0, (seat_at (setting_of config place.0).seats place.1).part)
 
--- beside a row that a reader holds stand its number, and the version that this program's writer logged at it
-pub record IsNumbered (p : Plan) (steps : List Step) (at : ReadGroupPart × ReaderPart) (held : HeldEnd) : Type 0 where
+-- beside a row that a reader holds stand its number, and the version that this program's writer has at it in these logs
+pub record IsNumbered (logs : ℕ → ℕ → List (ℕ × ℕ)) (p : Plan) (at : ReadGroupPart × ReaderPart) (held : HeldEnd) : Type 0 where
   pub number : TellsNumber at.1.numbering held.number
-  pub own : at.0.publisher ≡ p.config.publisher.id → held.version ≡ option_and_then (version_of (log_named p steps at.1.writer)) held.number
+  pub own : at.0.publisher ≡ p.config.publisher.id → held.version ≡ option_and_then (version_of (log_by logs p.config at.1.writer)) held.number
   pub other : at.0.publisher ≢ p.config.publisher.id → held.version ≡ None
 
 -- all that is told of the reader with this place
-pub record IsToldAt (p : Plan) (steps : List Step) (place : MemberPlace) (end : ReaderEnd) : Type 0 where
+pub record IsToldAt (logs : ℕ → ℕ → List (ℕ × ℕ)) (p : Plan) (steps : List Step) (place : MemberPlace) (end : ReaderEnd) : Type 0 where
   pub is : IsReaderEnd p steps place end
-  pub numbered : IfSome end.held (IsNumbered p steps (reader_in p.config place))
+  pub numbered : IfSome end.held (IsNumbered logs p (reader_in p.config place))

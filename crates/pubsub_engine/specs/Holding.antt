@@ -1,5 +1,5 @@
 -- What holds of a session between its calls, whatever it lived through: the conditions of the calls below.
-use Rattle.std.specs.Prelude.{◌≡◌, ◌⊎◌, ⊤, ℕ, ◌+◌, ◌*◌, ◌^◌, ◌<◌, ◌≤◌, Bool, true, false, List, [], ◌∷◌, length, map, drop, slice_set, vec_len, All}
+use Rattle.std.specs.Prelude.{◌≡◌, ◌⊎◌, ⊤, ℕ, ◌+◌, ◌-◌, ◌*◌, ◌^◌, ◌<◌, ◌≤◌, Bool, true, false, List, [], ◌∷◌, length, map, drop, slice_set, vec_len, All}
 use Rattle.dataset_meta.specs.declared.field.Field.{Field}
 use Rattle.dataset_meta.specs.Metas.{MetaData, grown}
 use Rattle.ps_config.specs.declared.parts.Config.{Config}
@@ -17,7 +17,7 @@ use Rattle.writer_group.specs.Standing.{IsGood}
 use Rattle.session_model.specs.Counts.{most_ms}
 use Rattle.session_model.specs.Steps.{Plan}
 use Rattle.session_model.specs.Sets.{AreFit, MayAppend, GrowTo, AreRowsOf, meta_in}
-use Rattle.session_parts.specs.Holding.{HasBuffers, HoldPublisher, HoldSubscriber, MayAllGoOn}
+use Rattle.session_parts.specs.Holding.{AreAllLogged, HasBuffers, HoldPublisher, HoldSubscriber, MayAllGoOn}
 use Rattle.pubsub_engine.specs.declared.size.Append.{Append}
 use Rattle.pubsub_engine.specs.declared.sets.Sets.{Sets}
 use Rattle.pubsub_engine.specs.declared.sets.Growth.{Growth}
@@ -93,9 +93,21 @@ plan_of s = record { config = s.config.now; full = s.sets.full.items }
 abbrev pub left_of : Session → Left
 left_of s = s.left
 
--- before the first tick, with so many beside the closing one
-abbrev pub opening_left : ℕ → Left
-opening_left ticks = record { ticks = ticks + 1; pumps = 0; stores = ticks + 1; is_closed = false }
+-- before the first tick, with so many beside the closing one, and logs that keep so many data frames
+abbrev pub opening_left : ℕ → ℕ → Left
+opening_left ticks logged = record { ticks = ticks + 1; pumps = 0; stores = ticks + 1; logged = logged; is_closed = false }
+
+-- the ticks that it was opened for, beside the closing one
+abbrev pub ticks_of : Session → ℕ
+ticks_of s = s.left.stores - 1
+
+-- how many data frames the log of each writer keeps, the first ones
+abbrev pub logged_of : Session → ℕ
+logged_of s = s.left.logged
+
+-- one for each tick at least, so all: a writer has one at most in a tick
+abbrev pub KeepsWholeLogs : Session → Type 0
+KeepsWholeLogs s = ticks_of s < logged_of s
 
 -- how many stores a target may have
 abbrev pub stores_limit : Session → ℕ
@@ -114,12 +126,13 @@ pub record IsSession (s : Session) : Type 0 where
   pub samples : HoldSamples s.sets.full.items s.samples
   pub publisher : HoldPublisher s.config.now s.publisher
   pub goes_on : MayAllGoOn s.config.now s.sets.metas.items s.left.ticks s.publisher.groups.items
+  pub logged : AreAllLogged s.left.logged s.publisher.groups.items
   pub subscriber : HoldSubscriber s.config.now s.subscriber
   pub tree : s.tree.counts ≡ counts_of s.config.now
   pub buffers : HasBuffers s.receiving
   pub stores : HoldStores s.config.now s.left.stores (s.left.ticks + s.left.pumps) s.stores
   pub time : s.moment + s.left.ticks * most_ms < 2 ^ 64
-  pub calls : s.left.ticks + s.left.pumps < 2 ^ 32
+  pub calls : s.left.ticks + s.left.pumps < 2 ^ 64
 
 -- the closing tick didn't come yet
 abbrev pub IsRunning : Session → Type 0
@@ -152,6 +165,7 @@ pub record CountsTick (closing : Bool) (old new : Left) : Type 0 where
   pub ticks : new.ticks + 1 ≡ old.ticks
   pub pumps : new.pumps ≡ old.pumps + 1
   pub stores : new.stores ≡ old.stores
+  pub logged : new.logged ≡ old.logged
   pub is_closed : new.is_closed ≡ closing
 
 -- a pump came
@@ -192,6 +206,7 @@ pub record KeepsPasses (old new : Session) : Type 0 where
   pub sampled : new.samples.taken ≡ old.samples.taken
   pub keeper : keeper_of new ≡ keeper_of old
   pub stores : new.left.stores ≡ old.left.stores
+  pub logged : new.left.logged ≡ old.left.logged
 
 -- the data sets of the appends that are still to come, in order
 abbrev pub appends_left : Session → List ℕ

@@ -5,3 +5,4 @@ pub mod Ticking
 pub mod Authored
 pub mod Ending
 pub mod Logs
+pub mod Showing

@@ -1,5 +1,5 @@
 -- The logs of this program's writers, and which of them a reader names.
-use Rattle.std.specs.Prelude.{◌≡◌, ◌≢◌, ℕ, ◌==◌, Bool, false, bytes_eq, List, [], map, zip, find, Option, option_map}
+use Rattle.std.specs.Prelude.{◌≡◌, ◌≢◌, ℕ, ◌==◌, Bool, false, bytes_eq, List, [], map, take, zip, find, Option, option_map}
 use Rattle.std.specs.Option.{option_map_or}
 use Rattle.dataset_meta.specs.Metas.{MetaData}
 use Rattle.pubsub_model.specs.Cadence.{log_of}
@@ -17,23 +17,24 @@ use Rattle.writer_group.specs.Payloads.{writer_at}
 use Rattle.writer_group.specs.Turns.{settings_of, writer_past}
 use Rattle.session_model.specs.Deeds.{Deed, group_past, writer_indexes}
 use Rattle.session_model.specs.Closing.{MemberPlace, writer_places}
+use Rattle.session_parts.specs.Holding.{AreAllLogged}
 use Rattle.session_parts.specs.Standing.{HavePast}
 use Rattle.session_parts.specs.declared.publisher.Publisher.{Publisher}
 
--- the log that these deeds leave the writer with index w of group g
-abbrev pub log_after : Config → List Deed → ℕ → ℕ → List (ℕ × ℕ)
-log_after config deeds g w = log_of (model_settings (settings_of (writer_at (group_at config g) w))) (writer_past w (group_past config g deeds))
+-- of the log that these deeds leave the writer with index w of group g, the first data frames
+abbrev pub log_after : ℕ → Config → List Deed → ℕ → ℕ → List (ℕ × ℕ)
+log_after most config deeds g w = take most (log_of (model_settings (settings_of (writer_at (group_at config g) w))) (writer_past w (group_past config g deeds)))
 
 -- where each writer of each group has this log, that of the writer with an id, empty where there is no such writer
 abbrev pub log_by : (ℕ → ℕ → List (ℕ × ℕ)) → Config → ℕ → List (ℕ × ℕ)
 log_by logs config id =
     option_map_or (λ at. logs at.1.0 at.1.1) (find (λ at. at.0.id == id) (zip (writers_of config.group) (writer_places config))) []
 
--- whichever deeds left the publisher's groups as they are, this is the log of the writer with an id
+-- whichever deeds left the publisher's groups as they are, these are the data frames that the log of the writer with an id keeps
 abbrev pub IsLogNamed : Config → Publisher → ℕ → List (ℕ × ℕ) → Type 0
 IsLogNamed config publisher id log =
-    (metas : List MetaData) (deeds : List Deed) → HavePast config metas deeds publisher.groups.items
-    → log ≡ log_by (log_after config deeds) config id
+    (most : ℕ) (metas : List MetaData) (deeds : List Deed) → AreAllLogged most publisher.groups.items → HavePast config metas deeds publisher.groups.items
+    → log ≡ log_by (log_after most config deeds) config id
 
 -- both are one publisher
 abbrev pub is_same_publisher : PublisherId → PublisherId → Bool

@@ -4,7 +4,7 @@ use Rattle.std.specs.List.{AllZip}
 use Rattle.row_words.specs.Belonging.{Belongs}
 use Rattle.session_model.specs.Steps.{Plan, Step, Tick}
 use Rattle.session_model.specs.Sets.{rows_cut}
-use Rattle.session_parts.specs.Holding.{HoldPublisher, HoldSubscriber, MayAllGoOn}
+use Rattle.session_parts.specs.Holding.{AreAllLogged, HoldPublisher, HoldSubscriber, MayAllGoOn}
 use Rattle.session_parts.specs.Standing.{HaveRead}
 use Rattle.session_parts.specs.Ticking.{IsAt, KnowsSpent, TickData, begun}
 use Rattle.pubsub_engine.specs.declared.session.Session.{Session}
@@ -33,6 +33,7 @@ pub record HasBegun (ms : ℕ) (closing : Bool) (old new : Session) : Type 0 whe
   pub publisher : HoldPublisher old.config.now new.publisher
   pub spent : KnowsSpent old.config.now new.publisher.senders.items new.tree
   pub goes_on : MayAllGoOn old.config.now old.sets.metas.items old.left.ticks new.publisher.groups.items
+  pub logged : AreAllLogged old.left.logged new.publisher.groups.items
   pub subscriber : HoldSubscriber old.config.now new.subscriber
   pub sent : (p : Plan) (before : List Step) → Stands p before old
       → IsAt (tick_of p before ms closing old) (begun (tick_of p before ms closing old)) [] new.publisher new.tree

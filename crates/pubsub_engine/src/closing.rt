@@ -2,8 +2,9 @@
 ghost use Rattle.std.specs.Prelude.{◌≡◌, ◌<◌, ◌≤◌, ◌++◌, ◌-◌, ℕ, List, All, IfOk, OnOk, length, map, option_map, slice_get, slice_set, Some};
 ghost use Rattle.ps_report.specs.Conditions.{IsClosedOf};
 ghost use Rattle.session_model.specs.Steps.{Plan, Step};
-ghost use Rattle.session_model.specs.Closing.{IsClosedAfter};
-ghost use Rattle.pubsub_engine.specs.Holding.{IsSession, passes_of, plan_of};
+ghost use Rattle.session_model.specs.Closing.{IsClosedAfter, IsClosedWith};
+ghost use Rattle.session_model.specs.Deeds.{logs_cut};
+ghost use Rattle.pubsub_engine.specs.Holding.{IsSession, KeepsWholeLogs, logged_of, passes_of, plan_of};
 ghost use Rattle.pubsub_engine.specs.Standing.{Stands};
 ghost use Rattle.pubsub_engine.specs.Authored.{AreHistories, AreInOrder, AreLooksAt, HasThreads, IsAuthored, byte_of, filled, watch_of, watches_in_bytes, watches_of};
 ghost use Rattle.app_threads.specs.Items.{versions_in};
@@ -20,11 +21,14 @@ use std::alloc::Global;
 use ua_base::NoMemory;
 
 impl Session<'_> {
-    /// Ends the session. `dones` has what each thread leaves, in the order of threads.
+    /// Ends the session. `dones` has what each thread leaves, in the order of threads. The log of each writer has the data frames
+    /// that it keeps, the first ones.
     pub fn close(self, alloc: Global, dones: &[Done]) -> Result<Closed, NoMemory>
         requires session { IsSession self }
         ensures closed { (p : Plan) (steps : List Step) → Stands p steps self.entry → AreInOrder dones.now
-            → IfOk result (IsClosedAfter p steps) }
+            → IfOk result (IsClosedWith (logs_cut (logged_of self.entry) p steps) p steps) }
+        ensures whole { KeepsWholeLogs self.entry → (p : Plan) (steps : List Step)
+            → Stands p steps self.entry → AreInOrder dones.now → IfOk result (IsClosedAfter p steps) }
         ensures histories { length dones.now ≤ 256
             → IfOk result (λ closed. (set : ℕ) (threads : List ℕ) → set < length (passes_of self.entry)
             → IsAuthored set dones.now threads → length threads ≡ length (pass_at (passes_of self.entry) set).seen

@@ -13,10 +13,10 @@ ghost use Rattle.pubsub_states.specs.Changes.{flags_in};
 ghost use Rattle.pubsub_states.specs.States.{state_of};
 ghost use Rattle.pubsub_states.specs.declared.component.Component.TheVariants.{Writer as WriterOf};
 ghost use Rattle.session_model.specs.Steps.{Plan, Step};
-ghost use Rattle.session_model.specs.Deeds.{group_indexes};
+ghost use Rattle.session_model.specs.Deeds.{group_indexes, logs_cut};
 ghost use Rattle.session_model.specs.Events.{read_group_indexes};
 ghost use Rattle.session_model.specs.Sends.{journal};
-ghost use Rattle.session_model.specs.Closing.{IsWriterEnd, MemberPlace, Shows, group_end, link_end, read_group_end, reader_places, writer_places};
+ghost use Rattle.session_model.specs.Closing.{IsWriterEndWith, MemberPlace, Shows, group_end, link_end, read_group_end, reader_places, writer_places};
 ghost use Rattle.writer_group.specs.Parts.{group_at};
 ghost use Rattle.session_parts.specs.Standing.{AreReceivesIn, AreSendsIn};
 ghost use Rattle.pubsub_engine.specs.Storing.{first_reader};
@@ -42,8 +42,8 @@ pub(crate) fn group_ends(
     publisher: &Publisher,
 ) -> Result<Vec<GroupEnd>, NoMemory>
     requires { MayTellWriters config.now tree.now publisher.now }
-    ensures { IfOk result (λ ends. (p : Plan) (steps : List Step)
-        → HavePublished config.now p steps tree.now publisher.now
+    ensures { IfOk result (λ ends. (most : ℕ) (p : Plan) (steps : List Step)
+        → HavePublished config.now most p steps tree.now publisher.now
         → ends.items ≡ map (group_end p steps) (group_indexes p.config)) }
 {
     let mut ends = Vec::new(alloc);
@@ -64,9 +64,9 @@ pub(crate) fn writer_ends(
     publisher: &Publisher,
 ) -> Result<Vec<WriterEnd>, NoMemory>
     requires { MayTellWriters config.now tree.now publisher.now }
-    ensures { IfOk result (λ ends. (p : Plan) (steps : List Step)
-        → HavePublished config.now p steps tree.now publisher.now
-        → AllZip (IsWriterEnd p steps) (writer_places p.config) ends.items) }
+    ensures { IfOk result (λ ends. (most : ℕ) (p : Plan) (steps : List Step)
+        → HavePublished config.now most p steps tree.now publisher.now
+        → AllZip (IsWriterEndWith (logs_cut most p steps) p steps) (writer_places p.config) ends.items) }
 {
     let mut ends = Vec::new(alloc);
     for g in 0..config.group.as_slice().len() {
@@ -86,10 +86,11 @@ fn push_writer_ends(
 ) -> Result<(), NoMemory>
     requires may { MayTellWriters config.now tree.now publisher.now }
     requires within { group < length config.now.group }
-    ensures { OnOk result ((p : Plan) (steps : List Step) (places : List MemberPlace)
-        → HavePublished config.now p steps tree.now publisher.now
-        → AllZip (IsWriterEnd p steps) places ends.old.items
-        → AllZip (IsWriterEnd p steps) (places ++ places_of_group p.config group) ends.new.items) }
+    ensures { OnOk result ((most : ℕ) (p : Plan) (steps : List Step) (places : List MemberPlace)
+        → HavePublished config.now most p steps tree.now publisher.now
+        → let is_end = IsWriterEndWith (logs_cut most p steps) p steps in
+        AllZip is_end places ends.old.items
+        → AllZip is_end (places ++ places_of_group p.config group) ends.new.items) }
 {
     for w in 0
         ..group_part(config, usize::from(group))
@@ -113,9 +114,9 @@ fn writer_end(
     requires may { MayTellWriters config.now tree.now publisher.now }
     requires within { group < length config.now.group }
     requires there { writer < length (group_at config.now group).writer }
-    ensures { IfOk result (λ end. (p : Plan) (steps : List Step)
-        → HavePublished config.now p steps tree.now publisher.now
-        → IsWriterEnd p steps (group, writer) end) }
+    ensures { IfOk result (λ end. (most : ℕ) (p : Plan) (steps : List Step)
+        → HavePublished config.now most p steps tree.now publisher.now
+        → IsWriterEndWith (logs_cut most p steps) p steps (group, writer) end) }
 {
     let log = publisher.groups[usize::from(group)].writer(writer).log();
     Ok(WriterEnd {
@@ -166,10 +167,10 @@ pub(crate) fn reader_ends(
 ) -> Result<Vec<ReaderEnd>, NoMemory>
     requires writers { MayTellWriters config.now tree.now publisher.now }
     requires readers { MayTellReaders config.now tree.now subscriber.now }
-    ensures { IfOk result (λ ends. (p : Plan) (steps : List Step)
-        → HavePublished config.now p steps tree.now publisher.now
+    ensures { IfOk result (λ ends. (most : ℕ) (p : Plan) (steps : List Step)
+        → HavePublished config.now most p steps tree.now publisher.now
         → HaveReceived config.now p steps tree.now subscriber.now
-        → AllZip (IsToldAt p steps) (reader_places p.config) ends.items) }
+        → AllZip (IsToldAt (logs_cut most p steps) p steps) (reader_places p.config) ends.items) }
 {
     let mut ends = Vec::new(alloc);
     for r in 0..config.readgroup.as_slice().len() {
@@ -193,11 +194,12 @@ fn push_reader_ends(
     requires behind { length ends.old.items ≡ first_reader config.now read_group }
     ensures behind { OnOk result
         (length ends.new.items ≡ first_reader config.now (read_group + 1)) }
-    ensures more { OnOk result ((p : Plan) (steps : List Step) (places : List MemberPlace)
-        → HavePublished config.now p steps tree.now publisher.now
+    ensures more { OnOk result ((most : ℕ) (p : Plan) (steps : List Step) (places : List MemberPlace)
+        → HavePublished config.now most p steps tree.now publisher.now
         → HaveReceived config.now p steps tree.now subscriber.now
-        → AllZip (IsToldAt p steps) places ends.old.items
-        → AllZip (IsToldAt p steps) (places ++ places_of_read_group p.config read_group) ends.new.items) }
+        → let is_told = IsToldAt (logs_cut most p steps) p steps in
+        AllZip is_told places ends.old.items
+        → AllZip is_told (places ++ places_of_read_group p.config read_group) ends.new.items) }
 {
     each_held_row_has_its_number();
     let r = usize::from(read_group);

@@ -9,6 +9,7 @@ mod opening;
 mod sampling;
 mod session;
 mod sets;
+mod showing;
 mod size;
 mod storing;
 mod switching;

@@ -8,7 +8,7 @@ ghost use Rattle.version_cell.specs.Cells.{IsCell};
 ghost use Rattle.cell_bank.specs.Hands.{AreHands, AreSmall};
 ghost use Rattle.target_cells.specs.Keeping.{AreKept};
 ghost use Rattle.writer_group.specs.Standing.{IsGood};
-ghost use Rattle.session_model.specs.Counts.{most_ticks};
+ghost use Rattle.session_model.specs.Counts.{life_ticks};
 ghost use Rattle.session_model.specs.Keeping.{IsPlan};
 ghost use Rattle.pubsub_engine.specs.Holding.{AreAppends, AreTargetsOf, IsBankOf, IsSession, appends_left, full_of, keeper_of, left_of, opening_left, passes_of, plan_of};
 ghost use Rattle.pubsub_engine.specs.Standing.{Stands, sampled_by, samples_of};
@@ -48,7 +48,7 @@ impl<'c> Session<'c> {
         size: &Size,
     ) -> Result<Opening<'c>, NoMemory>
         requires good { IsGood config.now }
-        requires ticks { size.now.ticks ≤ most_ticks }
+        requires ticks { size.now.ticks ≤ life_ticks }
         requires sets { length size.now.writes.items ≡ length config.now.dataset }
         requires writes { AreSmall size.now.writes.items }
         requires appends { AreAppends config.now config.now.dataset size.now.appends.items }
@@ -59,7 +59,7 @@ impl<'c> Session<'c> {
         ensures is_plan { HasTypes config.now → IfOk result (λ o. IsPlan (plan_of o.session)) }
         ensures session { IfOk result (λ o. IsSession o.session) }
         ensures stands { IfOk result (λ o. Stands (plan_of o.session) [] o.session) }
-        ensures left { IfOk result (λ o. left_of o.session ≡ opening_left size.now.ticks) }
+        ensures left { IfOk result (λ o. left_of o.session ≡ opening_left size.now.ticks size.now.logged) }
         ensures appends { IfOk result
             (λ o. appends_left o.session ≡ map (λ append. append.set) size.now.appends.items) }
         ensures bank { IfOk result (λ o. IsBankOf o.session o.bank) }
@@ -86,7 +86,7 @@ impl<'c> Session<'c> {
             alloc,
             config.dataset.as_slice(),
             readers.as_slice(),
-            u64::from(turns),
+            turns,
         )?;
         let samples = Samples::new(alloc, passes, sets.metas.len())?;
         let mut session = Session {
@@ -95,13 +95,14 @@ impl<'c> Session<'c> {
             left: Left {
                 ticks: turns,
                 pumps: 0,
-                stores: u64::from(turns),
+                stores: turns,
+                logged: size.logged,
                 is_closed: false,
             },
             tree: Tree::new(alloc, config)?,
             sets,
             samples,
-            publisher: publisher_of(alloc, config, turns)?,
+            publisher: publisher_of(alloc, config, turns, size.logged)?,
             subscriber: subscriber_of(alloc, config)?,
             receiving: Receiving::new(alloc)?,
             stores: Stores::new(alloc, keeper, readers.len())?,

@@ -10,8 +10,9 @@ ghost use Rattle.target_cells.specs.Keeping.{AreLevel};
 ghost use Rattle.session_model.specs.Steps.{Plan, Step, Append as AppendStep, Tick, Pump};
 ghost use Rattle.session_model.specs.Counts.{most_taken};
 ghost use Rattle.session_model.specs.Closing.{MemberPlace, is_datagram, reader_places};
-ghost use Rattle.pubsub_engine.specs.Holding.{AddsOneAtMost, AreTargetsOf, ChangesSamples, ChangesStores, CountsPump, CountsTick, IsBankOf, IsRunning, IsSession, KeepsPasses, MayAppendNext, MayPump, MayTick, appends_left, keeper_of, left_of, passes_of, plan_of};
-ghost use Rattle.pubsub_engine.specs.Standing.{IsOriginOf, KeepsStands, Leads, Stands, sampled_by, samples_of};
+ghost use Rattle.session_model.specs.Deeds.{logs_cut};
+ghost use Rattle.pubsub_engine.specs.Holding.{AddsOneAtMost, AreTargetsOf, ChangesSamples, ChangesStores, CountsPump, CountsTick, IsBankOf, IsRunning, IsSession, KeepsPasses, KeepsWholeLogs, MayAppendNext, MayPump, MayTick, appends_left, keeper_of, left_of, logged_of, passes_of, plan_of};
+ghost use Rattle.pubsub_engine.specs.Standing.{IsOriginWith, IsOriginOf, KeepsStands, Leads, Stands, sampled_by, samples_of};
 ghost use Rattle.pubsub_engine.specs.Ticking.{HasBegun};
 ghost use Rattle.pubsub_states.specs.Components.{counts_of};
 ghost use Rattle.session_parts.specs.Holding.{HoldPublisher};
@@ -35,11 +36,13 @@ use version_cell::histories_are_the_models;
 #[derive(Clone, Copy, Debug)]
 pub(crate) struct Left {
     /// Ticks, the closing one included.
-    pub(crate) ticks: u32,
+    pub(crate) ticks: u64,
     /// Pumps of ticks that came.
-    pub(crate) pumps: u32,
+    pub(crate) pumps: u64,
     /// How many stores a target may have.
     pub(crate) stores: u64,
+    /// How many data frames the log of each writer keeps, the first ones.
+    pub(crate) logged: u32,
     /// Whether the closing tick came.
     pub(crate) is_closed: bool,
 }
@@ -239,12 +242,16 @@ impl<'c> Session<'c> {
     }
 
     /// Where a reader's last store comes from: how many stores it has, and for the last the number of its message and the version
-    /// that the log of this program's writer has at it. The reader is named by its index over all read groups.
+    /// that the log of this program's writer has at it, of the data frames that the log keeps. The reader is named by its index over
+    /// all read groups.
     pub fn origin(&self, reader: u8) -> Origin
         requires session { IsSession self.now }
         requires there { reader < length (readers (plan_of self.now).config) }
         ensures origin { (p : Plan) (steps : List Step) (place : MemberPlace) → Stands p steps self.now
             → slice_get (reader_places p.config) reader ≡ Some place
+            → IsOriginWith (logs_cut (logged_of self.now) p steps) p steps place result }
+        ensures whole { KeepsWholeLogs self.now → (p : Plan) (steps : List Step) (place : MemberPlace)
+            → Stands p steps self.now → slice_get (reader_places p.config) reader ≡ Some place
             → IsOriginOf p steps place result }
     {
         self.stores.origin(self.config, &self.publisher, reader)

@@ -9,12 +9,12 @@ ghost use Rattle.writer_group.specs.Standing.{IsGood};
 ghost use Rattle.row_words.specs.Belonging.{Belongs, row_in};
 ghost use Rattle.session_model.specs.Steps.{Plan, Step};
 ghost use Rattle.session_model.specs.Sets.{metas_at};
-ghost use Rattle.session_model.specs.Deeds.{deeds};
+ghost use Rattle.session_model.specs.Deeds.{deeds, logs_cut};
 ghost use Rattle.session_model.specs.Closing.{MemberPlace, reader_places};
 ghost use Rattle.session_model.specs.Stores.{Store, is_same, stored_on, stores as stores_of};
 ghost use Rattle.pubsub_engine.specs.Holding.{AddsOneAtMost, HoldStores};
-ghost use Rattle.pubsub_engine.specs.Standing.{IsOriginOf};
-ghost use Rattle.session_parts.specs.Holding.{AreGroups, HoldSubscriber};
+ghost use Rattle.pubsub_engine.specs.Standing.{IsOriginWith};
+ghost use Rattle.session_parts.specs.Holding.{AreAllLogged, AreGroups, HoldSubscriber};
 ghost use Rattle.session_parts.specs.Standing.{HavePast, HaveReadAll};
 ghost use Rattle.pubsub_engine.specs.Storing.{HaveStored, HaveStoredOn, IsLast, IsSameAt, IsStoredAs, MayStore, MayStoreFrom, first_reader, held_in, stored_at};
 
@@ -95,11 +95,12 @@ impl Stores {
         requires there { reader < length (readers config.now) }
         requires count { length self.now.last.items ≡ length (readers config.now) }
         requires keepers { length self.now.keeper ≡ length (readers config.now) }
-        ensures { (p : Plan) (steps : List Step) (place : MemberPlace) → p.config ≡ config.now
+        ensures { (most : ℕ) (p : Plan) (steps : List Step) (place : MemberPlace)
+            → p.config ≡ config.now → AreAllLogged most publisher.now.groups.items
             → HavePast p.config (metas_at p.config steps) (deeds p steps) publisher.now.groups.items
             → HaveStored p.config (λ place. stores_of p.config place.0 place.1 steps) self.now
             → slice_get (reader_places p.config) reader ≡ Some place
-            → IsOriginOf p steps place result }
+            → IsOriginWith (logs_cut most p steps) p steps place result }
     {
         let last = &self.last[usize::from(reader)];
         if !last.is_there {

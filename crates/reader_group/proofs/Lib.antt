@@ -28,3 +28,4 @@ pub mod Numbered
 pub mod Signed
 pub mod Asked
 pub mod BytesLeft
+pub mod Renewing

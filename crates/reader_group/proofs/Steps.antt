@@ -2,6 +2,7 @@
 use Rattle.std.proofs.Common.{◌≡◌, sym, ap, ◌∙◌, subst, ℕ, Bool, ◌&&◌, List, map, get_or, Option}
 use Rattle.std.specs.Prelude.{Result, Ok, sum_by}
 use Rattle.message_guard.specs.declared.guard.Guard.{Guard}
+use Rattle.message_guard.specs.declared.keys.TokenKeys.{TokenKeys}
 use Rattle.message_guard.specs.declared.mode.Mode.{Mode}
 use Rattle.message_guard.specs.Acceptance.{raises}
 use Rattle.message_guard.specs.Guards.{Setup, IsGuardOf, setup_of}
@@ -22,10 +23,10 @@ use Rattle.reader_group.specs.Members.{MemberValue}
 use Rattle.reader_group.specs.Payloads.{Payload, part_count}
 use Rattle.reader_group.specs.Opening.{Opened, bytes_left, verdict}
 use Rattle.reader_group.specs.Begun.{LeavesBytes, payload_held, Opens}
-use Rattle.reader_group.specs.Groups.{AreMembers, AreReaders, IsTallyOf, Stands, IsMadeOf, guard_of, members_of, index_of}
-use Rattle.reader_group.specs.Plain.{Setting, PlainGroup, Fed, Got, all_fed, feds, is_raised, receipt_of, stamp_by, taken_on, answer_on, answer, step, verdict_in}
-use Rattle.reader_group.specs.Settings.{setting_by, setting_of}
-use Rattle.reader_group.proofs.Made.{setup-mode, setting-at}
+use Rattle.reader_group.specs.Groups.{AreMembers, AreReaders, IsTallyOf, Stands, IsMadeOf, guard_of, members_of, index_of, setting_with}
+use Rattle.reader_group.specs.Plain.{Setting, PlainGroup, Fed, Got, all_fed, feds, is_raised, receipt_of, stamp_by, taken_on, answer_on, answer, step, verdict_in, with_keys}
+use Rattle.reader_group.specs.Settings.{setting_by}
+use Rattle.reader_group.proofs.Made.{setting-at}
 
 -- the members of each that was fed
 abbrev members_in : List Fed → List MemberValue
@@ -37,54 +38,55 @@ taken_with parts matched bad = Ok (record { parts = parts; matched = matched; ba
 abbrev pub receipt_with : ℕ → Option ℕ → Receipt
 receipt_with moment stamp = record { moment = moment; stamp = stamp }
 
--- what the group's calls ensured of a datagram that was opened: `guard` and `members` are those before, and `part` is the group's part of the configuration
-pub record IsTaken (config : Config) (part : ReadGroupPart) (plain : PlainGroup) (now : ℕ) (on : List Bool) (datagram bytes : List ℕ) (guard after : Guard) (members new : List Member)
+-- what the group's calls ensured of a datagram that was opened: `guard` and `members` are those before
+pub record IsTaken (setting : Setting) (plain : PlainGroup) (now : ℕ) (on : List Bool) (datagram bytes : List ℕ) (guard after : Guard) (members new : List Member)
     (begun : Begun) (room : Buffers) (raised : Bool) (receipt : Receipt) (payload : Payload) (tally : Tally) : Type 0 where
-  pub opens : Opens part (verdict part (setup_of guard) plain.accepted datagram) (Ok begun) room bytes
-  pub held : payload ≡ payload_held part.layout begun room bytes
-  pub receipt_is : receipt ≡ receipt_with now (stamp_by (mode_of part.security) begun.pass.number)
-  pub setup : setup_of guard ≡ (setting_by config part).setup
+  pub opens : Opens setting.group (verdict setting.group (setup_of guard) plain.accepted datagram) (Ok begun) room bytes
+  pub held : payload ≡ payload_held setting.group.layout begun room bytes
+  pub receipt_is : receipt ≡ receipt_with now (stamp_by (mode_of setting.group.security) begun.pass.number)
+  pub setup : setup_of guard ≡ setting.setup
+  pub setup_stays : setup_of after ≡ setup_of guard
+  pub mode : setting.setup.mode ≡ mode_of setting.group.security
   pub accepts_it : IsGuardOf (accepts (setup_of guard).mode begun.pass plain.accepted) after
   pub raised_is : raised ≡ (is_secured (setup_of guard).mode && raises plain.accepted begun.pass.token)
-  pub members_are : AreMembers (setting_by config part).seats (members_in (all_fed (setting_by config part).seats plain.members receipt raised on payload)) new
-  pub tally_is : IsTallyOf tally (all_fed (setting_by config part).seats plain.members receipt raised on payload)
+  pub members_are : AreMembers setting.seats (members_in (all_fed setting.seats plain.members receipt raised on payload)) new
+  pub tally_is : IsTallyOf tally (all_fed setting.seats plain.members receipt raised on payload)
 
 abbrev opened_of : ReadGroupPart → Begun → Buffers → List ℕ → Opened
 opened_of part begun room bytes = record { pass = begun.pass; payload = payload_held part.layout begun room bytes }
 
 -- the reading of a datagram that was opened so
-pub verdict-is : (config : Config) (part : ReadGroupPart) (plain : PlainGroup) (datagram bytes : List ℕ) (guard : Guard) (begun : Begun) (room : Buffers)
-    → Opens part (verdict part (setup_of guard) plain.accepted datagram) (Ok begun) room bytes → setup_of guard ≡ (setting_by config part).setup
-    → verdict_in (setting_by config part) plain datagram ≡ Ok (opened_of part begun room bytes)
-verdict-is config part plain datagram bytes guard begun room opens setup = ap (λ (s : Setup). verdict part s plain.accepted datagram) (sym setup) ∙ opens
+pub verdict-is : (setting : Setting) (plain : PlainGroup) (datagram bytes : List ℕ) (guard : Guard) (begun : Begun) (room : Buffers)
+    → Opens setting.group (verdict setting.group (setup_of guard) plain.accepted datagram) (Ok begun) room bytes → setup_of guard ≡ setting.setup
+    → verdict_in setting plain datagram ≡ Ok (opened_of setting.group begun room bytes)
+verdict-is setting plain datagram bytes guard begun room opens setup = ap (λ (s : Setup). verdict setting.group s plain.accepted datagram) (sym setup) ∙ opens
 
 -- all readers with what it brought them
-feds-are : (config : Config) (part : ReadGroupPart) (plain : PlainGroup) (now : ℕ) (on : List Bool) (datagram bytes : List ℕ) (guard after : Guard) (members new : List Member)
+feds-are : (setting : Setting) (plain : PlainGroup) (now : ℕ) (on : List Bool) (datagram bytes : List ℕ) (guard after : Guard) (members new : List Member)
     (begun : Begun) (room : Buffers) (raised : Bool) (receipt : Receipt) (payload : Payload) (tally : Tally)
-    → IsTaken config part plain now on datagram bytes guard after members new begun room raised receipt payload tally
-    → all_fed (setting_by config part).seats plain.members receipt raised on payload ≡ feds (setting_by config part) plain now on (opened_of part begun room bytes)
-feds-are config part plain now on datagram bytes guard after members new begun room raised receipt payload tally h =
-    let setting = setting_by config part in
-    let opened = opened_of part begun room bytes in
+    → IsTaken setting plain now on datagram bytes guard after members new begun room raised receipt payload tally
+    → all_fed setting.seats plain.members receipt raised on payload ≡ feds setting plain now on (opened_of setting.group begun room bytes)
+feds-are setting plain now on datagram bytes guard after members new begun room raised receipt payload tally h =
+    let opened = opened_of setting.group begun room bytes in
     let mode : (setup_of guard).mode ≡ setting.setup.mode = ap (λ (s : Setup). s.mode) h.setup in
     let receipts : receipt ≡ receipt_of setting now opened =
-    h.receipt_is ∙ ap (λ (m : Mode). receipt_with now (stamp_by m begun.pass.number)) (sym (setup-mode config part part.keygroup)) in
+    h.receipt_is ∙ ap (λ (m : Mode). receipt_with now (stamp_by m begun.pass.number)) (sym h.mode) in
     let raises_it : raised ≡ is_raised setting plain.accepted opened = h.raised_is ∙ ap (λ (m : Mode). is_secured m && raises plain.accepted begun.pass.token) mode in
     ap (λ (r : Receipt). all_fed setting.seats plain.members r raised on payload) receipts
     ∙ ap (λ (b : Bool). all_fed setting.seats plain.members (receipt_of setting now opened) b on payload) raises_it
     ∙ ap (λ (p : Payload). all_fed setting.seats plain.members (receipt_of setting now opened) (is_raised setting plain.accepted opened) on p) h.held
 
-pub taken-step : (config : Config) (part : ReadGroupPart) (plain : PlainGroup) (now : ℕ) (on : List Bool) (datagram bytes : List ℕ) (guard after : Guard) (members new : List Member)
+pub taken-step : (setting : Setting) (plain : PlainGroup) (now : ℕ) (on : List Bool) (datagram bytes : List ℕ) (guard after : Guard) (members new : List Member)
     (begun : Begun) (room : Buffers) (raised : Bool) (receipt : Receipt) (payload : Payload) (tally : Tally) (group : ReaderGroup)
-    → IsTaken config part plain now on datagram bytes guard after members new begun room raised receipt payload tally → guard_of group ≡ after → members_of group ≡ new
-    → Stands (setting_by config part) (step (setting_by config part) plain (Got now on datagram)) group
-taken-step config part plain now on datagram bytes guard after members new begun room raised receipt payload tally group h guard_is members_is =
-    let setting = setting_by config part in
-    let opened = opened_of part begun room bytes in
+    → IsTaken setting plain now on datagram bytes guard after members new begun room raised receipt payload tally → guard_of group ≡ after → members_of group ≡ new
+    → Stands setting (step setting plain (Got now on datagram)) group
+taken-step setting plain now on datagram bytes guard after members new begun room raised receipt payload tally group h guard_is members_is =
+    let opened = opened_of setting.group begun room bytes in
     let mode : (setup_of guard).mode ≡ setting.setup.mode = ap (λ (s : Setup). s.mode) h.setup in
-    let read = verdict-is config part plain datagram bytes guard begun room h.opens h.setup in
-    let feds_is = feds-are config part plain now on datagram bytes guard after members new begun room raised receipt payload tally h in
+    let read = verdict-is setting plain datagram bytes guard begun room h.opens h.setup in
+    let feds_is = feds-are setting plain now on datagram bytes guard after members new begun room raised receipt payload tally h in
     let stands : Stands setting (taken_on setting plain now on (Ok opened)) group = record {
+      setup = subst (λ (g : Guard). setup_of g ≡ setting.setup) (sym guard_is) (h.setup_stays ∙ h.setup);
       guard = subst (λ (m : Mode). IsGuardOf (accepts m begun.pass plain.accepted) (guard_of group)) mode
           (subst (IsGuardOf (accepts (setup_of guard).mode begun.pass plain.accepted)) (sym guard_is) h.accepts_it);
       members = subst (λ (list : List Fed). AreMembers setting.seats (members_in list) (members_of group)) feds_is
@@ -92,16 +94,15 @@ taken-step config part plain now on datagram bytes guard after members new begun
     } in
     subst (λ (answer : Result Opened Refusal). Stands setting (taken_on setting plain now on answer) group) (sym read) stands
 
-pub taken-answer : (config : Config) (part : ReadGroupPart) (plain : PlainGroup) (now : ℕ) (on : List Bool) (datagram bytes : List ℕ) (guard after : Guard) (members new : List Member)
+pub taken-answer : (setting : Setting) (plain : PlainGroup) (now : ℕ) (on : List Bool) (datagram bytes : List ℕ) (guard after : Guard) (members new : List Member)
     (begun : Begun) (room : Buffers) (raised : Bool) (receipt : Receipt) (payload : Payload) (tally : Tally) (taken : Taken)
-    → IsTaken config part plain now on datagram bytes guard after members new begun room raised receipt payload tally
+    → IsTaken setting plain now on datagram bytes guard after members new begun room raised receipt payload tally
     → taken.parts ≡ part_count on payload → taken.matched ≡ tally.matched → taken.bad ≡ tally.bad
-    → Ok taken ≡ answer (setting_by config part) plain now on datagram
-taken-answer config part plain now on datagram bytes guard after members new begun room raised receipt payload tally taken h parts matched bad =
-    let setting = setting_by config part in
-    let opened = opened_of part begun room bytes in
-    let read = verdict-is config part plain datagram bytes guard begun room h.opens h.setup in
-    let feds_is = feds-are config part plain now on datagram bytes guard after members new begun room raised receipt payload tally h in
+    → Ok taken ≡ answer setting plain now on datagram
+taken-answer setting plain now on datagram bytes guard after members new begun room raised receipt payload tally taken h parts matched bad =
+    let opened = opened_of setting.group begun room bytes in
+    let read = verdict-is setting plain datagram bytes guard begun room h.opens h.setup in
+    let feds_is = feds-are setting plain now on datagram bytes guard after members new begun room raised receipt payload tally h in
     let tallies : IsTallyOf tally (feds setting plain now on opened) = subst (IsTallyOf tally) feds_is h.tally_is in
     ap (λ (n : ℕ). taken_with n taken.matched taken.bad) (parts ∙ ap (part_count on) h.held)
     ∙ ap (λ (n : ℕ). taken_with (part_count on opened.payload) n taken.bad) (matched ∙ tallies.matched)
@@ -110,47 +111,45 @@ taken-answer config part plain now on datagram bytes guard after members new beg
 
 -- ---- the same, of a group of a configuration
 
-pub at_part : (config : Config) (group : ReaderGroup) (part : ReadGroupPart) → IsMadeOf config group → part ≡ get_or config.readgroup (index_of group) part
-    → setting_of config (index_of group) ≡ setting_by config part
-at_part config group part made is = setting-at config (index_of group) part made.index is
-
-pub made_setup : (config : Config) (group : ReaderGroup) (part : ReadGroupPart) → IsMadeOf config group → part ≡ get_or config.readgroup (index_of group) part
-    → setup_of (guard_of group) ≡ (setting_by config part).setup
-made_setup config group part made is = made.setup ∙ ap (λ (s : Setting). s.setup) (at_part config group part made is)
+pub at_part : (config : Config) (group : ReaderGroup) (part : ReadGroupPart) (keys : List TokenKeys) → IsMadeOf config group → part ≡ get_or config.readgroup (index_of group) part
+    → setting_with config group keys ≡ with_keys (setting_by config part) keys
+at_part config group part keys made is = ap (λ (s : Setting). with_keys s keys) (setting-at config (index_of group) part made.index is)
 
 -- what is left of the bytes, by the group's part and guard, is what is left of them by its setting
-pub bytes-are : (config : Config) (group : ReaderGroup) (part : ReadGroupPart) (plain : PlainGroup) (datagram bytes : List ℕ) → IsMadeOf config group → part ≡ get_or config.readgroup (index_of group) part
-    → Stands (setting_of config (index_of group)) plain group → LeavesBytes part (guard_of group) datagram bytes
-    → bytes ≡ bytes_left (setting_of config (index_of group)).group (setting_of config (index_of group)).setup plain.accepted datagram
-bytes-are config group part plain datagram bytes made is stands left =
+pub bytes-are : (config : Config) (group : ReaderGroup) (part : ReadGroupPart) (keys : List TokenKeys) (plain : PlainGroup) (datagram bytes : List ℕ) → IsMadeOf config group
+    → part ≡ get_or config.readgroup (index_of group) part → Stands (setting_with config group keys) plain group → LeavesBytes part (guard_of group) datagram bytes
+    → bytes ≡ bytes_left (setting_with config group keys).group (setting_with config group keys).setup plain.accepted datagram
+bytes-are config group part keys plain datagram bytes made is stands left =
+    let setting = setting_with config group keys in
     left plain.accepted stands.guard
-    ∙ ap (λ (s : Setup). bytes_left part s plain.accepted datagram) (made_setup config group part made is)
-    ∙ ap (λ (t : Setting). bytes_left t.group t.setup plain.accepted datagram) (sym (at_part config group part made is))
+    ∙ ap (λ (s : Setup). bytes_left part s plain.accepted datagram) stands.setup
+    ∙ ap (λ (g : ReadGroupPart). bytes_left g setting.setup plain.accepted datagram) (sym (ap (λ (s : Setting). s.group) (at_part config group part keys made is)))
 
 pub made_readers : (config : Config) (group : ReaderGroup) (part : ReadGroupPart) → IsMadeOf config group → part ≡ get_or config.readgroup (index_of group) part
     → AreReaders (setting_by config part).seats (members_of group)
-made_readers config group part made is = subst (λ (s : Setting). AreReaders s.seats (members_of group)) (at_part config group part made is) made.readers
+made_readers config group part made is = subst (λ (s : Setting). AreReaders s.seats (members_of group)) (setting-at config (index_of group) part made.index is) made.readers
 
-pub stands_part : (config : Config) (group : ReaderGroup) (part : ReadGroupPart) (plain : PlainGroup) → IsMadeOf config group → part ≡ get_or config.readgroup (index_of group) part
-    → Stands (setting_of config (index_of group)) plain group → Stands (setting_by config part) plain group
-stands_part config group part plain made is h = subst (λ (s : Setting). Stands s plain group) (at_part config group part made is) h
+pub stands_part : (config : Config) (group : ReaderGroup) (part : ReadGroupPart) (keys : List TokenKeys) (plain : PlainGroup) → IsMadeOf config group
+    → part ≡ get_or config.readgroup (index_of group) part → Stands (setting_with config group keys) plain group → Stands (with_keys (setting_by config part) keys) plain group
+stands_part config group part keys plain made is h = subst (λ (s : Setting). Stands s plain group) (at_part config group part keys made is) h
 
-pub taken_step : (config : Config) (old new : ReaderGroup) (after : Guard) (members : List Member) (part : ReadGroupPart) (plain : PlainGroup) (now : ℕ) (on : List Bool) (datagram bytes : List ℕ)
-    (begun : Begun) (room : Buffers) (raised : Bool) (receipt : Receipt) (payload : Payload) (tally : Tally)
+pub taken_step : (config : Config) (old new : ReaderGroup) (after : Guard) (members : List Member) (part : ReadGroupPart) (keys : List TokenKeys) (plain : PlainGroup) (now : ℕ) (on : List Bool)
+    (datagram bytes : List ℕ) (begun : Begun) (room : Buffers) (raised : Bool) (receipt : Receipt) (payload : Payload) (tally : Tally)
     → IsMadeOf config old → part ≡ get_or config.readgroup (index_of old) part
-    → IsTaken config part plain now on datagram bytes (guard_of old) after (members_of old) members begun room raised receipt payload tally
+    → IsTaken (with_keys (setting_by config part) keys) plain now on datagram bytes (guard_of old) after (members_of old) members begun room raised receipt payload tally
     → guard_of new ≡ after → members_of new ≡ members
-    → Stands (setting_of config (index_of old)) (step (setting_of config (index_of old)) plain (Got now on datagram)) new
-taken_step config old new after members part plain now on datagram bytes begun room raised receipt payload tally made is taken guard_is members_are =
-    subst (λ (s : Setting). Stands s (step s plain (Got now on datagram)) new) (sym (at_part config old part made is))
-    (taken-step config part plain now on datagram bytes (guard_of old) after (members_of old) members begun room raised receipt payload tally new taken guard_is members_are)
+    → Stands (setting_with config old keys) (step (setting_with config old keys) plain (Got now on datagram)) new
+taken_step config old new after members part keys plain now on datagram bytes begun room raised receipt payload tally made is taken guard_is members_are =
+    subst (λ (s : Setting). Stands s (step s plain (Got now on datagram)) new) (sym (at_part config old part keys made is))
+    (taken-step (with_keys (setting_by config part) keys) plain now on datagram bytes (guard_of old) after (members_of old) members begun room raised receipt payload tally new taken guard_is
+    members_are)
 
-pub taken_answer : (config : Config) (old : ReaderGroup) (after : Guard) (members : List Member) (part : ReadGroupPart) (plain : PlainGroup) (now : ℕ) (on : List Bool) (datagram bytes : List ℕ)
-    (begun : Begun) (room : Buffers) (raised : Bool) (receipt : Receipt) (payload : Payload) (tally : Tally) (taken : Taken)
+pub taken_answer : (config : Config) (old : ReaderGroup) (after : Guard) (members : List Member) (part : ReadGroupPart) (keys : List TokenKeys) (plain : PlainGroup) (now : ℕ) (on : List Bool)
+    (datagram bytes : List ℕ) (begun : Begun) (room : Buffers) (raised : Bool) (receipt : Receipt) (payload : Payload) (tally : Tally) (taken : Taken)
     → IsMadeOf config old → part ≡ get_or config.readgroup (index_of old) part
-    → IsTaken config part plain now on datagram bytes (guard_of old) after (members_of old) members begun room raised receipt payload tally
+    → IsTaken (with_keys (setting_by config part) keys) plain now on datagram bytes (guard_of old) after (members_of old) members begun room raised receipt payload tally
     → taken.parts ≡ part_count on payload → taken.matched ≡ tally.matched → taken.bad ≡ tally.bad
-    → Ok taken ≡ answer (setting_of config (index_of old)) plain now on datagram
-taken_answer config old after members part plain now on datagram bytes begun room raised receipt payload tally taken made is h parts matched bad =
-    taken-answer config part plain now on datagram bytes (guard_of old) after (members_of old) members begun room raised receipt payload tally taken h parts matched bad
-    ∙ ap (λ (s : Setting). answer s plain now on datagram) (sym (at_part config old part made is))
+    → Ok taken ≡ answer (setting_with config old keys) plain now on datagram
+taken_answer config old after members part keys plain now on datagram bytes begun room raised receipt payload tally taken made is h parts matched bad =
+    taken-answer (with_keys (setting_by config part) keys) plain now on datagram bytes (guard_of old) after (members_of old) members begun room raised receipt payload tally taken h parts matched bad
+    ∙ ap (λ (s : Setting). answer s plain now on datagram) (sym (at_part config old part keys made is))

@@ -13,7 +13,7 @@ use Rattle.uadp_header.specs.declared.fault.HeaderFault.{HeaderFault}
 use Rattle.uadp_header.specs.Headers.{HeaderValue}
 use Rattle.uadp_header.specs.Layout.{header_at}
 use Rattle.message_guard.specs.Modes.{is_secured}
-use Rattle.message_guard.specs.Acceptance.{Accepted, highest, numbers_of, raises}
+use Rattle.message_guard.specs.Acceptance.{Accepted, highest, is_acceptable, numbers_of, raises}
 use Rattle.message_guard.specs.Opening as guards
 use Rattle.message_guard.specs.Protection.{keys_with}
 use Rattle.message_guard.proofs.Telling.{passed_acceptable}
@@ -72,7 +72,7 @@ fresh_by true true taken old e = absurd (grind arith)
 fresh_by false lower taken old e = absurd (grind arith)
 
 verdict_on : (setting : Setting) (pairs : Accepted) (datagram : List ℕ) (read : Result (HeaderValue × List ℕ) HeaderFault) (opened : Opened) → is_secured setting.setup.mode ≡ true
-    → verdict_of setting.group setting.setup pairs datagram read ≡ Ok opened → IsFresh pairs opened.pass.token opened.pass.number
+    → verdict_of setting.group setting.setup pairs datagram read ≡ Ok opened → is_acceptable setting.setup.keys pairs opened.pass.token opened.pass.number ≡ true
 verdict_on setting pairs datagram (Err fault) opened secured e = absurd (no e)
   where
     no : {A E : Type 0} {x : A} {y : E} → Path (Result A E) (Err y) (Ok x) → ⊥
@@ -88,13 +88,20 @@ verdict_on setting pairs datagram (Ok read) opened secured e =
     let passed : guards.verdict setup.mode setup.keys pairs read.0.security datagram payload ≡ Ok pass = judged_as-front refusals.Guard G P value opened pass behind in
     let is : value ≡ opened = judged-value (list_of setting.group setup pairs datagram read.0 payload) value opened e in
     let acceptable = passed_acceptable setup.mode setup.keys pairs read.0.security datagram payload pass secured passed in
-    let fresh = fresh_by (is_some (keys_with setup.keys pass.token)) (nat_lt pass.token (highest pairs)) (is_taken (numbers_of pairs pass.token) pass.number)
-    (is_too_old (numbers_of pairs pass.token) pass.number) acceptable in
-    subst (λ (o : Opened). IsFresh pairs o.pass.token o.pass.number) is (record { not_lower = fresh.0; not_old = fresh.1 })
+    subst (λ (o : Opened). is_acceptable setup.keys pairs o.pass.token o.pass.number ≡ true) is acceptable
+
+pub verdict-acceptable : (setting : Setting) (pairs : Accepted) (datagram : List ℕ) (opened : Opened) → is_secured setting.setup.mode ≡ true
+    → verdict setting.group setting.setup pairs datagram ≡ Ok opened → is_acceptable setting.setup.keys pairs opened.pass.token opened.pass.number ≡ true
+verdict-acceptable setting pairs datagram opened secured e = verdict_on setting pairs datagram (header_at datagram) opened secured e
 
 verdict-fresh : (setting : Setting) (pairs : Accepted) (datagram : List ℕ) (opened : Opened) → is_secured setting.setup.mode ≡ true
     → verdict setting.group setting.setup pairs datagram ≡ Ok opened → IsFresh pairs opened.pass.token opened.pass.number
-verdict-fresh setting pairs datagram opened secured e = verdict_on setting pairs datagram (header_at datagram) opened secured e
+verdict-fresh setting pairs datagram opened secured e =
+    let token = opened.pass.token in
+    let number = opened.pass.number in
+    let fresh = fresh_by (is_some (keys_with setting.setup.keys token)) (nat_lt token (highest pairs)) (is_taken (numbers_of pairs token) number)
+    (is_too_old (numbers_of pairs token) number) (verdict-acceptable setting pairs datagram opened secured e) in
+    record { not_lower = fresh.0; not_old = fresh.1 }
 
 -- the stamps of a stretch: none is above `bound`, and each was near the greatest before it
 record Within (bound : ℕ) (list : List Mark) : Type 0 where

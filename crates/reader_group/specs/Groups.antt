@@ -4,6 +4,7 @@ use Rattle.std.specs.List.{HoldsAt}
 use Rattle.dataset_reader.specs.declared.reader.Reader.{Reader}
 use Rattle.dataset_reader.specs.Reader.{IsReaderOf, kept_by}
 use Rattle.message_guard.specs.declared.guard.Guard.{Guard}
+use Rattle.message_guard.specs.declared.keys.TokenKeys.{TokenKeys}
 use Rattle.message_guard.specs.Guards.{IsGuardOf, setup_of}
 use Rattle.ps_config.specs.declared.parts.Config.{Config}
 use Rattle.ps_config.specs.declared.parts.ReadGroupPart.{ReadGroupPart}
@@ -18,7 +19,7 @@ use Rattle.reader_group.specs.Members.{Seat, MemberValue, seat_at}
 use Rattle.reader_group.specs.MemberWords.{IsMemberOf, HoldsRowsOf}
 use Rattle.reader_group.specs.Payloads.{Payload}
 use Rattle.reader_group.specs.Opening.{bytes_left}
-use Rattle.reader_group.specs.Plain.{Setting, PlainGroup, Event, Fed, all_fed, answer, member_at, opening, step}
+use Rattle.reader_group.specs.Plain.{Setting, PlainGroup, Event, Fed, all_fed, answer, member_at, opening, step, with_keys}
 use Rattle.reader_group.specs.Settings.{setting_by, setting_of}
 
 abbrev pub index_of : ReaderGroup → ℕ
@@ -74,16 +75,16 @@ AreTallied seats receipt raised on payload old tally =
     (values : List MemberValue) → AreMembers seats values old
     → IsTallyOf tally (all_fed seats values receipt raised on payload)
 
--- the group is where its plain reading is
+-- the group is where its plain reading is, with the setting's keys
 pub record Stands (setting : Setting) (plain : PlainGroup) (group : ReaderGroup) : Type 0 where
+  pub setup : setup_of (guard_of group) ≡ setting.setup
   pub guard : IsGuardOf plain.accepted (guard_of group)
   pub members : AreMembers setting.seats plain.members (members_of group)
 
--- the group was made of this configuration, which is sound
+-- the group was made of this configuration, which is sound; rings may have renewed it since
 pub record IsMadeOf (config : Config) (group : ReaderGroup) : Type 0 where
   pub sound : IsSound config
   pub index : index_of group < length config.readgroup
-  pub setup : setup_of (guard_of group) ≡ (setting_of config (index_of group)).setup
   pub readers : AreReaders (setting_of config (index_of group)).seats (members_of group)
 
 -- ---- what calls ensure
@@ -97,22 +98,31 @@ abbrev pub TakesOn : Setting → Event → ReaderGroup → ReaderGroup → Type 
 TakesOn setting event old new =
     (plain : PlainGroup) → Stands setting plain old → Stands setting (step setting plain event) new
 
--- an event takes a group of this configuration on as it takes its plain reading on
+-- the setting of a group of this configuration with these keys: those of its key group, or of the ring that renewed it last
+abbrev pub setting_with : Config → ReaderGroup → List TokenKeys → Setting
+setting_with config group keys = with_keys (setting_of config (index_of group)) keys
+
+-- an event takes a group of this configuration on as it takes its plain reading on, whichever keys it has
 abbrev pub StepsBy : Config → Event → ReaderGroup → ReaderGroup → Type 0
-StepsBy config event old new = TakesOn (setting_of config (index_of old)) event old new
+StepsBy config event old new = (keys : List TokenKeys) → TakesOn (setting_with config old keys) event old new
 
 -- what a group of this configuration answers to a datagram is what its plain reading has
 abbrev pub IsAnswer : Config → ReaderGroup → ℕ → List Bool → List ℕ → Result Taken Refusal → Type 0
 IsAnswer config group now on datagram result =
-    (plain : PlainGroup) → Stands (setting_of config (index_of group)) plain group
-    → result ≡ answer (setting_of config (index_of group)) plain now on datagram
+    (keys : List TokenKeys) (plain : PlainGroup) → Stands (setting_with config group keys) plain group
+    → result ≡ answer (setting_with config group keys) plain now on datagram
 
 -- what is left of the bytes of a datagram, by the group's plain reading
 abbrev pub AreLeft : Config → ReaderGroup → List ℕ → List ℕ → Type 0
 AreLeft config group datagram bytes =
-    (plain : PlainGroup) → Stands (setting_of config (index_of group)) plain group →
-    let setting = setting_of config (index_of group) in
+    (keys : List TokenKeys) (plain : PlainGroup) → Stands (setting_with config group keys) plain group →
+    let setting = setting_with config group keys in
     bytes ≡ bytes_left setting.group setting.setup plain.accepted datagram
+
+-- a ring with these keys renews a group: its plain reading stays, and goes on with the keys
+abbrev pub GoesOnWith : List TokenKeys → ReaderGroup → ReaderGroup → Type 0
+GoesOnWith keys old new =
+    (setting : Setting) (plain : PlainGroup) → Stands setting plain old → Stands (with_keys setting keys) plain new
 
 -- what the reader at this index keeps is what the plain reading has
 abbrev pub IsKeptAt : ReaderGroup → ℕ → Reader → Type 0

@@ -19,3 +19,4 @@ pub mod Numbered
 pub mod Signed
 pub mod Asked
 pub mod FaultTexts
+pub mod Renewing

@@ -17,6 +17,7 @@ use Rattle.chunker.specs.Spelling.{chunk_at, without_rest}
 use Rattle.chunker.specs.declared.joiner.Joined.{Joined}
 use Rattle.chunker.specs.declared.joiner.Joined.TheVariants as joins
 use Rattle.chunker.specs.declared.payload.ChunkFault.{ChunkFault}
+use Rattle.message_guard.specs.declared.keys.TokenKeys.{TokenKeys}
 use Rattle.message_guard.specs.declared.mode.Mode.{Mode}
 use Rattle.message_guard.specs.Modes.{is_secured}
 use Rattle.message_guard.specs.Acceptance.{Accepted, raises}
@@ -116,6 +117,10 @@ pub record Setting : Type 0 where
   pub group : ReadGroupPart
   pub setup : Setup
   pub seats : List Seat
+
+-- the setting of a guard with other keys: all else stays
+abbrev pub with_keys : Setting → List TokenKeys → Setting
+with_keys setting keys = record setting { setup = record setting.setup { keys = keys } }
 
 -- the pairs of token and number that were accepted, the latest first, and the readers in order
 pub record PlainGroup : Type 0 where

@@ -103,6 +103,7 @@ fn feed_at(
 pub(crate) fn expire_all(members: &mut [Member], now: u64)
     ensures members { AllBecome (λ seats values. all_expired seats now values) members.old members.new }
     ensures readers { KeepReaders members.old members.new }
+    ensures count { length members.new ≡ length members.old }
 {
     for index in 0..members.len() {
         expire_at(members, index, now);
@@ -127,6 +128,7 @@ pub(crate) fn stop_one(members: &mut [Member], index: usize, why: Why)
     ensures members { AllBecome (λ seats values. one_stopped seats index why values)
         members.old members.new }
     ensures readers { KeepReaders members.old members.new }
+    ensures count { length members.new ≡ length members.old }
 {
     stop_at(members, index, why);
 }

@@ -1,19 +1,18 @@
 //! Read groups.
-ghost use Rattle.std.specs.Prelude.{◌≡◌, ◌<◌, length, slice_index_or, IfOk};
-ghost use Rattle.ps_config.specs.declared.parts.Config.{Config as AnyConfig};
-ghost use Rattle.ps_config.specs.Sound.{IsSound};
-ghost use Rattle.reader_group.specs.Groups.{AreNew, AreReadersOf};
+ghost use Rattle.std.specs.Prelude.{◌≤◌, length};
 
 use crate::feeding::{expire_all, feed_all, part_count, stop_one};
 use crate::guarding::{guard_of, stamp_of};
+use crate::making::{new_members, part_at};
 use crate::member::Member;
 use crate::opening::{Buffers, open, payload_held};
 use crate::receipt::Receipt;
 use crate::refusal::{Refusal, Taken};
 use arrayvec::ArrayVec;
 use dataset_reader::Reader;
+use group_keys::Ring;
 use message_guard::Guard;
-use ps_config::{Config, ReadGroupPart};
+use ps_config::Config;
 use pubsub_model::Why;
 use std::alloc::Global;
 use ua_base::NoMemory;
@@ -26,12 +25,17 @@ pub struct ReaderGroup {
     members: Vec<Member>,
     // room for what one datagram tells; it says nothing between two
     room: Buffers,
+    ghost few: { length members.items ≤ 16 },
 }
 
 impl ReaderGroup {
-    ghost use Rattle.std.specs.Prelude.{◌≡◌, ◌<◌, length, IfOk, OnErr};
+    ghost use Rattle.std.specs.Prelude.{◌≡◌, ◌<◌, length, map, IfOk, OnErr};
+    ghost use Rattle.ps_config.specs.declared.parts.Config.{Config as AnyConfig};
+    ghost use Rattle.ps_config.specs.Sound.{IsSound};
+    ghost use Rattle.group_keys.specs.Ring.{key_sets};
+    ghost use Rattle.message_guard.specs.Protection.{keys_in};
     ghost use Rattle.reader_group.specs.Plain.{Setting, Got, Expired, Stopped};
-    ghost use Rattle.reader_group.specs.Groups.{IsOpening, TakesOn, StepsBy, IsAnswer, AreLeft, IsKeptAt, IsMadeAt, IsLateAt, IsReadyAt, IsMadeOf, index_of, reader_count, guard_of, members_of};
+    ghost use Rattle.reader_group.specs.Groups.{IsOpening, TakesOn, StepsBy, IsAnswer, AreLeft, IsKeptAt, IsMadeAt, IsLateAt, IsReadyAt, IsMadeOf, GoesOnWith, index_of, reader_count, guard_of, members_of};
 
     /// The read group with this index, before anything.
     pub fn new(alloc: Global, config: &Config, index: u8) -> Result<ReaderGroup, NoMemory>
@@ -43,7 +47,7 @@ impl ReaderGroup {
     {
         let part = part_at(config, index);
         let guard = guard_of(config, part);
-        let members = new_members(alloc, part)?;
+        let members = new_members(alloc, config, part)?;
         Ok(ReaderGroup {
             index,
             guard,
@@ -119,6 +123,24 @@ impl ReaderGroup {
         stop_one(&mut self.members, usize::from(index), why);
     }
 
+    /// Goes on with the keys of another ring, of the same key length, as its guard does: the pairs that were taken stay taken, and so
+    /// do the readers, their chunks and their timers. An unsecured group never uses them.
+    pub fn renew(&mut self, ring: Ring)
+        ensures keys { GoesOnWith (map keys_in (key_sets ring)) self.old self.new }
+        ensures members { members_of self.new ≡ members_of self.old }
+        ensures made { (config : AnyConfig) → IsMadeOf config self.old → IsMadeOf config self.new }
+        ensures index { index_of self.new ≡ index_of self.old }
+    {
+        self.guard.renew(ring);
+    }
+
+    /// How many readers the group has.
+    pub fn count(&self) -> u8
+        ensures { result ≡ reader_count self.now }
+    {
+        self.members.len() as u8
+    }
+
     /// The reader with this index in the group.
     pub fn reader(&self, index: u8) -> &Reader
         requires { index < reader_count self.now }
@@ -143,23 +165,4 @@ impl ReaderGroup {
     {
         self.members[usize::from(index)].ready
     }
-}
-
-fn part_at(config: &Config, index: u8) -> &ReadGroupPart
-    requires { index < length config.now.readgroup }
-    ensures { result.now ≡ slice_index_or config.now.readgroup index result.now }
-{
-    &config.readgroup.as_slice()[usize::from(index)]
-}
-
-// Its readers, before anything.
-fn new_members(alloc: Global, group: &ReadGroupPart) -> Result<Vec<Member>, NoMemory>
-    ensures members { IfOk result (λ made. AreNew group.now made.items) }
-    ensures readers { IfOk result (λ made. AreReadersOf group.now made.items) }
-{
-    let mut members = Vec::new(alloc);
-    for reader in group.reader.as_slice() {
-        members.push(Member::new(reader))?;
-    }
-    Ok(members)
 }

@@ -9,6 +9,7 @@ ghost use Rattle.reader_group.specs.Complete.{WholesAreHeld};
 ghost use Rattle.reader_group.specs.Handing.{EachHandsOn, MessagesComeBack, EachChunkComesBack, EachSlotComesBack};
 ghost use Rattle.reader_group.specs.Numbered.{HaveTheirNumbers};
 ghost use Rattle.reader_group.specs.Plain.{Setting, Event};
+ghost use Rattle.reader_group.specs.Renewing.{GroupCall, IsPlain, TakesNoPairTwice};
 ghost use Rattle.reader_group.specs.Signed.{TakesSignedAlone};
 ghost use Rattle.reader_group.specs.Traces.{LeavesNoTrace};
 
@@ -36,6 +37,16 @@ pub fn what_a_secured_group_takes_is_signed()
 /// Datagrams that a read group refuses leave no trace: it is where it is without them.
 pub fn refused_datagrams_leave_no_trace()
     ensures { (setting : Setting) (events : List Event) → LeavesNoTrace setting events }
+{}
+
+/// Where no ring renews a read group, its reading is the plain reading of what befell it.
+pub fn a_group_that_is_not_renewed_has_its_plain_reading()
+    ensures { (setting : Setting) (events : List Event) → IsPlain setting events }
+{}
+
+/// A secured read group takes no pair of token and number twice, whichever rings renew it in between.
+pub fn a_renewed_group_takes_no_pair_twice()
+    ensures { (setting : Setting) (calls : List GroupCall) → TakesNoPairTwice setting calls }
 {}
 
 /// A key frame that comes as the one part for an enabled reader, in a datagram that the group takes, is held: by numbers with

@@ -8,6 +8,7 @@ mod filter;
 mod group;
 mod guarding;
 mod laws;
+mod making;
 mod member;
 mod opening;
 mod payload;
@@ -19,11 +20,13 @@ mod tally;
 
 pub use group::ReaderGroup;
 pub use laws::{
-    a_bad_part_leaves_its_reader, a_lone_key_frame_is_held, accepted_pairs_are_told_by_datagrams,
-    each_held_row_has_its_number, near_readers_have_their_records,
-    places_are_near_where_their_numbers_are, refused_datagrams_leave_no_trace,
-    secured_readers_have_their_records, what_a_secured_group_takes_is_signed,
-    what_is_not_asked_for_is_not_ours, what_is_spelled_is_handed_on,
+    a_bad_part_leaves_its_reader, a_group_that_is_not_renewed_has_its_plain_reading,
+    a_lone_key_frame_is_held, a_renewed_group_takes_no_pair_twice,
+    accepted_pairs_are_told_by_datagrams, each_held_row_has_its_number,
+    near_readers_have_their_records, places_are_near_where_their_numbers_are,
+    refused_datagrams_leave_no_trace, secured_readers_have_their_records,
+    what_a_secured_group_takes_is_signed, what_is_not_asked_for_is_not_ours,
+    what_is_spelled_is_handed_on,
 };
 pub use receipt::Receipt;
 pub use refusal::{Refusal, Taken};

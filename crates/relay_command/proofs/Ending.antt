@@ -13,19 +13,19 @@ use Rattle.ps_script.specs.Values.{ValueReader}
 use Rattle.script_player.specs.declared.play.PlayEnd.{PlayEnd}
 use Rattle.script_player.specs.declared.play.PlayEnd.TheVariants as ends
 use Rattle.script_player.specs.Plays.{opening_of}
-use Rattle.command_parts.specs.declared.status.Status.{Status}
-use Rattle.command_parts.specs.declared.status.Status.TheVariants.{Done, BadWords, ConfigRefused, NoSource, ScriptRefused, NotInLanes, Unread, Unwritten, OutOfMemory, Unopened, Long}
-use Rattle.command_parts.specs.Configurations.{EndsConfigFile, IsJudged}
-use Rattle.command_parts.specs.Files.{IsLong, IsTold}
-use Rattle.command_parts.specs.Outputs.{EndsWriting}
-use Rattle.command_parts.specs.Outside.{Outside, Wire}
-use Rattle.command_parts.specs.Scripts.{EndsScript, IsJudgedScript}
-use Rattle.command_parts.specs.Statuses.{IsDone, IsConfigRefused, IsOutOfMemory, IsScriptRefused, IsTooLong, IsUnopened, IsUnread, IsUnwritten}
-use Rattle.command_parts.proofs.Told.{judged_told, script_told, long_is, long_judged, long_short}
-use Rattle.session_command.specs.Endings.{status_of}
-use Rattle.session_command.specs.Sessions.{NamesLong}
-use Rattle.session_command.proofs.Ended.{written_late}
-use Rattle.session_command.proofs.Told.{short}
+use Rattle.commands.specs.declared.status.Status.{Status}
+use Rattle.commands.specs.declared.status.Status.TheVariants.{Done, BadWords, ConfigRefused, NoSource, ScriptRefused, NotInLanes, Unread, Unwritten, OutOfMemory, Unopened, Long}
+use Rattle.commands.specs.Configurations.{EndsConfigFile, IsJudged}
+use Rattle.commands.specs.Files.{IsLong, IsTold}
+use Rattle.commands.specs.Outputs.{EndsWriting}
+use Rattle.commands.specs.Outside.{Outside, Wire}
+use Rattle.commands.specs.Scripts.{EndsScript, IsJudgedScript}
+use Rattle.commands.specs.Statuses.{IsDone, IsConfigRefused, IsOutOfMemory, IsScriptRefused, IsTooLong, IsUnopened, IsUnread, IsUnwritten}
+use Rattle.commands.proofs.Told.{judged_told, script_told, long_is, long_judged, long_short}
+use Rattle.commands.specs.Endings.{status_of}
+use Rattle.commands.specs.Sessions.{NamesLong}
+use Rattle.commands.proofs.Ended.{written_late}
+use Rattle.commands.proofs.ToldSessions.{short}
 use Rattle.relay_command.specs.declared.command.Accepted.{Accepted}
 use Rattle.relay_command.specs.Ends.{Accepts, AreConfigured, AreRefused, AreTold, AreToldConfigs, EndsAccepting, EndsSecond, Names, Reads, RelayEnds, Says, UsesLinks, Writes}
 use Rattle.relay_command.specs.Links.{LeavesUnopened, OpensSo, opening_again}

@@ -18,7 +18,7 @@ use Rattle.pubsub_engine.specs.Standing.{IsOriginOf, Stands as SessionStands}
 use Rattle.gateway_core.specs.declared.gateway.Gateway.{Gateway}
 use Rattle.gateway_core.specs.declared.gateway.Left.{Left}
 use Rattle.gateway_core.specs.Lived.{Collect, GatewayStep, Pump, Tick, no_origin, plan_again, session_steps}
-use Rattle.gateway_core.specs.Holding.{CountsCollect, CountsPump, CountsTick, IsGateway, KeepsCollected, MayPump, MayTake, MayTick, left_of, sources_of, ticks_needed}
+use Rattle.gateway_core.specs.Holding.{CountsCollect, CountsPump, CountsTick, IsGateway, KeepsCollected, MayPump, MayTake, MayTick, left_of, logged_of, sources_of, ticks_needed}
 use Rattle.gateway_core.specs.Standing.{Leads, Stands}
 use Rattle.script_player.specs.declared.player.Player.{Player}
 use Rattle.script_player.specs.Player.{IsPlayer, Levels, config_of}
@@ -49,6 +49,7 @@ pub record AreFollowings (ms : ℕ) (closing : Bool) (player new : Player) (orig
   pub shows : ShowsOrigins new origins
   pub counts_taken : CountsCollect (left_of s) (left_of taken)
   pub sources_taken : sources_of taken ≡ sources_of s
+  pub logged_taken : logged_of taken ≡ logged_of s
   pub stands_taken : (second : Config) (lived : List GatewayStep) → Stands second lived s → Stands second (Collect new.watches origins ∷ lived) taken
   pub counts_ticked : CountsTick closing (left_of taken) (left_of ticked)
   pub leads_ticked : (second : Config) (lived : List GatewayStep) → Stands second lived taken → (done : List Bool) × Leads second lived (Tick ms closing done) told between ticked
@@ -138,6 +139,9 @@ module _ (ms : ℕ) (closing : Bool) (old new : Relay) (taken ticked : Gateway) 
         collects = (let a = ap (λ (l : Left). l.collects) pumped_rest in let b = f.counts_ticked.collects in let c = f.counts_taken.collects in omega (arith, a, b, c));
         pumps = (let a = f.counts_pumped.pumps in let b = f.counts_ticked.pumps in let c = ap (λ (l : Left). l.pumps) taken_rest in omega (arith, a, b, c));
         closed = ap (λ (l : Left). l.is_closed) pumped_rest ∙ f.counts_ticked.is_closed;
+        keeps = λ keeps.
+            let a = ap (λ (l : Left). l.turns) pumped_rest in let b = f.counts_ticked.turns in let c = ap (λ (l : Left). l.turns) taken_rest in
+            let logged = ap (λ k. k.logged) (f.kept_pumped ∙ f.kept_ticked) ∙ f.logged_taken in omega (arith, a, b, c, logged, keeps);
       }
 
 -- ---- the origins

@@ -1,7 +1,8 @@
 -- The lines of a gateway, one for each place.
-use Rattle.std.proofs.Common.{◌≡◌, refl, sym, ap, ◌∙◌, subst, arith, ℕ, ◌+◌, ◌<◌, List, [], ◌∷◌, ◌++◌, length, map, append-nil, append_assoc, Option, Some, None, option_and_then}
+use Rattle.std.proofs.Common.{◌≡◌, refl, sym, ap, ◌∙◌, subst, arith, ℕ, ◌+◌, ◌<◌, ◌≤◌, List, [], ◌∷◌, ◌++◌, length, map, take, append-nil, append_assoc, Option, Some, None, option_and_then}
 use Rattle.std.specs.Prelude.{flat_map}
 use Rattle.std.specs.List.{range_with_len}
+use Rattle.std.proofs.lemmas.List.{take_all}
 use Rattle.std.proofs.lemmas.List.FromFn.{map-range_with_len_more}
 use Rattle.dataset_meta.specs.declared.field.Field.{Field}
 use Rattle.dataset_meta.specs.DataValues.{DataValue}
@@ -25,6 +26,12 @@ use Rattle.gateway_core.specs.declared.collected.StoreVersion.{StoreVersion}
 use Rattle.gateway_core.specs.Lived.{plan_again, version_in}
 use Rattle.pubsub_engine.proofs.PlacesInOrder.{group-more}
 use Rattle.relay_command.specs.Texts.{IsReaderText, TextsOf, Wrote, held_as, reader_line, relayed_as, relayed_line, stored_text}
+
+-- ---- logs
+
+-- the first of a log are all of it, where they are as many
+pub whole-log : (own most : ℕ) (log whole : List (ℕ × ℕ)) → log ≡ take own whole → own ≡ most → length whole ≤ most → log ≡ whole
+whole-log own most log whole first same few = first ∙ take_all own whole (omega (arith, same, few))
 
 -- ---- texts behind one another
 

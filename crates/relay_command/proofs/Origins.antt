@@ -16,7 +16,7 @@ use Rattle.target_cells.specs.declared.origin.Origin.{Origin}
 use Rattle.writer_group.specs.Parts.{group_at}
 use Rattle.writer_group.specs.Payloads.{writer_at}
 use Rattle.session_model.specs.Closing.{MemberPlace, writer_places}
-use Rattle.session_model.specs.Deeds.{log_at}
+use Rattle.session_model.specs.Deeds.{log_at, logs_at}
 use Rattle.session_model.specs.Steps.{Plan, Step}
 use Rattle.session_model.specs.Stores.{Store, stores}
 use Rattle.session_laws.specs.Reading.{IsMatchedIn}
@@ -96,7 +96,7 @@ sole config r i g w h v sound there other_there one other =
 -- ---- the origin
 
 told : (p : Plan) (source : Source) (now : List Step) (list : List Store) (origin : Origin) → origin.store ≡ length list → origin.number ≡ number_stored list
-    → IsVersionStored p now (source.read_group, source.reader) list origin.version
+    → IsVersionStored (logs_at p now) p (source.read_group, source.reader) list origin.version
     → (read_group_at p.config source.read_group).publisher ≡ p.config.publisher.id
     → log_named p now (seat_at (setting_of p.config source.read_group).seats source.reader).part.writer ≡ log_at p source.group source.writer now
     → origin ≡ origin_by p source now list

@@ -107,6 +107,7 @@ module _ (law : ShowsCollected) (first second : Config) (script : Script) (lines
           player = is;
           played = later;
           gateway = h.gateway;
+          keeps = h.keeps;
           origins = h.origins;
           indexes = h.indexes;
           sources = h.sources;
@@ -143,6 +144,7 @@ module _ (law : ShowsCollected) (first second : Config) (script : Script) (lines
           player = f.player;
           played = still.0;
           gateway = f.gateway;
+          keeps = f.keeps h.keeps;
           origins = f.count ∙ h.origins;
           indexes = subst (HaveIndexes first second) (sym f.sources) h.indexes;
           sources = h.sources;

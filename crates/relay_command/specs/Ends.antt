@@ -9,14 +9,14 @@ use Rattle.ps_script.specs.declared.script.Script.{Script}
 use Rattle.ps_script.specs.Scripts.{script as script_in}
 use Rattle.ps_script.specs.Values.{ValueReader}
 use Rattle.script_player.specs.Plays.{opening_of}
-use Rattle.command_parts.specs.declared.status.Status.{Status}
-use Rattle.command_parts.specs.declared.status.Status.TheVariants.{Done, ConfigRefused, NoSource, ScriptRefused, Unread, Unwritten, OutOfMemory, Unopened, Long}
-use Rattle.command_parts.specs.Configurations.{IsJudged, EndsConfigFile}
-use Rattle.command_parts.specs.Files.{IsLong, IsTold}
-use Rattle.command_parts.specs.Outside.{Outside, Wire, IsQuiet}
-use Rattle.command_parts.specs.Scripts.{IsJudgedScript}
-use Rattle.command_parts.specs.Statuses.{IsDone, IsConfigRefused, IsScriptRefused, IsUnread, IsUnwritten, IsOutOfMemory, IsUnopened, IsTooLong}
-use Rattle.session_command.specs.Sessions.{NamesLong}
+use Rattle.commands.specs.declared.status.Status.{Status}
+use Rattle.commands.specs.declared.status.Status.TheVariants.{Done, ConfigRefused, NoSource, ScriptRefused, Unread, Unwritten, OutOfMemory, Unopened, Long}
+use Rattle.commands.specs.Configurations.{IsJudged, EndsConfigFile}
+use Rattle.commands.specs.Files.{IsLong, IsTold}
+use Rattle.commands.specs.Outside.{Outside, Wire, IsQuiet}
+use Rattle.commands.specs.Scripts.{IsJudgedScript}
+use Rattle.commands.specs.Statuses.{IsDone, IsConfigRefused, IsScriptRefused, IsUnread, IsUnwritten, IsOutOfMemory, IsUnopened, IsTooLong}
+use Rattle.commands.specs.Sessions.{NamesLong}
 use Rattle.relay_command.specs.declared.command.Accepted.{Accepted}
 use Rattle.relay_command.specs.Links.{LeavesUnopened, opening_again}
 use Rattle.relay_command.specs.Relaying.{IsRelayOf}

@@ -3,7 +3,7 @@ use Rattle.std.specs.Prelude.{◌≡◌, ◌≢◌, ◌⊎◌, [], Option}
 use Rattle.ua_base.specs.Cause.{Rose}
 use Rattle.ua_base.specs.Links.{Opening}
 use Rattle.ps_config.specs.declared.parts.Config.{Config}
-use Rattle.command_parts.specs.Outside.{Wire}
+use Rattle.commands.specs.Outside.{Wire}
 
 -- the second configuration's port, and no fates
 abbrev pub opening_again : Config → Opening

@@ -19,7 +19,7 @@ use Rattle.session_model.specs.Steps.{Plan, Step}
 use Rattle.pubsub_engine.specs.Holding.{left_of as session_left}
 use Rattle.pubsub_engine.specs.Standing.{IsOriginOf, Stands as SessionStands}
 use Rattle.gateway_core.specs.Lived.{Collect, GatewayStep, Pump, Tick, no_origin, plan_again, session_steps}
-use Rattle.gateway_core.specs.Holding.{IsGateway, left_of, sources_of, ticks_needed}
+use Rattle.gateway_core.specs.Holding.{IsGateway, KeepsAll, left_of, sources_of, ticks_needed}
 use Rattle.gateway_core.specs.Sources.{HaveSources as HaveIndexes}
 use Rattle.gateway_core.specs.Standing.{Stands}
 use Rattle.gateway_laws.specs.Gateways.{IsRelay}
@@ -109,6 +109,7 @@ pub record Follows (second : Config) (ms : ℕ) (closing : Bool) (old new : Rela
   pub collects : (left_of new.gateway).collects + 1 ≡ (left_of old.gateway).collects
   pub pumps : (left_of new.gateway).pumps ≡ (left_of old.gateway).pumps
   pub closed : (left_of new.gateway).is_closed ≡ closing
+  pub keeps : KeepsAll old.gateway → KeepsAll new.gateway
 
 -- ---- a line, and the closing tick
 
@@ -142,11 +143,12 @@ pub record RelaysEnd (second : Config) (old new : Relay) (lab lab_after wire wir
 abbrev pub IsUntold : Option LinkState → Type 0
 IsUntold told = (link : LinkState) → told ≡ Some link → link.journal ≡ []
 
--- these lines, the first of the script's, were played, and the gateway followed each tick
+-- these lines, the first of the script's, were played, and the gateway, whose logs keep each data frame, followed each tick
 pub record HasRelayed (first second : Config) (script : Script) (lines : List Line) (lab wire : Option LinkState) (r : Relay) : Type 0 where
   pub player : IsPlayer r.player
   pub played : HasPlayed first script lines lab r.player
   pub gateway : IsGateway r.gateway
+  pub keeps : KeepsAll r.gateway
   pub origins : length r.origins.items ≡ length (readers first)
   pub indexes : HaveIndexes first second (sources_of r.gateway)
   pub sources : List Source

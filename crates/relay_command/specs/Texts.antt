@@ -24,7 +24,7 @@ use Rattle.session_model.specs.Steps.{Plan, Step}
 use Rattle.session_laws.specs.Reading.{IsMatchedIn}
 use Rattle.gateway_core.specs.declared.collected.StoreVersion.{StoreVersion}
 use Rattle.gateway_core.specs.declared.gateway.Gateway.{Gateway}
-use Rattle.gateway_core.specs.Holding.{IsGateway, plan_of, sources_of}
+use Rattle.gateway_core.specs.Holding.{IsGateway, KeepsAll, plan_of, sources_of}
 use Rattle.gateway_core.specs.Lived.{GatewayStep, plan_again, session_steps, version_in, versions_kept as kept_at}
 use Rattle.gateway_laws.specs.Relays.{RelayStep}
 use Rattle.gateway_laws.specs.Sources.{Source, source_at}
@@ -86,9 +86,10 @@ places_in_read_group config r = map (λ i. (r, i)) (reader_indexes config r)
 abbrev pub config_of : Gateway → Config
 config_of gateway = (plan_of gateway).config
 
--- the gateway is one of this configuration
+-- the gateway is one of this configuration, whose logs keep each data frame
 pub record IsGatewayOf (second : Config) (g : Gateway) : Type 0 where
   pub gateway : IsGateway g
+  pub keeps : KeepsAll g
   pub config : config_of g ≡ second
   pub good : IsGood second
 

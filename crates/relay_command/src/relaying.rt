@@ -8,7 +8,7 @@ ghost use Rattle.ps_config.specs.Sound.{readers};
 ghost use Rattle.ps_config.specs.Types.{HasTypes};
 ghost use Rattle.ps_script.specs.Sound.{IsScript};
 ghost use Rattle.writer_group.specs.Standing.{IsGood};
-ghost use Rattle.command_parts.specs.Outside.{wire_of};
+ghost use Rattle.commands.specs.Outside.{wire_of};
 ghost use Rattle.script_player.specs.Passing.{MayPass};
 ghost use Rattle.script_player.specs.Player.{IsPlayer, MayDo, config_of};
 ghost use Rattle.script_player.specs.Plays.{opening_of};
@@ -140,7 +140,7 @@ impl<'c> Relay<'c> {
         let size = size_of(first, script);
         Ok(Relay {
             player: Player::open(rt, alloc, first, &size)?,
-            gateway: Gateway::open(alloc, first, second, size.ticks + 1)?,
+            gateway: Gateway::open(alloc, first, second, size.ticks + 1, size.logged)?,
             origins: origins_of(alloc, first)?,
         })
     }

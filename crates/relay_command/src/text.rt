@@ -9,7 +9,7 @@ ghost use Rattle.session_model.specs.Closing.{MemberPlace, reader_places, writer
 ghost use Rattle.session_model.specs.Deeds.{log_at};
 ghost use Rattle.session_laws.specs.Reading.{IsMatchedIn};
 ghost use Rattle.gateway_core.specs.Lived.{GatewayStep, plan_again, version_in};
-ghost use Rattle.gateway_core.specs.Holding.{IsGateway};
+ghost use Rattle.gateway_core.specs.Holding.{IsGateway, KeepsAll};
 ghost use Rattle.gateway_core.specs.Standing.{Stands};
 ghost use Rattle.relay_command.specs.Texts.{IsGatewayOf, IsReaderTextOf, IsReportBegun, IsTextOf, IsWriterTextOf, Wrote, config_of, kept_of, places_in_group, places_in_read_group, reader_line, steps_of};
 
@@ -190,6 +190,7 @@ fn put_matched(
 /// The store that a writer logged at a number, and the version that it came with.
 fn stored_at(gateway: &Gateway<'_>, g: u8, w: u8, set: u8, number: Option<u16>) -> Stored
     requires gateway { IsGateway gateway.now }
+    requires keeps { KeepsAll gateway.now }
     requires group { g < length (config_of gateway.now).group }
     requires writer { w < length (group_at (config_of gateway.now) g).writer }
     requires set { set < length (config_of gateway.now).dataset }

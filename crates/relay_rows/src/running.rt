@@ -1,7 +1,7 @@
 //! A case, run over a folder, links and outputs in memory.
 use crate::case::{Case, Failing};
 use case_lines::{Answer, LineFault};
-use command_parts::tell;
+use commands::tell;
 use mem_edge::{MemoryFolder, MemoryLink, MemorySink, Name};
 use relay_command::relay;
 use std::alloc::Global;

@@ -1,21 +1,18 @@
 -- A patch laid into a row, one marked field after another.
-use Rattle.std.proofs.Common.{◌≡◌, ◌≢◌, ℕ, zero, suc, ◌+◌, ◌*◌, ◌%◌, ◌^◌, ◌<◌, ◌≤◌, List, [], ◌∷◌, length, sym, ap, ◌∙◌, arith, Some, inl, inr}
-use Rattle.std.specs.Prelude.{◌==◌, slice_set, slice_get, bit_and}
-use Rattle.std.specs.Int.{bit_at, bit_not, trailing_zeros, w64}
-use Rattle.std.proofs.lemmas.Bool.{cases_eq, cases_lt}
-use Rattle.std.proofs.lemmas.Nat.{and_le_l}
-use Rattle.std.proofs.lemmas.Nat.Bits.{bit_at-trailing_zeros, bit_at_clear_same, bit_at_clear_other, bit_at_above}
+use Rattle.std.proofs.Common.{◌≡◌, ℕ, List, length, sym, ap, ◌∙◌, arith}
+use Rattle.std.specs.Prelude.{slice_set}
+use Rattle.std.specs.Int.{trailing_zeros, w64}
 use Rattle.dataset_meta.specs.DataValues.{DataValue}
 use Rattle.dataset_meta.specs.Metas.{MetaData}
 use Rattle.dataset_meta.specs.declared.field.Field.{Field}
-use Rattle.dataset_meta.specs.Rows.{cons_if, patched}
+use Rattle.dataset_meta.specs.Rows.{patched}
 use Rattle.row_words.specs.declared.patch.Patch.{Patch}
 use Rattle.row_words.specs.Belonging.{row_in, spelled_row, Belongs}
 use Rattle.row_words.specs.Patches.{marked_from, patch_in, IsPatchOf, patched_words}
 use Rattle.std.specs.List.{HoldsAt}
 use Rattle.row_words.proofs.FieldLaws.{stands}
-use Rattle.row_words.proofs.Marks.{later, Lowest, lowest, marked_first}
-use Rattle.row_words.proofs.PatchLaws.{marked_same, none_marked}
+use Rattle.row_words.proofs.Marks.{later, Lowest, marked_first}
+use Rattle.row_words.proofs.PatchLaws.{none_marked}
 
 -- one field more is laid in
 pub laid_more : (meta : MetaData) (patch : Patch) (left : ℕ) (now after : List ℕ) → IsPatchOf meta patch → Lowest left (length meta.fields)

@@ -1,11 +1,12 @@
 //! Patches in words.
-ghost use Rattle.std.specs.Prelude.{◌≡◌, ◌<◌, List, [], length};
+ghost use Rattle.std.specs.Prelude.{◌≡◌, ◌↔◌, ◌<◌, IsTrue, List, [], length};
+ghost use Rattle.std.specs.Bool.{OnTrue, OnFalse};
 ghost use Rattle.std.specs.List.{HoldsAt};
 ghost use Rattle.ua_values.specs.Values.{Fits};
 ghost use Rattle.dataset_meta.specs.declared.field.Field.{Field};
 ghost use Rattle.dataset_meta.specs.DataValues.{IsStatus};
 ghost use Rattle.dataset_meta.specs.Metas.{IsMeta, MetaData};
-ghost use Rattle.dataset_meta.specs.Rows.{patched, put_in};
+ghost use Rattle.dataset_meta.specs.Rows.{FitsAt, patched, put_in};
 ghost use Rattle.row_words.specs.Belonging.{Belongs, row_in};
 ghost use Rattle.row_words.specs.Patches.{IsPatchOf, patch_in, patched_words};
 
@@ -34,6 +35,15 @@ impl Patch {
         }
     }
 
+    /// The same of a data set: a patch that is one of its meta.
+    pub fn empty_of(meta: &Meta) -> Patch
+        ensures of { IsPatchOf meta.now result }
+        ensures empty { patch_in meta.now.fields result ≡ [] }
+    {
+        let _ = meta.fields();
+        Patch::empty()
+    }
+
     /// Marks the field at this index, with this value and this status.
     pub fn put(&mut self, meta: &Meta, index: u8, value: &Value, status: u32)
         requires of { IsPatchOf meta.now self.old }
@@ -48,6 +58,24 @@ impl Patch {
         prove!(usize::from(index) < meta.fields().len());
         self.row.set_with_status(meta, index, value, status);
         self.mask |= 1 << index;
+    }
+
+    /// Marks the field at this index, with this value and this status, where there is a field that may have them. False, and nothing
+    /// is marked, where there is none (`Meta::fits_at`).
+    pub fn try_put(&mut self, meta: &Meta, index: u8, value: &Value, status: u32) -> bool
+        requires { IsPatchOf meta.now self.old }
+        ensures exact { IsTrue result ↔ FitsAt meta.now index value.now status }
+        ensures of { IsPatchOf meta.now self.new }
+        ensures put { OnTrue result (patch_in meta.now.fields self.new
+            ≡ put_in (patch_in meta.now.fields self.old) index
+            (record { value = value.now; status = status })) }
+        ensures unmarked { OnFalse result (self.new ≡ self.old) }
+    {
+        let fits = meta.fits_at(index, value, status);
+        if fits {
+            self.put(meta, index, value, status);
+        }
+        fits
     }
 
     /// Marks the field at this index, with the value and the status that it has in a row.

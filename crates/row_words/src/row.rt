@@ -18,13 +18,14 @@ pub struct Row {
 }
 
 impl Row {
-    ghost use Rattle.std.specs.Prelude.{◌≡◌, ◌<◌, true, List, length, replicate, slice_set};
+    ghost use Rattle.std.specs.Prelude.{◌≡◌, ◌↔◌, ◌<◌, true, IsTrue, List, length, replicate, slice_set};
+    ghost use Rattle.std.specs.Bool.{OnTrue, OnFalse};
     ghost use Rattle.std.specs.List.{HoldsAt};
     ghost use Rattle.ua_values.specs.Values.{Fits};
     ghost use Rattle.dataset_meta.specs.declared.field.Field.{Field};
     ghost use Rattle.dataset_meta.specs.DataValues.{IsStatus};
     ghost use Rattle.dataset_meta.specs.Metas.{IsMeta, MetaData, HasGrown};
-    ghost use Rattle.dataset_meta.specs.Rows.{opening_row, row_cut};
+    ghost use Rattle.dataset_meta.specs.Rows.{FitsAt, opening_row, row_cut};
     ghost use Rattle.row_words.specs.Words.{is_scalar, IsWordOf, scalar_in};
     ghost use Rattle.row_words.specs.Belonging.{Belongs, row_in, cut_words};
     ghost use Rattle.row_words.specs.Setting.{HasValue, HasStatus, with_value, with_status};
@@ -38,6 +39,16 @@ impl Row {
             → row_in fields result.words ≡ opening_row fields }
     {
         Row { words: zeros() }
+    }
+
+    /// The same of a data set: a row that belongs to its meta.
+    #[inline(always)]
+    pub fn opening_of(meta: &Meta) -> Row
+        ensures belongs { Belongs meta.now result.words }
+        ensures row { row_in meta.now.fields result.words ≡ opening_row meta.now.fields }
+    {
+        let _ = meta.fields();
+        Row::opening()
     }
 
     /// The value of the field at this index. Of a scalar no more than the one word is read.
@@ -110,6 +121,25 @@ impl Row {
         if meta.quality() {
             self.set_status(meta, index, status);
         }
+    }
+
+    /// Sets the value and the status of the field at this index, where there is a field that may have them, and leaves the other
+    /// fields. False, and nothing is set, where there is none (`Meta::fits_at`).
+    #[inline(always)]
+    pub fn try_set(&mut self, meta: &Meta, index: u8, value: &Value, status: u32) -> bool
+        requires { Belongs meta.now self.old.words }
+        ensures exact { IsTrue result ↔ FitsAt meta.now index value.now status }
+        ensures belongs { Belongs meta.now self.new.words }
+        ensures set { OnTrue result (row_in meta.now.fields self.new.words
+            ≡ slice_set (row_in meta.now.fields self.old.words) index
+            (record { value = value.now; status = status })) }
+        ensures unset { OnFalse result (self.new ≡ self.old) }
+    {
+        let fits = meta.fits_at(index, value, status);
+        if fits {
+            self.set_with_status(meta, index, value, status);
+        }
+        fits
     }
 
     /// The word of the scalar field at this index, which is all that its value takes.

@@ -12,11 +12,12 @@ use Rattle.pubsub_engine.specs.Holding.{AreTargetsOf, IsBankOf, IsSession, passe
 use Rattle.pubsub_engine.specs.Standing.{Stands}
 use Rattle.script_player.specs.declared.hand.Hand.{Hand}
 use Rattle.script_player.specs.declared.player.Player.{Player}
-use Rattle.script_player.specs.Player.{IsNew, IsPlayer}
+use Rattle.script_player.specs.Player.{IsNew, IsOfScript, IsPlayer}
 
 -- what the opening of its session gives, and its hands
 pub record IsOpened (player : Player) : Type 0 where
   pub session : IsSession player.session
+  pub of_script : IsOfScript player.session
   pub stands : Stands (plan_of player.session) [] player.session
   pub bank : IsBankOf player.session player.bank
   pub cells : All IsCell player.bank
@@ -42,6 +43,7 @@ module _ (player : Player) (o : IsOpened player) where
   pub player-opened : IsPlayer player
   player-opened = record {
     session = o.session;
+    of_script = o.of_script;
     bank = o.bank;
     cells = o.cells;
     targets = o.targets;

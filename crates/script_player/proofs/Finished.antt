@@ -34,13 +34,15 @@ use Rattle.session_model.specs.Sends.{TellsRun}
 use Rattle.writer_group.specs.declared.sampled.Sampled.{Sampled}
 use Rattle.session_model.specs.Sets.{meta_in}
 use Rattle.session_model.specs.Closing.{IsClosedAfter}
-use Rattle.session_model.specs.Keeping.{IsPlan}
+use Rattle.session_model.specs.Counts.{most_ticks}
+use Rattle.session_model.specs.Keeping.{AreSteps, IsPlan}
+use Rattle.session_model.proofs.Lasting.{steps-more}
 use Rattle.session_laws.specs.Telling.{HasRun, TellsHeadline}
 use Rattle.app_threads.specs.declared.done.Done.{Done}
 use Rattle.app_threads.specs.declared.done.Looked.{Looked}
 use Rattle.app_threads.specs.Items.{versions_in}
 use Rattle.pubsub_engine.specs.Authored.{AreInOrder, AreLooksAt, IsAuthored, watch_of, watches_of}
-use Rattle.pubsub_engine.specs.Holding.{passes_of}
+use Rattle.pubsub_engine.specs.Holding.{passes_of, ticks_of}
 use Rattle.pubsub_engine.specs.Standing.{Stands, samples_of}
 use Rattle.script_player.specs.declared.hand.Hand.{Hand}
 use Rattle.script_player.specs.declared.player.Player.{Player}
@@ -201,6 +203,10 @@ module _ (config : Config) (script : Script) (is : IsScript config script) (plan
   stands : Stands p steps new.session
   stands = led.2
 
+  -- it has no more ticks than a script's
+  steps_are : AreSteps p steps
+  steps_are = steps-more (ticks_of new.session) most_ticks p steps c.player.of_script.few stands.steps_are
+
   cells : length new.bank ≡ length script.metas
   cells = count_cells config script steps new c.player stands
 
@@ -326,14 +332,14 @@ module _ (config : Config) (script : Script) (is : IsScript config script) (plan
   is-play-by =
       let have = headline config script h.steps steps h.looks is exact.played ticked rows in
       let lived : HasRun p steps (row_written script) =
-      record { plan = plan; steps_are = stands.steps_are; run = stands.run; rise = have.0; versions = have.1 } in (
+      record { plan = plan; steps_are = steps_are; run = stands.run; rise = have.0; versions = have.1 } in (
         record {
           earlier = h.steps;
           steps = steps;
           looks = h.looks;
           played = exact.played;
           ends = ticked;
-          steps_are = stands.steps_are;
+          steps_are = steps_are;
           run = stands.run;
           lived = lived;
           tells = led.3 h.tells;

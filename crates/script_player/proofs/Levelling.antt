@@ -18,7 +18,7 @@ use Rattle.pubsub_engine.specs.Holding.{AreTargetsOf, IsSession, passes_of, plan
 use Rattle.script_player.specs.declared.player.Player.{Player}
 use Rattle.script_player.specs.Plays.{plan_by}
 use Rattle.script_player.specs.Player.{AreDonesOf, HasPlayed, IsClosedBy, IsPlayer, Levels, SeeNoMore}
-use Rattle.script_player.proofs.Staying.{bank-stays}
+use Rattle.script_player.proofs.Staying.{bank-stays, script-stays, stores-last}
 
 pub player-levelled : (old : Player) (session : Session) (watches : List Known) → IsPlayer old → Levels old (record old { session = session; watches = watches })
     → IsSession session → AreTargetsOf session old.targets → ArePassesOf old.targets.cells watches
@@ -28,6 +28,7 @@ player-levelled old session watches is levels holds targets own =
     let passes = ap passes_of levels.stores in
     record {
       session = holds;
+      of_script = script-stays old.session session (stores-last old.session session levels.stores) is.of_script;
       bank = bank-stays old.session session old.bank plan passes is.bank;
       cells = is.cells;
       targets = targets;

@@ -20,7 +20,7 @@ use Rattle.pubsub_engine.specs.Standing.{KeepsStands}
 use Rattle.script_player.specs.declared.hand.Hand.{Hand}
 use Rattle.script_player.specs.declared.player.Player.{Player}
 use Rattle.script_player.specs.Player.{IsHand, IsPlayer, MayWatch, SeeNoMore, Watches, stored}
-use Rattle.script_player.proofs.Staying.{bank-stays, each-hand, hand-holds, hands-change, still-eight, stores-change}
+use Rattle.script_player.proofs.Staying.{bank-stays, each-hand, hand-holds, hands-change, script-stays, still-eight, stores-change, stores-last}
 
 -- ---- counts
 
@@ -130,6 +130,7 @@ module _ (player : Player) (is : IsPlayer player) (thread index reader times : â
   pub player-watched : IsPlayer (record player { session = new; watches = last; hands = hands })
   player-watched = record {
     session = l.session;
+    of_script = script-stays player.session new (stores-last player.session new changed) is.of_script;
     bank = bank-stays player.session new player.bank (ap plan_of changed) (ap passes_of changed) is.bank;
     cells = is.cells;
     targets = l.targets;

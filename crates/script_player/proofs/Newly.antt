@@ -46,7 +46,7 @@ opened-empty old None tells link is = absurd (none-some link is)
 opened-empty old (Some state) tells link is = ap (λ (l : LinkState). l.journal) (sym (same_Some state link is)) ∙ tells.2.0
 
 module _ (config : Config) (script : Script) (told : Option LinkState) (player : Player) (is : IsPlayer player) (new : IsNew player)
-    (plan : plan_of player.session ≡ plan_by config script) (left : left_of player.session ≡ opening_left (ticks_in script.lines))
+    (plan : plan_of player.session ≡ plan_by config script) (logged : ℕ) (left : left_of player.session ≡ opening_left (ticks_in script.lines) logged)
     (appends : appends_left player.session ≡ appended_sets script.lines) (quotas : map (λ (cell : CellData). cell.quotas) player.bank ≡ quotas_by (length config.dataset) script.lines)
     (empty : (link : LinkState) → told ≡ Some link → link.journal ≡ []) where
   stands : Stands (plan_by config script) [] player.session

@@ -1,5 +1,5 @@
 -- What a player keeps when its session goes on, or one of its hands.
-use Rattle.std.proofs.Common.{◌≡◌, ℕ, ◌<◌, ◌≤◌, List, length, map, drop, get_or, set, sym, ap, ◌∙◌, subst, arith}
+use Rattle.std.proofs.Common.{◌≡◌, ℕ, ◌-◌, ◌<◌, ◌≤◌, List, length, map, drop, get_or, set, sym, ap, ◌∙◌, subst, arith}
 use Rattle.std.proofs.lemmas.List.{get_or-set_other, get_or-set_same, get_or_read, length-drop, length-map, length-set}
 use Rattle.std.specs.List.{HoldsAt}
 use native.Mathlib.Decide.{ℕ_discrete}
@@ -8,13 +8,16 @@ use Rattle.version_cell.specs.Cells.{CellData}
 use Rattle.version_cell.specs.Sets.{ArePassesOf, pass_at}
 use Rattle.ps_config.specs.Sound.{readers}
 use Rattle.target_cells.specs.Keeping.{TargetsData, metas_of}
+use Rattle.session_model.specs.Counts.{most_ticks}
 use Rattle.session_model.specs.Steps.{Plan}
 use Rattle.pubsub_engine.specs.declared.sets.Growth.{Growth}
+use Rattle.pubsub_engine.specs.declared.session.Left.{Left}
 use Rattle.pubsub_engine.specs.declared.session.Session.{Session}
-use Rattle.pubsub_engine.specs.Holding.{AreTargetsOf, ChangesSamples, ChangesStores, IsBankOf, IsSession, KeepsPasses, MayAppendNext, keeper_of, passes_of, plan_of}
+use Rattle.pubsub_engine.specs.Holding.{AreTargetsOf, ChangesSamples, ChangesStores, IsBankOf, IsSession, KeepsPasses, MayAppendNext, keeper_of, left_of, logged_of, opening_left, passes_of, plan_of, ticks_of}
 use Rattle.script_player.specs.declared.hand.Hand.{Hand}
 use Rattle.script_player.specs.declared.player.Player.{Player}
-use Rattle.script_player.specs.Player.{ChangesHand, IsPlayer, MayAppend, SeeNoMore}
+use Rattle.script_player.specs.Passing.{LastsAs}
+use Rattle.script_player.specs.Player.{ChangesHand, IsOfScript, IsPlayer, MayAppend, SeeNoMore}
 
 -- ---- the session
 
@@ -50,10 +53,34 @@ no-more-later hand old new count later behind set lt =
     let b = later set there in
     omega (arith, a, b)
 
+-- a session stays a script's
+pub script-stays : (old new : Session) → LastsAs old new → IsOfScript old → IsOfScript new
+script-stays old new lasts is = record { few = omega (arith, lasts.ticks, is.few); whole = omega (arith, lasts.ticks, lasts.logged, is.whole) }
+
+pub left-lasts : (old new : Session) → left_of new ≡ left_of old → LastsAs old new
+left-lasts old new left = record { ticks = ap (λ (l : Left). l.stores - 1) left; logged = ap (λ (l : Left). l.logged) left }
+
+-- one is a script's before its first tick, where it was opened for as many ticks at most, and its logs for more data frames
+pub opened-script : (session : Session) (ticks logged : ℕ) → left_of session ≡ opening_left ticks logged → ticks ≤ most_ticks → ticks < logged → IsOfScript session
+opened-script session ticks logged left few long =
+    let stores = ap (λ (l : Left). l.stores) left in
+    let kept = ap (λ (l : Left). l.logged) left in
+    record { few = omega (arith, stores, few); whole = omega (arith, stores, kept, long) }
+
+pub samples-last : (old new : Session) → ChangesSamples old new → LastsAs old new
+samples-last old new changes = record { ticks = ap ticks_of changes; logged = ap logged_of changes }
+
+pub stores-last : (old new : Session) → ChangesStores old new → LastsAs old new
+stores-last old new changes = record { ticks = ap ticks_of changes; logged = ap logged_of changes }
+
+pub passes-last : (old new : Session) → KeepsPasses old new → LastsAs old new
+passes-last old new keeps = record { ticks = ap (λ (n : ℕ). n - 1) keeps.stores; logged = keeps.logged }
+
 -- it goes on with the passes, the stores and the plan that it had
 pub player-stays : (player : Player) (session : Session) → IsPlayer player → IsSession session → KeepsPasses player.session session → IsPlayer (record player { session = session })
 player-stays player session is holds keeps = record {
   session = holds;
+  of_script = script-stays player.session session (passes-last player.session session keeps) is.of_script;
   bank = bank-stays player.session session player.bank keeps.plan keeps.passes is.bank;
   cells = is.cells;
   targets = targets-stay player.session session player.targets keeps.plan keeps.keeper keeps.stores is.targets;

@@ -1,5 +1,5 @@
 -- A sample, a tick with it, and a pump, one after another.
-use Rattle.std.proofs.Common.{◌≡◌, ℕ, ◌<◌, ◌≤◌, Bool, List, ◌∷◌, length, get_or, sym, ap, ◌∙◌, subst, arith}
+use Rattle.std.proofs.Common.{◌≡◌, ℕ, ◌-◌, ◌<◌, ◌≤◌, Bool, List, ◌∷◌, length, get_or, sym, ap, ◌∙◌, subst, arith}
 use Rattle.std.specs.Prelude.{Option}
 use Rattle.ua_base.specs.Journal.{Entry as LinkEntry, LinkState}
 use Rattle.writer_group.specs.declared.sampled.Sampled.{Sampled}
@@ -12,13 +12,13 @@ use Rattle.session_model.specs.Steps.{Plan, Step, Tick, Pump}
 use Rattle.session_model.specs.Sends.{TellsRun}
 use Rattle.pubsub_engine.specs.declared.session.Left.{Left}
 use Rattle.pubsub_engine.specs.declared.session.Session.{Session}
-use Rattle.pubsub_engine.specs.Holding.{AreTargetsOf, ChangesSamples, CountsPump, CountsTick, IsBankOf, IsSession, KeepsPasses, MayPump, MayTick, appends_left, keeper_of, left_of, passes_of, plan_of}
+use Rattle.pubsub_engine.specs.Holding.{AreTargetsOf, ChangesSamples, CountsPump, CountsTick, IsBankOf, IsSession, KeepsPasses, MayPump, MayTick, appends_left, keeper_of, left_of, logged_of, passes_of, plan_of, ticks_of}
 use Rattle.pubsub_engine.specs.Standing.{KeepsStands, Leads, Stands, sampled_by, samples_of}
 use Rattle.target_cells.specs.Keeping.{TargetsData}
 use Rattle.script_player.specs.declared.player.Player.{Player}
 use Rattle.script_player.specs.Passing.{LeadsPast, MayPass, PassesOn}
 use Rattle.script_player.specs.Player.{IsPlayer}
-use Rattle.script_player.proofs.Staying.{bank-stays, no-more-later, targets-stay}
+use Rattle.script_player.proofs.Staying.{bank-stays, no-more-later, passes-last, script-stays, targets-stay}
 
 -- wherever a session stood, a tick with its sample leads on
 abbrev pub TickLeads : ℕ → Bool → Session → Session → Option LinkState → Option LinkState → Type 0
@@ -101,6 +101,10 @@ module _ (ms : ℕ) (closing : Bool) (old sampled ticked new : Session) (told be
         closed = ap (λ (l : Left). l.is_closed) t.pumped.rest ∙ t.counts.is_closed;
         appends = t.appends_then ∙ t.appends ∙ ap appends_left t.changes;
         plan = t.plan ∙ t.keeps.plan ∙ ap plan_of t.changes;
+        lasts = record {
+          ticks = ap (λ (l : Left). l.stores - 1) t.pumped.rest ∙ (passes-last sampled ticked t.keeps).ticks ∙ ap ticks_of t.changes;
+          logged = ap (λ (l : Left). l.logged) t.pumped.rest ∙ (passes-last sampled ticked t.keeps).logged ∙ ap logged_of t.changes;
+        };
       }
 
   pub bank-passes : (bank : List CellData) → IsBankOf sampled bank → IsBankOf new bank
@@ -112,6 +116,7 @@ pub player-passed : (ms : ℕ) (closing : Bool) (player : Player) (new : Session
     → IsPlayer (record player { session = new })
 player-passed ms closing player new told after is on holds targets bank = record {
   session = holds;
+  of_script = script-stays player.session new on.lasts is.of_script;
   bank = bank;
   cells = is.cells;
   targets = targets;

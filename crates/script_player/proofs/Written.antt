@@ -13,7 +13,7 @@ use Rattle.pubsub_engine.specs.Standing.{KeepsStands}
 use Rattle.script_player.specs.declared.hand.Hand.{Hand}
 use Rattle.script_player.specs.declared.player.Player.{Player}
 use Rattle.script_player.specs.Player.{HasWritten, IsHand, IsPlayer, KeepAuthors, SeeNoMore, Writes}
-use Rattle.script_player.proofs.Staying.{each-hand, hand-holds, hands-change, no-more-later, still-eight, targets-stay}
+use Rattle.script_player.proofs.Staying.{each-hand, hand-holds, hands-change, no-more-later, samples-last, script-stays, still-eight, targets-stay}
 
 -- what a thread's write leaves of the session, of the thread's passes and of its versions
 pub record HandWrote (player : Player) (set : ℕ) (patch : Patch) (new : Session) (hand after : Hand) : Type 0 where
@@ -51,6 +51,7 @@ module _ (player : Player) (is : IsPlayer player) (thread index : ℕ) (hand : H
   pub player-written : IsPlayer (record player { session = new; hands = hands })
   player-written = record {
     session = w.session;
+    of_script = script-stays player.session new (samples-last player.session new w.samples) is.of_script;
     bank = w.bank;
     cells = is.cells;
     targets = targets-stay player.session new player.targets (ap plan_of w.samples) (ap keeper_of w.samples) (ap (λ (s : Session). s.left.stores) w.samples) is.targets;

@@ -8,8 +8,13 @@ use Rattle.session_model.specs.Counts.{most_ms}
 use Rattle.session_model.specs.Steps.{Plan, Step, Tick, Pump}
 use Rattle.session_model.specs.Sends.{TellsRun}
 use Rattle.pubsub_engine.specs.declared.session.Session.{Session}
-use Rattle.pubsub_engine.specs.Holding.{IsRunning, appends_left, left_of, passes_of, plan_of, ticks_needed}
+use Rattle.pubsub_engine.specs.Holding.{IsRunning, appends_left, left_of, logged_of, passes_of, plan_of, ticks_needed, ticks_of}
 use Rattle.pubsub_engine.specs.Standing.{Stands, samples_of}
+
+-- one session was opened for as many ticks, and for as long logs, as the other
+pub record LastsAs (old new : Session) : Type 0 where
+  pub ticks : ticks_of new ≡ ticks_of old
+  pub logged : logged_of new ≡ logged_of old
 
 -- a tick may come, the closing one or another
 pub record MayPass (ms : ℕ) (closing : Bool) (session : Session) : Type 0 where
@@ -36,3 +41,4 @@ pub record PassesOn (ms : ℕ) (closing : Bool) (old new : Session) (told after 
   pub closed : (left_of new).is_closed ≡ closing
   pub appends : appends_left new ≡ appends_left old
   pub plan : plan_of new ≡ plan_of old
+  pub lasts : LastsAs old new

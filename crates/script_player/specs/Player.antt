@@ -28,6 +28,7 @@ use Rattle.pubsub_states.specs.Changes.{Change, Enable as SwitchedOn, Disable as
 use Rattle.pubsub_states.specs.Components.{IsId, counts_of}
 use Rattle.writer_group.specs.declared.sampled.Sampled.{Sampled}
 use Rattle.session_model.specs.Steps.{Plan, Step, Enable, Disable, Append, Tick, Pump, is_on, switches_in}
+use Rattle.session_model.specs.Counts.{most_ticks}
 use Rattle.session_model.specs.Deeds.{component_at}
 use Rattle.session_model.specs.Sends.{TellsRun}
 use Rattle.session_model.specs.Closing.{IsClosedAfter}
@@ -37,7 +38,7 @@ use Rattle.app_threads.specs.declared.done.Looked.{Looked}
 use Rattle.app_threads.specs.Items.{versions_in}
 use Rattle.app_threads.specs.Marks.{authors}
 use Rattle.pubsub_engine.specs.declared.session.Session.{Session}
-use Rattle.pubsub_engine.specs.Holding.{AreTargetsOf, ChangesSamples, ChangesStores, IsBankOf, IsRunning, IsSession, KeepsPasses, appends_left, keeper_of, left_of, passes_of, plan_of}
+use Rattle.pubsub_engine.specs.Holding.{AreTargetsOf, ChangesSamples, ChangesStores, IsBankOf, IsRunning, IsSession, KeepsPasses, KeepsWholeLogs, appends_left, keeper_of, left_of, passes_of, plan_of, ticks_of}
 use Rattle.pubsub_engine.specs.Standing.{KeepsStands, Stands}
 use Rattle.pubsub_engine.specs.Authored.{AreInOrder, AreLooksAt, IsAuthored, watch_of, watches_of}
 use Rattle.script_player.specs.declared.hand.Hand.{Hand}
@@ -62,9 +63,15 @@ SeeNoMore passes others = (set : ℕ) → set < length others → length (pass_a
 abbrev pub KeepAuthors : List Known → List Known → Type 0
 KeepAuthors old new = (set : ℕ) → set < length old → (pass_at new set).author ≡ (pass_at old set).author
 
+-- a session of a script: no more ticks come than in one, and each log has room for a data frame of each
+pub record IsOfScript (session : Session) : Type 0 where
+  pub few : ticks_of session ≤ most_ticks
+  pub whole : KeepsWholeLogs session
+
 -- the threads have seen no more than the session
 pub record IsPlayer (player : Player) : Type 0 where
   pub session : IsSession player.session
+  pub of_script : IsOfScript player.session
   pub bank : IsBankOf player.session player.bank
   pub cells : All IsCell player.bank
   pub targets : AreTargetsOf player.session player.targets

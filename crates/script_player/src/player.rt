@@ -54,6 +54,7 @@ impl<'c> Player<'c> {
     ) -> Result<Player<'c>, NoMemory>
         requires good { IsGood config.now }
         requires ticks { size.now.ticks ≤ most_ticks }
+        requires logged { size.now.ticks < size.now.logged }
         requires sets { length size.now.writes.items ≡ length config.now.dataset }
         requires writes { AreSmall size.now.writes.items }
         requires appends { AreAppends config.now config.now.dataset size.now.appends.items }
@@ -62,7 +63,8 @@ impl<'c> Player<'c> {
         ensures plan { IfOk result (λ player. plan_of player.session
             ≡ record { config = config.now; full = full_of config.now.dataset size.now.appends.items }) }
         ensures is_plan { HasTypes config.now → IfOk result (λ player. IsPlan (plan_of player.session)) }
-        ensures left { IfOk result (λ player. left_of player.session ≡ opening_left size.now.ticks) }
+        ensures left { IfOk result
+            (λ player. left_of player.session ≡ opening_left size.now.ticks size.now.logged) }
         ensures appends { IfOk result (λ player. appends_left player.session
             ≡ map (λ append. append.set) size.now.appends.items) }
         ensures quotas { IfOk result

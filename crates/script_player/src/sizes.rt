@@ -1,5 +1,5 @@
 //! How large a session a script asks for.
-ghost use Rattle.std.specs.Prelude.{◌≡◌, ◌≤◌, ◌<◌, length, map};
+ghost use Rattle.std.specs.Prelude.{◌≡◌, ◌≤◌, ◌<◌, ◌+◌, length, map};
 ghost use Rattle.std.specs.List.{range_with_len};
 ghost use Rattle.ps_config.specs.Sound.{IsSound};
 ghost use Rattle.cell_bank.specs.Hands.{AreSmall};
@@ -15,21 +15,24 @@ use ps_config::Config;
 use ps_script::{Act, Script};
 use pubsub_engine::{Append, Size};
 
-/// What a session has to have room for so that it can run the script: its ticks, the writes of each of eight threads, and the
-/// appended fields.
+/// What a session has to have room for so that it can run the script: its ticks, a data frame of each writer at each tick and at
+/// the closing one, the writes of each of eight threads, and the appended fields.
 pub fn size_of(config: &Config, script: &Script) -> Size
     requires config { IsSound config.now }
     requires script { IsScript config.now script.now }
     ensures ticks { result.ticks ≡ ticks_in script.now.lines }
     ensures few { result.ticks ≤ most_ticks }
+    ensures logged { result.logged ≡ result.ticks + 1 }
     ensures writes { result.writes.items ≡ quotas_by (length config.now.dataset) script.now.lines }
     ensures small { AreSmall result.writes.items }
     ensures appends { AreAppends config.now config.now.dataset result.appends.items }
     ensures sets { map (λ append. append.set) result.appends.items ≡ appended_sets script.now.lines }
     ensures full { full_of config.now.dataset result.appends.items ≡ script.now.metas }
 {
+    let ticks = script.ticks() as u32;
     Size {
-        ticks: script.ticks() as u32,
+        ticks: u64::from(ticks),
+        logged: ticks + 1,
         writes: writes_of(script, config.dataset.as_slice().len()),
         appends: appends_of(config, script),
     }

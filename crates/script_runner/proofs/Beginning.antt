@@ -1,5 +1,5 @@
 -- A session before the first line of its script, and before its closing tick.
-use Rattle.std.proofs.Common.{◌≡◌, true, [], reverse, refl, ap, subst, arith, Option, Some}
+use Rattle.std.proofs.Common.{◌≡◌, ℕ, true, [], reverse, refl, ap, subst, arith, Option, Some}
 use Rattle.ua_base.specs.Journal.{LinkState}
 use Rattle.ps_config.specs.declared.parts.Config.{Config}
 use Rattle.ps_script.specs.declared.script.Line.{Line}
@@ -11,15 +11,16 @@ use Rattle.pubsub_engine.specs.declared.session.Session.{Session}
 use Rattle.pubsub_engine.specs.Holding.{appends_left, left_of, opening_left, plan_of}
 use Rattle.pubsub_engine.specs.Standing.{Stands}
 use Rattle.script_player.specs.Passing.{MayPass}
+use Rattle.script_player.specs.Player.{IsOfScript}
 use Rattle.script_player.specs.Plays.{plan_by}
 use Rattle.script_player.specs.Sizes.{appended_sets}
 use Rattle.script_player.proofs.Lines.{count_by-reverse}
 use Rattle.script_runner.specs.Conducting.{HasConducted}
 
 pub begins : (config : Config) (script : Script) (told : Option LinkState) (session : Session) → Stands (plan_of session) [] session → plan_of session ≡ plan_by config script
-    → left_of session ≡ opening_left (ticks_in script.lines) → appends_left session ≡ appended_sets script.lines
+    → (logged : ℕ) → left_of session ≡ opening_left (ticks_in script.lines) logged → IsOfScript session → appends_left session ≡ appended_sets script.lines
     → ((link : LinkState) → told ≡ Some link → link.journal ≡ []) → HasConducted config script [] told session
-begins config script told session stands plan left appends empty = record {
+begins config script told session stands plan logged left of_script appends empty = record {
   steps = [];
   stands = subst (λ (q : Plan). Stands q [] session) plan stands;
   tells = empty;
@@ -27,6 +28,7 @@ begins config script told session stands plan left appends empty = record {
   ticks = (let e = ap (λ (l : Left). l.ticks) left in omega (arith, e));
   pumps = ap (λ (l : Left). l.pumps) left;
   running = ap (λ (l : Left). l.is_closed) left;
+  of_script = of_script;
   appends = appends;
   ran = refl;
   rise = tt;

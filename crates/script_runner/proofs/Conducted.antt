@@ -28,6 +28,7 @@ use Rattle.script_player.specs.Sizes.{appended_by, appended_sets}
 use Rattle.script_player.proofs.Exact.{hits, skips}
 use Rattle.script_player.proofs.Lines.{appended-cons, count_by-append, count_by-cons, count_by-reverse}
 use Rattle.script_player.proofs.Next.{IsNextLine, left_next, next_line, no_line, there_is, turned_more, was_on}
+use Rattle.script_player.proofs.Staying.{left-lasts, script-stays}
 use Rattle.script_runner.specs.Conducting.{AreEarlier, HasConducted, MayRun, RunsTo, Switches, seen_by}
 use Rattle.script_runner.specs.Running.{IsLineRun, IsRunBy}
 use Rattle.script_runner.proofs.Growing.{run-more}
@@ -88,6 +89,7 @@ module _ (config : Config) (script : Script) (lines : List Line) (told : Option 
     ticks = (let a = h.ticks in let b = ap (λ (l : Left). l.ticks) left in omega (arith, a, b, skips (λ (l : Line). is_tick l.act) line lines no_tick));
     pumps = ap (λ (l : Left). l.pumps) left ∙ h.pumps;
     running = ap (λ (l : Left). l.is_closed) left ∙ h.running;
+    of_script = script-stays session new (left-lasts session new left) h.of_script;
     appends = ap (λ (l : List ℕ). l ++ appends_left new) (appended-cons line lines) ∙ appends;
     ran = subst (λ (l : List Known). IsRunBy p (seen_in l) (line ∷ lines) steps) (sym passes) (h.steps, h.ran, by);
     rise = rise;
@@ -146,6 +148,7 @@ module _ (config : Config) (script : Script) (lines : List Line) (told : Option 
       ticks = (let a = h.ticks in let b = t.ticks in omega (arith, a, b, hits (λ (l : Line). is_tick l.act) tick lines refl));
       pumps = t.pumps ∙ h.pumps;
       running = t.closed;
+      of_script = script-stays session new t.lasts h.of_script;
       appends = ap (λ (l : List ℕ). l ++ appends_left new) (appended-cons tick lines ∙ append-nil (appended_sets (reverse lines)))
           ∙ ap (λ (l : List ℕ). appended_sets (reverse lines) ++ l) t.appends ∙ h.appends;
       ran = ran;

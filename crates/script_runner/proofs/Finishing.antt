@@ -26,7 +26,8 @@ use Rattle.pubsub_engine.specs.Authored.{AreInOrder, AreLooksAt, HasThreads, IsA
 use Rattle.pubsub_engine.specs.Holding.{AreTargetsOf, ChangesSamples, ChangesStores, IsBankOf, keeper_of, left_of, passes_of, plan_of}
 use Rattle.pubsub_engine.specs.Standing.{KeepsStands, Stands}
 use Rattle.script_player.specs.Passing.{MayPass, PassesOn}
-use Rattle.script_player.proofs.Staying.{bank-stays, targets-stay}
+use Rattle.script_player.specs.Player.{IsOfScript}
+use Rattle.script_player.proofs.Staying.{bank-stays, samples-last, script-stays, stores-last, targets-stay}
 use Rattle.script_runner.specs.Finishing.{Finishes, HasMetAll, HasStoredAll, SeeMore, unwatched}
 use Rattle.script_runner.proofs.Meeting.{met-on, see-on}
 
@@ -99,23 +100,30 @@ pub record AreEnds (bank targets : List CellData) (old met level new : Session) 
   pub bank_met : IsBankOf met bank
   pub bank_new : IsBankOf new bank
 
+-- it is still a script's
+pub ends-script : (bank targets : List CellData) (old met level new : Session) (dones left : List Done) (told after : Option LinkState)
+    → AreEnds bank targets old met level new dones left told after → IsOfScript old → IsOfScript new
+ends-script bank targets old met level new dones left told after are is =
+    script-stays level new are.passed.lasts (script-stays met level (stores-last met level are.stores) (script-stays old met (samples-last old met are.samples) is))
+
 -- the session is closed, where there was memory
 pub finishes : {E : Type 0} (bank targets : List CellData) (old met level new : Session) (dones left : List Done) (told after : Option LinkState) (r : Result Closed E)
-    → AreEnds bank targets old met level new dones left told after
+    → AreEnds bank targets old met level new dones left told after → IsOfScript new
     → ((p : Plan) (steps : List Step) → Stands p steps new → AreInOrder left → IfOk r (IsClosedAfter p steps))
     → (length left ≤ 256 → IfOk r (λ closed. (set : ℕ) (threads : List ℕ) → set < length (passes_of new) → IsAuthored set left threads
     → length threads ≡ length (pass_at (passes_of new) set).seen → HasThreads closed.histories set threads))
     → (AreInOrder left → IfOk r (λ closed. closed.watches ≡ watches_of left))
     → IfOk r (λ closed. (steps : List Step) → Stands (plan_of new) steps new → AreLooksAt (readers (plan_of new).config) left → IsClosedOf (plan_of new).config closed)
     → IfOk r (Finishes bank targets old dones told after)
-finishes bank targets old met level new dones left told after (Err e) are closed_after histories watches of = tt
-finishes bank targets old met level new dones left told after (Ok closed) are closed_after histories watches of =
+finishes bank targets old met level new dones left told after (Err e) are of_script closed_after histories watches of = tt
+finishes bank targets old met level new dones left told after (Ok closed) are of_script closed_after histories watches of =
     let passes : passes_of level ≡ passes_of met = ap passes_of are.stores in
     let later : SeeMore (passes_of met) (passes_of new) = subst (λ (l : List Known). SeeMore l (passes_of new)) passes are.passed.more in
     let count-met : length (passes_of met) ≡ length bank = are.bank_met.passes.count in
     let count-old : length (passes_of old) ≡ length bank = are.bank_old.passes.count in
     record {
       new = new;
+      of_script = of_script;
       bank_is = are.bank_new;
       plan = are.passed.plan ∙ ap plan_of are.stores ∙ ap plan_of are.samples;
       more = see-on (passes_of old) (passes_of met) (passes_of new) (count-met ∙ sym count-old) are.more later;

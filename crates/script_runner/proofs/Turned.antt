@@ -14,7 +14,7 @@ use Rattle.script_runner.specs.Conducting.{MayAppend, RunsTo, TurnsTo}
 
 keeps-itself : (session new : Session) → new ≡ session → KeepsPasses session new
 keeps-itself session new same =
-    subst (λ (s : Session). KeepsPasses session s) (sym same) (record { plan = refl; passes = refl; sampled = refl; keeper = refl; stores = refl })
+    subst (λ (s : Session). KeepsPasses session s) (sym same) (record { plan = refl; passes = refl; sampled = refl; keeper = refl; stores = refl; logged = refl })
 
 turned-keeps : (a : Act) (old new : Session) → TurnsTo a old new → KeepsPasses old new
 turned-keeps (act.Write thread set patch) old new same = keeps-itself old new same

@@ -12,10 +12,12 @@ use Rattle.session_laws.specs.Telling.{HasRun}
 use Rattle.session_model.specs.Steps.{Plan, Step, Tick, Pump}
 use Rattle.session_model.specs.Sends.{TellsRun}
 use Rattle.session_model.specs.Closing.{IsClosedAfter}
-use Rattle.session_model.specs.Keeping.{IsPlan}
+use Rattle.session_model.specs.Counts.{most_ticks}
+use Rattle.session_model.specs.Keeping.{AreSteps, IsPlan}
+use Rattle.session_model.proofs.Lasting.{steps-more}
 use Rattle.session_laws.specs.Sessions.{SamplesRise}
 use Rattle.pubsub_engine.specs.declared.session.Session.{Session}
-use Rattle.pubsub_engine.specs.Holding.{IsSession, passes_of}
+use Rattle.pubsub_engine.specs.Holding.{IsSession, passes_of, ticks_of}
 use Rattle.pubsub_engine.specs.Standing.{Stands, samples_of}
 use Rattle.script_player.specs.Plays.{plan_by}
 use Rattle.script_player.proofs.Finished.{RunsTellTheHeadline}
@@ -53,6 +55,10 @@ module _ (config : Config) (script : Script) (is : IsScript config script) (plan
   pub stands : Stands p steps new
   stands = led.2
 
+  -- it has no more ticks than a script's
+  steps_are : AreSteps p steps
+  steps_are = steps-more (ticks_of new) most_ticks p steps f.of_script.few stands.steps_are
+
   count : length (passes_of new) ≡ length p.full
   count =
       f.bank_is.passes.count ∙ sym (length-map bank (λ (cell : CellData). cell.meta)) ∙ ap (λ l. length l) f.bank_is.metas
@@ -74,7 +80,7 @@ module _ (config : Config) (script : Script) (is : IsScript config script) (plan
       let closed_after : IsClosedAfter p steps closed = f.closed_after p steps stands e.in_order in
       let lived : HasRun p steps (row_made script logs) = record {
         plan = plan;
-        steps_are = stands.steps_are;
+        steps_are = steps_are;
         run = stands.run;
         rise = rise;
         versions = are-versions config script logs h.steps steps rows is e.legal ran ends;
@@ -87,7 +93,7 @@ module _ (config : Config) (script : Script) (is : IsScript config script) (plan
         ran = ran;
         ends = ends;
         rise = rise;
-        steps_are = stands.steps_are;
+        steps_are = steps_are;
         run = stands.run;
         lived = lived;
         tells = led.3 h.tells;

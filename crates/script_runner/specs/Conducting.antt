@@ -22,7 +22,7 @@ use Rattle.pubsub_engine.specs.Holding.{IsRunning, KeepsPasses, appends_left, le
 use Rattle.pubsub_engine.specs.Standing.{Stands}
 use Rattle.script_player.specs.Passing.{MayPass, PassesOn}
 use Rattle.script_player.specs.Plays.{plan_by}
-use Rattle.script_player.specs.Player.{switches_by}
+use Rattle.script_player.specs.Player.{IsOfScript, switches_by}
 use Rattle.script_player.specs.Sizes.{appended_sets}
 use Rattle.script_runner.specs.Running.{IsRunBy, Logs}
 
@@ -43,6 +43,7 @@ pub record HasConducted (config : Config) (script : Script) (lines : List Line) 
   pub ticks : (left_of session).ticks + ticks_in lines ≡ ticks_in script.lines + 1
   pub pumps : (left_of session).pumps ≡ 0
   pub running : IsRunning session
+  pub of_script : IsOfScript session
   pub appends : appended_sets (reverse lines) ++ appends_left session ≡ appended_sets script.lines
   pub ran : IsRunBy (plan_by config script) (seen_by session) lines steps
   pub rise : SamplesRise (plan_by config script) steps

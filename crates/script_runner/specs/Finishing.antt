@@ -18,6 +18,7 @@ use Rattle.pubsub_engine.specs.Authored.{AreInOrder, AreLooksAt, HasThreads, IsA
 use Rattle.pubsub_engine.specs.Holding.{IsBankOf, keeper_of, passes_of, plan_of}
 use Rattle.pubsub_engine.specs.Standing.{Stands}
 use Rattle.script_player.specs.Passing.{LeadsPast}
+use Rattle.script_player.specs.Player.{IsOfScript}
 
 -- the passes of each thread are of these cells, and its watches of these targets
 abbrev pub AreOwn : List CellData → List CellData → List Done → Type 0
@@ -50,6 +51,7 @@ unwatched done = record done { watches = [] }
 -- The session met what each thread left; then came the closing tick with its pump; then it was closed.
 pub record Finishes (bank targets : List CellData) (old : Session) (dones : List Done) (told after : Option LinkState) (closed : Closed) : Type 0 where
   pub new : Session
+  pub of_script : IsOfScript new
   pub bank_is : IsBankOf new bank
   pub plan : plan_of new ≡ plan_of old
   pub more : SeeMore (passes_of old) (passes_of new)

@@ -5,6 +5,7 @@ ghost use Rattle.version_cell.specs.Sets.{ArePassesOf};
 ghost use Rattle.pubsub_engine.specs.Holding.{AreTargetsOf, ChangesSamples, ChangesStores, IsBankOf, IsSession, keeper_of, passes_of};
 ghost use Rattle.pubsub_engine.specs.Standing.{KeepsStands};
 ghost use Rattle.script_player.specs.Passing.{MayPass};
+ghost use Rattle.script_player.specs.Player.{IsOfScript};
 ghost use Rattle.script_runner.specs.Finishing.{AreOwn, Finishes, HasMet, HasMetAll, HasStored, HasStoredAll, SeeMore, unwatched};
 
 use app_threads::Done;
@@ -30,6 +31,7 @@ pub(crate) fn finish<R: Wait, L: Link>(
 ) -> Result<Closed, NoMemory>
     requires open { IsSome (L.opened_with link.old) }
     requires session { IsSession session }
+    requires script { IsOfScript session }
     requires bank { IsBankOf session bank.now }
     requires targets { AreTargetsOf session targets.now }
     requires own { AreOwn bank.now targets.now.cells dones.items }

@@ -22,7 +22,7 @@ use Rattle.session_model.specs.Steps.{Plan, Step, Enable, Disable, Append, Tick,
 use Rattle.session_model.specs.Deeds.{Deed, RefreshedBelow, RefreshedSet, CameTo, TookTurn, advanced_if, answered_at, component_at, deeds, group_indexes, group_past, has_turn, is_rekeyed, is_writer_below, is_writer_of, refreshed_where, rekeyed, sender_after, shares, turn_of, turned_on, writer_indexes}
 use Rattle.session_laws.specs.Fresh.{BeginWithKeys, KeyedTurn, keyed_turn, keyed_turns, token_after}
 use Rattle.session_laws.specs.Pasts.{settings_at}
-use Rattle.session_laws.proofs.Deeds.{refreshed-keeps}
+use Rattle.session_model.proofs.Deeds.{refreshed-keeps}
 use Rattle.session_laws.proofs.Telling.{writer-index}
 use Rattle.session_laws.proofs.Tokens.{fresh-where, rekey-fresh}
 

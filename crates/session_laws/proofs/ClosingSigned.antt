@@ -34,7 +34,7 @@ use Rattle.session_model.specs.Turns.{deeds_before}
 use Rattle.session_laws.specs.Headline.{InSession}
 use Rattle.session_laws.specs.Pasts.{AreTurns, IsMade, WasMade}
 use Rattle.session_laws.specs.Sessions.{IsHonestFor}
-use Rattle.session_laws.proofs.Deeds.{next-turned}
+use Rattle.session_model.proofs.Deeds.{next-turned}
 use Rattle.session_laws.proofs.Distinct.{IsAt, ids-differ}
 use Rattle.session_laws.proofs.Pieces.{TurnLaws, opened-at}
 

@@ -40,7 +40,7 @@ use Rattle.session_laws.proofs.Answering.{answer-stays}
 use Rattle.session_laws.proofs.ClosingGot as ClosingGot
 use Rattle.session_laws.proofs.ClosingGot.{InChunks, LastTurn}
 use Rattle.session_laws.proofs.ClosingParts.{OpensFirst, le, older-source}
-use Rattle.session_laws.proofs.Deeds.{HoldsTick, TickHolds, holds-before}
+use Rattle.session_model.proofs.Deeds.{HoldsTick, TickHolds, holds-before}
 use Rattle.session_laws.proofs.Marks.{all-sent, its_bytes}
 use Rattle.session_laws.proofs.Senders.{SendHolds, send-to, turn-at}
 use Rattle.session_laws.proofs.Sources.{IsLaidOf, chunks-are}

@@ -15,7 +15,7 @@ use Rattle.session_model.specs.Keeping.{AreSteps, IsPlan}
 use Rattle.session_model.specs.Sets.{AreRowsOf}
 use Rattle.session_model.specs.Steps.{Plan, Step, Enable, Disable, Append, Tick, Pump, moment_of}
 use Rattle.session_laws.specs.Sessions.{ClosesWith, pasts_at}
-use Rattle.session_laws.proofs.Deeds.{TickKeeps, refreshed-keeps, tick-keeps}
+use Rattle.session_model.proofs.Deeds.{TickKeeps, refreshed-keeps, tick-keeps}
 use Rattle.session_laws.proofs.Living.{TurnsAre, turns-more}
 use Rattle.session_laws.proofs.Rowing.{WordLaws, took-sampled, turns-at}
 

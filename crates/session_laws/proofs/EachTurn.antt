@@ -35,7 +35,7 @@ use Rattle.writer_group.specs.Parts.{group_at, no_group}
 use Rattle.session_model.specs.Keeping.{AreSteps, IsPlan}
 use Rattle.ps_config.specs.Types.{HasKeyTypes, HasTypes}
 use Rattle.session_model.specs.Turns.{HoldsTurn, TurnsHold, deeds_before}
-use Rattle.session_laws.proofs.Deeds.{HoldsTick, TickKeeps, next-turned, refreshed-keeps, tick-keeps}
+use Rattle.session_model.proofs.Deeds.{HoldsTick, TickKeeps, next-turned, refreshed-keeps, tick-keeps}
 use Rattle.session_laws.proofs.Distinct.{at-contains}
 use Rattle.session_laws.proofs.Living.{writer-in}
 use Rattle.session_laws.proofs.Metas.{meta-other, grown-is}

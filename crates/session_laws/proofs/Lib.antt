@@ -5,7 +5,6 @@ pub mod Pieces
 pub mod Marks
 pub mod Near
 pub mod Holding
-pub mod Deeds
 pub mod Sending
 pub mod Metas
 pub mod Senders
@@ -20,7 +19,6 @@ pub mod Numbers
 pub mod Traces
 pub mod Tokens
 pub mod Counts
-pub mod Ticks
 mod Refusing
 mod Dividing
 mod Newest

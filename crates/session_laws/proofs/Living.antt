@@ -27,7 +27,7 @@ use Rattle.pubsub_model.specs.Answers.{turn_versions, NeverFall}
 use Rattle.session_laws.specs.Pasts.{AreTurns}
 use Rattle.session_laws.specs.Sessions.{HasSample, SamplesRise, pasts_at}
 use Rattle.session_model.specs.Turns.{TurnsHold}
-use Rattle.session_laws.proofs.Deeds.{HoldsTick, refreshed-keeps}
+use Rattle.session_model.proofs.Deeds.{HoldsTick, refreshed-keeps}
 use Rattle.session_laws.proofs.Senders.{RingLaw, SendHolds, TurnHolds, send-holds}
 use Rattle.session_laws.proofs.Metas.{meta-of, grown-is, meta-other}
 use Rattle.session_laws.proofs.Rowing.{WordLaws, took-sampled, turn-is}

@@ -5,7 +5,7 @@ use Rattle.std.specs.Option.{option_map_or}
 use Rattle.std.proofs.lemmas.Bool.Decides.{nat_tests}
 use Rattle.std.proofs.lemmas.List.{append-nil}
 use Rattle.message_guard.specs.Modes as guard_modes
-use Rattle.message_guard.specs.Senders.{SenderState, IsSender, HaveOtherNumbers, turned as turned_to}
+use Rattle.message_guard.specs.Senders.{SenderState, IsSender, HaveOtherNumbers, renewed, turned as turned_to}
 use Rattle.config_tables.specs.declared.words.Security.{Security}
 use Rattle.config_tables.specs.declared.words.Security.TheVariants as security
 use Rattle.ps_config.specs.declared.parts.Config.{Config}
@@ -17,7 +17,7 @@ use Rattle.writer_group.specs.declared.sampled.Sampled.{Sampled}
 use Rattle.ps_config.specs.Headers.{mode_of}
 use Rattle.writer_group.specs.Payloads.{payloads_of}
 use Rattle.writer_group.specs.Sealing.{Envelope, Payload, AreWritten, advanced_by, datagrams_from}
-use Rattle.writer_group.specs.Sharing.{SenderUse, Moved, Made, AreUses, CanMake, after_turn, datagrams_by}
+use Rattle.writer_group.specs.Sharing.{SenderUse, Moved, Renewed, Made, AreUses, CanMake, after_turn, datagrams_by}
 use Rattle.writer_group.specs.Turns.{envelope_of, frames_in, turn_datagrams}
 use Rattle.group_laws.specs.Matching.{MaySend}
 use Rattle.session_model.specs.Steps.{Plan, Step, Enable, Disable, Append, Tick, Pump, moment_of}
@@ -37,18 +37,21 @@ OnceLaw = (s : SenderState) (uses : List SenderUse) → IsSender s → AreUses s
 sender_by : SenderState → List SenderUse → SenderState
 sender_by s [] = s
 sender_by s (Moved now ∷ uses) = sender_by (turned_to s now) uses
+sender_by s (Renewed sets ∷ uses) = sender_by (renewed s sets) uses
 sender_by s (Made envelope payloads ∷ uses) = sender_by (after_turn s envelope payloads) uses
 
 sender-more : (s : SenderState) (uses more : List SenderUse) → sender_by s (uses ++ more) ≡ sender_by (sender_by s uses) more
 unfolding sender_by
 sender-more s [] more = refl
 sender-more s (Moved now ∷ uses) more = sender-more (turned_to s now) uses more
+sender-more s (Renewed sets ∷ uses) more = sender-more (renewed s sets) uses more
 sender-more s (Made envelope payloads ∷ uses) more = sender-more (after_turn s envelope payloads) uses more
 
 made-more : (s : SenderState) (uses more : List SenderUse) → datagrams_by s (uses ++ more) ≡ datagrams_by s uses ++ datagrams_by (sender_by s uses) more
 unfolding sender_by
 made-more s [] more = refl
 made-more s (Moved now ∷ uses) more = made-more (turned_to s now) uses more
+made-more s (Renewed sets ∷ uses) more = made-more (renewed s sets) uses more
 made-more s (Made envelope payloads ∷ uses) more =
     ap (λ (l : List (List ℕ)). datagrams_from envelope (Some s) 0 payloads ++ l) (made-more (after_turn s envelope payloads) uses more)
     ∙ sym (append_assoc (datagrams_from envelope (Some s) 0 payloads) (datagrams_by (after_turn s envelope payloads) uses) (datagrams_by (sender_by (after_turn s envelope payloads) uses) more))
@@ -57,6 +60,7 @@ uses-more : (s : SenderState) (uses more : List SenderUse) → AreUses s uses �
 unfolding sender_by
 uses-more s [] more are also = also
 uses-more s (Moved now ∷ uses) more are also = uses-more (turned_to s now) uses more are also
+uses-more s (Renewed sets ∷ uses) more are also = uses-more (renewed s sets) uses more are also
 uses-more s (Made envelope payloads ∷ uses) more are also = (are.0, uses-more (after_turn s envelope payloads) uses more are.1 also)
 
 -- ---- of a key group

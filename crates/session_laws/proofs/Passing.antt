@@ -32,7 +32,7 @@ use Rattle.session_model.specs.Deeds.{Deed, RefreshedBelow, RefreshedSet, CameTo
 use Rattle.session_model.specs.Keeping.{AreSteps, IsPlan}
 use Rattle.session_model.specs.Steps.{Plan, Step, Enable, Disable, Append, Tick, Pump, moment_of}
 use Rattle.session_model.specs.Turns.{TurnsHold, deeds_before}
-use Rattle.session_laws.proofs.Deeds.{HoldsTick}
+use Rattle.session_model.proofs.Deeds.{HoldsTick}
 use Rattle.session_laws.specs.Pasts.{WasMade}
 use Rattle.session_laws.proofs.Pieces.{TurnLaws, opened-at}
 use Rattle.session_laws.proofs.Rowing.{WordLaws, turn-is}

@@ -35,7 +35,7 @@ use Rattle.session_laws.proofs.Rowing.{WordLaws}
 use Rattle.session_laws.proofs.Senders.{RingLaw}
 use Rattle.session_laws.proofs.Sending.{came-as-made, all-restarts}
 use Rattle.session_laws.proofs.Counts.{ticks-few}
-use Rattle.session_laws.proofs.Ticks.{log-few}
+use Rattle.session_model.proofs.Ticks.{log-few}
 use Rattle.pubsub_model.proofs.LogVersions.{log-rises}
 
 abbrev pub play_of : Plan → ℕ → ℕ → ℕ → ℕ → List Step → Play

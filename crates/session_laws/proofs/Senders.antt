@@ -39,7 +39,7 @@ use Rattle.session_model.specs.Keeping.{IsPlan}
 use Rattle.ps_config.specs.Types.{HasTypes}
 use Rattle.session_model.specs.Turns.{HoldsTurn, TurnsHold, deeds_before}
 pub use Rattle.session_laws.specs.Below.{RingLaw}
-use Rattle.session_laws.proofs.Deeds.{TickHolds, HoldsTick, tick-holds, holds-before}
+use Rattle.session_model.proofs.Deeds.{TickHolds, HoldsTick, tick-holds, holds-before}
 use Rattle.session_laws.proofs.Distinct.{at-sound}
 
 pub record IsKeySender (ring : KeyGroupPart) (s : SenderState) : Type 0 where

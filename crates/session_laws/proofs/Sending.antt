@@ -25,7 +25,7 @@ use Rattle.session_model.specs.Events.{events, got_on, receives, readers_on, rea
 use Rattle.reader_group.specs.Signed.{IsSignedBy}
 use Rattle.session_laws.specs.Pasts.{WasMade, IsMade, CameAsMade}
 use Rattle.session_laws.specs.Sessions.{IsHonestFor, pasts_at}
-use Rattle.session_laws.proofs.Deeds.{TickKeeps, tick-keeps, refreshed-keeps}
+use Rattle.session_model.proofs.Deeds.{TickKeeps, tick-keeps, refreshed-keeps}
 
 -- ---- what deeds made
 

@@ -17,7 +17,7 @@ use Rattle.session_model.specs.Steps.{Plan, Step}
 use Rattle.session_model.specs.Deeds.{Deed, RefreshedBelow, CameTo, TookTurn, deeds, group_past, group_indexes, writer_indexes, refreshed_where, is_writer_below, is_rekeyed, rekeyed, has_turn, turn_of}
 use Rattle.writer_group.specs.Parts.{group_at}
 use Rattle.session_model.specs.Turns.{deeds_before}
-use Rattle.session_laws.proofs.Deeds.{next-turned, refreshed-keeps}
+use Rattle.session_model.proofs.Deeds.{next-turned, refreshed-keeps}
 use Rattle.session_laws.proofs.Living.{writer-in}
 
 -- the law of refreshed writers, as `writer_group` has it

@@ -17,7 +17,7 @@ use Rattle.reader_group.specs.Members.{MemberValue, seat_at}
 use Rattle.reader_group.specs.Settings.{setting_of}
 use Rattle.session_model.specs.Steps.{Plan, Step, Enable, Disable, Append, Tick, Pump}
 use Rattle.session_model.specs.Counts.{most_taken}
-use Rattle.session_model.specs.Deeds.{group_indexes, writer_indexes, log_at}
+use Rattle.session_model.specs.Deeds.{group_indexes, writer_indexes, logs_at}
 use Rattle.writer_group.specs.Parts.{group_at}
 use Rattle.session_model.specs.Sends.{journal, sent_by}
 use Rattle.session_model.specs.Events.{read_group_indexes, reader_indexes, reader_at}
@@ -94,9 +94,13 @@ writer_places config = flat_map (λ g. map (λ w. (g, w)) (writer_indexes (group
 abbrev pub reader_places : Config → List MemberPlace
 reader_places config = flat_map (λ r. map (λ i. (r, i)) (reader_indexes config r)) (read_group_indexes config)
 
-pub record IsWriterEnd (p : Plan) (steps : List Step) (place : MemberPlace) (end : WriterEnd) : Type 0 where
+-- with these logs of all writers
+pub record IsWriterEndWith (logs : ℕ → ℕ → List (ℕ × ℕ)) (p : Plan) (steps : List Step) (place : MemberPlace) (end : WriterEnd) : Type 0 where
   pub state : end.state ≡ state_at p steps (Writer place.0 place.1)
-  pub log : end.log ≡ log_at p place.0 place.1 steps
+  pub log : end.log ≡ logs place.0 place.1
+
+abbrev pub IsWriterEnd : Plan → List Step → MemberPlace → WriterEnd → Type 0
+IsWriterEnd p steps place end = IsWriterEndWith (logs_at p steps) p steps place end
 
 abbrev pub read_group_end : Plan → List Step → ℕ → ReadGroupEnd
 read_group_end p steps r =
@@ -118,11 +122,15 @@ pub record IsReaderEnd (p : Plan) (steps : List Step) (place : MemberPlace) (end
 
 -- ---- the whole
 
--- all that a closed session shows of these steps; its histories and its watches are those of the threads
-pub record IsClosedAfter (p : Plan) (steps : List Step) (closed : Closed) : Type 0 where
+-- all that a closed session with these logs shows of these steps; its histories and its watches are those of the threads
+pub record IsClosedWith (logs : ℕ → ℕ → List (ℕ × ℕ)) (p : Plan) (steps : List Step) (closed : Closed) : Type 0 where
   pub groups : closed.groups ≡ map (group_end p steps) (group_indexes p.config)
-  pub writers : AllZip (IsWriterEnd p steps) (writer_places p.config) closed.writers
+  pub writers : AllZip (IsWriterEndWith logs p steps) (writer_places p.config) closed.writers
   pub read_groups : closed.read_groups ≡ map (read_group_end p steps) (read_group_indexes p.config)
   pub readers : AllZip (IsReaderEnd p steps) (reader_places p.config) closed.readers
   pub link : closed.link ≡ link_end p steps
   pub told : TellsEnds p.config closed
+
+-- with its whole logs
+abbrev pub IsClosedAfter : Plan → List Step → Closed → Type 0
+IsClosedAfter p steps closed = IsClosedWith (logs_at p steps) p steps closed

@@ -1,5 +1,5 @@
 -- Session run, the publisher: its senders come to each tick's moment, its groups have their turns, its writers are refreshed.
-use Rattle.std.specs.Prelude.{ℕ, ◌+◌, List, [], ◌∷◌, length, map, fold, Bool, true, false, not, ◌&&◌, ◌||◌, ◌==◌, nat_lt, Option, None, option_map, unwrap_or, slice_get}
+use Rattle.std.specs.Prelude.{ℕ, ◌+◌, List, [], ◌∷◌, length, map, fold, Bool, true, false, not, ◌&&◌, ◌||◌, ◌==◌, nat_lt, Option, None, option_map, unwrap_or, slice_get, take}
 use Rattle.std.specs.List.{range_with_len}
 use Rattle.std.specs.Option.{option_map_or}
 use Rattle.dataset_meta.specs.Rows.{cons_if}
@@ -193,3 +193,11 @@ answered_at p g w steps =
 -- the place and version of each data frame, in order
 abbrev pub log_at : Plan → ℕ → ℕ → List Step → List (ℕ × ℕ)
 log_at p g w steps = log_of (model_settings (settings_of (writer_at (group_at p.config g) w))) (writer_deeds p g w steps)
+
+-- those of each writer
+abbrev pub logs_at : Plan → List Step → ℕ → ℕ → List (ℕ × ℕ)
+logs_at p steps g w = log_at p g w steps
+
+-- the first ones of each
+abbrev pub logs_cut : ℕ → Plan → List Step → ℕ → ℕ → List (ℕ × ℕ)
+logs_cut most p steps g w = take most (log_at p g w steps)

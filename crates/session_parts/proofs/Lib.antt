@@ -21,6 +21,7 @@ pub mod RefreshingSets
 pub mod Stopping
 pub mod Handing
 pub mod Entries
+pub mod Logging
 pub mod MadeTo
 pub mod Opened
 pub mod Giving

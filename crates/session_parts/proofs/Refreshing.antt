@@ -7,7 +7,7 @@ use Rattle.ps_config.specs.declared.parts.Config.{Config}
 use Rattle.ps_config.specs.declared.parts.GroupPart.{GroupPart}
 use Rattle.pubsub_states.specs.declared.component.Component.{Component}
 use Rattle.writer_group.specs.declared.group.Group.{Group}
-use Rattle.writer_group.specs.Standing.{IsGroup, IsMadeFor, MayGoOn, index_of, metas_for}
+use Rattle.writer_group.specs.Standing.{IsGroup, IsMadeFor, KeepsOnLogging, MayGoOn, index_of, metas_for}
 use Rattle.writer_group.specs.Turns.{GroupDeed, RefreshedWriter}
 use Rattle.session_model.specs.Deeds.{Deed, RefreshedBelow, is_writer_below, refreshed_where, writer_indexes}
 use Rattle.writer_group.specs.Parts.{group_at}
@@ -15,6 +15,7 @@ use Rattle.session_parts.specs.Holding.{AreGroups, IsGroupOf, MayAllGoOn}
 use Rattle.session_parts.specs.Standing.{HavePast}
 use Rattle.session_parts.proofs.Counting.{fold-more}
 use Rattle.session_parts.proofs.Each.{EachTo}
+use Rattle.session_parts.proofs.Logging.{logs-then}
 
 -- the writers of this list that pass the test are refreshed
 pub record Refreshes (part : GroupPart) (test : ℕ → Bool) (writers : List ℕ) (old new : Group) : Type 0 where
@@ -22,6 +23,7 @@ pub record Refreshes (part : GroupPart) (test : ℕ → Bool) (writers : List �
   pub made : (config : Config) → IsMadeFor config part old → IsMadeFor config part new
   pub stands : (metas : ℕ → MetaData) (past : List GroupDeed) → IsGroup metas part past old → IsGroup metas part (refreshed_where test past writers) new
   pub goes_on : (metas : ℕ → MetaData) (turns : ℕ) → MayGoOn metas part turns old → MayGoOn metas part turns new
+  pub logs : KeepsOnLogging old new
 
 -- one more
 pub refreshes-more : (part : GroupPart) (test : ℕ → Bool) (w : ℕ) (is_so : Bool) (old mid new : Group) → is_so ≡ test w
@@ -29,8 +31,9 @@ pub refreshes-more : (part : GroupPart) (test : ℕ → Bool) (w : ℕ) (is_so :
     → ((config : Config) (part : GroupPart) → IsMadeFor config part mid → IsMadeFor config part new)
     → ((metas : ℕ → MetaData) (part : GroupPart) (past : List GroupDeed) → IsGroup metas part past mid → IsGroup metas part (cons_if is_so (RefreshedWriter w) past) new)
     → ((metas : ℕ → MetaData) (part : GroupPart) (turns : ℕ) → MayGoOn metas part turns mid → MayGoOn metas part turns new)
+    → KeepsOnLogging mid new
     → Refreshes part test (range_with_len 0 w) old mid → Refreshes part test (range_with_len 0 (w + 1)) old new
-refreshes-more part test w is_so old mid new is index made stands goes_on so_far = record {
+refreshes-more part test w is_so old mid new is index made stands goes_on logs so_far = record {
   index = index ∙ so_far.index;
   made = λ config h. made config part (so_far.made config h);
   stands = λ metas past h.
@@ -39,6 +42,7 @@ refreshes-more part test w is_so old mid new is index made stands goes_on so_far
       ∙ sym (fold-more (λ past writer. cons_if (test writer) (RefreshedWriter writer) past) past w))
       (stands metas part (refreshed_where test past (range_with_len 0 w)) (so_far.stands metas past h));
   goes_on = λ metas turns h. goes_on metas part turns (so_far.goes_on metas turns h);
+  logs = logs-then old mid new logs so_far.logs;
 }
 
 -- what it is for the group with an index

@@ -9,7 +9,7 @@ use Rattle.ps_config.specs.declared.parts.Config.{Config}
 use Rattle.ps_config.specs.declared.parts.GroupPart.{GroupPart}
 use Rattle.writer_group.specs.declared.group.Group.{Group}
 use Rattle.writer_group.specs.Payloads.{writer_at}
-use Rattle.writer_group.specs.Standing.{AreSameBut, IsGroup, IsMadeFor, MayGoOn, index_of, metas_for, writer_count}
+use Rattle.writer_group.specs.Standing.{AreSameBut, IsGroup, IsMadeFor, KeepsOnLogging, MayGoOn, index_of, metas_for, writer_count}
 use Rattle.writer_group.specs.Turns.{GroupDeed, RefreshedWriter, settings_of, writer_past}
 use Rattle.dataset_writer.specs.Standing.{IsWriter, HoldsRowOf}
 use Rattle.writer_group.specs.Answering.{HasLived}
@@ -19,6 +19,7 @@ use Rattle.session_parts.specs.Holding.{AreGroups, AreSameButSet, IsGroupOf, May
 use Rattle.session_parts.specs.Standing.{HavePast}
 use Rattle.session_parts.proofs.Counting.{fold-more}
 use Rattle.session_parts.proofs.Each.{EachTo}
+use Rattle.session_parts.proofs.Logging.{logs-same, logs-then}
 
 -- these metas differ at most for the first n writers, and of them for those of the data set
 abbrev pub AreSameAside : GroupPart → ℕ → ℕ → (ℕ → MetaData) → (ℕ → MetaData) → Type 0
@@ -32,6 +33,7 @@ pub record RefreshesSet (part : GroupPart) (set n : ℕ) (old new : Group) : Typ
       → IsGroup metas part past old → IsGroup others part (refreshed_where (is_writer_of part set) past (range_with_len 0 n)) new
   pub goes_on : (metas others : ℕ → MetaData) (turns : ℕ) → AreSameAside part set n metas others
       → MayGoOn metas part turns old → MayGoOn others part turns new
+  pub logs : KeepsOnLogging old new
 
 -- a group stands with metas that are the same for its writers
 pub same-stands : (metas others : ℕ → MetaData) (part : GroupPart) (past : List GroupDeed) (group : Group)
@@ -103,8 +105,9 @@ pub set-more : (part : GroupPart) (set n : ℕ) (is_of : Bool) (old mid new : Gr
     → IsGroup metas part past mid → IsGroup others part (RefreshedWriter n ∷ past) new)
     → (is_of ≡ true → (metas others : ℕ → MetaData) (part : GroupPart) (turns : ℕ) → AreSameBut n (writer_count mid) metas others
     → MayGoOn metas part turns mid → MayGoOn others part turns new)
+    → KeepsOnLogging mid new
     → RefreshesSet part set n old mid → RefreshesSet part set (n + 1) old new
-set-more part set n true old mid new is count index made kept stands goes_on so_far = record {
+set-more part set n true old mid new is count index made kept stands goes_on logs so_far = record {
   index = index ∙ so_far.index;
   made = λ config h. made config part (so_far.made config h);
   stands = λ metas others past aside h.
@@ -114,8 +117,9 @@ set-more part set n true old mid new is count index made kept stands goes_on so_
   goes_on = λ metas others turns aside h.
       goes_on refl (own n metas others) others part turns (λ w low apart. sym (own-other n metas others w apart))
       (so_far.goes_on metas (own n metas others) turns (own-aside part set n metas others aside) h);
+  logs = logs-then old mid new logs so_far.logs;
 }
-set-more part set n false old mid new is count index made kept stands goes_on so_far = record {
+set-more part set n false old mid new is count index made kept stands goes_on logs so_far = record {
   index = index ∙ so_far.index;
   made = λ config h. made config part (so_far.made config h);
   stands = λ metas others past aside h.
@@ -129,6 +133,7 @@ set-more part set n false old mid new is count index made kept stands goes_on so
       subst (λ (g : Group). MayGoOn others part turns g) (sym (kept refl))
       (same-goes-on (own n metas others) others part turns mid (λ w low. same w (omega (arith, low, count)))
       (so_far.goes_on metas (own n metas others) turns (own-aside part set n metas others aside) h));
+  logs = logs-then old mid new logs so_far.logs;
 }
 
 pub set-none : (part : GroupPart) (set : ℕ) (group : Group) → vec_len group.writers ≡ length part.writer → RefreshesSet part set 0 group group
@@ -137,6 +142,7 @@ set-none part set group count = record {
   made = λ config h. h;
   stands = λ metas others past aside h. same-stands metas others part past group (λ w low. aside w low (λ below is. omega (arith, below))) h;
   goes_on = λ metas others turns aside h. same-goes-on metas others part turns group (λ w low. aside w (omega (arith, low, count)) (λ below is. omega (arith, below))) h;
+  logs = logs-same group;
 }
 
 -- data sets that are the same but for this one
@@ -155,6 +161,7 @@ pub record RefreshesSetOf (part : GroupPart) (set : ℕ) (old new : Group) : Typ
       → IsGroup (metas_for part others) part (refreshed_where (is_writer_of part set) past (writer_indexes part)) new
   pub goes_on : (metas others : List MetaData) (turns : ℕ) → AreSameButSet set metas others
       → MayGoOn (metas_for part metas) part turns old → MayGoOn (metas_for part others) part turns new
+  pub logs : KeepsOnLogging old new
 
 abbrev pub RefreshesSetAt : Config → ℕ → ℕ → Group → Group → Type 0
 RefreshesSetAt config set g old new = RefreshesSetOf (group_at config g) set old new

@@ -5,7 +5,7 @@ use Rattle.dataset_meta.specs.Metas.{MetaData}
 use Rattle.message_guard.specs.Senders.{SenderState, IsSender}
 use Rattle.ps_config.specs.declared.parts.Config.{Config}
 use Rattle.writer_group.specs.declared.group.Group.{Group}
-use Rattle.writer_group.specs.Standing.{IsMadeFor, IsReserved, MayGoOn, metas_for, index_of}
+use Rattle.writer_group.specs.Standing.{AreLogged, IsMadeFor, IsReserved, MayGoOn, metas_for, index_of}
 use Rattle.reader_group.specs.declared.group.ReaderGroup.{ReaderGroup}
 use Rattle.reader_group.specs.Groups.{IsMadeOf, index_of as read_index_of}
 use Rattle.session_model.specs.Counts.{longest_datagram}
@@ -30,6 +30,14 @@ pub record AreGroups (config : Config) (groups : List Group) : Type 0 where
 abbrev pub MayAllGoOn : Config → List MetaData → ℕ → List Group → Type 0
 MayAllGoOn config metas turns groups =
     (g : ℕ) → g < length config.group → HoldsAt (MayGoOn (metas_for (group_at config g) metas) (group_at config g) turns) groups g
+
+-- the log of each writer of each group keeps so many data frames
+abbrev pub AreAllLogged : ℕ → List Group → Type 0
+AreAllLogged most groups = All (AreLogged most) groups
+
+-- it keeps as many as before
+abbrev pub AreStillLogged : List Group → List Group → Type 0
+AreStillLogged old new = (most : ℕ) → AreAllLogged most old → AreAllLogged most new
 
 pub record AreSenders (config : Config) (senders : List SenderState) : Type 0 where
   pub count : length senders ≡ length config.keygroup

@@ -17,7 +17,7 @@ use Rattle.pubsub_states.specs.Components.{counts_of, IsAmong}
 use Rattle.pubsub_states.specs.Changes.{TreeValue, flags_in}
 use Rattle.pubsub_states.specs.States.{state_of, is_operational}
 use Rattle.writer_group.specs.declared.group.Group.{Group as GroupWords}
-use Rattle.writer_group.specs.Standing.{AreMetas, HasTicked, IsGood, IsGroup, IsMadeFor, IsReserved, MayGoOn, MayTick, datagrams_in, index_of, input_of, metas_for}
+use Rattle.writer_group.specs.Standing.{AreMetas, HasTicked, IsGood, IsGroup, IsMadeFor, IsReserved, KeepsOnLogging, MayGoOn, MayTick, datagrams_in, index_of, input_of, metas_for}
 use Rattle.writer_group.specs.declared.datagrams.Datagrams.{Datagrams}
 use Rattle.writer_group.specs.Sealing.{advanced_by}
 use Rattle.writer_group.specs.Turns.{GroupTurn, GroupDeed}
@@ -265,6 +265,7 @@ pub record TakesTurn (told : Told) (g : ℕ) (on : List Bool) (sender : Option S
       → HasTicked told.config.now (group_at told.config.now g) past (input_of told.moment told.closing told.metas.now told.rows.now on sender) new out
   pub goes_on : (turns : ℕ) → MayGoOn (metas_for (group_at told.config.now g) told.metas.now) (group_at told.config.now g) (turns + 1) old
       → MayGoOn (metas_for (group_at told.config.now g) told.metas.now) (group_at told.config.now g) turns new
+  pub logs : KeepsOnLogging old new
   pub made : IsMadeFor told.config.now (group_at told.config.now g) new
   pub index : index_of new ≡ index_of old
   pub count_is : count ≡ length (datagrams_in out)

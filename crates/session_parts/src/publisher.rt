@@ -6,12 +6,12 @@ ghost use Rattle.pubsub_states.specs.Components.{IsAmong, counts_of};
 ghost use Rattle.pubsub_states.specs.States.{state_of, is_operational};
 ghost use Rattle.pubsub_states.specs.declared.component.Component.TheVariants.{Group as GroupOf, Writer as WriterOf};
 ghost use Rattle.ps_config.specs.declared.parts.Config.{Config as ConfigValue};
-ghost use Rattle.writer_group.specs.Standing.{IsGood, IsMadeFor, IsReserved, MayGoOn, datagrams_in, index_of, writer_count, GoesOnRefreshed, IsRefreshed, IsStillMade};
+ghost use Rattle.writer_group.specs.Standing.{IsGood, IsMadeFor, IsReserved, MayGoOn, datagrams_in, index_of, writer_count, GoesOnRefreshed, IsRefreshed, IsStillMade, KeepsOnLogging};
 ghost use Rattle.writer_group.specs.Limits.{most_datagrams};
 ghost use Rattle.ps_config.specs.declared.parts.GroupPart.{GroupPart as PartValue};
 ghost use Rattle.session_model.specs.Deeds.{Deed, RefreshedBelow, is_spent, rekeyed, writers_on, has_turn};
 ghost use Rattle.writer_group.specs.Parts.{group_at};
-ghost use Rattle.session_parts.specs.Holding.{AreGroups, HoldPublisher};
+ghost use Rattle.session_parts.specs.Holding.{AreGroups, AreStillLogged, HoldPublisher};
 ghost use Rattle.session_parts.specs.Standing.{HavePast, HaveSent};
 ghost use Rattle.session_parts.specs.Refreshed.{AllGoOn, AllGoOnGrown, GoesOn, GoesOnGrown, HaveDone, HaveDoneIf, HaveRefreshedSet, IsRefreshedBelow, IsRefreshedIf, IsRefreshedOf, StaysMadeFor};
 ghost use Rattle.session_parts.specs.Ticking.{TickData, ClearsSends, IsBefore, HasNoted, MayPassAll, MayTurn, TakesTurn, KnowsSpent, TurnEach, MayPass, OthersStay, TellsFaults, is_spent_by, now_of, AllGoOnAfter, AreSent, AreWritersOn, GoesOnAfter, HasItsTurn, HasPart, HaveParts, IsAdvancedBy, IsSent, IsUnspent, is_changed_in, is_faulty, HasHalted, HaveHalted, IsUnsent, SendsHalt};
@@ -72,6 +72,7 @@ impl Publisher {
         ensures senders { (deeds : List Deed) → HaveSent config.now deeds self.old.senders.items
             → HaveSent config.now (rekeyed config.now moment deeds) self.new.senders.items }
         ensures goes_on { AllGoOn config.now self.old.groups.items self.new.groups.items }
+        ensures logs { AreStillLogged self.old.groups.items self.new.groups.items }
         ensures rest { self.new ≡ record self.old {
           groups = self.new.groups;
           senders = self.new.senders;
@@ -105,6 +106,7 @@ impl Publisher {
         ensures past { HaveDoneIf config.now is_new (RefreshedBelow (GroupOf group))
             self.old.groups.items self.new.groups.items }
         ensures goes_on { AllGoOn config.now self.old.groups.items self.new.groups.items }
+        ensures logs { AreStillLogged self.old.groups.items self.new.groups.items }
         ensures rest { self.new ≡ record self.old { groups = self.new.groups } }
     {
         if !is_new {
@@ -121,6 +123,7 @@ impl Publisher {
         ensures past { HaveDone config.now (RefreshedBelow component)
             self.old.groups.items self.new.groups.items }
         ensures goes_on { AllGoOn config.now self.old.groups.items self.new.groups.items }
+        ensures logs { AreStillLogged self.old.groups.items self.new.groups.items }
         ensures rest { self.new ≡ record self.old { groups = self.new.groups } }
     {
         for g in 0..self.groups.len() {
@@ -141,6 +144,7 @@ impl Publisher {
         ensures groups { AreGroups config.now self.new.groups.items }
         ensures past { HaveRefreshedSet config.now set self.old.groups.items self.new.groups.items }
         ensures goes_on { AllGoOnGrown config.now set self.old.groups.items self.new.groups.items }
+        ensures logs { AreStillLogged self.old.groups.items self.new.groups.items }
         ensures rest { self.new ≡ record self.old { groups = self.new.groups } }
     {
         for g in 0..self.groups.len() {
@@ -205,6 +209,7 @@ impl Publisher {
         ensures holds { HoldPublisher told.now.config.now self.new }
         ensures tree { tree.new.counts ≡ tree.old.counts }
         ensures goes_on { AllGoOnAfter told.now self.old self.new }
+        ensures logs { AreStillLogged self.old.groups.items self.new.groups.items }
         ensures passed { result ≡ Ticked.Done → HaveParts told.now self.old self.new
             tree.old tree.new (L.told link.old) (L.told link.new) }
         ensures halted { result ≡ Ticked.Memory → HaveHalted told.now self.old self.new tree.old
@@ -231,6 +236,7 @@ impl Publisher {
         ensures tree { tree.new.counts ≡ tree.old.counts }
         ensures spent { KnowsSpent told.now.config.now self.new.senders.items tree.new }
         ensures goes_on { GoesOnAfter told.now g self.old self.new }
+        ensures logs { AreStillLogged self.old.groups.items self.new.groups.items }
         ensures others { OthersStay g self.old.groups.items self.new.groups.items }
         ensures passes { result ≡ Ticked.Done → HasPart told.now g self.old self.new
             tree.old tree.new (L.told link.old) (L.told link.new) }
@@ -270,6 +276,7 @@ impl Publisher {
         ensures turned { HasItsTurn told.now g self.old self.new tree.now }
         ensures holds { HoldPublisher told.now.config.now self.new }
         ensures goes_on { GoesOnAfter told.now g self.old self.new }
+        ensures logs { AreStillLogged self.old.groups.items self.new.groups.items }
         ensures others { OthersStay g self.old.groups.items self.new.groups.items }
         ensures count { result ≡ length (datagrams_in self.new.out) }
         ensures few { result ≤ most_datagrams }
@@ -456,6 +463,7 @@ fn refresh_below(group: &mut Group, part: &GroupPart, g: u8, component: Componen
     ensures made { StaysMadeFor part.now group.old group.new }
     ensures stands { IsRefreshedBelow component g part.now group.old group.new }
     ensures goes_on { GoesOn part.now group.old group.new }
+    ensures logs { KeepsOnLogging group.old group.new }
 {
     for w in 0..part.writer.as_slice().len() {
         let writer = Component::Writer {
@@ -474,6 +482,7 @@ fn refresh_if(group: &mut Group, writer: u8, is_below: bool)
     ensures stands { IsRefreshedIf is_below writer group.old group.new }
     ensures goes_on { (metas : ℕ → MetaData) (part : PartValue) (turns : ℕ)
         → MayGoOn metas part turns group.old → MayGoOn metas part turns group.new }
+    ensures logs { KeepsOnLogging group.old group.new }
 {
     if !is_below {
         return;
@@ -489,6 +498,7 @@ fn refresh_set(group: &mut Group, part: &GroupPart, set: u8)
     ensures made { StaysMadeFor part.now group.old group.new }
     ensures stands { IsRefreshedOf set part.now group.old group.new }
     ensures goes_on { GoesOnGrown set part.now group.old group.new }
+    ensures logs { KeepsOnLogging group.old group.new }
 {
     for w in 0..part.writer.as_slice().len() {
         let is_of = part.writer.as_slice()[w].dataset == set;
@@ -504,6 +514,7 @@ fn refresh_grown(group: &mut Group, writer: u8, is_of: bool)
     ensures kept { is_of ≡ false → group.new ≡ group.old }
     ensures stands { is_of ≡ true → IsRefreshed writer group.old group.new }
     ensures goes_on { is_of ≡ true → GoesOnRefreshed writer group.old group.new }
+    ensures logs { KeepsOnLogging group.old group.new }
 {
     if is_of {
         group.refresh(writer);

@@ -26,13 +26,13 @@ use Rattle.script_runner.specs.Running.{sample_at}
 use Rattle.script_runner.specs.Runs.{IsRunOf}
 use Rattle.writer_group.specs.declared.sampled.Sampled.{Sampled}
 use Rattle.writer_group.specs.Turns.{no_sample}
-use Rattle.command_parts.specs.declared.status.Status.{Status}
-use Rattle.command_parts.specs.declared.status.Status.TheVariants.{Done, BadWords, ConfigRefused, NoSource, ScriptRefused, NotInLanes, Unread, Unwritten, OutOfMemory, Unopened, Long}
-use Rattle.command_parts.specs.Outside.{Outside, Wire}
-use Rattle.command_parts.specs.Statuses.{number_of}
-use Rattle.check_command.specs.Checks.{Checks}
-use Rattle.session_command.specs.Links.{IsBeforeLink as IsStatusBeforeLink}
-use Rattle.session_command.specs.Sessions.{IsReportOf, Performance, Refusal, Says, Text, takes_all}
+use Rattle.commands.specs.declared.status.Status.{Status}
+use Rattle.commands.specs.declared.status.Status.TheVariants.{Done, BadWords, ConfigRefused, NoSource, ScriptRefused, NotInLanes, Unread, Unwritten, OutOfMemory, Unopened, Long}
+use Rattle.commands.specs.Outside.{Outside, Wire}
+use Rattle.commands.specs.Statuses.{number_of}
+use Rattle.commands.specs.Checks.{Checks}
+use Rattle.commands.specs.Links.{IsBeforeLink as IsStatusBeforeLink}
+use Rattle.commands.specs.Sessions.{IsReportOf, Performance, Refusal, Says, Text, takes_all}
 use Rattle.load_command.specs.Loads.{Loads, Output}
 use Rattle.json_command.specs.Jsons.{IsJsonOf}
 use Rattle.keys_command.proofs.Told.{no_usage as keys_is_no_usage}
@@ -41,14 +41,14 @@ use Rattle.lanes_command.specs.Runs.{IsLanesOf}
 use Rattle.lanes_command.specs.Scripts.{refusal as lanes_refusal}
 use Rattle.uapubsub.specs.Ends.{Does, IsBeforeLink, World, output_in}
 use Rattle.uapubsub.specs.Words.{Shape, Check, Play, Run, Load, Json, Keys, Relay, Lanes}
-use Rattle.uapubsub.specs.Headline.{AreLegal, AreWritten, Rows, Threads, WritesHeadline, WritesPlay, WritesRun}
+use Rattle.uapubsub.specs.Headline.{Performance as Performed, PlayedIn, RanIn, Rows, Threads, WritesHeadline, WritesPlay, WritesRun}
 
 -- what a performed script has for the headline
-record HasHeadline (Makes : Config → Script → Threads → Rows → Type 0) (config : Config) (script : Script) (told : Option LinkState) (closed : Closed) : Type 0 where
+record HasHeadline (InSteps : Performed) (config : Config) (script : Script) (told : Option LinkState) (closed : Closed) : Type 0 where
   threads : Threads
   rows : Rows
-  made : Makes config script threads rows
   steps : List Step
+  performed : InSteps config script threads rows steps told closed
   lived : HasRun (plan_by config script) steps rows
   tells : TellsRun (plan_by config script) steps told
   closed_after : IsClosedAfter (plan_by config script) steps closed
@@ -148,12 +148,12 @@ does_is_no_usage (Lanes script config) status old new h two =
     session_is_no_usage IsLanesOf lanes_refusal true status script config old.outside new.outside new.lab h.says two
 
 -- with status 0 the report tells the headline, where what is performed has such rows
-headline_by : (Performs : Performance) (fates : Bool) (Makes : Config → Script → Threads → Rows → Type 0) → ((config : Config) (script : Script) (told : Option LinkState) (closed : Closed)
-    → Performs config script told closed → HasHeadline Makes config script told closed)
+headline_by : (Performs : Performance) (fates : Bool) (InSteps : Performed) → ((config : Config) (script : Script) (told : Option LinkState) (closed : Closed)
+    → Performs config script told closed → HasHeadline InSteps config script told closed)
     → (status : Status) (script_name : List ℕ) (config_name : Option (List ℕ)) (old new : Outside) (after : Wire)
     → Says (IsReportOf Performs) takes_all fates status script_name config_name old new after
-    → number_of status ≡ 0 → WritesHeadline fates Makes script_name config_name old new after
-headline_by Performs fates Makes has Done script_name config_name old new after h zero =
+    → number_of status ≡ 0 → WritesHeadline fates InSteps script_name config_name old new after
+headline_by Performs fates InSteps has Done script_name config_name old new after h zero =
     let headline = has h.1.config h.1.script after.told h.1.is_text.0 h.1.is_text.1 in
     record {
       config = h.1.config;
@@ -161,9 +161,9 @@ headline_by Performs fates Makes has Done script_name config_name old new after 
       accepts = h.1.accepts;
       threads = headline.threads;
       rows = headline.rows;
-      made = headline.made;
       steps = headline.steps;
       closed = h.1.is_text.0;
+      performed = headline.performed;
       lived = headline.lived;
       tells = headline.tells;
       closed_after = headline.closed_after;
@@ -172,24 +172,24 @@ headline_by Performs fates Makes has Done script_name config_name old new after 
       headline = headline.headline;
       written = h.2 ∙ ap (appended old.written) h.1.is_text.2;
     }
-headline_by Performs fates Makes has BadWords script_name config_name old new after h zero = absurd h
-headline_by Performs fates Makes has (ConfigRefused code path) script_name config_name old new after h zero = absurd (omega arith)
-headline_by Performs fates Makes has (NoSource set) script_name config_name old new after h zero = absurd (omega arith)
-headline_by Performs fates Makes has (ScriptRefused line fault) script_name config_name old new after h zero = absurd (omega arith)
-headline_by Performs fates Makes has (NotInLanes line) script_name config_name old new after h zero = absurd (omega arith)
-headline_by Performs fates Makes has (Unread unread) script_name config_name old new after h zero = absurd (omega arith)
-headline_by Performs fates Makes has Unwritten script_name config_name old new after h zero = absurd (omega arith)
-headline_by Performs fates Makes has OutOfMemory script_name config_name old new after h zero = absurd (omega arith)
-headline_by Performs fates Makes has Unopened script_name config_name old new after h zero = absurd (omega arith)
-headline_by Performs fates Makes has (Long which) script_name config_name old new after h zero = absurd (omega arith)
+headline_by Performs fates InSteps has BadWords script_name config_name old new after h zero = absurd h
+headline_by Performs fates InSteps has (ConfigRefused code path) script_name config_name old new after h zero = absurd (omega arith)
+headline_by Performs fates InSteps has (NoSource set) script_name config_name old new after h zero = absurd (omega arith)
+headline_by Performs fates InSteps has (ScriptRefused line fault) script_name config_name old new after h zero = absurd (omega arith)
+headline_by Performs fates InSteps has (NotInLanes line) script_name config_name old new after h zero = absurd (omega arith)
+headline_by Performs fates InSteps has (Unread unread) script_name config_name old new after h zero = absurd (omega arith)
+headline_by Performs fates InSteps has Unwritten script_name config_name old new after h zero = absurd (omega arith)
+headline_by Performs fates InSteps has OutOfMemory script_name config_name old new after h zero = absurd (omega arith)
+headline_by Performs fates InSteps has Unopened script_name config_name old new after h zero = absurd (omega arith)
+headline_by Performs fates InSteps has (Long which) script_name config_name old new after h zero = absurd (omega arith)
 
 pub played_headline : (status : Status) (script_name : List ℕ) (config_name : Option (List ℕ)) (old new : Outside) (after : Wire)
     → Says (IsReportOf IsPlayOf) takes_all true status script_name config_name old new after → number_of status ≡ 0 → WritesPlay script_name config_name old new after
-played_headline = headline_by IsPlayOf true AreWritten (λ config script told closed play. record {
+played_headline = headline_by IsPlayOf true PlayedIn (λ config script told closed play. record {
   threads = writers_in script;
   rows = row_written script;
-  made = record { threads_are = refl; rows_are = refl };
   steps = play.steps;
+  performed = record { play = play; steps_are = refl; threads_are = refl; rows_are = refl };
   lived = play.lived;
   tells = play.tells;
   closed_after = play.closed_after;
@@ -202,11 +202,11 @@ played_headline = headline_by IsPlayOf true AreWritten (λ config script told cl
 
 pub run_headline : (status : Status) (script_name : List ℕ) (config_name : Option (List ℕ)) (old new : Outside) (after : Wire)
     → Says (IsReportOf IsRunOf) takes_all false status script_name config_name old new after → number_of status ≡ 0 → WritesRun script_name config_name old new after
-run_headline = headline_by IsRunOf false AreLegal (λ config script told closed run. record {
+run_headline = headline_by IsRunOf false RanIn (λ config script told closed run. record {
   threads = λ set. authors (run.logs set);
   rows = row_made script run.logs;
-  made = record { logs = run.logs; legal = run.legal; threads_are = refl; rows_are = refl };
   steps = run.steps;
+  performed = record { run = run; steps_are = refl; threads_are = refl; rows_are = refl };
   lived = run.lived;
   tells = run.tells;
   closed_after = run.closed_after;

@@ -1,11 +1,11 @@
 -- How the program ends: what each command does, and what a status says by its number.
 use Rattle.std.specs.Prelude.{◌≡◌, ◌⊎◌, ℕ, List, Option, Bool, true, false}
-use Rattle.command_parts.specs.declared.status.Status.{Status}
-use Rattle.command_parts.specs.Outside.{Outside, Wire}
-use Rattle.command_parts.specs.Statuses.{number_of, text_of}
-use Rattle.command_parts.specs.Telling.{WritesText}
-use Rattle.check_command.specs.Checks.{CheckEnds}
-use Rattle.play_command.specs.Plays.{PlayEnds}
+use Rattle.commands.specs.declared.status.Status.{Status}
+use Rattle.commands.specs.Outside.{Outside, Wire}
+use Rattle.commands.specs.Statuses.{number_of, text_of}
+use Rattle.commands.specs.Telling.{WritesText}
+use Rattle.commands.specs.Checks.{CheckEnds}
+use Rattle.commands.specs.Plays.{PlayEnds}
 use Rattle.run_command.specs.Runs.{RunEnds}
 use Rattle.load_command.specs.Loads.{LoadEnds, Output}
 use Rattle.json_command.specs.Jsons.{JsonEnds}

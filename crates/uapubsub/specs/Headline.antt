@@ -1,6 +1,7 @@
 -- THE HEADLINE, of what a command wrote.
 use Rattle.std.specs.Prelude.{◌≡◌, ℕ, ◌<◌, Bool, true, false, List, length, map, Option}
 use Rattle.std.specs.List.{range_with_len}
+use Rattle.ua_base.specs.Journal.{LinkState}
 use Rattle.ua_base.specs.Output.{appended}
 use Rattle.dataset_meta.specs.DataValues.{DataValue}
 use Rattle.ps_config.specs.declared.parts.Config.{Config}
@@ -13,11 +14,11 @@ use Rattle.session_model.specs.Sends.{TellsRun}
 use Rattle.session_model.specs.Steps.{Step}
 use Rattle.session_laws.specs.Sessions.{ClosesWith}
 use Rattle.session_laws.specs.Telling.{HasRun, TellsHeadline}
-use Rattle.script_player.specs.Plays.{plan_by, row_written, writers_in}
-use Rattle.script_runner.specs.Legal.{IsLegalLog, row_made}
-use Rattle.script_runner.specs.Running.{Logs}
-use Rattle.command_parts.specs.Outside.{Outside, Wire}
-use Rattle.session_command.specs.Sessions.{Accepts}
+use Rattle.script_player.specs.Plays.{IsPlayOf, plan_by, row_written, writers_in}
+use Rattle.script_runner.specs.Legal.{row_made}
+use Rattle.script_runner.specs.Runs.{IsRunOf}
+use Rattle.commands.specs.Outside.{Outside, Wire}
+use Rattle.commands.specs.Sessions.{Accepts}
 
 -- the threads whose writes made each data set's single history, in order
 abbrev pub Threads : Type 0
@@ -27,19 +28,24 @@ Threads = ℕ → List ℕ
 abbrev pub Rows : Type 0
 Rows = ℕ → ℕ → List DataValue
 
--- What was written is the report of a closed session of the accepted configuration and script, whose steps the link tells. Each data message of a writer
--- stands for one whole version of its data set's single history, that of the script's writes, and never for an older one than the message before; and whatever
--- datagrams were lost, repeated or reordered, each reader that the report tells holds exactly the version that its unbroken run of messages names, or has said
--- why it waits. The report tells the threads whose writes made each history, and the closing tick sampled each history's last version. `fates`: whether the script may give datagrams fates; `Makes`: what the histories are
-pub record WritesHeadline (fates : Bool) (Makes : Config → Script → Threads → Rows → Type 0) (script_name : List ℕ) (config_name : Option (List ℕ)) (old new : Outside) (after : Wire) : Type 0 where
+-- how a script was performed: its histories, the steps of its session, what the link tells, and the closed session
+abbrev pub Performance : Type 1
+Performance = Config → Script → Threads → Rows → List Step → Option LinkState → Closed → Type 0
+
+-- What was written is the report of a closed session of the accepted configuration and script, which was so performed that the link tells its steps. Each data
+-- message of a writer stands for one whole version of its data set's single history, that of the script's writes, and never for an older one than the message
+-- before; and whatever datagrams were lost, repeated or reordered, each reader that the report tells holds exactly the version that its unbroken run of messages
+-- names, or has said why it waits. The report tells the threads whose writes made each history, and the closing tick sampled each history's last version.
+-- fates: whether the script may give datagrams fates; Performed: how it was performed
+pub record WritesHeadline (fates : Bool) (Performed : Performance) (script_name : List ℕ) (config_name : Option (List ℕ)) (old new : Outside) (after : Wire) : Type 0 where
   pub config : Config
   pub script : Script
   pub accepts : Accepts fates old.file script_name config_name config script
   pub threads : Threads
   pub rows : Rows
-  pub made : Makes config script threads rows
   pub steps : List Step
   pub closed : Closed
+  pub performed : Performed config script threads rows steps after.told closed
   pub lived : HasRun (plan_by config script) steps rows
   pub tells : TellsRun (plan_by config script) steps after.told
   pub closed_after : IsClosedAfter (plan_by config script) steps closed
@@ -48,20 +54,22 @@ pub record WritesHeadline (fates : Bool) (Makes : Config → Script → Threads 
   pub headline : TellsHeadline (plan_by config script) steps rows closed
   pub written : new.written ≡ appended old.written (report_text config closed)
 
--- the histories are those of the writes in the order of the lines
-pub record AreWritten (config : Config) (script : Script) (threads : Threads) (rows : Rows) : Type 0 where
+-- the script was played in these steps: the histories are those of its writes in the order of the lines
+pub record PlayedIn (config : Config) (script : Script) (threads : Threads) (rows : Rows) (steps : List Step) (told : Option LinkState) (closed : Closed) : Type 0 where
+  pub play : IsPlayOf config script told closed
+  pub steps_are : play.steps ≡ steps
   pub threads_are : threads ≡ writers_in script
   pub rows_are : rows ≡ row_written script
 
--- the histories are legal: each thread has all of its writes there, in order
-pub record AreLegal (config : Config) (script : Script) (threads : Threads) (rows : Rows) : Type 0 where
-  pub logs : Logs
-  pub legal : (set : ℕ) → set < length config.dataset → IsLegalLog script set (logs set)
-  pub threads_are : threads ≡ (λ set. authors (logs set))
-  pub rows_are : rows ≡ row_made script logs
+-- the script was run in these steps: the histories are legal, each thread has all of its writes there, in order
+pub record RanIn (config : Config) (script : Script) (threads : Threads) (rows : Rows) (steps : List Step) (told : Option LinkState) (closed : Closed) : Type 0 where
+  pub run : IsRunOf config script told closed
+  pub steps_are : run.steps ≡ steps
+  pub threads_are : threads ≡ (λ set. authors (run.logs set))
+  pub rows_are : rows ≡ row_made script run.logs
 
 abbrev pub WritesPlay : List ℕ → Option (List ℕ) → Outside → Outside → Wire → Type 0
-WritesPlay script_name config_name old new after = WritesHeadline true AreWritten script_name config_name old new after
+WritesPlay script_name config_name old new after = WritesHeadline true PlayedIn script_name config_name old new after
 
 abbrev pub WritesRun : List ℕ → Option (List ℕ) → Outside → Outside → Wire → Type 0
-WritesRun script_name config_name old new after = WritesHeadline false AreLegal script_name config_name old new after
+WritesRun script_name config_name old new after = WritesHeadline false RanIn script_name config_name old new after

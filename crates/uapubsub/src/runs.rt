@@ -1,6 +1,6 @@
 //! Runs of the program over an outside in memory.
 use crate::top::top;
-use command_parts::Word;
+use commands::Word;
 use mem_edge::{MemoryFolder, MemoryLink, MemorySink, Name};
 use std::alloc::{AllocError, Global};
 use std::sync::Wait;

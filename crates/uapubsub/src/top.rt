@@ -1,21 +1,19 @@
 //! The whole program over an outside that is handed in.
 ghost use Rattle.std.specs.Prelude.{◌≡◌, ◌≢◌, ◌↔◌, ◌≤◌, ℕ, List, Option, Some, None, true, false};
-ghost use Rattle.command_parts.specs.Outside.{outside_of, wire_of};
-ghost use Rattle.command_parts.specs.Statuses.{IsDone, IsUnwritten, number_of, text_of};
-ghost use Rattle.command_parts.specs.Telling.{WritesText};
-ghost use Rattle.session_command.specs.Links.{IsBeforeLink as IsStatusBeforeLink};
+ghost use Rattle.commands.specs.Outside.{outside_of, wire_of};
+ghost use Rattle.commands.specs.Statuses.{IsDone, IsUnwritten, number_of, text_of};
+ghost use Rattle.commands.specs.Telling.{WritesText};
+ghost use Rattle.commands.specs.Links.{IsBeforeLink as IsStatusBeforeLink};
 ghost use Rattle.uapubsub.specs.Words.{IsBounded, Shape, Play, Run, shape_by, shape_of};
 ghost use Rattle.uapubsub.specs.Ends.{Does, EndsAs, IsBeforeLink, uses_folder, uses_lab, uses_wire, world_of};
 ghost use Rattle.uapubsub.specs.Headline.{WritesPlay, WritesRun};
 
 use crate::words::{Command, command_in};
-use check_command::check;
-use command_parts::{Status, Word, tell};
+use commands::{Status, Word, check, play, tell};
 use json_command::json;
 use keys_command::keys;
 use lanes_command::lanes;
 use load_command::load;
-use play_command::play;
 use relay_command::relay;
 use run_command::run;
 use std::alloc::Global;

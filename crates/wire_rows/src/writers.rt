@@ -56,7 +56,7 @@ impl WriterRows {
             return Err(LineFault::Condition);
         }
         let case = self.next_case()?;
-        let Ok(writer) = Writer::new(alloc, settings, TURNS) else {
+        let Ok(writer) = Writer::new(alloc, settings, u64::from(TURNS), TURNS) else {
             return Err(LineFault::Memory);
         };
         self.served = Some(Served { case, writer });

@@ -43,3 +43,5 @@ pub mod RisingFrames
 pub mod FewDatagrams
 pub mod SomeBytes
 pub mod Parts
+mod ReadyTurns
+mod Moments

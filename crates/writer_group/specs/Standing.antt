@@ -1,11 +1,11 @@
 -- Where a group stands after what it lived through, and the conditions of its turns.
-use Rattle.std.specs.Prelude.{◌≡◌, ◌≢◌, ℕ, ◌+◌, ◌<◌, ◌≤◌, Bool, true, false, List, [], ◌∷◌, length, map, slice_range, All, Option, option_map, is_some, IfSome, vec_len, vec_capacity}
+use Rattle.std.specs.Prelude.{◌≡◌, ◌≢◌, ℕ, ◌+◌, ◌%◌, ◌<◌, ◌≤◌, Bool, true, false, List, [], ◌∷◌, length, map, slice_range, All, Option, option_map, is_some, IfSome, vec_len, vec_capacity, ⊤}
 use Rattle.std.specs.List.{HoldsAt, AllZip}
 use Rattle.seq_number.specs.Numbers.{number_of_place}
 use Rattle.dataset_meta.specs.Metas.{MetaData}
 use Rattle.row_words.specs.Belonging.{Belongs}
 use Rattle.dataset_writer.specs.declared.writer.Writer.{Writer}
-use Rattle.dataset_writer.specs.Standing.{IsWriter, HoldsRowOf}
+use Rattle.dataset_writer.specs.Standing.{IsWriter, HoldsRowOf, KeepsAll, logged_by}
 use Rattle.message_guard.specs.Senders.{SenderState, IsSender, numbers_left}
 use Rattle.ps_config.specs.declared.parts.Config.{Config}
 use Rattle.ps_config.specs.declared.parts.GroupPart.{GroupPart}
@@ -17,7 +17,7 @@ use Rattle.writer_group.specs.declared.datagrams.Datagrams.{Datagrams}
 use Rattle.writer_group.specs.declared.group.Group.{Group}
 use Rattle.writer_group.specs.declared.posting.Range.{Range}
 use Rattle.writer_group.specs.declared.sampled.Sampled.{Sampled}
-use Rattle.writer_group.specs.Answering.{HasLived}
+use Rattle.writer_group.specs.Answering.{HasLived, LogsStay}
 use Rattle.writer_group.specs.Payloads.{meta_at, writer_at, fixed_header, payloads_of, IsFrameIf}
 use Rattle.writer_group.specs.Sealing.{AreWritten, advanced_by}
 use Rattle.writer_group.specs.Setup.{AreSlotsOf, rooms_of}
@@ -123,6 +123,14 @@ pub record MayTick (config : Config) (metas : List MetaData) (rows : List Sample
   pub goes_on : MayGoOn (metas_for part metas) part 1 group
   pub sender_is : IsSenderFor part sender
 
+-- what of the conditions can be tested: there are as many rows as data sets and as many truth values as writers, each writer has a turn left, and the sender is
+-- there exactly where the group is secured, and isn't spent
+pub record IsInOrder (config : Config) (part : GroupPart) (rows : List Sampled) (on : List Bool) (sender : Option SenderState) (group : Group) : Type 0 where
+  pub rows_are : length rows ≡ length config.dataset
+  pub on_are : length on ≡ vec_len group.writers
+  pub left : All (λ writer. 1 ≤ writer.left) group.writers.items
+  pub sender_is : IsSenderFor part sender
+
 -- a turn behind these deeds: the datagrams, that none is longer than the group's largest, that their headers can be written, that what each writer answers is a
 -- frame of its data set, and where it leaves the group
 pub record HasTicked (config : Config) (part : GroupPart) (past : List GroupDeed) (input : TurnInput) (after : Group) (out : Datagrams) : Type 0 where
@@ -152,6 +160,23 @@ IsWriterIn group index writer =
     (metas : ℕ → MetaData) (part : GroupPart) (past : List GroupDeed) → index < length part.writer → IsGroup metas part past group
     → IsWriter (metas index) (settings_of (writer_at part index)) (writer_past index past) writer
 
+-- the log of each of its writers keeps so many data frames
+abbrev pub AreLogged : ℕ → Group → Type 0
+AreLogged most group = All (λ writer. logged_by writer ≡ most) group.writers.items
+
+-- it keeps all, of the turns that are left too
+abbrev pub KeepsLogs : Group → Type 0
+KeepsLogs group = All KeepsAll group.writers.items
+
+-- where the logs of the old group did either, those of the new one do
+abbrev pub KeepsOnLogging : Group → Group → Type 0
+KeepsOnLogging old new = LogsStay old.writers.items new.writers.items
+
+-- the same of one of its writers
+pub record IsLoggedIn (group : Group) (writer : Writer) : Type 0 where
+  pub logged : (most : ℕ) → AreLogged most group → logged_by writer ≡ most
+  pub all : KeepsLogs group → KeepsAll writer
+
 -- whichever group of whichever configuration it was made for, it still is
 abbrev pub IsStillMade : Group → Group → Type 0
 IsStillMade old new = (config : Config) (part : GroupPart) → IsMadeFor config part old → IsMadeFor config part new
@@ -174,9 +199,40 @@ TellsDue group now due =
     (config : Config) (part : GroupPart) (metas : ℕ → MetaData) (past : List GroupDeed) → IsMadeFor config part group
     → IsGroup metas part past group → due ≡ is_due part past now
 
+-- the moment is the greatest multiple of the interval that has passed
+pub record IsMomentOf (interval now moment : ℕ) : Type 0 where
+  pub multiple : moment % interval ≡ 0
+  pub passed : moment ≤ now
+  pub last : now < moment + interval
+
+-- it is that of the group's publishing interval
+abbrev pub TellsMoment : Group → ℕ → ℕ → Type 0
+TellsMoment group now moment = (config : Config) (part : GroupPart) → IsMadeFor config part group → 1 ≤ part.interval → IsMomentOf part.interval now moment
+
+-- where the moment of the last turn is a multiple of the publishing interval, the group is due at the moment of each time that is an interval later, or more
+abbrev pub IsDueInTime : GroupPart → List GroupDeed → Type 0
+IsDueInTime part past =
+    (now moment : ℕ) → IsMomentOf part.interval now moment → last_moment past % part.interval ≡ 0 → last_moment past + part.interval ≤ now
+    → is_due part past moment ≡ true
+
 -- it may have a turn
 abbrev pub MayTickAt : Config → List MetaData → List Sampled → List Bool → Option SenderState → Group → Type 0
 MayTickAt config metas rows on sender group = HoldsAt (MayTick config metas rows on sender group) config.group (index_of group)
+
+-- it was made for its group of the configuration, and goes on with the metas of the configuration's data sets: so it may have a turn as soon as what the turn
+-- is given is in order and a turn is left
+pub record KeepsTo (config : Config) (group : Group) : Type 0 where
+  pub index : index_of group < length config.group
+  pub made : IsMadeAt config (index_of group) group
+  pub goes_on : HoldsAt (λ part. MayGoOn (metas_for part config.dataset) part 0 group) config.group (index_of group)
+
+-- of the data sets from this place on, one row each, which belongs to its data set's meta where that is there
+abbrev pub AreRowsFrom : ℕ → List MetaData → List Sampled → Type 0
+AreRowsFrom set metas [] = ⊤
+AreRowsFrom set metas (sampled ∷ rows) = HoldsAt (λ meta. Belongs meta sampled.row.words) metas set × AreRowsFrom (set + 1) metas rows
+
+abbrev pub AreRowsOf : List MetaData → List Sampled → Type 0
+AreRowsOf metas rows = AreRowsFrom 0 metas rows
 
 -- it had a turn, behind whichever deeds left it as it was
 abbrev pub HasTickedAt : Config → TurnInput → Group → Group → Datagrams → Type 0

@@ -1,11 +1,12 @@
 //! Groups of writers.
-ghost use Rattle.std.specs.Prelude.{◌≡◌, ◌<◌, ◌≤◌, List, IfOk, IfSome, length, slice_index_or};
+ghost use Rattle.std.specs.Prelude.{◌≡◌, ◌↔◌, ◌<◌, ◌≤◌, ◌^◌, All, List, IfOk, IfSome, IsTrue, length, slice_index_or};
+ghost use Rattle.std.specs.Option.{ForSome, option_copied};
 ghost use Rattle.message_guard.specs.Senders.{IsSender};
 ghost use Rattle.writer_group.specs.Limits.{most_datagrams};
 ghost use Rattle.writer_group.specs.Lending.{lent_in, left_in};
 ghost use Rattle.writer_group.specs.Answering.{HaveAnswered, MayAnswer, MayGo};
 ghost use Rattle.writer_group.specs.Making.{AreSpelled, passed, spelled_in};
-ghost use Rattle.writer_group.specs.Standing.{datagrams_in, index_of, writer_count, GoesOnAt, GoesOnRefreshed, HasTickedAt, IsFreshAt, IsGood, IsMadeAt, IsRefreshed, IsReserved, IsSenderAfter, IsStillMade, IsWriterIn, MayTickAt, MayTurnAt, TellsDue, input_of};
+ghost use Rattle.writer_group.specs.Standing.{datagrams_in, index_of, writer_count, AreLogged, AreRowsOf, GoesOnAt, GoesOnRefreshed, IsLoggedIn, KeepsLogs, KeepsOnLogging, KeepsTo, HasTickedAt, IsFreshAt, IsGood, IsInOrder, IsMadeAt, IsRefreshed, IsReserved, IsSenderAfter, IsSenderFor, IsStillMade, IsWriterIn, MayTickAt, MayTurnAt, TellsDue, TellsMoment, input_of};
 ghost use Rattle.writer_group.specs.Turns.{GroupDeed, told_of};
 
 use crate::answering::answer_all;
@@ -18,7 +19,7 @@ use dataset_meta::Meta;
 use dataset_writer::Writer;
 use fixed_layout::Slots;
 use message_guard::Sender;
-use ps_config::{Config, GroupPart};
+use ps_config::{Config, GroupPart, Security};
 use std::alloc::Global;
 use ua_base::NoMemory;
 
@@ -45,9 +46,35 @@ impl Group {
         ensures made { IfOk result (IsMadeAt config.now index) }
         ensures stands { IfOk result (IsFreshAt config.now index) }
         ensures goes_on { IfOk result (MayTurnAt config.now index turns) }
+        ensures logged { IfOk result (AreLogged turns) }
+        ensures keeps { IfOk result KeepsLogs }
+        ensures keeps_to { IfOk result (KeepsTo config.now) }
+    {
+        Group::lasting(alloc, config, index, u64::from(turns), turns)
+    }
+
+    /// The same group, for as many turns as a device has in its life: the log of each of its writers keeps the first `logged` data
+    /// frames, and no turn takes memory.
+    pub fn lasting(
+        alloc: Global,
+        config: &Config,
+        index: u8,
+        turns: u64,
+        logged: u32,
+    ) -> Result<Group, NoMemory>
+        requires good { IsGood config.now }
+        requires index { index < length config.now.group }
+        requires turns { turns ≤ 2 ^ 62 }
+        ensures index { IfOk result (λ group. index_of group ≡ index) }
+        ensures made { IfOk result (IsMadeAt config.now index) }
+        ensures stands { IfOk result (IsFreshAt config.now index) }
+        ensures goes_on { IfOk result (MayTurnAt config.now index turns) }
+        ensures logged { IfOk result (AreLogged logged) }
+        ensures keeps { turns ≤ logged → IfOk result KeepsLogs }
+        ensures keeps_to { IfOk result (KeepsTo config.now) }
     {
         let group = part_of(config, index);
-        let writers = writers_of(alloc, group, turns)?;
+        let writers = writers_of(alloc, group, turns, logged)?;
         Ok(Group {
             index,
             interval: group.interval,
@@ -62,7 +89,8 @@ impl Group {
     /// The writer with this index in the group.
     pub fn writer(&self, index: u8) -> &Writer
         requires { index < writer_count self.now }
-        ensures { IsWriterIn self.now index result.now }
+        ensures stands { IsWriterIn self.now index result.now }
+        ensures logs { IsLoggedIn self.now result.now }
     {
         &self.writers[usize::from(index)]
     }
@@ -74,6 +102,8 @@ impl Group {
         ensures made { IsStillMade self.old self.new }
         ensures stands { IsRefreshed index self.old self.new }
         ensures goes_on { GoesOnRefreshed index self.old self.new }
+        ensures logs { KeepsOnLogging self.old self.new }
+        ensures keeps_to { (config : Config) → KeepsTo config self.old → KeepsTo config self.new }
     {
         self.writers[usize::from(index)].refresh();
     }
@@ -83,6 +113,36 @@ impl Group {
         ensures { TellsDue self.now now result }
     {
         u64::from(self.interval) <= now.saturating_sub(self.turned_at)
+    }
+
+    /// The moment for a turn that comes at `now`: the greatest multiple of the publishing interval that has passed, in milliseconds.
+    /// `due` counts from the moment of the last turn. So a turn that comes late gives `tick` this moment, and the next one is due at
+    /// the next multiple, however late this one came.
+    pub fn moment_of(&self, now: u64) -> u64
+        ensures moment { TellsMoment self.now now result }
+        ensures passed { result ≤ now }
+    {
+        let interval = u64::from(self.interval).max(1);
+        now - now % interval
+    }
+
+    /// Whether the group may have a turn of the configuration's data sets with these rows: one is there for each, and a truth value
+    /// for each writer, no writer has had all its turns, and the sender is there exactly where the group is secured, and isn't spent.
+    pub fn may_tick(
+        &self,
+        config: &Config,
+        rows: &[Sampled],
+        on: &[bool],
+        sender: Option<&Sender>,
+    ) -> bool
+        requires good { IsGood config.now }
+        requires keeps_to { KeepsTo config.now self.now }
+        requires rows { AreRowsOf config.now.dataset rows.now }
+        requires sender { ForSome sender (λ s. IsSender s.now) }
+        ensures { IsTrue result ↔ MayTickAt config.now config.now.dataset rows.now on.now
+            (option_copied sender.entry) self.now }
+    {
+        self.is_in_order(config, part_of(config, self.index), rows, on, sender)
     }
 
     /// A turn at the moment `now` (OPC 10000-14 6.2.6): the writers that are `on` answer with the rows sampled for their data sets,
@@ -109,6 +169,7 @@ impl Group {
             (input_of now closing metas.now rows.now on.now (lent_in sender.entry))
             self.old self.new out.new }
         ensures goes_on { GoesOnAt config.now metas.now self.old self.new }
+        ensures logs { KeepsOnLogging self.old self.new }
         ensures made { IsMadeAt config.now (index_of self.old) self.new }
         ensures index { index_of self.new ≡ index_of self.old }
         ensures count { result ≡ length (datagrams_in out.new) }
@@ -117,6 +178,7 @@ impl Group {
         ensures sender { IsSenderAfter config.now (index_of self.old) result (lent_in sender.entry)
             (left_in sender.exit) }
         ensures reserved { IsReserved out.new }
+        ensures keeps_to { metas.now ≡ config.now.dataset → KeepsTo config.now self.new }
     {
         let group = part_of(config, self.index);
         a_class_id_is_whole(group);
@@ -132,6 +194,25 @@ impl Group {
                 self.finish(now, closing, out)
             }
         }
+    }
+
+    /// Whether what is tested of a turn holds.
+    fn is_in_order(
+        &self,
+        config: &Config,
+        group: &GroupPart,
+        rows: &[Sampled],
+        on: &[bool],
+        sender: Option<&Sender>,
+    ) -> bool
+        requires { ForSome sender (λ s. IsSender s.now) }
+        ensures { IsTrue result ↔ IsInOrder config.now group.now rows.now on.now
+            (option_copied sender.entry) self.now }
+    {
+        rows.len() == config.dataset.as_slice().len()
+            && on.len() == self.writers.len()
+            && has_turns(&self.writers)
+            && is_sender_for(group, sender)
     }
 
     /// Forgets the last turn, has those of the writers that are on, and spells their frames.
@@ -195,4 +276,23 @@ fn part_of(config: &Config, index: u8) -> &GroupPart
     ensures { result.now ≡ slice_index_or config.now.group index result.now }
 {
     &config.group.as_slice()[usize::from(index)]
+}
+
+/// Whether each writer has a turn left.
+fn has_turns(writers: &[Writer]) -> bool
+    ensures { IsTrue result ↔ All (λ writer. 1 ≤ writer.left) writers.now }
+{
+    writers.iter().all(|writer| writer.left() > 0)
+}
+
+/// Whether the sender is there exactly where the group is secured, and isn't spent.
+fn is_sender_for(group: &GroupPart, sender: Option<&Sender>) -> bool
+    requires { ForSome sender (λ s. IsSender s.now) }
+    ensures { IsTrue result ↔ IsSenderFor group.now (option_copied sender.entry) }
+{
+    let secured = group.security != Security::None;
+    match sender {
+        None => !secured,
+        Some(sender) => secured && !sender.spent(),
+    }
 }

@@ -5,11 +5,12 @@ ghost use Rattle.message_guard.specs.Senders.{SenderState};
 ghost use Rattle.ps_config.specs.declared.parts.Config.{Config};
 ghost use Rattle.ps_config.specs.declared.parts.GroupPart.{GroupPart};
 ghost use Rattle.writer_group.specs.Sharing.{SenderUse, HaveNumbersOfTheirOwn};
+ghost use Rattle.writer_group.specs.Standing.{IsDueInTime};
 ghost use Rattle.writer_group.specs.Turning.{AnswersFrame, HasWrittenHeaders, KeepsMaxSize, MakesBytes, MakesFewDatagrams, MakesOneOfEach, MakesSome, OfEachTurn, SendsKeyFrames};
 ghost use Rattle.writer_group.specs.Turns.{GroupDeed, is_refreshed, writer_past};
 
-/// No two datagrams of groups that share a sender are read with the same token and number, whatever the moments that it turns to,
-/// and whichever group makes the datagrams of a turn when.
+/// No two datagrams of groups that share a sender are read with the same token and number, whatever the moments that it turns to and
+/// the rings that renew it, and whichever group makes the datagrams of a turn when.
 pub fn no_token_and_number_come_twice_in_groups()
     ensures { (s : SenderState) (uses : List SenderUse) → HaveNumbersOfTheirOwn s uses }
 {}
@@ -53,4 +54,9 @@ pub fn a_turn_makes_at_most_1024_datagrams()
 /// Each datagram of a turn has at least one byte, its header's first, whether the group is secured or not.
 pub fn a_datagram_is_not_empty()
     ensures { OfEachTurn MakesBytes }
+{}
+
+/// Turns at the moments that `Group::moment_of` tells leave the next one due in time, however late each of them comes.
+pub fn a_late_turn_leaves_the_next_one_due()
+    ensures { (part : GroupPart) (past : List GroupDeed) → IsDueInTime part past }
 {}

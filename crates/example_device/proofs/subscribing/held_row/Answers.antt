@@ -4,7 +4,7 @@ use Rattle.dataset_meta.specs.Metas.{MetaData}
 use Rattle.dataset_reader.specs.Reader.{IsReaderOf}
 use Rattle.ps_config.specs.Sound.{IsReadGroup, IsReader}
 use Rattle.reader_group.specs.Groups.{index_of}
-use Rattle.example_device.proofs.Turns.{meta_is, single}
+use Rattle.example_device.proofs.OnlyReader.{meta_is, single}
 use Rattle.example_device.proofs.subscribing.held_row.Goals as goal
 
 pub row_text-requires : goal.row_text-requires

@@ -9,5 +9,5 @@ abbrev pub invariant-loop-made : goal.invariant-loop-made
 invariant-loop-made l = record {
   count : length l.versions.items ≡ l.made;
   each : All (λ one. versions_in one ≡ first_version ∷ []) l.versions.items;
-  room : All (HasRoom l.turns) l.versions.items;
+  room : All (HasRoom l.most) l.versions.items;
 }

@@ -1,5 +1,5 @@
 use Rattle.std.proofs.Common.{List, ℕ, refl, subst, arith}
-use Rattle.command_parts.specs.Outputs.{EndsWriting}
+use Rattle.commands.specs.Outputs.{EndsWriting}
 use Rattle.keys_command.proofs.Told.{ends_without, ends_written, said_late}
 use Rattle.keys_command.proofs.command.keys.Goals as goal
 

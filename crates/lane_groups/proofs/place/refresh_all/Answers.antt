@@ -8,7 +8,7 @@ loop-w-init c = refreshed-none c.args.group.now
 pub loop-w-preserved : goal.loop-w-preserved
 loop-w-preserved c =
     let e = c.refresh.ensures in
-    refreshed-more c.loop-w.w c.args.group.now c.loop-w.group c.refresh.new.self e.index e.made e.stands e.goes_on c.loop-w.invariant
+    refreshed-more c.loop-w.w c.args.group.now c.loop-w.group c.refresh.new.self e.index e.made e.stands e.goes_on e.logs c.loop-w.invariant
 
 pub refresh-requires : goal.refresh-requires
 refresh-requires c =

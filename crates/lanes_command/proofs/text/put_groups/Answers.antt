@@ -8,7 +8,7 @@ use Rattle.session_model.specs.Deeds.{group_past}
 use Rattle.lane_groups.specs.declared.lane.Lane.{Lane}
 use Rattle.lanes_command.specs.Standing.{IsGroupOf, counts_of, log_in, logs_by}
 use Rattle.lanes_command.specs.Texts.{group_lines, lane_line, writer_lines}
-use Rattle.lanes_command.proofs.Texts.{group-made, group-stands, lines-more}
+use Rattle.lanes_command.proofs.Texts.{group-logs, group-made, group-stands, lines-more}
 use Rattle.lanes_command.proofs.text.put_groups.Goals as goal
 
 pub put_writers-requires-clause-count : goal.put_writers-requires-clause-count
@@ -21,6 +21,11 @@ put_writers-requires-clause-count c =
     (group-made config c.args.ran.now.lanes.items c.loop-g.g c.group_in.result.now c.requires.lanes low
     (subst (λ (lanes : List Lane). IsGroupOf lanes c.loop-g.g c.group_in.result.now) c.deref.ensures.value c.group_in.ensures)).writers
     ∙ ap (λ (p : GroupPart). length p.writer) (sym own)
+
+pub put_writers-requires-clause-logs : goal.put_writers-requires-clause-logs
+put_writers-requires-clause-logs c =
+    group-logs c.args.config.now c.args.ran.now.lanes.items c.loop-g.g c.group_in.result.now c.requires.lanes (omega (arith, c.loop-g-test.true, ap length c.as_slice-parts.ensures))
+    (subst (λ (lanes : List Lane). IsGroupOf lanes c.loop-g.g c.group_in.result.now) c.deref.ensures.value c.group_in.ensures)
 
 pub put_writers-requires-clause-few : goal.put_writers-requires-clause-few
 put_writers-requires-clause-few c =

@@ -17,7 +17,7 @@ loop-w-preserved c = λ metas past is.
     sym c.index-writers-w.is ∙ get_or_read c.as_slice-writers.result.now c.loop-w.w c.index-writers-w.result c.loop-w-test.true c.index-writers-w.is no_writer
     ∙ ap (λ (l : List WriterPart). get_or l c.loop-w.w no_writer) c.as_slice-writers.ensures in
     let log : c.log.result.now ≡ log_in part past c.loop-w.w =
-    c.log.ensures (metas c.loop-w.w) (settings_of (writer_at part c.loop-w.w)) _ (c.writer.ensures metas part past low is) in
+    c.log.ensures.all (c.writer.ensures.logs.all c.requires.logs) (metas c.loop-w.w) (settings_of (writer_at part c.loop-w.w)) _ (c.writer.ensures.stands metas part past low is) in
     lines-more (λ w. writer_line (writer_at part w).name (log_in part past w)) c.loop-w.w c.args.out.now.items c.loop-w.out.items c.put_writer.new.out.items (writer_line (get_or c.as_slice-writers.result.now c.loop-w.w c.index-writers-w.result).name c.log.result.now)
     (c.loop-w.invariant metas past is) c.in_ok-put_writer.ensures
     (ap (λ (p : WriterPart). writer_line p.name c.log.result.now) own ∙ ap (writer_line (writer_at part c.loop-w.w).name) log)

@@ -1,6 +1,6 @@
 use Rattle.std.proofs.Common.{List, ℕ, refl, subst}
-use Rattle.command_parts.specs.Outputs.{EndsWriting}
-use Rattle.session_command.proofs.Ended.{written_late}
+use Rattle.commands.specs.Outputs.{EndsWriting}
+use Rattle.commands.proofs.Ended.{written_late}
 use Rattle.load_command.proofs.Ends.{ends_written, ends_unplayed}
 use Rattle.load_command.proofs.command.load.Goals as goal
 

@@ -16,3 +16,6 @@ returns-clause-members c = λ seats values are.
 
 pub returns-clause-readers : goal.returns-clause-readers
 returns-clause-readers c = c.loop-index.invariant.readers
+
+pub returns-clause-count : goal.returns-clause-count
+returns-clause-count c = c.loop-index.invariant.count

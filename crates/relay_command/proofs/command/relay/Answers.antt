@@ -1,6 +1,6 @@
 use Rattle.std.proofs.Common.{List, ℕ, Err, refl, ap, subst}
-use Rattle.command_parts.specs.Outputs.{EndsWriting}
-use Rattle.session_command.proofs.Ended.{written_late}
+use Rattle.commands.specs.Outputs.{EndsWriting}
+use Rattle.commands.proofs.Ended.{written_late}
 use Rattle.relay_command.proofs.Ending.{ends_unaccepted, ends_so, ends_written}
 use Rattle.relay_command.proofs.command.relay.Goals as goal
 

@@ -50,6 +50,7 @@ text_of-requires-clause-second g c =
     let e = c.in_ok-end.ensures.relays a.second (holds-relay a.first a.second a.script _ _ _ c.play.new.self h) in
     record {
       gateway = e.behind.gateway;
+      keeps = e.behind.keeps h.keeps;
       config = config-of-gateway a.second _ c.end.new.self.gateway (e.behind.lives h.lived h.stands).2;
       good = c.requires.second.0;
     }

@@ -3,11 +3,12 @@ use Rattle.ps_config.specs.declared.parts.GroupPart.{GroupPart}
 use Rattle.ps_config.specs.declared.parts.WriterPart.{WriterPart}
 use Rattle.writer_group.specs.Parts.{group_at}
 use Rattle.writer_group.specs.Payloads.{no_writer, writer_at}
-use Rattle.gateway_core.specs.Lived.{session_steps}
-use Rattle.gateway_core.specs.Holding.{sources_of}
+use Rattle.session_model.specs.Deeds.{log_at}
+use Rattle.gateway_core.specs.Lived.{plan_again, session_steps}
+use Rattle.gateway_core.specs.Holding.{logged_of, sources_of}
 use Rattle.session_parts.proofs.Few.{few-writers}
 use Rattle.relay_command.specs.Texts.{IsWriterText, gateway_line}
-use Rattle.relay_command.proofs.Lining.{wrote-more}
+use Rattle.relay_command.proofs.Lining.{whole-log, wrote-more}
 use Rattle.relay_command.proofs.Matched.{group-read, read-at}
 use Rattle.relay_command.proofs.text.put_group.Goals as goal
 
@@ -32,7 +33,10 @@ loop-w-preserved c = λ lived places front stands wrote.
     let low = subst (λ (l : List WriterPart). w < length l) listed c.loop-w-test.true in
     let at : writer_at (group_at second g) w ≡ item = read-at (group_at second g).writer w item no_writer low (c.index-writers-w.is ∙ ap (λ (l : List WriterPart). get_or l w item) listed) in
     let own : get_or c.as_slice-writers.result.now w item ≡ writer_at (group_at second g) w = sym c.index-writers-w.is ∙ sym at in
-    let log = c.log.ensures _ _ _ (c.writer.ensures.lived second lived stands) in
+    let whole = log_at (plan_again second) g w (session_steps (sources_of c.args.gateway.now) lived) in
+    let log : c.log.result.now ≡ whole =
+    whole-log _ (logged_of c.args.gateway.now) c.log.result.now whole (c.log.ensures.first _ _ _ (c.writer.ensures.lived second lived stands)) c.writer.ensures.logged
+    (c.writer.ensures.all c.requires.gateway.keeps second lived stands) in
     wrote-more (IsWriterText second (session_steps (sources_of c.args.gateway.now) lived)) places (λ (x : ℕ). (g, x)) w front c.loop-w.out.items _
     (gateway_line (get_or c.as_slice-writers.result.now w item).name c.log.result.now) (c.loop-w.invariant lived places front stands wrote)
     (λ i. gateway_line (own i).name (log i)) c.in_ok-put_gateway.ensures

@@ -34,7 +34,7 @@ play-requires-clause-played g c =
     let told : _ = g.L.Link.told c.open-2.new.self in
     let plan : plan_of player.session ≡ plan_by config script = o.plan ∙ ap (λ (full : List MetaData). record { config = config; full = full }) size.full in
     subst (λ (k : Config). HasPlayed k script [] told player) (sym (ap (λ (q : Plan). q.config) plan))
-    (begins config script told player o.player o.new plan (o.left ∙ ap opening_left size.ticks) (o.appends ∙ size.sets) (o.quotas ∙ size.writes)
+    (begins config script told player o.player o.new plan c.size_of-size.result.logged (o.left ∙ ap (λ (n : ℕ). opening_left n c.size_of-size.result.logged) size.ticks) (o.appends ∙ size.sets) (o.quotas ∙ size.writes)
     (opened-empty (g.L.Link.told c.args.link.now) told c.in-Done.ensures.empty))
 
 pub end-requires-clause-may : goal.end-requires-clause-may

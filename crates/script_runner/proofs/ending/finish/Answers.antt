@@ -3,7 +3,7 @@ use Rattle.std.specs.Prelude.{All}
 use Rattle.version_cell.specs.Sets.{ArePassesOf}
 use Rattle.app_threads.specs.declared.done.Done.{Done}
 use Rattle.script_runner.specs.Finishing.{HasStoredAll, unwatched}
-use Rattle.script_runner.proofs.Finishing.{AreEnds, bank-level, finishes, may-level, targets-met}
+use Rattle.script_runner.proofs.Finishing.{AreEnds, bank-level, ends-script, finishes, may-level, targets-met}
 use Rattle.script_runner.proofs.ending.finish.Goals as goal
 
 pub meet_all-requires-clause-own : goal.meet_all-requires-clause-own
@@ -53,8 +53,9 @@ returns g c =
       bank_met = m.bank;
       bank_new = c.in_ok-pass.ensures.bank;
     } in
+    let of_script = ends-script bank targets old met level new dones left told after are c.requires.script in
     let e = c.close.ensures in
     record {
-      finishes = finishes bank targets old met level new dones left told after c.close.result are e.closed e.histories e.watches e.of;
+      finishes = finishes bank targets old met level new dones left told after c.close.result are of_script (e.whole of_script.whole) e.histories e.watches e.of;
       link = c.pass.ensures.link;
     }

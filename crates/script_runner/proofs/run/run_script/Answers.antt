@@ -1,4 +1,4 @@
-use Rattle.std.proofs.Common.{◌≡◌, ℕ, List, [], Some, refl, length, map, reverse, sym, ap, ◌∙◌, subst}
+use Rattle.std.proofs.Common.{◌≡◌, ℕ, List, [], Some, refl, length, map, reverse, sym, ap, ◌∙◌, subst, arith}
 use Rattle.std.specs.List.{range_with_len}
 use Rattle.std.proofs.lemmas.List.{length-map}
 use Rattle.std.proofs.lemmas.List.FromFn.{length-range_with_len}
@@ -14,6 +14,7 @@ use Rattle.session_model.specs.Keeping.{IsPlan}
 use Rattle.pubsub_engine.specs.Holding.{opening_left, plan_of}
 use Rattle.script_player.specs.Plays.{plan_by}
 use Rattle.script_player.proofs.Newly.{opened-empty}
+use Rattle.script_player.proofs.Staying.{opened-script}
 use Rattle.script_runner.specs.Conducting.{HasConducted}
 use Rattle.script_runner.proofs.Beginning.{begins, may-close}
 use Rattle.script_runner.proofs.Completed.{Completes, completes, opened-by}
@@ -50,9 +51,11 @@ run_beside-requires-clause-begun g c κs within =
     let e = c.in_ok-session.ensures in
     let o = c.in_ok-session.field-0 in
     let told : _ = g.L.Link.told c.open-2.new.self in
+    let logged = c.size_of-size.result.logged in
     let plan : plan_of o.session ≡ plan_by config script = e.plan ∙ ap (λ (full : List MetaData). record { config = config; full = full }) size.full in
     subst (λ (k : Config). HasConducted k script [] told o.session) (sym (ap (λ (q : Plan). q.config) plan))
-    (begins config script told o.session e.stands plan (e.left ∙ ap opening_left size.ticks) (e.appends ∙ size.sets)
+    (begins config script told o.session e.stands plan logged (e.left ∙ ap (λ (n : ℕ). opening_left n logged) size.ticks)
+    (opened-script o.session c.size_of-size.result.ticks logged e.left size.few (omega (arith, size.logged))) (e.appends ∙ size.sets)
     (opened-empty (g.L.Link.told c.args.link.now) told c.in-Done.ensures.empty))
 
 pub run_beside-requires-clause-ready : goal.run_beside-requires-clause-ready
@@ -71,6 +74,9 @@ run_beside-requires-clause-ready g c κs within =
 
 pub finish-requires-clause-own : goal.finish-requires-clause-own
 finish-requires-clause-own g c = are-own c.in_ok-session.field-0.bank c.in_ok-session.field-0.targets.cells c.in_ok-crew.crew c.in_ok-dones.dones.items c.in_ok-dones.ensures.done
+
+pub finish-requires-clause-script : goal.finish-requires-clause-script
+finish-requires-clause-script g c = c.in_ok-dones.ensures.conducted.of_script
 
 pub finish-requires-clause-may : goal.finish-requires-clause-may
 finish-requires-clause-may g c =

@@ -13,7 +13,7 @@ pub loop-w-preserved : goal.loop-w-preserved
 loop-w-preserved c =
     let e = c.refresh_if.ensures in
     refreshes-more c.args.part.now (is_writer_below c.args.component c.args.g) c.loop-w.w c.is_at_or_above.result c.args.group.now c.loop-w.group c.refresh_if.new.group
-    c.is_at_or_above.ensures e.index e.made e.stands e.goes_on c.loop-w.invariant
+    c.is_at_or_above.ensures e.index e.made e.stands e.goes_on e.logs c.loop-w.invariant
 
 pub returns-clause-stands : goal.returns-clause-stands
 returns-clause-stands c =

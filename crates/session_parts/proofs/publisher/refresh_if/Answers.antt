@@ -2,7 +2,11 @@ use Rattle.std.proofs.Common.{◌≡◌, Bool, true, refl, sym, subst, rules}
 use Rattle.dataset_meta.specs.Rows.{cons_if}
 use Rattle.writer_group.specs.Standing.{IsGroup}
 use Rattle.writer_group.specs.Turns.{RefreshedWriter}
+use Rattle.session_parts.proofs.Logging.{logs-same}
 use Rattle.session_parts.proofs.publisher.refresh_if.Goals as goal
+
+pub returns-then-not-is_below-clause-logs : goal.returns-then-not-is_below-clause-logs
+returns-then-not-is_below-clause-logs c = logs-same c.args.group.now
 
 pub returns-clause-stands : goal.returns-clause-stands
 returns-clause-stands c =

@@ -21,7 +21,7 @@ loop-w-preserved c =
     set-more c.args.part.now c.args.set c.loop-w.w _ c.args.group.now c.loop-w.group c.refresh_grown.new.group
     (ap (λ (l : List WriterPart). (get_or l c.loop-w.w c.index-as_slice-w.result).dataset == c.args.set) c.as_slice.ensures
     ∙ ap (λ (w : WriterPart). w.dataset == c.args.set) (get_or_default c.args.part.now.writer c.loop-w.w c.index-as_slice-w.result no_writer low))
-    (c.loop-w.invariant.made c.requires.made.0 c.requires.made.1).writers e.index e.made e.kept e.stands e.goes_on c.loop-w.invariant
+    (c.loop-w.invariant.made c.requires.made.0 c.requires.made.1).writers e.index e.made e.kept e.stands e.goes_on e.logs c.loop-w.invariant
 
 pub returns-clause-stands : goal.returns-clause-stands
 returns-clause-stands c =

@@ -29,6 +29,7 @@ returns-clause-turned c =
           told.config.now c.args.g (index_of old) c.requires.may.index e.stands;
       goes_on = from-index (λ (part : GroupPart). (turns : ℕ) → MayGoOn (metas_for part told.metas.now) part (turns + 1) old → MayGoOn (metas_for part told.metas.now) part turns new)
           told.config.now c.args.g (index_of old) c.requires.may.index e.goes_on;
+      logs = e.logs;
       made = from-index (λ (part : GroupPart). IsMadeFor told.config.now part new) told.config.now c.args.g (index_of old) c.requires.may.index e.made;
       index = e.index;
       count_is = e.count;

@@ -1,6 +1,6 @@
 use Rattle.std.proofs.Common.{sym, ◌∙◌, subst}
-use Rattle.command_parts.specs.Outside.{outside_of, wire_of}
-use Rattle.play_command.specs.Plays.{PlayEnds}
+use Rattle.commands.specs.Outside.{outside_of, wire_of}
+use Rattle.commands.specs.Plays.{PlayEnds}
 use Rattle.run_command.specs.Runs.{RunEnds}
 use Rattle.uapubsub.specs.Words.{Shape, Play, Run}
 use Rattle.uapubsub.specs.Ends.{Does, world_of}

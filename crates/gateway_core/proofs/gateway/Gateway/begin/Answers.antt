@@ -1,7 +1,7 @@
 use Rattle.std.proofs.Common.{◌+◌, ◌≤◌, refl, ap, sym, ◌∙◌, subst, arith}
 use Rattle.session_parts.specs.declared.publisher.Publisher.{Publisher}
 use Rattle.session_parts.specs.declared.subscriber.Subscriber.{Subscriber}
-use Rattle.session_parts.specs.Holding.{MayAllGoOn}
+use Rattle.session_parts.specs.Holding.{AreStillLogged, MayAllGoOn}
 use Rattle.session_parts.proofs.Passed.{knows-told}
 use Rattle.gateway_core.specs.Holding.{MayTick}
 use Rattle.session_parts.proofs.Begun.{Begins, hold-cleared}
@@ -46,12 +46,13 @@ returns c =
     record {
       begun = record {
         changed = refl;
-        counts_tick = record { ticks = omega (arith, one-left ms closing old may); pumps = refl; collects = refl; is_closed = refl };
+        counts_tick = record { turns = refl; ticks = omega (arith, one-left ms closing old may); pumps = refl; collects = refl; is_closed = refl };
         counts = c.tell-2.ensures.counts ∙ c.tell.ensures.counts;
         publisher = hold-cleared old.config.now come cleared c.come_to.ensures.holds c.clear.ensures.sends c.clear.ensures.rest;
         spent = knows-told old.config.now cleared c.tell.new.tree c.tell-2.new.tree c.tell-2.ensures.faults;
         goes_on = subst (λ (x : Publisher). MayAllGoOn old.config.now old.config.now.dataset old.left.ticks x.groups.items) (sym c.clear.ensures.rest)
             (c.come_to.ensures.goes_on old.config.now.dataset old.left.ticks gateway.goes_on);
+        logs = subst (λ (x : Publisher). AreStillLogged old.publisher.groups.items x.groups.items) (sym c.clear.ensures.rest) c.come_to.ensures.logs;
         subscriber = c.expire.ensures.holds old.config.now gateway.subscriber;
         sent = begun-at ms closing old come cleared subscriber c.tell.new.tree c.tell-2.new.tree gateway does;
         read = begun-read ms closing old subscriber gateway c.expire.ensures.read;

@@ -37,6 +37,6 @@ returns-clause-leads g c =
     } in
     let leads = pumps-lead (plan_again second) (session_steps (sources_of old) lived) old new c.pump-pumped.result.taken told after does stands.session in (
       c.pump-pumped.ensures.pumps.entries,
-      lives-pumped second lived c.pump-pumped.ensures.pumps.entries old new told after refl stands leads,
+      lives-pumped second lived c.pump-pumped.ensures.pumps.entries old new told after refl does.left stands leads,
       c.pump-pumped.ensures.pumps.taken_are,
     )

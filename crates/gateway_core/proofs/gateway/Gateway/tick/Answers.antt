@@ -31,6 +31,7 @@ returns-clause-gateway g c =
     let tells = tells-of c.args.ms c.args.closing old mid told begun refl c.as_slice.ensures c.deref.ensures.value refl refl in
     ticked-gateway c.args.ms c.args.closing old mid s c.requires.may begun refl (subst (λ (k : Config). HoldPublisher k c.pass_all.new.self) tells.config e.holds) (e.tree ∙ begun.counts)
     (goes-back c.args.ms mid.left.ticks c.args.closing old told c.pass_all.new.self.groups.items tells (e.goes_on mid.left.ticks (goes-told c.args.ms c.args.closing old mid told begun tells)))
+    e.logs
 
 pub returns-clause-leads : goal.returns-clause-leads
 returns-clause-leads g c =
@@ -50,7 +51,7 @@ returns-clause-leads g c =
     (told-of c.args.ms c.args.closing old told c.requires.may tells p before stands.session) (begun.sent p before stands.session)) in (
       leads.0,
       lives-ticked second lived c.args.ms c.args.closing leads.0 old s (g.L.Link.told c.args.link.now) (g.L.Link.told c.pass_all.new.link)
-          (ticked-keeps c.args.ms c.args.closing old mid s begun refl) stands leads.1,
+          (ticked-keeps c.args.ms c.args.closing old mid s begun refl) begun.counts_tick stands leads.1,
     )
 
 pub returns-clause-halted : goal.returns-clause-halted

@@ -14,6 +14,7 @@ returns-clause-session c =
       groups = c.refresh_set.ensures.groups;
       past = c.refresh_set.ensures.past;
       goes_on = c.refresh_set.ensures.goes_on;
+      logs = c.refresh_set.ensures.logs;
       rest = c.refresh_set.ensures.rest;
     } in
     let appends = appends-of old c.append-set.new.self c.refresh_set.new.self c.append-set.result left e.metas e.made e.full e.count e.later refreshes in
@@ -29,6 +30,7 @@ returns-clause-appended c =
       groups = c.refresh_set.ensures.groups;
       past = c.refresh_set.ensures.past;
       goes_on = c.refresh_set.ensures.goes_on;
+      logs = c.refresh_set.ensures.logs;
       rest = c.refresh_set.ensures.rest;
     } in
     let appends = appends-of old c.append-set.new.self c.refresh_set.new.self c.append-set.result left e.metas e.made e.full e.count e.later refreshes in
@@ -44,6 +46,7 @@ returns-clause-next c =
       groups = c.refresh_set.ensures.groups;
       past = c.refresh_set.ensures.past;
       goes_on = c.refresh_set.ensures.goes_on;
+      logs = c.refresh_set.ensures.logs;
       rest = c.refresh_set.ensures.rest;
     } in
     let appends = appends-of old c.append-set.new.self c.refresh_set.new.self c.append-set.result left e.metas e.made e.full e.count e.later refreshes in
@@ -59,6 +62,7 @@ returns-clause-rest c =
       groups = c.refresh_set.ensures.groups;
       past = c.refresh_set.ensures.past;
       goes_on = c.refresh_set.ensures.goes_on;
+      logs = c.refresh_set.ensures.logs;
       rest = c.refresh_set.ensures.rest;
     } in
     let appends = appends-of old c.append-set.new.self c.refresh_set.new.self c.append-set.result left e.metas e.made e.full e.count e.later refreshes in

@@ -1,7 +1,7 @@
 use Rattle.std.proofs.Common.{◌+◌, ◌≤◌, refl, ap, sym, ◌∙◌, subst, arith}
 use Rattle.session_parts.specs.declared.publisher.Publisher.{Publisher}
 use Rattle.session_parts.specs.declared.subscriber.Subscriber.{Subscriber}
-use Rattle.session_parts.specs.Holding.{MayAllGoOn}
+use Rattle.session_parts.specs.Holding.{AreAllLogged, MayAllGoOn}
 use Rattle.session_parts.proofs.Begun.{Begins, hold-cleared}
 use Rattle.pubsub_engine.proofs.Begun.{begun-at, begun-read}
 use Rattle.session_parts.proofs.Passed.{knows-told}
@@ -62,7 +62,7 @@ returns c =
     record {
       begun = record {
         changed = refl;
-        counts_tick = record { ticks = omega (arith, one-left ms closing old may); pumps = refl; stores = refl; is_closed = refl };
+        counts_tick = record { ticks = omega (arith, one-left ms closing old may); pumps = refl; stores = refl; logged = refl; is_closed = refl };
         taken = c.cut_to.ensures.rest;
         cut = c.cut_to.ensures.cut;
         rows = c.cut_to.ensures.belong;
@@ -71,6 +71,7 @@ returns c =
         spent = knows-told old.config.now cleared c.tell.new.tree c.tell-2.new.tree c.tell-2.ensures.faults;
         goes_on = subst (λ (x : Publisher). MayAllGoOn old.config.now old.sets.metas.items old.left.ticks x.groups.items) (sym c.clear.ensures.rest)
             (c.come_to.ensures.goes_on old.sets.metas.items old.left.ticks session.goes_on);
+        logged = subst (λ (x : Publisher). AreAllLogged old.left.logged x.groups.items) (sym c.clear.ensures.rest) (c.come_to.ensures.logs old.left.logged session.logged);
         subscriber = c.expire.ensures.holds old.config.now session.subscriber;
         sent = begun-at ms closing old come cleared subscriber c.tell.new.tree c.tell-2.new.tree session does;
         read = begun-read ms closing old subscriber session c.expire.ensures.read;

@@ -4,11 +4,12 @@ use Rattle.ps_report.specs.declared.closed.Closed.{Closed}
 use Rattle.ps_report.specs.declared.closed.History.{History}
 use Rattle.ps_report.specs.declared.closed.ReaderEnd.{ReaderEnd}
 use Rattle.ps_report.specs.declared.closed.WriterEnd.{WriterEnd}
-use Rattle.session_model.specs.Closing.{IsWriterEnd, reader_places, writer_places}
+use Rattle.session_model.specs.Closing.{IsWriterEndWith, reader_places, writer_places}
+use Rattle.session_model.specs.Deeds.{logs_cut}
 use Rattle.pubsub_engine.specs.Authored.{AreHistories}
 use Rattle.pubsub_engine.specs.Ending.{IsToldAt}
 use Rattle.pubsub_engine.proofs.Watched.{same-watches}
-use Rattle.pubsub_engine.proofs.Whole.{TellsParts, few-sets, is-closed, is-closed-of, passes-count}
+use Rattle.pubsub_engine.proofs.Whole.{TellsParts, few-sets, is-closed, is-closed-of, is-whole, passes-count}
 use Rattle.pubsub_engine.proofs.session.Session.close.Goals as goal
 
 pub overflow_cast-sets : goal.overflow_cast-sets
@@ -34,16 +35,18 @@ returns c =
     let tells : TellsParts s dones sets closed = record {
       count = omega arith;
       histories = subst (λ (l : List History). AreHistories s.samples.passes dones sets l) (sym c.new.ensures) c.in_ok-histories.ensures;
-      groups = λ p steps have. c.new-2.ensures ∙ c.in_ok-groups.ensures p steps have;
-      writers = λ p steps have. subst (λ (l : List WriterEnd). AllZip (IsWriterEnd p steps) (writer_places p.config) l) (sym c.new-3.ensures) (c.in_ok-writers.ensures p steps have);
+      groups = λ most p steps have. c.new-2.ensures ∙ c.in_ok-groups.ensures most p steps have;
+      writers = λ most p steps have.
+          subst (λ (l : List WriterEnd). AllZip (IsWriterEndWith (logs_cut most p steps) p steps) (writer_places p.config) l) (sym c.new-3.ensures) (c.in_ok-writers.ensures most p steps have);
       read_groups = λ p steps have. c.new-4.ensures ∙ c.in_ok-read_groups.ensures p steps have;
-      readers = λ p steps published have.
-          subst (λ (l : List ReaderEnd). AllZip (IsToldAt p steps) (reader_places p.config) l) (sym c.new-5.ensures) (c.in_ok-readers.ensures p steps published have);
+      readers = λ most p steps published have.
+          subst (λ (l : List ReaderEnd). AllZip (IsToldAt (logs_cut most p steps) p steps) (reader_places p.config) l) (sym c.new-5.ensures) (c.in_ok-readers.ensures most p steps published have);
       watches = c.new-6.ensures ∙ c.in_ok-watches.ensures;
       link = c.link_end.ensures;
     } in
     record {
-      closed = λ p steps stands order. is-closed p steps s dones sets closed tells stands order;
+      closed = λ p steps stands order. is-closed p steps s dones sets closed tells c.requires.session stands order;
+      whole = λ keeps p steps stands order. is-whole p steps s closed keeps stands (is-closed p steps s dones sets closed tells c.requires.session stands order);
       histories = λ few set threads low authored long.
           tells.histories.named few set threads (omega (arith, low, tells.count, passes-count s c.requires.session)) authored long;
       watches = λ order. tells.watches ∙ same-watches dones order;

@@ -8,7 +8,7 @@ use Rattle.pubsub_engine.proofs.session.Session.enable.Goals as goal
 pub returns-in-Done-clause-session : goal.returns-in-Done-clause-session
 returns-in-Done-clause-session c =
     enabled-session c.args.self.now c.enable.new.self c.refresh_below.new.self c.requires.session c.enable.ensures.change.counts c.refresh_below.ensures.rest
-    c.refresh_below.ensures.groups c.refresh_below.ensures.goes_on
+    c.refresh_below.ensures.groups c.refresh_below.ensures.goes_on c.refresh_below.ensures.logs
 
 pub returns-in-Done-clause-answer : goal.returns-in-Done-clause-answer
 returns-in-Done-clause-answer c =

@@ -38,7 +38,7 @@ returns-clause-is_plan g c types =
     subst IsPlan (sym is) (is-plan config c.args.size.now.appends.items c.requires.good types c.requires.appends)
 
 -- the session when its groups' faults were told
-fresh : (g : Over) (c : goal.After-tell_groups g) → IsFresh c.as_slice.result.now (c.args.size.now.ticks + 1) c.tell_groups.new.self
+fresh : (g : Over) (c : goal.After-tell_groups g) → IsFresh c.as_slice.result.now (c.args.size.now.ticks + 1) c.args.size.now.logged c.tell_groups.new.self
 fresh g c =
     let config = c.args.config.now in
     let turns = c.args.size.now.ticks + 1 in
@@ -55,12 +55,13 @@ fresh g c =
     ap length kept ∙ count-passes cells (Some 0) (metas_of c.as_slice-3.result.now c.as_slice-4.result.now) c.in_ok-targets.ensures.metas
     ∙ length-map c.as_slice-4.result.now (λ (set : ℕ). slice_index_or c.as_slice-3.result.now set no_meta)
     ∙ ap length c.as_slice-4.ensures.value ∙ listed in
-    subst (IsFresh c.as_slice.result.now turns) (sym c.tell_groups.ensures.rest) (record {
+    subst (IsFresh c.as_slice.result.now turns c.args.size.now.logged) (sym c.tell_groups.ensures.rest) (record {
       good = c.requires.good;
       few = omega (arith, c.requires.ticks);
+      one = omega arith;
       may = subst (AreAppends config config.dataset) (sym c.as_slice.ensures.value) c.requires.appends;
       moment = refl;
-      left = ap (λ (n : ℕ). record { ticks = turns; pumps = 0; stores = n; is_closed = false }) c.from-2.ensures;
+      left = refl;
       sets = sets.holds;
       first = sets.first;
       full = sets.full;
@@ -79,6 +80,7 @@ fresh g c =
         sends = publisher.sends;
         link = publisher.link;
       };
+      logs = publisher.logged;
       subscriber = record { holds = subscriber.holds; read = subscriber.read; tallied = subscriber.tallied };
       receiving = record { room = c.in_ok-new-2.ensures.room; counts = c.in_ok-new-2.ensures.counts };
       stores = record {
@@ -96,10 +98,10 @@ fresh g c =
     })
 
 pub returns-clause-session : goal.returns-clause-session
-returns-clause-session g c = fresh-session c.as_slice.result.now (c.args.size.now.ticks + 1) c.tell_groups.new.self (fresh g c)
+returns-clause-session g c = fresh-session c.as_slice.result.now (c.args.size.now.ticks + 1) c.args.size.now.logged c.tell_groups.new.self (fresh g c)
 
 pub returns-clause-stands : goal.returns-clause-stands
-returns-clause-stands g c = fresh-stands c.as_slice.result.now (c.args.size.now.ticks + 1) c.tell_groups.new.self (fresh g c)
+returns-clause-stands g c = fresh-stands c.as_slice.result.now (c.args.size.now.ticks + 1) c.args.size.now.logged c.tell_groups.new.self (fresh g c)
 
 pub returns-clause-sampled : goal.returns-clause-sampled
 returns-clause-sampled g c =

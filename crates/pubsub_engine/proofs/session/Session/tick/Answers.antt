@@ -28,6 +28,7 @@ returns-clause-session g c =
     let tells = tells-of c.args.ms c.args.closing old mid told begun refl c.deref.ensures.value c.deref-2.ensures.value refl refl in
     ticked-session c.args.ms c.args.closing old mid s c.requires.may begun refl (subst (λ (k : Config). HoldPublisher k c.pass_all.new.self) tells.config e.holds) (e.tree ∙ begun.counts)
     (goes-back c.args.ms mid.left.ticks c.args.closing old mid told c.pass_all.new.self.groups.items tells (e.goes_on mid.left.ticks (goes-told c.args.ms c.args.closing old mid told begun tells)))
+    e.logs
 
 pub returns-clause-leads : goal.returns-clause-leads
 returns-clause-leads g c =

@@ -6,6 +6,7 @@ use Rattle.ps_report.specs.Told.{grouped_readers}
 use Rattle.version_cell.specs.Histories.{row_after}
 use Rattle.version_cell.specs.Known.{Known}
 use Rattle.version_cell.specs.Sets.{pass_at}
+use Rattle.session_model.specs.Deeds.{logs_cut}
 use Rattle.session_model.specs.Steps.{Plan, Step}
 use Rattle.session_model.specs.Closing.{MemberPlace, reader_places}
 use Rattle.session_model.specs.Stores.{stores}
@@ -25,19 +26,19 @@ last-at p steps place s k j last stored at is found =
     ((stored k place at).last last)
 
 pub returns-then-not-last : goal.returns-then-not-last
-returns-then-not-last c = λ p steps place same past stored at.
-    no-origin p steps place (meta_at_place p.config place) (row_after (pass_at c.args.self.now.keeper c.args.reader).seen) c.index-last.result.now c.if-not-last.true
+returns-then-not-last c = λ most p steps place same logged past stored at.
+    no-origin (logs_cut most p steps) p steps place (meta_at_place p.config place) (row_after (pass_at c.args.self.now.keeper c.args.reader).seen) c.index-last.result.now c.if-not-last.true
     (last-at p steps place c.args.self.now c.args.reader c.from.result c.index-last.result.now stored at c.from.ensures c.index-last.ensures)
 
 pub returns : goal.returns
-returns c = λ p steps place same past stored at.
+returns c = λ most p steps place same logged past stored at.
     let k = c.args.reader in
     let log = c.log_read-log.result.now in
     let publisher = c.args.publisher.now in
-    is-origin p steps place (meta_at_place p.config place) (row_after (pass_at c.args.self.now.keeper c.args.reader).seen) c.index-last.result.now (pass_at c.args.self.now.keeper k) publisher log
+    is-origin most p steps place (meta_at_place p.config place) (row_after (pass_at c.args.self.now.keeper c.args.reader).seen) c.index-last.result.now (pass_at c.args.self.now.keeper k) publisher log
     (record { store = c.version.result; number = c.index-last.result.now.number; version = c.version_at.result }) k c.if-not-last.false
     (last-at p steps place c.args.self.now k c.from.result c.index-last.result.now stored at c.from.ensures c.index-last.ensures)
-    (stored k place at).seen at past
+    (stored k place at).seen at logged past
     (subst (λ (config : Config). (it : ReadGroupPart × ReaderPart) → slice_get (grouped_readers config.readgroup) k ≡ Some it → IsLogRead config publisher it log) (sym same)
     (subst (λ (n : ℕ). (it : ReadGroupPart × ReaderPart) → slice_get (grouped_readers c.args.config.now.readgroup) n ≡ Some it → IsLogRead c.args.config.now publisher it log)
     c.from-2.ensures c.log_read-log.ensures.log))

@@ -1,16 +1,15 @@
-use Rattle.std.proofs.Common.{refl, sym, ap, ◌∙◌, subst, arith, Option, ℕ}
-use Rattle.std.specs.Vec.{with_items}
+use Rattle.std.proofs.Common.{refl, sym, ap, ◌∙◌, subst, arith, Option, ℕ, List}
+use Rattle.message_guard.specs.declared.keys.TokenKeys.{TokenKeys}
 use Rattle.std.proofs.lemmas.List.{with_items_is}
-use Rattle.reader_group.specs.declared.group.ReaderGroup.{ReaderGroup}
 use Rattle.reader_group.specs.Held.{payload_in}
-use Rattle.reader_group.specs.Groups.{AreMembers, Stands, guard_of, members_of, index_of}
-use Rattle.reader_group.specs.Plain.{PlainGroup}
-use Rattle.reader_group.specs.Settings.{setting_by, setting_of}
-use Rattle.reader_group.proofs.Made.{part_contained}
+use Rattle.reader_group.specs.Groups.{AreMembers, Stands, guard_of, members_of, index_of, setting_with}
+use Rattle.reader_group.specs.Plain.{PlainGroup, with_keys}
+use Rattle.reader_group.specs.Settings.{setting_by}
+use Rattle.reader_group.proofs.Made.{part_contained, setup-mode}
 use Rattle.reader_group.proofs.Seats.{few_readers, seats-length}
-use Rattle.reader_group.proofs.Steps.{IsTaken, bytes-are, receipt_with, made_setup, made_readers, stands_part, taken_step, taken_answer}
+use Rattle.reader_group.proofs.Steps.{IsTaken, bytes-are, receipt_with, made_readers, stands_part, taken_step, taken_answer}
 use Rattle.reader_group.proofs.group.ReaderGroup.datagram.Goals as goal
-use Rattle.reader_group.proofs.group.ReaderGroup.datagram.Goals.{After-part_count}
+use Rattle.reader_group.proofs.group.ReaderGroup.datagram.Goals.{After-self-3-1}
 
 pub part_count-requires : goal.part_count-requires
 part_count-requires c =
@@ -22,22 +21,24 @@ part_count-requires c =
     omega (arith, c.requires.on, readers.count, seats-length config part, few_readers config part c.requires.made.sound has)
 
 -- what the calls ensured of a datagram that was opened
-taken : (c : After-part_count) (plain : PlainGroup) → Stands (setting_of c.args.config.now (index_of c.args.self.now)) plain c.args.self.now
-    → IsTaken c.args.config.now c.part_at-part.result.now plain c.args.now c.args.on.now c.args.bytes.now c.open.new.bytes (guard_of c.args.self.now) c.accept-raised.new.self
+taken : (c : After-self-3-1) (keys : List TokenKeys) (plain : PlainGroup) → Stands (setting_with c.args.config.now c.args.self.now keys) plain c.args.self.now
+    → IsTaken (with_keys (setting_by c.args.config.now c.part_at-part.result.now) keys) plain c.args.now c.args.on.now c.args.bytes.now c.open.new.bytes (guard_of c.args.self.now) c.accept-raised.new.self
     (members_of c.args.self.now) c.feed_all-tally.new.members c.in_ok-begun.begun c.open.new.room c.accept-raised.result (receipt_with c.args.now c.stamp_of.result)
     (payload_in c.payload_held-payload.result) c.feed_all-tally.result
-taken c plain h =
+taken c keys plain h =
     let config = c.args.config.now in
     let group = c.args.self.now in
     let part = c.part_at-part.result.now in
     let seats = (setting_by config part).seats in
-    let before = stands_part config group part plain c.requires.made c.part_at-part.ensures h in
+    let before = stands_part config group part keys plain c.requires.made c.part_at-part.ensures h in
     let members : AreMembers seats plain.members c.deref_mut.result.now = subst (AreMembers seats plain.members) (sym c.deref_mut.ensures.value) before.members in
     record {
       opens = c.in_ok-begun.ensures.verdict plain.accepted before.guard;
       held = c.payload_held-payload.ensures;
       receipt_is = ap (λ (stamp : Option ℕ). receipt_with c.args.now stamp) c.stamp_of.ensures;
-      setup = made_setup config group part c.requires.made c.part_at-part.ensures;
+      setup = before.setup;
+      setup_stays = c.accept-raised.ensures.setup;
+      mode = setup-mode config part part.keygroup;
       accepts_it = c.accept-raised.ensures.accepted plain.accepted before.guard;
       raised_is = c.accept-raised.ensures.raised plain.accepted before.guard;
       members_are = c.feed_all-tally.ensures.members plain.members members;
@@ -45,27 +46,26 @@ taken c plain h =
     }
 
 pub returns-clause-step : goal.returns-clause-step
-returns-clause-step c = λ plain h.
+returns-clause-step c = λ keys plain h.
     let old = c.args.self.now in
     let part = c.part_at-part.result.now in
     let members = c.feed_all-tally.new.members in
-    let new : ReaderGroup = record old { guard = c.accept-raised.new.self; members = with_items old.members members; room = c.open.new.room } in
     let count = c.feed_all-tally.ensures.readers.count ∙ sym (made_readers c.args.config.now old part c.requires.made c.part_at-part.ensures).count in
-    taken_step c.args.config.now old new c.accept-raised.new.self members part plain c.args.now c.args.on.now c.args.bytes.now c.open.new.bytes c.in_ok-begun.begun c.open.new.room
+    taken_step c.args.config.now old _ c.accept-raised.new.self members part keys plain c.args.now c.args.on.now c.args.bytes.now c.open.new.bytes c.in_ok-begun.begun c.open.new.room
     c.accept-raised.result (receipt_with c.args.now c.stamp_of.result) (payload_in c.payload_held-payload.result) c.feed_all-tally.result c.requires.made c.part_at-part.ensures
-    (taken c plain h) refl (with_items_is old.members members (count ∙ sym old.members.ok.0))
+    (taken c keys plain h) refl (with_items_is old.members members (count ∙ sym old.members.ok.0))
 
 pub returns-clause-answer : goal.returns-clause-answer
-returns-clause-answer c = λ plain h.
-    taken_answer c.args.config.now c.args.self.now c.accept-raised.new.self c.feed_all-tally.new.members c.part_at-part.result.now plain c.args.now c.args.on.now c.args.bytes.now c.open.new.bytes
+returns-clause-answer c = λ keys plain h.
+    taken_answer c.args.config.now c.args.self.now c.accept-raised.new.self c.feed_all-tally.new.members c.part_at-part.result.now keys plain c.args.now c.args.on.now c.args.bytes.now c.open.new.bytes
     c.in_ok-begun.begun c.open.new.room c.accept-raised.result (receipt_with c.args.now c.stamp_of.result) (payload_in c.payload_held-payload.result) c.feed_all-tally.result
-    (record { parts = c.part_count.result; matched = c.feed_all-tally.result.matched; bad = c.feed_all-tally.result.bad }) c.requires.made c.part_at-part.ensures (taken c plain h)
+    (record { parts = c.part_count.result; matched = c.feed_all-tally.result.matched; bad = c.feed_all-tally.result.bad }) c.requires.made c.part_at-part.ensures (taken c keys plain h)
     c.part_count.ensures refl refl
 
 pub returns-in_err-begun-clause-bytes : goal.returns-in_err-begun-clause-bytes
-returns-in_err-begun-clause-bytes c = λ plain h.
-    bytes-are c.args.config.now c.args.self.now c.part_at-part.result.now plain c.args.bytes.now c.open.new.bytes c.requires.made c.part_at-part.ensures h c.in_err-begun.ensures.bytes
+returns-in_err-begun-clause-bytes c = λ keys plain h.
+    bytes-are c.args.config.now c.args.self.now c.part_at-part.result.now keys plain c.args.bytes.now c.open.new.bytes c.requires.made c.part_at-part.ensures h c.in_err-begun.ensures.bytes
 
 pub returns-clause-bytes : goal.returns-clause-bytes
-returns-clause-bytes c = λ plain h.
-    bytes-are c.args.config.now c.args.self.now c.part_at-part.result.now plain c.args.bytes.now c.open.new.bytes c.requires.made c.part_at-part.ensures h c.in_ok-begun.ensures.bytes
+returns-clause-bytes c = λ keys plain h.
+    bytes-are c.args.config.now c.args.self.now c.part_at-part.result.now keys plain c.args.bytes.now c.open.new.bytes c.requires.made c.part_at-part.ensures h c.in_ok-begun.ensures.bytes

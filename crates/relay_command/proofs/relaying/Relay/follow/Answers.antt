@@ -29,6 +29,7 @@ returns-clause-follows g c = λ second holds.
       shows = c.show_origins.ensures.shows;
       counts_taken = c.collect.ensures.left;
       sources_taken = c.collect.ensures.sources;
+      logged_taken = c.collect.ensures.logged;
       stands_taken = λ config lived stands.
           subst (λ (l : List Known). Stands config (Collect l c.show_origins.new.origins.items ∷ lived) c.collect.new.self) c.watches.ensures.watches
           (subst (λ (l : List Origin). Stands config (Collect c.watches.result.now l ∷ lived) c.collect.new.self) c.deref.ensures.value (c.collect.ensures.stands config lived stands));

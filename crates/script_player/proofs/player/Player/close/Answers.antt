@@ -19,5 +19,5 @@ returns c =
     let e = c.close.ensures in
     record {
       closes = player-closes player c.deref.result.now c.close.result c.requires.player
-          (subst (λ (l : List Done). AreDonesOf player.hands.items l) (sym c.deref.ensures.value) c.in_ok-dones.ensures.dones) e.closed e.histories e.watches e.of;
+          (subst (λ (l : List Done). AreDonesOf player.hands.items l) (sym c.deref.ensures.value) c.in_ok-dones.ensures.dones) (e.whole c.requires.player.of_script.whole) e.histories e.watches e.of;
     }

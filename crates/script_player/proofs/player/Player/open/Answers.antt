@@ -3,6 +3,7 @@ use Rattle.version_cell.specs.Known.{Known}
 use Rattle.cell_bank.specs.Hands.{AreHands}
 use Rattle.script_player.specs.declared.player.Player.{Player}
 use Rattle.script_player.proofs.Beginning.{IsOpened, player-new, player-opened}
+use Rattle.script_player.proofs.Staying.{opened-script}
 use Rattle.script_player.proofs.player.Player.open.Goals as goal
 
 pub returns : goal.returns
@@ -12,6 +13,7 @@ returns g c =
     let player : Player = record { session = o.session; bank = o.bank; targets = o.targets; watches = o.watches; hands = hands } in
     let opened : IsOpened player = record {
       session = c.in_ok-session.ensures.session;
+      of_script = opened-script o.session c.args.size.now.ticks c.args.size.now.logged c.in_ok-session.ensures.left c.requires.ticks c.requires.logged;
       stands = c.in_ok-session.ensures.stands;
       bank = c.in_ok-session.ensures.bank;
       cells = c.in_ok-session.ensures.cells;

@@ -10,3 +10,6 @@ meta-meta-requires c =
 
 pub origin-requires : goal.origin-requires
 origin-requires c = record { session = c.requires.player.session; there = c.requires.there }
+
+pub returns-clause-origin : goal.returns-clause-origin
+returns-clause-origin c = c.origin.ensures.whole c.requires.player.of_script.whole

@@ -11,7 +11,7 @@ use Rattle.writer_group.specs.declared.group.Group.{Group as GroupWords}
 use Rattle.session_model.specs.Deeds.{Deed, CameTo, RefreshedBelow, is_rekeyed}
 use Rattle.writer_group.specs.Parts.{group_at}
 use Rattle.session_parts.specs.declared.publisher.Publisher.{Publisher}
-use Rattle.session_parts.specs.Holding.{AreGroups, MayAllGoOn}
+use Rattle.session_parts.specs.Holding.{AreAllLogged, AreGroups, MayAllGoOn}
 use Rattle.session_parts.specs.Standing.{HavePast, HaveSent}
 use Rattle.session_parts.proofs.Coming.{rekeyed-is, turned-sent}
 use Rattle.session_parts.proofs.Counting.{fold-more}
@@ -25,6 +25,7 @@ loop-g-init c =
       groups = subst (λ (v : Vec GroupWords Global). AreGroups c.args.config.now v.items) (sym same) c.requires.holds.groups;
       past = λ metas deeds sent past. subst (λ (v : Vec GroupWords Global). HavePast c.args.config.now metas deeds v.items) (sym same) past;
       goes_on = λ metas turns may. subst (λ (v : Vec GroupWords Global). MayAllGoOn c.args.config.now metas turns v.items) (sym same) may;
+      logs = λ most all. subst (λ (v : Vec GroupWords Global). AreAllLogged most v.items) (sym same) all;
       rest = refl;
     }
 
@@ -49,6 +50,7 @@ loop-g-preserved c =
           ∙ sym (fold-more (λ so_far g. cons_if (is_rekeyed config c.args.moment deeds g) (RefreshedBelow (Group g)) so_far) (CameTo c.args.moment ∷ deeds) c.loop-g.g))
           (e.past metas so_far (inv.past metas deeds sent past));
       goes_on = λ metas turns may. e.goes_on metas turns (inv.goes_on metas turns may);
+      logs = λ most all. e.logs most (inv.logs most all);
       rest = e.rest ∙ ap (λ (p : Publisher). record p { groups = c.refresh_if.new.self.groups }) inv.rest;
     }
 

@@ -5,7 +5,7 @@ use Rattle.dataset_meta.specs.Metas.{MetaData}
 use Rattle.dataset_meta.specs.Rows.{cons_if}
 use Rattle.pubsub_states.specs.declared.component.Component.TheVariants.{Group}
 use Rattle.session_model.specs.Deeds.{Deed, CameTo, RefreshedBelow, is_rekeyed}
-use Rattle.session_parts.specs.Holding.{AreGroups, MayAllGoOn}
+use Rattle.session_parts.specs.Holding.{AreGroups, AreStillLogged, MayAllGoOn}
 use Rattle.session_parts.specs.Standing.{HavePast, HaveSent}
 use Rattle.session_parts.proofs.publisher.Publisher.come_to.Given as goal
 
@@ -17,5 +17,6 @@ invariant-loop-g l = record {
       (fold (λ so_far g. cons_if (is_rekeyed l.config l.moment deeds g) (RefreshedBelow (Group g)) so_far) (CameTo l.moment ∷ deeds) (range_with_len 0 l.g))
       l.self.groups.items;
   goes_on : (metas : List MetaData) (turns : ℕ) → MayAllGoOn l.config metas turns l.fn.self.groups.items → MayAllGoOn l.config metas turns l.self.groups.items;
+  logs : AreStillLogged l.fn.self.groups.items l.self.groups.items;
   rest : l.self ≡ record l.initial.self { groups = l.self.groups };
 }

@@ -4,6 +4,7 @@ use Rattle.ua_base.proofs.Links.{KeepsLink-refl}
 use Rattle.writer_group.specs.Standing.{metas_for}
 use Rattle.writer_group.specs.Parts.{group_at}
 use Rattle.session_parts.specs.declared.publisher.Publisher.{Publisher}
+use Rattle.session_parts.specs.Holding.{AreStillLogged}
 use Rattle.session_parts.specs.Ticking.{GoesOnAt, IsBefore, OthersStay}
 use Rattle.session_parts.proofs.Passing.{passes-by}
 use Rattle.session_parts.proofs.Halting.{turn-halts}
@@ -15,6 +16,9 @@ returns-then-not-has_turn-clause-goes_on g c =
     λ turns goes d.
     fewer (metas_for (group_at c.args.told.now.config.now c.args.g) c.args.told.now.metas.now) (group_at c.args.told.now.config.now c.args.g) turns
     (get_or c.args.self.now.groups.items c.args.g d) (goes d)
+
+pub returns-then-not-has_turn-clause-logs : goal.returns-then-not-has_turn-clause-logs
+returns-then-not-has_turn-clause-logs g c = λ most all. all
 
 pub returns-then-not-has_turn-clause-others : goal.returns-then-not-has_turn-clause-others
 returns-then-not-has_turn-clause-others g c = λ d. sym (set-get_or c.args.self.now.groups.items c.args.g d)
@@ -49,6 +53,9 @@ pub returns-clause-goes_on : goal.returns-clause-goes_on
 returns-clause-goes_on g c =
     λ turns goes.
     subst (λ (p : Publisher). GoesOnAt c.args.told.now.config.now c.args.told.now.metas.now turns c.args.g p.groups.items) (sym c.send_all-ticked.ensures.rest) (c.turn-count.ensures.goes_on turns goes)
+
+pub returns-clause-logs : goal.returns-clause-logs
+returns-clause-logs g c = subst (λ (p : Publisher). AreStillLogged c.args.self.now.groups.items p.groups.items) (sym c.send_all-ticked.ensures.rest) c.turn-count.ensures.logs
 
 pub returns-clause-others : goal.returns-clause-others
 returns-clause-others g c =

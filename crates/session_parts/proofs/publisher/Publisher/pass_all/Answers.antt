@@ -13,6 +13,7 @@ loop-g-init g c =
       counts = refl;
       spent = may.spent;
       goes_on = λ turns goes. go-none c.args.told.now.config.now c.args.told.now.metas.now turns (turns + 1) c.args.self.now.groups.items refl goes;
+      logs = λ most all. all;
       link = KeepsLink-refl g.L.Link.opened_with g.L.Link.faults c.args.link.now;
       passed = λ t told at. passed-none t c.args.self.now c.args.tree.now (g.L.Link.told c.args.link.now) at;
     }
@@ -48,6 +49,7 @@ loop-g-preserved g c =
       counts = e.tree ∙ inv.counts;
       spent = e.spent;
       goes_on = λ turns goes. go-more told.config.now told.metas.now turns c.loop-g.g c.loop-g.self.groups.items c.pass.new.self.groups.items low e.others e.goes_on (inv.goes_on turns goes);
+      logs = λ most all. e.logs most (inv.logs most all);
       link = KeepsLink-then g.L.Link.opened_with g.L.Link.faults c.args.link.now c.loop-g.link c.pass.new.link inv.link e.link;
       passed = λ t is at.
           let before = inv.passed t is at in
@@ -64,6 +66,9 @@ returns-in-Memory-clause-goes_on g c =
     let low : c.loop-g.g < length told.config.now.group = omega (arith, c.loop-g-test.true, c.len-g-end.ensures, c.args.self.now.groups.ok.0, may.holds.groups.count) in
     go-all told.config.now told.metas.now turns (c.loop-g.g + 1) c.pass.new.self.groups.items
     (go-more told.config.now told.metas.now turns c.loop-g.g c.loop-g.self.groups.items c.pass.new.self.groups.items low e.others e.goes_on (c.loop-g.invariant.goes_on turns goes))
+
+pub returns-in-Memory-clause-logs : goal.returns-in-Memory-clause-logs
+returns-in-Memory-clause-logs g c = λ most all. c.in-Memory.ensures.logs most (c.loop-g.invariant.logs most all)
 
 pub returns-in-Memory-clause-link : goal.returns-in-Memory-clause-link
 returns-in-Memory-clause-link g c =

@@ -5,6 +5,7 @@ use Rattle.session_model.specs.Deeds.{is_writer_below, writer_indexes}
 use Rattle.session_parts.specs.declared.publisher.Publisher.{Publisher}
 use Rattle.session_parts.proofs.Each.{EachTo, each-more}
 use Rattle.session_parts.proofs.Few.{few-writers}
+use Rattle.session_parts.proofs.Logging.{each-logged}
 use Rattle.session_parts.proofs.Refreshing.{Refreshes, RefreshesAt, all-groups, all-past, all-go-on}
 use Rattle.session_parts.proofs.publisher.Publisher.refresh_below.Goals as goal
 
@@ -24,7 +25,7 @@ loop-g-preserved c =
     record {
       each = each-more (RefreshesAt c.args.config.now c.args.component) c.loop-g.g c.args.self.now.groups.items mid x c.refresh_below.new.group low c.index_mut.ensures.value
           (subst (λ (p : GroupPart). Refreshes p (is_writer_below c.args.component c.loop-g.g) (writer_indexes p) x c.refresh_below.new.group) c.group_part.ensures
-          (record { index = e.index; made = e.made; stands = e.stands; goes_on = e.goes_on }))
+          (record { index = e.index; made = e.made; stands = e.stands; goes_on = e.goes_on; logs = e.logs }))
           c.loop-g.invariant.each;
       rest = ap (λ (p : Publisher). record p { groups = with_item c.loop-g.self.groups c.loop-g.g c.refresh_below.new.group }) c.loop-g.invariant.rest;
     }
@@ -48,4 +49,11 @@ returns-clause-goes_on c =
     let old = c.args.self.now.groups.items in
     let all : c.loop-g.g ≡ length old = omega (arith, c.loop-g-test.false, c.loop-g.auto.g-end, c.len-g-end.ensures, c.args.self.now.groups.ok.0) in
     all-go-on c.args.config.now c.args.component old c.loop-g.self.groups.items c.requires.groups
+    (subst (λ (n : ℕ). EachTo (RefreshesAt c.args.config.now c.args.component) n old c.loop-g.self.groups.items) all c.loop-g.invariant.each)
+
+pub returns-clause-logs : goal.returns-clause-logs
+returns-clause-logs c =
+    let old = c.args.self.now.groups.items in
+    let all : c.loop-g.g ≡ length old = omega (arith, c.loop-g-test.false, c.loop-g.auto.g-end, c.len-g-end.ensures, c.args.self.now.groups.ok.0) in
+    each-logged (RefreshesAt c.args.config.now c.args.component) (λ g x y does. does.logs) old c.loop-g.self.groups.items
     (subst (λ (n : ℕ). EachTo (RefreshesAt c.args.config.now c.args.component) n old c.loop-g.self.groups.items) all c.loop-g.invariant.each)

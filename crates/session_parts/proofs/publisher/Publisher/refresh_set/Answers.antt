@@ -4,6 +4,7 @@ use Rattle.ps_config.specs.declared.parts.GroupPart.{GroupPart}
 use Rattle.session_parts.specs.declared.publisher.Publisher.{Publisher}
 use Rattle.session_parts.proofs.Each.{EachTo, each-more}
 use Rattle.session_parts.proofs.Few.{few-writers}
+use Rattle.session_parts.proofs.Logging.{each-logged}
 use Rattle.session_parts.proofs.RefreshingSets.{RefreshesSetOf, RefreshesSetAt, all-groups, all-past, all-go-on}
 use Rattle.session_parts.proofs.publisher.Publisher.refresh_set.Goals as goal
 
@@ -23,7 +24,7 @@ loop-g-preserved c =
     record {
       each = each-more (RefreshesSetAt c.args.config.now c.args.set) c.loop-g.g c.args.self.now.groups.items mid x c.refresh_set.new.group low c.index_mut.ensures.value
           (subst (λ (p : GroupPart). RefreshesSetOf p c.args.set x c.refresh_set.new.group) c.group_part.ensures
-          (record { index = e.index; made = e.made; stands = e.stands; goes_on = e.goes_on }))
+          (record { index = e.index; made = e.made; stands = e.stands; goes_on = e.goes_on; logs = e.logs }))
           c.loop-g.invariant.each;
       rest = ap (λ (p : Publisher). record p { groups = with_item c.loop-g.self.groups c.loop-g.g c.refresh_set.new.group }) c.loop-g.invariant.rest;
     }
@@ -47,4 +48,11 @@ returns-clause-goes_on c =
     let old = c.args.self.now.groups.items in
     let all : c.loop-g.g ≡ length old = omega (arith, c.loop-g-test.false, c.loop-g.auto.g-end, c.len-g-end.ensures, c.args.self.now.groups.ok.0) in
     all-go-on c.args.config.now c.args.set old c.loop-g.self.groups.items c.requires.groups
+    (subst (λ (n : ℕ). EachTo (RefreshesSetAt c.args.config.now c.args.set) n old c.loop-g.self.groups.items) all c.loop-g.invariant.each)
+
+pub returns-clause-logs : goal.returns-clause-logs
+returns-clause-logs c =
+    let old = c.args.self.now.groups.items in
+    let all : c.loop-g.g ≡ length old = omega (arith, c.loop-g-test.false, c.loop-g.auto.g-end, c.len-g-end.ensures, c.args.self.now.groups.ok.0) in
+    each-logged (RefreshesSetAt c.args.config.now c.args.set) (λ g x y does. does.logs) old c.loop-g.self.groups.items
     (subst (λ (n : ℕ). EachTo (RefreshesSetAt c.args.config.now c.args.set) n old c.loop-g.self.groups.items) all c.loop-g.invariant.each)

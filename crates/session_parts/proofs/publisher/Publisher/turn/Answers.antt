@@ -9,6 +9,7 @@ use Rattle.pubsub_states.specs.Changes.{flags_in}
 use Rattle.pubsub_states.specs.States.{state_of, is_operational}
 use Rattle.writer_group.specs.Parts.{group_at}
 use Rattle.session_parts.proofs.Few.{few-writers}
+use Rattle.session_parts.proofs.Logging.{set-logged}
 use Rattle.session_parts.proofs.Taking.{may-turn, open-sender, secured-sender, groups-after, own-after, goes-on-after}
 use Rattle.session_parts.proofs.TurnParts.{turned-open, turned-secured}
 use Rattle.session_parts.proofs.publisher.Publisher.turn.Goals as goal
@@ -119,3 +120,15 @@ returns-in-Some-clause-goes_on c =
     λ turns goes.
     goes-on-after c.args.told.now c.args.g c.turn_secured.result turns c.args.self.now c.args.tree.now (take (length c.as_slice-count.result.now) c.writers_on-all_on.result)
     (Some c.index_mut.result.now) c.index_mut-group.result.now c.turn_secured.new.group c.turn_secured.new.out c.requires.may c.index_mut-group.ensures.value c.turn_secured.ensures.turned goes
+
+pub returns-in-None-clause-logs : goal.returns-in-None-clause-logs
+returns-in-None-clause-logs c =
+    let may = c.requires.may in
+    set-logged c.args.self.now.groups.items c.args.g c.index_mut-group.result.now c.turn_open.new.group (omega (arith, may.within, may.holds.groups.count)) c.index_mut-group.ensures.value
+    c.turn_open.ensures.turned.logs
+
+pub returns-in-Some-clause-logs : goal.returns-in-Some-clause-logs
+returns-in-Some-clause-logs c =
+    let may = c.requires.may in
+    set-logged c.args.self.now.groups.items c.args.g c.index_mut-group.result.now c.turn_secured.new.group (omega (arith, may.within, may.holds.groups.count)) c.index_mut-group.ensures.value
+    c.turn_secured.ensures.turned.logs

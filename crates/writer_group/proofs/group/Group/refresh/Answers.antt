@@ -2,7 +2,8 @@ use Rattle.std.proofs.Common.{ℕ, get_or, refl, set, sym, ap, ◌∙◌, arith}
 use Rattle.std.specs.Vec.{with_item}
 use Rattle.std.proofs.lemmas.List.{get_or_default}
 use Rattle.writer_group.specs.declared.group.Group.{Group}
-use Rattle.writer_group.proofs.RefreshLaws.{IsRefreshed, goes-refreshed, group-refreshed}
+use Rattle.writer_group.proofs.ReadyTurns.{keeps-refreshed}
+use Rattle.writer_group.proofs.RefreshLaws.{IsRefreshed, goes-refreshed, group-refreshed, logs-refreshed}
 use Rattle.writer_group.proofs.group.Group.refresh.Goals as goal
 use Rattle.writer_group.proofs.group.Group.refresh.Goals.{After-refresh}
 
@@ -23,6 +24,7 @@ refreshed c =
       stands = c.refresh.ensures.stands;
       holds = c.refresh.ensures.holds;
       left = c.refresh.ensures.left;
+      logs = record { logged = c.refresh.ensures.logged; all = c.refresh.ensures.keeps };
     }
 
 pub returns-clause-stands : goal.returns-clause-stands
@@ -34,3 +36,15 @@ pub returns-clause-goes_on : goal.returns-clause-goes_on
 returns-clause-goes_on c = λ metas others part turns same goes.
     let r = (goal.at.returns-clause-goes_on c).After-refresh in
     goes-refreshed metas others part turns c.args.index c.args.self.now (after r) c.index_mut.result.now c.refresh.new.self (refreshed r) same refl c.args.self.now.writers.ok.0 goes
+
+pub returns-clause-logs : goal.returns-clause-logs
+returns-clause-logs c =
+    let r = (goal.at.returns-clause-logs c).After-refresh in
+    logs-refreshed c.args.index c.args.self.now (after r) c.index_mut.result.now c.refresh.new.self (refreshed r)
+
+pub returns-clause-keeps_to : goal.returns-clause-keeps_to
+returns-clause-keeps_to c = λ config keeps.
+    let r = (goal.at.returns-clause-keeps_to c).After-refresh in
+    keeps-refreshed config c.args.index c.args.self.now (after r) refl
+    (λ config part made. record { interval = made.interval; start = made.start; writers = made.writers; slots = made.slots; rooms = made.rooms })
+    (returns-clause-goes_on c) keeps

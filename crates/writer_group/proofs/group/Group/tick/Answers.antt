@@ -8,9 +8,10 @@ use Rattle.writer_group.specs.Lending.{lent_in}
 use Rattle.writer_group.specs.declared.settings.Rooms.{Rooms}
 use Rattle.writer_group.specs.Making.{IsPosted, MayMake, loads_in}
 use Rattle.writer_group.specs.Sealing.{advanced_by}
-use Rattle.writer_group.specs.Standing.{IsMadeFor, IsSenderFor, MayTick}
+use Rattle.writer_group.specs.Standing.{IsMadeFor, IsSenderFor, MayTick, index_of}
+use Rattle.writer_group.proofs.ReadyTurns.{keeps-ticked, passed-made}
 use Rattle.writer_group.proofs.TickSteps.{HasLoads, IsPartOf, at-part, few-sizes, loads-left, may-answer, may-make, of-part}
-use Rattle.writer_group.proofs.WholeTurns.{HadTurns, HasPosted, as-posted, few-posted, has-loads, loads-few, sender-stays, still-made, turned-few, turned-goes-on, turned-stands}
+use Rattle.writer_group.proofs.WholeTurns.{HadTurns, HasPosted, as-posted, few-posted, has-loads, loads-few, logs-stay, sender-stays, still-made, turned-few, turned-goes-on, turned-stands}
 use Rattle.writer_group.proofs.group.Group.tick.Goals as goal
 use Rattle.writer_group.specs.Holding.{listed_sizes}
 use Rattle.writer_group.proofs.group.Group.tick.Goals.{After-a_class_id_is_whole, After-answer, After-plan_loads, After-post, After-post_sealed}
@@ -153,6 +154,12 @@ returns-in-None-clause-goes_on c =
     turned-goes-on c.args.config.now c.args.self.now.index c.part_of-group.result.now c.args.metas.now c.args.rows.now c.args.on.now c.args.now c.args.closing (lent_in c.args.sender) c.args.self.now c.answer.new.self c.finish.new.self c.answer.new.out (planned g.After-plan_loads) c.post.new.out c.finish.result
     (record { posted = posted-open g.After-post; count_is = c.finish.ensures.count; passed_is = c.finish.ensures.passed })
 
+pub returns-in-None-clause-logs : goal.returns-in-None-clause-logs
+returns-in-None-clause-logs c =
+    let g = goal.at.returns-in-None-clause-logs c in
+    logs-stay c.args.config.now c.part_of-group.result.now c.args.metas.now c.args.rows.now c.args.on.now c.args.now c.args.closing c.args.self.now c.answer.new.self c.finish.new.self c.answer.new.out c.finish.result
+    (had g.After-answer) c.finish.ensures.passed
+
 pub returns-in-None-clause-few : goal.returns-in-None-clause-few
 returns-in-None-clause-few c =
     let g = goal.at.returns-in-None-clause-few c in
@@ -170,6 +177,12 @@ returns-in-Some-clause-goes_on c =
     let g = goal.at.returns-in-Some-clause-goes_on c in
     turned-goes-on c.args.config.now c.args.self.now.index c.part_of-group.result.now c.args.metas.now c.args.rows.now c.args.on.now c.args.now c.args.closing (lent_in c.args.sender) c.args.self.now c.answer.new.self c.finish-in-Some.new.self c.answer.new.out (planned g.After-plan_loads) c.post_sealed.new.out c.finish-in-Some.result
     (record { posted = posted-sealed g.After-post_sealed; count_is = c.finish-in-Some.ensures.count; passed_is = c.finish-in-Some.ensures.passed })
+
+pub returns-in-Some-clause-logs : goal.returns-in-Some-clause-logs
+returns-in-Some-clause-logs c =
+    let g = goal.at.returns-in-Some-clause-logs c in
+    logs-stay c.args.config.now c.part_of-group.result.now c.args.metas.now c.args.rows.now c.args.on.now c.args.now c.args.closing c.args.self.now c.answer.new.self c.finish-in-Some.new.self c.answer.new.out c.finish-in-Some.result
+    (had g.After-answer) c.finish-in-Some.ensures.passed
 
 pub returns-in-Some-clause-few : goal.returns-in-Some-clause-few
 returns-in-Some-clause-few c =
@@ -195,3 +208,25 @@ returns-in-Some-clause-sender c =
     c.post_sealed.ensures.sender ∙ ap (advanced_by (mode_of c.part_of-group.result.now.security) before) (sym (c.finish-in-Some.ensures.count ∙ counted)) in
     rw c.in-Some.is (at-part c.args.config.now c.args.self.now.index c.part_of-group.result.now
     (λ (part : GroupPart). Path (Option SenderState) (Some c.post_sealed.new.sender) (Some (advanced_by (mode_of part.security) before c.finish-in-Some.result))) posted.own (ap (λ (s : SenderState). Some s) same))
+
+pub returns-in-None-clause-keeps_to : goal.returns-in-None-clause-keeps_to
+returns-in-None-clause-keeps_to c = λ same.
+    let g = goal.at.returns-in-None-clause-keeps_to c in
+    let r = g.After-a_class_id_is_whole in
+    let config = c.args.config.now in
+    let part = c.part_of-group.result.now in
+    let made = passed-made config part c.args.now c.args.closing c.finish.result c.answer.new.self c.finish.new.self c.finish.ensures.passed (still g.After-answer (may r).made) in
+    keeps-ticked config c.args.metas.now c.args.rows.now c.args.on.now (lent_in c.args.sender) c.args.self.now c.finish.new.self
+    (ap index_of c.finish.ensures.passed ∙ ap index_of c.answer.ensures.rest) c.requires.index
+    (at-part config c.args.self.now.index part (λ one. IsMadeFor config one c.finish.new.self) (own r) made) (returns-in-None-clause-goes_on c) c.requires.turn same
+
+pub returns-in-Some-clause-keeps_to : goal.returns-in-Some-clause-keeps_to
+returns-in-Some-clause-keeps_to c = λ same.
+    let g = goal.at.returns-in-Some-clause-keeps_to c in
+    let r = g.After-a_class_id_is_whole in
+    let config = c.args.config.now in
+    let part = c.part_of-group.result.now in
+    let made = passed-made config part c.args.now c.args.closing c.finish-in-Some.result c.answer.new.self c.finish-in-Some.new.self c.finish-in-Some.ensures.passed (still g.After-answer (may r).made) in
+    keeps-ticked config c.args.metas.now c.args.rows.now c.args.on.now (lent_in c.args.sender) c.args.self.now c.finish-in-Some.new.self
+    (ap index_of c.finish-in-Some.ensures.passed ∙ ap index_of c.answer.ensures.rest) c.requires.index
+    (at-part config c.args.self.now.index part (λ one. IsMadeFor config one c.finish-in-Some.new.self) (own r) made) (returns-in-Some-clause-goes_on c) c.requires.turn same

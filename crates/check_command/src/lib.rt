@@ -1,6 +1,0 @@
-//! The command `check`: whether a configuration is accepted.
-#![tactic(auto)]
-
-mod command;
-
-pub use command::check;

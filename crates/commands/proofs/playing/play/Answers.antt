@@ -1,0 +1,17 @@
+use Rattle.std.proofs.Common.{List, ℕ, refl, subst}
+use Rattle.commands.specs.Outputs.{EndsWriting}
+use Rattle.commands.proofs.Ended.{written_late}
+use Rattle.commands.proofs.Ends.{ends_unaccepted, ends_unplayed, ends_written}
+use Rattle.commands.proofs.playing.play.Goals as goal
+
+pub returns-in-Ok-played-clause-ends : goal.returns-in-Ok-played-clause-ends
+returns-in-Ok-played-clause-ends g c =
+    let written = subst (λ (text : List ℕ). EndsWriting (g.K.Sink.written c.args.out.now) (g.K.Sink.written c.write_text.new.out) text c.write_text.result) c.deref.ensures.value c.write_text.ensures.written in
+    ends_written _ _ _ _ _ _ _ _ _ _ _ _ c.in-Ok-played.text.items c.in-Ok.ensures.accepts refl c.in-Ok-played.ensures.report c.in-Ok-played.ensures.opened c.in-Ok-played.ensures.faults
+    written c.write_text.ensures.cause (c.in-Ok.ensures.folder.files, c.in-Ok.ensures.folder.counted)
+
+pub returns-in-Ok-played-clause-unlinked : goal.returns-in-Ok-played-clause-unlinked
+returns-in-Ok-played-clause-unlinked g c = λ is. absurd ((written_late _ _ _ _ c.write_text.ensures.written).behind_link is)
+
+pub returns-in-Ok-played-clause-silent : goal.returns-in-Ok-played-clause-silent
+returns-in-Ok-played-clause-silent g c = λ done unwritten. absurd ((written_late _ _ _ _ c.write_text.ensures.written).written done unwritten)

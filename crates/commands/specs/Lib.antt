@@ -1,0 +1,13 @@
+pub mod Words
+pub mod Outside
+pub mod Statuses
+pub mod Telling
+pub mod Outputs
+pub mod Files
+pub mod Configurations
+pub mod Scripts
+pub mod Checks
+pub mod Links
+pub mod Sessions
+pub mod Endings
+pub mod Plays

@@ -1,0 +1,15 @@
+//! What the programs example_publisher and example_subscriber share: their words, how they end, their configuration, their clock and
+//! their link.
+#![tactic(auto)]
+
+mod calling;
+mod ending;
+mod linking;
+mod reading;
+mod stopwatch;
+
+pub use calling::{Program, Words, words_of};
+pub use ending::Fault;
+pub use linking::link_to;
+pub use reading::configuration;
+pub use stopwatch::Stopwatch;

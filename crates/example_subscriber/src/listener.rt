@@ -1,0 +1,218 @@
+//! A read group, and what was told of its readers.
+ghost use Rattle.std.specs.Prelude.{◌≡◌, ◌<◌, IfOk, length};
+ghost use Rattle.ps_config.specs.Sound.{IsSound};
+ghost use Rattle.reader_group.specs.Members.{seat_at};
+ghost use Rattle.reader_group.specs.Settings.{group_at, seat_in, setting_of};
+ghost use Rattle.writer_group.specs.Standing.{IsGood};
+ghost use Rattle.example_subscriber.specs.Listeners.{IsListener, readers_of};
+
+use crate::causes::Counts;
+use crate::live::{DRAWING, put_begin, put_clear, put_end};
+use crate::news::{Head, Standing, Told};
+use dataset_meta::Meta;
+use example_parts::Fault;
+use ps_config::{Config, ReadGroupPart, ReaderPart};
+use ps_report::{put_feed, put_named};
+use reader_group::ReaderGroup;
+use std::alloc::Global;
+use std::io;
+use udp_edge::write_whole;
+
+/// A configuration has at most so many readers.
+const MOST_READERS: usize = 16;
+
+/// The first read group of a configuration, what was told of its readers, and what became of datagrams. All readers are enabled.
+#[derive(Drop)]
+pub struct Listener<'c> {
+    config: &'c Config,
+    group: ReaderGroup,
+    on: Vec<bool>,
+    told: Vec<Told>,
+    counts: Counts,
+    view: View,
+    /// Lines before they are printed.
+    lines: Vec<u8>,
+}
+
+/// How readers are shown: a line for each thing that is new, or the same lines again and again.
+#[derive(Clone, Copy)]
+pub enum View {
+    News,
+    /// The next moment at which lines are written, and how many stand there.
+    Live { next: u64, drawn: u64 },
+}
+
+impl<'c> Listener<'c> {
+    pub fn new(alloc: Global, config: &'c Config, view: View) -> Result<Listener<'c>, Fault>
+        requires { IsGood config.now }
+        ensures { IfOk result IsListener }
+    {
+        let [part] = config.readgroup.as_slice() else {
+            return Err(Fault::Unlike);
+        };
+        let count = part.reader.as_slice().len();
+        Ok(Listener {
+            config,
+            group: ReaderGroup::new(alloc, config, 0)?,
+            on: vec![in alloc; true; count]?,
+            told: vec![in alloc; Told::NOTHING; count]?,
+            counts: Counts::new(alloc),
+            view,
+            lines: Vec::new(alloc),
+        })
+    }
+
+    /// Time goes on.
+    pub fn expire(&mut self, now: u64)
+        requires { IsListener self.old }
+        ensures { IsListener self.new }
+    {
+        self.group.expire(now);
+    }
+
+    /// A datagram comes.
+    pub fn datagram(&mut self, now: u64, bytes: &mut [u8]) -> Result<(), Fault>
+        requires { IsListener self.old }
+        ensures { IsListener self.new }
+    {
+        let answer = self.group.datagram(self.config, now, &self.on, bytes);
+        self.counts.note(&answer)
+    }
+
+    /// A datagram was too long, or a receive failed.
+    pub fn lose(&mut self)
+        requires { IsListener self.old }
+        ensures { IsListener self.new }
+    {
+        self.counts.lose();
+    }
+
+    /// Shows the readers.
+    pub fn show<R: Print>(&mut self, rt: &R, now: u64) -> Result<(), Fault>
+        requires { IsListener self.old }
+        ensures { IsListener self.new }
+    {
+        self.lines.clear();
+        match self.view {
+            View::News => self.look_all(now, false)?,
+            View::Live { next, drawn } => self.put_view(now, next, drawn)?,
+        }
+        print_all(rt, &self.lines)
+    }
+
+    /// Lines in place of those that were drawn, where their moment has come.
+    fn put_view(&mut self, now: u64, next: u64, drawn: u64) -> Result<(), Fault>
+        requires { IsListener self.old }
+        ensures { IsListener self.new }
+    {
+        if now < next {
+            return self.look_all(now, false);
+        }
+        put_begin(&mut self.lines, drawn)?;
+        self.view = View::Live {
+            next: now.saturating_add(DRAWING),
+            drawn: self.told.len() as u64 + 1,
+        };
+        self.look_all(now, true)?;
+        put_clear(&mut self.lines)?;
+        self.counts.put(&mut self.lines)?;
+        put_feed(&mut self.lines)?;
+        put_end(&mut self.lines)
+    }
+
+    /// Looks at each reader.
+    fn look_all(&mut self, now: u64, draws: bool) -> Result<(), Fault>
+        requires { IsListener self.old }
+        ensures { IsListener self.new }
+    {
+        let count = self.told.len().min(MOST_READERS) as u8;
+        for index in 0..count {
+            self.look(now, index, draws)?;
+        }
+        Ok(())
+    }
+
+    /// Puts what is new of a reader, or its line of the live view where it is drawn.
+    fn look(&mut self, now: u64, index: u8, draws: bool) -> Result<(), Fault>
+        requires listener { IsListener self.old }
+        requires index { index < readers_of self.old }
+        ensures listener { IsListener self.new }
+        ensures count { readers_of self.new ≡ readers_of self.old }
+    {
+        let part = part_of(self.config, usize::from(index));
+        let meta = meta_of(self.config, part);
+        let name = part.name.as_bytes();
+        let reader = self.group.reader(index);
+        let standing = Standing {
+            is_ready: self.group.is_ready(index),
+            is_late: self.group.is_late(index),
+        };
+        let told = &mut self.told[usize::from(index)];
+        match self.view {
+            View::News => {
+                let head = Head { moment: now, name };
+                told.put_news(&mut self.lines, &head, meta, reader, standing.is_ready)
+            }
+            View::Live { .. } => {
+                told.mark.note(now, reader);
+                if !draws {
+                    return Ok(());
+                }
+                put_clear(&mut self.lines)?;
+                let line = &mut self.lines;
+                told.mark.put_line(line, now, name, meta, reader, standing)?;
+                Ok(put_feed(line)?)
+            }
+        }
+    }
+
+    /// Prints all counts.
+    pub fn tell_counts<R: Print>(&mut self, rt: &R, now: u64) -> Result<(), Fault>
+        requires { IsListener self.old }
+        ensures { IsListener self.new }
+    {
+        self.lines.clear();
+        put_named(&mut self.lines, b"", now)?;
+        self.lines.extend_from_slice(b": ")?;
+        self.counts.put(&mut self.lines)?;
+        put_feed(&mut self.lines)?;
+        print_all(rt, &self.lines)
+    }
+}
+
+/// Prints lines, if there are any.
+fn print_all<R: Print>(rt: &R, lines: &[u8]) -> Result<(), Fault> {
+    if lines.is_empty() || write_whole(&mut io::writer(rt), lines) {
+        Ok(())
+    } else {
+        Err(Fault::Unwritten)
+    }
+}
+
+/// The first read group.
+fn first_group(config: &Config) -> &ReadGroupPart
+    requires { 0 < length config.now.readgroup }
+    ensures { result.now ≡ group_at config.now 0 }
+{
+    &config.readgroup.as_slice()[0]
+}
+
+/// The reader with this index in the first read group.
+fn part_of(config: &Config, index: usize) -> &ReaderPart
+    requires sound { IsSound config.now }
+    requires group { 0 < length config.now.readgroup }
+    requires index { index < length (group_at config.now 0).reader }
+    ensures seat { seat_at (setting_of config.now 0).seats index ≡ seat_in config.now result.now }
+    ensures set { result.now.dataset < length config.now.dataset }
+{
+    let group = first_group(config);
+    &group.reader.as_slice()[index]
+}
+
+/// The meta of the reader's data set.
+fn meta_of<'c>(config: &'c Config, part: &ReaderPart) -> &'c Meta
+    requires { part.now.dataset < length config.now.dataset }
+    ensures { result.now ≡ (seat_in config.now part.now).meta }
+{
+    &config.dataset.as_slice()[usize::from(part.dataset)]
+}

@@ -1,0 +1,81 @@
+//! The subscriber's loop.
+ghost use Rattle.std.specs.Prelude.{IsSome};
+ghost use Rattle.writer_group.specs.Standing.{IsGood};
+ghost use Rattle.example_subscriber.specs.Listeners.{IsListener};
+
+use crate::listener::{Listener, View};
+use example_parts::{Fault, Stopwatch};
+use ps_config::Config;
+use std::alloc::Global;
+use std::io::Read;
+use std::sync::Wait;
+use std::time::Clock;
+use ua_base::{Link, Received};
+
+/// The longest datagram that is taken.
+const MOST_BYTES: usize = 65_536;
+
+/// Listens for so many milliseconds, or until a key ends it, with a look at the readers after each datagram and each wait.
+pub fn listen<R: Print + Input + Clock + Wait, L: Link>(
+    rt: &R,
+    alloc: Global,
+    config: &Config,
+    ms: u64,
+    view: View,
+    keys: bool,
+    link: &mut L,
+) -> Result<(), Fault>
+    requires good { IsGood config.now }
+    requires open { IsSome (L.opened_with link.old) }
+{
+    let mut listener = Listener::new(alloc, config, view)?;
+    let mut buffer = vec![in alloc; 0u8; MOST_BYTES]?;
+    let watch = Stopwatch::new(rt)?;
+    for _ in rt.forever() {
+        let now = hear(rt, &watch, &mut listener, &mut buffer, link)?;
+        if ms <= now || keys && ends(rt) {
+            return listener.tell_counts(rt, now);
+        }
+    }
+    unreachable!()
+}
+
+/// One receive, and what it and the time that passed meanwhile bring. The answer is the moment.
+fn hear<R: Print + Clock, L: Link>(
+    rt: &R,
+    watch: &Stopwatch,
+    listener: &mut Listener<'_>,
+    buffer: &mut [u8],
+    link: &mut L,
+) -> Result<u64, Fault>
+    requires open { IsSome (L.opened_with link.old) }
+    requires listener { IsListener listener.old }
+    ensures open { IsSome (L.opened_with link.new) }
+    ensures listener { IsListener listener.new }
+{
+    let received = link.receive(buffer);
+    let now = watch.elapsed(rt)?;
+    listener.expire(now);
+    listener.show(rt, now)?;
+    match received {
+        Received::Datagram(count) => {
+            listener.datagram(now, &mut buffer[..count as usize])?;
+            listener.show(rt, now)?;
+            Ok(now)
+        }
+        Received::Long(_) | Received::Failed => {
+            listener.lose();
+            Ok(now)
+        }
+        Received::Nothing => Ok(now),
+    }
+}
+
+/// Whether the key q was pressed. The terminal is one whose reads don't wait.
+fn ends<R: Input>(rt: &R) -> bool {
+    let mut key = [0u8; 1];
+    match rt.reader().read(&mut key) {
+        Ok(1) => key[0] == b'q',
+        _ => false,
+    }
+}

@@ -1,0 +1,168 @@
+//! What became of a reader since it was told last.
+ghost use Rattle.std.specs.Prelude.{◌≡◌};
+ghost use Rattle.row_words.specs.Belonging.{Belongs};
+ghost use Rattle.dataset_reader.specs.Reader.{IsReaderOf};
+
+use crate::live::Mark;
+use dataset_meta::Meta;
+use dataset_reader::Reader;
+use example_parts::Fault;
+use ps_report::{put, put_feed, put_named, put_row, put_waits};
+use pubsub_model::Why;
+use row_words::Row;
+
+/// Whether a reader is ready (it held a row, and no timeout has come since), and whether it is late (its timeout came, and no message
+/// since).
+#[derive(Clone, Copy)]
+pub struct Standing {
+    pub is_ready: bool,
+    pub is_late: bool,
+}
+
+/// What was told of a reader last: what it holds or why it waits, since when it waits, and whether what hangs on its values is in its
+/// safe state.
+#[derive(Clone, Copy)]
+pub struct Told {
+    held: Held,
+    since: u64,
+    is_safe: bool,
+    /// For the live view.
+    pub mark: Mark,
+}
+
+#[derive(Clone, Copy)]
+enum Held {
+    Row(Row),
+    Waits(Why),
+    Untold,
+}
+
+/// Whose lines these are, and when.
+#[derive(Clone, Copy)]
+pub struct Head<'a> {
+    pub moment: u64,
+    pub name: &'a [u8],
+}
+
+impl Head<'_> {
+    fn put(&self, out: &mut Vec<u8>) -> Result<(), Fault> {
+        put_named(out, b"", self.moment)?;
+        put(out, b": ")?;
+        put(out, self.name)?;
+        Ok(())
+    }
+}
+
+impl Told {
+    /// Nothing was told, and all is safe.
+    pub const NOTHING: Told = Told {
+        held: Held::Untold,
+        since: 0,
+        is_safe: true,
+        mark: Mark::NOTHING,
+    };
+
+    fn is_row(&self, row: &Row) -> bool {
+        match &self.held {
+            Held::Row(last) => last == row,
+            _ => false,
+        }
+    }
+
+    fn is_wait(&self, why: Why) -> bool {
+        match &self.held {
+            Held::Waits(last) => *last == why,
+            _ => false,
+        }
+    }
+
+    fn waits(&self) -> bool {
+        matches!(self.held, Held::Waits(_))
+    }
+
+    /// Puts a line for each thing that is new: that the reader waits, and why; that it recovered, and after how long; another row;
+    /// and the way of what hangs on it to its safe state or back.
+    pub fn put_news(
+        &mut self,
+        out: &mut Vec<u8>,
+        head: &Head<'_>,
+        meta: &Meta,
+        reader: &Reader,
+        is_ready: bool,
+    ) -> Result<(), Fault>
+        requires { IsReaderOf meta.now reader.now }
+    {
+        match reader.row() {
+            None => self.put_wait(out, head, reader)?,
+            Some(row) => self.put_hold(out, head, meta, row)?,
+        }
+        self.put_safety(out, head, is_ready)
+    }
+
+    fn put_wait(
+        &mut self,
+        out: &mut Vec<u8>,
+        head: &Head<'_>,
+        reader: &Reader,
+    ) -> Result<(), Fault> {
+        let why = reader.why();
+        if self.is_wait(why) {
+            return Ok(());
+        }
+        if !self.waits() {
+            self.since = head.moment;
+        }
+        self.held = Held::Waits(why);
+        head.put(out)?;
+        put_waits(out, why)?;
+        put_named(out, b", breaks ", reader.breaks())?;
+        put_feed(out)?;
+        Ok(())
+    }
+
+    fn put_hold(
+        &mut self,
+        out: &mut Vec<u8>,
+        head: &Head<'_>,
+        meta: &Meta,
+        row: &Row,
+    ) -> Result<(), Fault>
+        requires { Belongs meta.now row.now.words }
+    {
+        if self.is_row(row) {
+            return Ok(());
+        }
+        if self.waits() {
+            head.put(out)?;
+            put_named(
+                out,
+                b" recovers after ms ",
+                head.moment.saturating_sub(self.since),
+            )?;
+            put_feed(out)?;
+        }
+        self.held = Held::Row(*row);
+        head.put(out)?;
+        put(out, b" holds")?;
+        put_row(out, meta, row)?;
+        put_feed(out)?;
+        Ok(())
+    }
+
+    /// What hangs on the values of a reader runs while it is ready: it held a row, and no timeout has come since.
+    fn put_safety(
+        &mut self,
+        out: &mut Vec<u8>,
+        head: &Head<'_>,
+        is_ready: bool,
+    ) -> Result<(), Fault> {
+        if self.is_safe != is_ready {
+            return Ok(());
+        }
+        self.is_safe = !is_ready;
+        head.put(out)?;
+        put(out, if is_ready { b" runs" } else { b" is safe" })?;
+        put_feed(out)?;
+        Ok(())
+    }
+}

@@ -1,0 +1,23 @@
+-- What a session shows while it runs.
+use Rattle.std.specs.Prelude.{◌≡◌, ℕ, List}
+use Rattle.dataset_reader.specs.declared.reader.Reader.{Reader}
+use Rattle.dataset_reader.specs.Reader.{IsReaderOf, kept_by}
+use Rattle.message_guard.specs.Senders.{SenderState}
+use Rattle.reader_group.specs.Members.{seat_at}
+use Rattle.reader_group.specs.Settings.{setting_of}
+use Rattle.session_model.specs.Steps.{Plan, Step}
+use Rattle.session_model.specs.Deeds.{deeds, sender_after}
+use Rattle.session_model.specs.Events.{reader_at}
+use Rattle.session_model.specs.Closing.{MemberPlace}
+
+-- the reader with this place: it holds rows of its data set alone, and keeps what the plain reading of its read group has
+pub record IsReaderAt (p : Plan) (steps : List Step) (place : MemberPlace) (reader : Reader) : Type 0 where
+  pub made : IsReaderOf (seat_at (setting_of p.config place.0).seats place.1).meta reader
+  pub kept : kept_by (seat_at (setting_of p.config place.0).seats place.1).meta.fields reader ≡ (reader_at p.config place.0 place.1 steps).kept
+
+-- the token that a sender uses, and the last number that it used under it
+abbrev pub standing_of : SenderState → ℕ × ℕ
+standing_of sender = (sender.keys.token, sender.used)
+
+abbrev pub standing_at : Plan → List Step → ℕ → ℕ × ℕ
+standing_at p steps k = standing_of (sender_after p.config k (deeds p steps))

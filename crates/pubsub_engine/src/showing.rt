@@ -1,0 +1,80 @@
+//! What a session shows while it runs.
+ghost use Rattle.std.specs.Prelude.{◌≡◌, ◌<◌, List, length};
+ghost use Rattle.pubsub_states.specs.Components.{IsAmong, counts_of};
+ghost use Rattle.reader_group.specs.Settings.{group_at};
+ghost use Rattle.session_model.specs.Steps.{Plan, Step, moment_of};
+ghost use Rattle.session_model.specs.Answers.{answers_at};
+ghost use Rattle.session_model.specs.Closing.{link_end};
+ghost use Rattle.session_model.specs.States.{state_at};
+ghost use Rattle.session_parts.specs.Standing.{IsTallyOf};
+ghost use Rattle.pubsub_engine.specs.Holding.{IsSession, plan_of};
+ghost use Rattle.pubsub_engine.specs.Showing.{IsReaderAt, standing_at};
+ghost use Rattle.pubsub_engine.specs.Standing.{Stands};
+
+use crate::ends::link_end;
+use crate::session::Session;
+use dataset_reader::Reader;
+use ps_report::LinkEnd;
+use pubsub_states::{Component, State};
+use session_parts::Tally;
+
+impl Session<'_> {
+    /// Milliseconds since it was opened: the sum of what its ticks took.
+    pub fn moment(&self) -> u64
+        ensures { (p : Plan) (steps : List Step) → Stands p steps self.now
+            → result ≡ moment_of steps }
+    {
+        self.moment
+    }
+
+    /// The state of a component (OPC 10000-14 6.2.1, PubSubState).
+    pub fn state(&self, component: Component) -> State
+        requires session { IsSession self.now }
+        requires there { IsAmong (counts_of (plan_of self.now).config) component }
+        ensures { (p : Plan) (steps : List Step) → Stands p steps self.now
+            → result ≡ state_at p steps component }
+    {
+        self.tree.state_of(component)
+    }
+
+    /// The reader with this index in a read group: the row that it holds and the number of that row's message, why it waits, and its
+    /// breaks with the last eight of them.
+    pub fn reader(&self, read_group: u8, index: u8) -> &Reader
+        requires session { IsSession self.now }
+        requires there { read_group < length (plan_of self.now).config.readgroup }
+        requires within { index < length (group_at (plan_of self.now).config read_group).reader }
+        ensures { (p : Plan) (steps : List Step) → Stands p steps self.now
+            → IsReaderAt p steps (read_group, index) result.now }
+    {
+        self.subscriber.groups[usize::from(read_group)].reader(index)
+    }
+
+    /// How many datagrams a read group took, how many it refused for each cause, and how many parts it couldn't read.
+    pub fn tally(&self, read_group: u8) -> Tally
+        requires session { IsSession self.now }
+        requires there { read_group < length (plan_of self.now).config.readgroup }
+        ensures { (p : Plan) (steps : List Step) → Stands p steps self.now
+            → IsTallyOf (answers_at p.config read_group steps) result }
+    {
+        self.subscriber.tallies[usize::from(read_group)]
+    }
+
+    /// What came of all sends and receives over the link.
+    pub fn link(&self) -> LinkEnd
+        ensures { (p : Plan) (steps : List Step) → Stands p steps self.now
+            → result ≡ link_end p steps }
+    {
+        link_end(&self.publisher, &self.receiving)
+    }
+
+    /// The token that a key group's sender uses, and the last number that it used under this token: what a device stores, so that
+    /// its next session goes on behind it.
+    pub fn standing(&self, key_group: u8) -> (u32, u32)
+        requires session { IsSession self.now }
+        requires there { key_group < length (plan_of self.now).config.keygroup }
+        ensures { (p : Plan) (steps : List Step) → Stands p steps self.now
+            → result ≡ standing_at p steps key_group }
+    {
+        self.publisher.senders[usize::from(key_group)].standing()
+    }
+}

@@ -1,5 +1,0 @@
-use Rattle.reader_group.proofs.Made.{AreNew}
-use Rattle.reader_group.proofs.group.new_members.Given as goal
-
-abbrev pub invariant-loop-reader : goal.invariant-loop-reader
-invariant-loop-reader l = AreNew l.group l.reader-index l.members.items

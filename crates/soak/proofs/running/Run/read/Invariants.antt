@@ -1,0 +1,7 @@
+use Rattle.std.proofs.Common.{◌≡◌, length}
+use Rattle.writer_group.specs.Standing.{datagrams_in}
+use Rattle.soak.specs.Sides.{IsRun}
+use Rattle.soak.proofs.running.Run.read.Given as goal
+
+abbrev pub invariant-loop-index : goal.invariant-loop-index
+invariant-loop-index l = record { run : IsRun l.config l.self; count : l.count ≡ length (datagrams_in l.self.publisher.out) }

@@ -1,0 +1,5 @@
+use Rattle.soak.specs.Sides.{IsSubscriber}
+use Rattle.soak.proofs.subscriber.Subscriber.compare.Given as goal
+
+abbrev pub invariant-loop-index : goal.invariant-loop-index
+invariant-loop-index l = IsSubscriber l.config l.self

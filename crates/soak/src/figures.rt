@@ -1,0 +1,73 @@
+//! What the process uses.
+use crate::fault::{Fault, unwritten};
+use std::io::Read;
+use std::rt::Files;
+use std::time::{Clock, Instant};
+use std::{fs, str};
+
+/// Where Linux tells how much memory the process has, counted page by page.
+const MEMORY: &str = "/proc/self/smaps_rollup";
+
+/// The clock since the last figures, where figures are told.
+#[derive(Drop)]
+pub struct Figures {
+    start: Option<Instant>,
+    turns: u64,
+}
+
+impl Figures {
+    /// From now on, before any turn.
+    pub fn new<R: Clock>(rt: &R, told: bool) -> Result<Figures, Fault> {
+        let start = if told { Some(now(rt)?) } else { None };
+        Ok(Figures { start, turns: 0 })
+    }
+
+    /// A line with the nanoseconds of each turn since the last figures, and the kibibytes in memory, now that there were so many turns.
+    /// The clock starts anew behind it.
+    pub fn tell<R: Files + Print + Clock>(&mut self, rt: &R, turns: u64) -> Result<(), Fault> {
+        let Some(start) = &self.start else {
+            return Ok(());
+        };
+        let Ok(passed) = start.elapsed(rt) else {
+            return Err(Fault::NoFigures);
+        };
+        let count = turns.saturating_sub(self.turns).max(1);
+        let each = u64::try_from(passed.as_nanos()).unwrap_or(u64::MAX) / count;
+        let memory = resident(rt)?;
+        println!(rt; "at turn {turns}: {each} ns a turn, {memory} KiB").map_err(unwritten)?;
+        self.start = Some(now(rt)?);
+        self.turns = turns;
+        Ok(())
+    }
+}
+
+fn now<R: Clock>(rt: &R) -> Result<Instant, Fault> {
+    match Instant::now(rt) {
+        Ok(now) => Ok(now),
+        Err(_) => Err(Fault::NoFigures),
+    }
+}
+
+/// The kibibytes of the process that are in memory. The second line of the file has them, as `Rss: 1740 kB`.
+fn resident<R: Files>(rt: &R) -> Result<u64, Fault> {
+    let mut bytes = [0; 256];
+    let Ok(mut file) = fs::open(rt, MEMORY) else {
+        return Err(Fault::NoFigures);
+    };
+    let Ok(length) = file.read(&mut bytes) else {
+        return Err(Fault::NoFigures);
+    };
+    let Ok(text) = str::from_utf8(&bytes[..length]) else {
+        return Err(Fault::NoFigures);
+    };
+    let Some(line) = text.lines().nth(1) else {
+        return Err(Fault::NoFigures);
+    };
+    let Some(word) = line.split_whitespace().nth(1) else {
+        return Err(Fault::NoFigures);
+    };
+    match word.parse::<u64>() {
+        Ok(count) => Ok(count),
+        Err(_) => Err(Fault::NoFigures),
+    }
+}
