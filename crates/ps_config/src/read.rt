@@ -1,5 +1,6 @@
 //! Reading a configuration.
 ghost use Rattle.std.specs.Prelude.{◌≡◌, Some, Ok, IfOk, IfErr};
+ghost use Rattle.ps_config.specs.EndTexts.{name_numbered};
 ghost use Rattle.ps_config.specs.Types.{HasTypes};
 ghost use Rattle.toml.specs.View.{table_view};
 ghost use Rattle.config_tables.specs.FaultNumbers.{number_of};
