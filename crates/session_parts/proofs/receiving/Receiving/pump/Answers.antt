@@ -1,5 +1,5 @@
 use Rattle.std.proofs.Common.{◌≡◌, ◌<◌, ℕ, refl, sym, subst, arith}
-use Rattle.ua_base.proofs.Links.{KeepsLink-then, stays_open}
+use Rattle.ua_base.proofs.Links.{KeepsLink-refl, KeepsLink-then, stays_open}
 use Rattle.session_parts.specs.Pumping.{PumpsTo}
 use Rattle.session_parts.proofs.Entries.{SoFar, so-none, so-more, so-ended, so-full}
 use Rattle.session_parts.proofs.receiving.Receiving.pump.Goals as goal
@@ -9,7 +9,7 @@ loop-taken-init g c = record {
   holds = c.requires.holds;
   room = c.requires.room;
   run = so-none c.args.config.now c.args.tree.now c.args.moment c.args.self.now c.args.subscriber.now (g.L.Link.told c.args.link.now);
-  link = record { opening = refl; counted = omega arith };
+  link = KeepsLink-refl g.L.Link.opened_with g.L.Link.faults g.L.Link.made g.L.Link.openings c.args.link.now;
 }
 
 pub returns-then-not-receive-clause-pumps : goal.returns-then-not-receive-clause-pumps
