@@ -49,16 +49,16 @@ pub(crate) fn relayed_text<R: Wait, A: Link, B: Link>(
     ensures wire_opened { OnOk result
         (B.opened_with wire.new ≡ Some (opening_again accepted.now.second)) }
     ensures lab_opens { OpensSo (Some (opening_of accepted.now.first accepted.now.script))
-        (wire_of A.told A.faults A.opened_with lab.old)
-        (wire_of A.told A.faults A.opened_with lab.new) }
+        (wire_of A.told A.faults A.opened_with A.made A.openings lab.old)
+        (wire_of A.told A.faults A.opened_with A.made A.openings lab.new) }
     ensures wire_opens { OpensSo (Some (opening_again accepted.now.second))
-        (wire_of B.told B.faults B.opened_with wire.old)
-        (wire_of B.told B.faults B.opened_with wire.new) }
+        (wire_of B.told B.faults B.opened_with B.made B.openings wire.old)
+        (wire_of B.told B.faults B.opened_with B.made B.openings wire.new) }
     ensures unopened { result ≡ Err PlayEnd.Unopened → LeavesUnopened
-        (wire_of A.told A.faults A.opened_with lab.old)
-        (wire_of A.told A.faults A.opened_with lab.new)
-        (wire_of B.told B.faults B.opened_with wire.old)
-        (wire_of B.told B.faults B.opened_with wire.new) }
+        (wire_of A.told A.faults A.opened_with A.made A.openings lab.old)
+        (wire_of A.told A.faults A.opened_with A.made A.openings lab.new)
+        (wire_of B.told B.faults B.opened_with B.made B.openings wire.old)
+        (wire_of B.told B.faults B.opened_with B.made B.openings wire.new) }
     ensures lab_counts { A.faults lab.old ≤ A.faults lab.new }
     ensures wire_counts { B.faults wire.old ≤ B.faults wire.new }
 {
