@@ -14,6 +14,7 @@ const PAUSE: u64 = 1000;
 
 /// The file that keys are read from, which is the configuration's: whoever has a later key puts it there. A device that asks a key
 /// service (OPC 10000-14 8.3.2) does so in its place.
+#[derive(Drop)]
 pub struct KeyFile<'w> {
     name: &'w str,
     /// The next moment at which it may be read.
