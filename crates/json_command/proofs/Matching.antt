@@ -54,7 +54,7 @@ same-publisher (ids.U64 m) (ids.U64 n) e = ap ids.U64 (eqb-true m n e)
 same-publisher (ids.Text m) (ids.Text n) e = ap ids.Text ((bytes_eq-Decides m n).0 e)
 same-publisher one other e = absurd (false≢true e)
 
-own-publisher : (one : Publisher) → is_same_publisher one (publisher_value one) ≡ true
+pub own-publisher : (one : Publisher) → is_same_publisher one (publisher_value one) ≡ true
 own-publisher (ids.U8 m) = eq-eqb m m refl
 own-publisher (ids.U16 m) = eq-eqb m m refl
 own-publisher (ids.U32 m) = eq-eqb m m refl

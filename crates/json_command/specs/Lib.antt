@@ -1,3 +1,4 @@
 pub mod Playing
+pub mod Owned
 pub mod Jsons
 pub mod Matched

@@ -21,11 +21,15 @@ judged_message metas id publisher parts short =
     let low : nat_lt 256 (length publisher) ≡ false = grind (arith, nat_tests) in
     ap (λ (b : Bool). published (cond b None (Some publisher)) (message_json metas id publisher parts)) low
 
+pub message_is_document : (metas : List MetaData) (id : ℕ) (publisher : List ℕ) (parts : List Part) (bytes : List ℕ) → length publisher ≤ 256
+    → value_of bytes ≡ Some (message_json metas id publisher parts) → document bytes ≡ Ok (publisher, elements_json metas parts)
+message_is_document metas id publisher parts bytes short at = ap judged_read at ∙ judged_message metas id publisher parts short
+
 pub message_is_read : (metas : List MetaData) (sets : List (ℕ × ℕ)) (id : ℕ) (publisher : List ℕ) (parts : List Part) (bytes : List ℕ) (found : JsonRead) → length publisher ≤ 256
     → AllByRecursion (IsNamedPart metas sets) parts → value_of bytes ≡ Some (message_json metas id publisher parts) → IsRead metas sets bytes found → HasMessage metas publisher parts found
 message_is_read metas sets id publisher parts bytes found short each at is =
     let elements = elements_json metas parts in
-    let whole : document bytes ≡ Ok (publisher, elements) = ap judged_read at ∙ judged_message metas id publisher parts short in
+    let whole : document bytes ≡ Ok (publisher, elements) = message_is_document metas id publisher parts bytes short at in
     let pair : ◌≡◌ {A = List ℕ × Items} (found.publisher, is.items) (publisher, elements) = same_ok (document bytes) (found.publisher, is.items) (publisher, elements) is.judged whole in
     let items : is.items ≡ elements = ap (λ (p : List ℕ × Items). p.1) pair in
     let here : ReadAs metas sets elements (parts_in metas found.parts) is.bad = subst (λ (i : Items). ReadAs metas sets i (parts_in metas found.parts) is.bad) items is.parts in

@@ -1,5 +1,5 @@
 //! Laws of messages, each the contract of a function that does nothing.
-ghost use Rattle.std.specs.Prelude.{◌≡◌, ◌≤◌, ℕ, List, length, Some};
+ghost use Rattle.std.specs.Prelude.{◌≡◌, ◌≤◌, ℕ, List, length, Some, Ok};
 ghost use Rattle.std.specs.List.{AllByRecursion};
 ghost use Rattle.serde_json.specs.Data.{Items};
 ghost use Rattle.dataset_meta.specs.Metas.{MetaData};
@@ -7,7 +7,7 @@ ghost use Rattle.json_frames.specs.declared.message.JsonRead.{JsonRead};
 ghost use Rattle.json_frames.specs.Parts.{Part};
 ghost use Rattle.json_frames.specs.Written.{elements_json, message_json};
 ghost use Rattle.json_frames.specs.Reading.{IsNamedPart, ReadAs};
-ghost use Rattle.json_frames.specs.Documents.{value_of, IsRead, HasMessage};
+ghost use Rattle.json_frames.specs.Documents.{value_of, document, IsRead, HasMessage};
 
 /// What is written of parts is read as these parts, and none is bad, where the data set of each writer
 /// is named.
@@ -24,11 +24,16 @@ pub fn elements_are_read_one_way()
         → ReadAs metas sets elements other worse → (one ≡ other) × (bad ≡ worse) }
 {}
 
-/// What is read of a written message is its publisher and its parts, each the same, and no bad element.
+/// What is read of a written message is its publisher and its parts, each the same, and no bad element; and it is refused for
+/// nothing: its document is the publisher and the elements of the parts.
 pub fn what_is_written_is_read()
-    ensures { (metas : List MetaData) (sets : List (ℕ × ℕ)) (id : ℕ) (publisher : List ℕ)
+    ensures read { (metas : List MetaData) (sets : List (ℕ × ℕ)) (id : ℕ) (publisher : List ℕ)
         (parts : List Part) (bytes : List ℕ) (found : JsonRead) → length publisher ≤ 256
         → AllByRecursion (IsNamedPart metas sets) parts
         → value_of bytes ≡ Some (message_json metas id publisher parts)
         → IsRead metas sets bytes found → HasMessage metas publisher parts found }
+    ensures accepted { (metas : List MetaData) (id : ℕ) (publisher : List ℕ) (parts : List Part)
+        (bytes : List ℕ) → length publisher ≤ 256
+        → value_of bytes ≡ Some (message_json metas id publisher parts)
+        → document bytes ≡ Ok (publisher, elements_json metas parts) }
 {}

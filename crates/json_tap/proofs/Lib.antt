@@ -1,4 +1,5 @@
-mod Lines
-mod Listed
-mod Sent
-mod Sets
+pub mod Sets
+pub mod Listed
+pub mod Named
+pub mod Lines
+pub mod Sent

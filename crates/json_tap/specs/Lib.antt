@@ -1,4 +1,5 @@
 pub mod Transcoding
+pub mod Reading
 pub mod Keeping
 pub mod Made
 pub mod Parts

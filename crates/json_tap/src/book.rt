@@ -1,6 +1,7 @@
 //! The lines so far.
 ghost use Rattle.std.specs.Prelude.{◌≡◌, ◌<◌, [], length, IfOk, OnOk, vec_len, vec_capacity};
 ghost use Rattle.json_tap.specs.Keeping.{line_for, Keeps, KeepsIf};
+ghost use Rattle.json_tap.specs.Reading.{IsReadBack};
 
 use crate::line::JsonLine;
 use crate::message::line_for;
@@ -25,6 +26,8 @@ impl Book {
     ) -> Result<Option<JsonLine>, NoMemory>
         ensures line { IfOk result (λ line.
             line ≡ line_for config.now (length self.old.lines.items) datagram.now) }
+        ensures read { OnOk result
+            (IsReadBack config.now (length self.old.lines.items) datagram.now) }
         ensures room { OnOk result (vec_len self.new.lines < vec_capacity self.new.lines) }
         ensures lines { self.new.lines.items ≡ self.old.lines.items }
         ensures skipped { self.new.skipped ≡ self.old.skipped }

@@ -1,11 +1,12 @@
 //! What is transcoded of a datagram.
-ghost use Rattle.std.specs.Prelude.{◌≡◌, ◌≤◌, ◌*◌, ◌+◌, IfOk, length, map, take, drop, zip, All};
+ghost use Rattle.std.specs.Prelude.{◌≡◌, ◌≤◌, ◌*◌, ◌+◌, IfOk, OnOk, length, map, take, drop, zip, All};
 ghost use Rattle.std.specs.Int.{w16, from_le_bytes};
 ghost use Rattle.uadp_header.specs.Headers.{ListOf, ids_of, ids_in, header_in};
 ghost use Rattle.uadp_header.specs.Spelling.{AreIds};
 ghost use Rattle.payload_layout.specs.Payloads.{frame_at, IsWithin};
 ghost use Rattle.json_tap.specs.Transcoding.{all_of, part_of, listed, parts_for, message_in, transcoded};
 ghost use Rattle.json_tap.specs.Keeping.{line_for};
+ghost use Rattle.json_tap.specs.Reading.{IsReadBack};
 ghost use Rattle.json_tap.specs.Parts.{ArePartsIf, IsMessageIf};
 
 use crate::line::JsonLine;
@@ -25,7 +26,8 @@ pub fn line_for(
     number: u64,
     datagram: &[u8],
 ) -> Result<Option<JsonLine>, NoMemory>
-    ensures { IfOk result (λ line. line ≡ line_for config.now number datagram.now) }
+    ensures line { IfOk result (λ line. line ≡ line_for config.now number datagram.now) }
+    ensures read { OnOk result (IsReadBack config.now number datagram.now) }
 {
     match message_of(alloc, config, number, datagram)? {
         None => Ok(None),

@@ -26,7 +26,7 @@ use Rattle.message_guard.specs.Protection.{keys_in, keys_with, payload_in, signa
 use Rattle.message_guard.specs.Senders.{IsSender, MayProtect, SenderState, advanced, front_value, made_of, sent}
 use Rattle.message_guard.proofs.Carrying.{front_is_senders, one_place, one_security, written_carries}
 use Rattle.message_guard.proofs.Restoring.{payload_restored, sent_is_passed}
-use Rattle.keys_command.specs.Opening.{CanOpen, FindsZeros, IsPlain, IsProtected, Opens, alone, found_by, header_with, is_zeros, payload_by, zeros}
+use Rattle.keys_command.specs.Opening.{CanOpen, Finds, FindsZeros, IsPlain, IsProtected, alone, found_by, header_with, is_zeros, payload_by, zeros}
 
 -- ---- parts of lists
 
@@ -149,16 +149,16 @@ same_verdict setup datagram found at security payload read is =
     ∙ ap (λ (n : ℕ). verdict setup.mode setup.keys [] (Some security) datagram n) (one_place datagram found (Some security) at payload read is)
 
 pub finds_refused : (setup : Setup) (datagram : List ℕ) (found : Option SecurityValue) (at : ℕ) (fault : OpenFault) → IsSecured datagram found at
-    → Err fault ≡ verdict setup.mode setup.keys [] found datagram at → FindsZeros setup datagram false
+    → Err fault ≡ verdict setup.mode setup.keys [] found datagram at → Finds setup datagram None
 finds_refused setup datagram found at fault read refused security payload is =
-    ap (λ r. is_zeros (payload_by setup datagram payload r)) (refused ∙ same_verdict setup datagram found at security payload read is)
+    ap (payload_by setup datagram payload) (refused ∙ same_verdict setup datagram found at security payload read is)
 
-pub finds_passed : (setup : Setup) (datagram new : List ℕ) (found : Option SecurityValue) (at : ℕ) (pass : Pass1) (answer : Bool) → IsSecured datagram found at
-    → Ok pass ≡ verdict setup.mode setup.keys [] found datagram at → new ≡ opened_by setup pass at datagram → answer ≡ bytes_eq (slice_range new at pass.end) zeros → FindsZeros setup datagram answer
-finds_passed setup datagram new found at pass answer read passed new_is answer_is security payload is =
-    answer_is ∙ ap (λ (xs : List ℕ). bytes_eq (slice_range xs at pass.end) zeros) new_is
-    ∙ ap (λ (n : ℕ). bytes_eq (slice_range (opened_by setup pass n datagram) n pass.end) zeros) (one_place datagram found (Some security) at payload read is)
-    ∙ ap (λ r. is_zeros (payload_by setup datagram payload r)) (passed ∙ same_verdict setup datagram found at security payload read is)
+pub finds_passed : (setup : Setup) (datagram new bytes : List ℕ) (found : Option SecurityValue) (at : ℕ) (pass : Pass1) → IsSecured datagram found at
+    → Ok pass ≡ verdict setup.mode setup.keys [] found datagram at → new ≡ opened_by setup pass at datagram → bytes ≡ slice_range new at pass.end → Finds setup datagram (Some bytes)
+finds_passed setup datagram new bytes found at pass read passed new_is bytes_is security payload is =
+    ap Some bytes_is ∙ ap (λ (xs : List ℕ). Some (slice_range xs at pass.end)) new_is
+    ∙ ap (λ (n : ℕ). Some (slice_range (opened_by setup pass n datagram) n pass.end)) (one_place datagram found (Some security) at payload read is)
+    ∙ ap (payload_by setup datagram payload) (passed ∙ same_verdict setup datagram found at security payload read is)
 
 -- ---- what was protected is found
 
@@ -208,8 +208,8 @@ protected_is_found guard set datagram can is security payload read =
     ∙ ap (λ (n : ℕ). payload_by setup datagram n (verdict setup.mode setup.keys [] (Some front) datagram (length is.header))) (sym same_place)
     ∙ found))
 
-pub opened_is : (setup : Setup) (set : KeySet) (answer : Bool) → setup.mode ≡ Encrypt → setup.first_block ≡ 1 → keys_with setup.keys set.token ≡ Some (keys_in set) → Opens setup set answer
-    → answer ≡ true
-opened_is setup set answer mode first_block known opens =
-    let is = opens.1 in
-    opens.2 (front_value Encrypt is.sender) (length is.header) is.secured ∙ ap is_zeros (found_protected setup set opens.0 mode first_block known is)
+-- a datagram of four zero bytes that was protected under a key that the guard has: it finds these
+pub finds_zeros : (setup : Setup) (set : KeySet) (datagram : List ℕ) (found : Option (List ℕ)) → setup.mode ≡ Encrypt → setup.first_block ≡ 1
+    → keys_with setup.keys set.token ≡ Some (keys_in set) → IsProtected set datagram → Finds setup datagram found → found ≡ Some zeros
+finds_zeros setup set datagram found mode first_block known is finds =
+    finds (front_value Encrypt is.sender) (length is.header) is.secured ∙ found_protected setup set datagram mode first_block known is

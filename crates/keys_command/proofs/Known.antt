@@ -6,13 +6,12 @@ use Rattle.key_service.specs.declared.service.Keys.{Keys}
 use Rattle.key_service.specs.Laws.{AreSets, IsReply}
 use Rattle.key_service.specs.Pulled.{as_read, from_moment, moment_of, pulled_sets, timed_from}
 use Rattle.key_service.proofs.Looking.{not_equal}
-use Rattle.message_guard.specs.declared.keys.TokenKeys.{TokenKeys}
-use Rattle.message_guard.specs.declared.guard.Guard.{Guard}
 use Rattle.message_guard.specs.declared.mode.Mode.TheVariants.{Encrypt}
-use Rattle.message_guard.specs.Guards.{IsGuardOf, setup_of}
+use Rattle.message_guard.specs.Guards.{Setup}
 use Rattle.message_guard.specs.Protection.{keys_in, keys_with}
-use Rattle.keys_command.specs.Opening.{CanOpen, HasLength}
+use Rattle.keys_command.specs.Opening.{HasLength}
 use Rattle.keys_command.specs.Texts.{key_line, key_lines, policy_line}
+use Rattle.keys_command.specs.Trials.{puller_setup}
 
 -- the sets of an answer, one by one
 token_at : (long : Bool) (token : ℕ) (sets : List KeySet) → AreSets long token sets → (k : ℕ) (d : KeySet) → k < length sets → (get_or sets k d).token ≡ token + k
@@ -44,18 +43,20 @@ found_at next lifetime index long token (set ∷ sets) are (suc k) d within =
 pub have_length : (keys : Keys) (sets : List KeySet) → sets ≡ keys.keys.items → IsReply keys → All (HasLength keys.long) sets
 have_length keys sets is reply = subst (All (HasLength keys.long)) (sym is) (λ k d within. length_at keys.long keys.first keys.keys.items reply.sets k d within)
 
--- a guard over the sets that are pulled has the keys of the answer
-pub can_open : (keys : Keys) (sets : List KeySet) (guard : Guard) → IsReply keys → sets ≡ pulled_sets keys → IsGuardOf [] guard → (setup_of guard).keys ≡ map keys_in sets
-    → (setup_of guard).mode ≡ Encrypt → (setup_of guard).first_block ≡ 1 → All (CanOpen guard) keys.keys.items
-can_open keys sets guard reply pulled fresh has mode first_block = λ k d within.
+-- a guard over the sets that are pulled is the puller's
+pub is_pullers : (back : Keys) (sets : List KeySet) (setup : Setup) → sets ≡ back.keys.items → setup.keys ≡ map keys_in sets → setup.mode ≡ Encrypt → setup.first_block ≡ 1
+    → setup ≡ puller_setup back
+is_pullers back sets setup pulled has mode first_block = rw (← pulled, ← has, ← mode, ← first_block) refl
+
+-- the puller that read the keys has each of them under its token
+abbrev pub IsKnown : Keys → KeySet → Type 0
+IsKnown read set = keys_with (puller_setup read).keys set.token ≡ Some (keys_in set)
+
+pub all_known : (keys read : Keys) → IsReply keys → read ≡ as_read keys → All (IsKnown read) keys.keys.items
+all_known keys read reply is = λ k d within.
     let set = get_or keys.keys.items k d in
-    record {
-      fresh = fresh;
-      mode = mode;
-      first_block = first_block;
-      known = ap (λ (all : List TokenKeys). keys_with all set.token) (has ∙ ap (map keys_in) pulled)
-          ∙ found_at keys.next keys.lifetime 0 keys.long keys.first keys.keys.items reply.sets k d within;
-    }
+    ap (λ (r : Keys). keys_with (puller_setup r).keys set.token) is
+    ∙ found_at keys.next keys.lifetime 0 keys.long keys.first keys.keys.items reply.sets k d within
 
 -- the lines of keys go by their tokens, whatever their moments
 pub same_lines : (opens : Bool) (next lifetime index : ℕ) (sets : List KeySet) → key_lines opens (timed_from next lifetime index sets) ≡ key_lines opens sets

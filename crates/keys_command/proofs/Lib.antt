@@ -1,5 +1,7 @@
 pub mod Found
 pub mod Known
+pub mod Trying
+pub mod Tried
 pub mod Sizes
 pub mod Back
 pub mod Groups

@@ -15,7 +15,7 @@ use Rattle.commands.specs.Files.{IsLong, IsTold}
 use Rattle.commands.specs.Configurations.{EndsConfigFile, IsJudged}
 use Rattle.commands.proofs.Told.{judged_told, long_judged, long_is, long_short}
 use Rattle.keys_command.specs.declared.words.Asked.{Asked}
-use Rattle.keys_command.specs.Ends.{KeysEnds, Says, TellsAnswer, TellsKeys}
+use Rattle.keys_command.specs.Ends.{KeysEnds, Says, TellsAnswer, TellsExchange, TellsKeys}
 
 -- the last write ends the command
 pub says_written : (status : Status) (name : List ℕ) (asked : Asked) (file : ToldFile) (old new : Option (List ℕ)) (text : List ℕ) → TellsKeys file asked text → EndsWriting old new text status
@@ -100,8 +100,8 @@ accepted file bytes config n is judged other = ((λ three. absurd (other three))
 
 refuses : (status : Status) (name : List ℕ) (asked : Asked) (file : ToldFile) (old new : Option (List ℕ)) (bytes : List ℕ) → Says status name asked file old new → IsTold file bytes
     → (IsUnread status → ⊥) → (IsOutOfMemory status → ⊥) → IsConfigRefused status ↔ IsErr (configuration bytes)
-refuses Done name asked file old new bytes h is a b = accepted file bytes h.1.0 0 is h.1.1 (λ three. omega arith)
-refuses Unwritten name asked file old new bytes h is a b = accepted file bytes h.1.0 6 is h.1.1 (λ three. omega arith)
+refuses Done name asked file old new bytes h is a b = accepted file bytes h.1.config 0 is h.1.judged (λ three. omega arith)
+refuses Unwritten name asked file old new bytes h is a b = accepted file bytes h.1.config 6 is h.1.judged (λ three. omega arith)
 refuses (ConfigRefused code path) name asked file old new bytes h is a b = ((λ three. ap is_err (judged_told file bytes (Err (code, path)) is.told h)), (λ err. refl))
 refuses (Long which) name asked file old new bytes h is a b = absurd (long_short file bytes is h.1)
 refuses (Unread unread) name asked file old new bytes h is a b = absurd (a refl)
@@ -129,8 +129,8 @@ accepts Unopened name asked file old new bytes config h is ok a b = absurd h
 
 too_long : (status : Status) (name : List ℕ) (asked : Asked) (file : ToldFile) (old new : Option (List ℕ)) (bytes : List ℕ) → Says status name asked file old new → file ≡ Some (Some bytes)
     → (IsUnread status → ⊥) → (IsOutOfMemory status → ⊥) → IsTooLong status ↔ IsLong bytes
-too_long Done name asked file old new bytes h is a b = ((λ nine. absurd (omega arith)), (λ long. absurd (long_judged file bytes (Ok h.1.0) is h.1.1 long)))
-too_long Unwritten name asked file old new bytes h is a b = ((λ nine. absurd (omega arith)), (λ long. absurd (long_judged file bytes (Ok h.1.0) is h.1.1 long)))
+too_long Done name asked file old new bytes h is a b = ((λ nine. absurd (omega arith)), (λ long. absurd (long_judged file bytes (Ok h.1.config) is h.1.judged long)))
+too_long Unwritten name asked file old new bytes h is a b = ((λ nine. absurd (omega arith)), (λ long. absurd (long_judged file bytes (Ok h.1.config) is h.1.judged long)))
 too_long (ConfigRefused code path) name asked file old new bytes h is a b = ((λ nine. absurd (omega arith)), (λ long. absurd (long_judged file bytes (Err (code, path)) is h long)))
 too_long (Long which) name asked file old new bytes h is a b = ((λ nine. long_is file bytes is h.1), (λ long. refl))
 too_long (Unread unread) name asked file old new bytes h is a b = absurd (a refl)
@@ -157,8 +157,9 @@ keys_end status name asked old new h reads writes files = record {
 }
 
 -- what is answered of a configuration that was accepted is told
-pub tells_keys : (file : ToldFile) (asked : Asked) (config : Config) (text : List ℕ) → IsJudged file (Ok config) → TellsAnswer config asked text → TellsKeys file asked text
-tells_keys file asked config text judged tells = (config, judged, tells)
+pub tells_keys : (file : ToldFile) (asked : Asked) (config : Config) (text : List ℕ) → IsJudged file (Ok config) → TellsExchange config asked text → TellsAnswer config asked text
+    → TellsKeys file asked text
+tells_keys file asked config text judged exchange answer = record { config = config; judged = judged; exchange = exchange; answer = answer }
 
 -- a text was to be written
 pub ends_written : (status : Status) (name : List ℕ) (asked : Asked) (old new : Outside) (text : List ℕ) → TellsKeys (old.file name) asked text → EndsWriting old.written new.written text status

@@ -15,16 +15,26 @@ use Rattle.commands.specs.Configurations.{IsJudged, EndsConfigFile}
 use Rattle.keys_command.specs.declared.refusal.Refusal.{Refusal}
 use Rattle.keys_command.specs.declared.words.Asked.{Asked}
 use Rattle.keys_command.specs.Answers.{IsAnswer}
-use Rattle.keys_command.specs.Texts.{keys_text}
+use Rattle.keys_command.specs.declared.trial.Exchange.{Exchange}
+use Rattle.keys_command.specs.Trials.{IsExchange}
+use Rattle.keys_command.specs.Texts.{exchange_text, keys_text}
+
+-- the text tells what passed between the service of the configuration and the puller, and nothing else
+abbrev pub TellsExchange : Config → Asked → List ℕ → Type 0
+TellsExchange config asked text =
+    (made : Result Exchange Refusal) × IsExchange config asked made × (text ≡ exchange_text made)
 
 -- the text tells what is answered of the configuration
 abbrev pub TellsAnswer : Config → Asked → List ℕ → Type 0
 TellsAnswer config asked text =
     (answer : Result Keys Refusal) × IsAnswer config asked answer × (text ≡ keys_text asked.start answer)
 
--- the text tells what is answered of the configuration that the file was accepted as
-abbrev pub TellsKeys : ToldFile → Asked → List ℕ → Type 0
-TellsKeys file asked text = (config : Config) × IsJudged file (Ok config) × TellsAnswer config asked text
+-- the text tells what passed so, and with it what is answered, of the configuration that the file was accepted as
+pub record TellsKeys (file : ToldFile) (asked : Asked) (text : List ℕ) : Type 0 where
+  pub config : Config
+  pub judged : IsJudged file (Ok config)
+  pub exchange : TellsExchange config asked text
+  pub answer : TellsAnswer config asked text
 
 -- What each status says. file: what the folder tells of the file of this name; old, new: what the output tells before and behind
 abbrev pub Says : Status → List ℕ → Asked → ToldFile → Option (List ℕ) → Option (List ℕ) → Type 0

@@ -1,5 +1,6 @@
 pub mod Words
 pub mod Answers
-pub mod Texts
 pub mod Opening
+pub mod Trials
+pub mod Texts
 pub mod Ends

@@ -78,9 +78,10 @@ abbrev pub FindsZeros : Setup → List ℕ → Bool → Type 0
 FindsZeros setup datagram answer = (security : SecurityValue) (payload : ℕ) → IsSecured datagram (Some security) payload
     → answer ≡ is_zeros (found_by setup security datagram payload)
 
--- a datagram of four zero bytes was protected under the key, and the answer says whether the guard finds them
-abbrev pub Opens : Setup → KeySet → Bool → Type 0
-Opens setup set answer = (datagram : List ℕ) × IsProtected set datagram × FindsZeros setup datagram answer
+-- the guard finds just this in the datagram, with whichever security header this is read
+abbrev pub Finds : Setup → List ℕ → Option (List ℕ) → Type 0
+Finds setup datagram found = (security : SecurityValue) (payload : ℕ) → IsSecured datagram (Some security) payload
+    → found ≡ found_by setup security datagram payload
 
 -- a guard that accepted nothing before, decrypts, and has the keys of the set under its token
 pub record CanOpen (guard : Guard) (set : KeySet) : Type 0 where

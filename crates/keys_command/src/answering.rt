@@ -5,16 +5,44 @@ ghost use Rattle.key_service.specs.Laws.{IsReply};
 ghost use Rattle.key_service.specs.Pulled.{IsPullable};
 ghost use Rattle.ps_config.specs.Sound.{IsKeyGroup, IsSound};
 ghost use Rattle.keys_command.specs.Answers.{group_named, IsAnswer, IsServiceAnswer};
+ghost use Rattle.keys_command.specs.Trials.{IsExchange, IsExchangeOf};
 
-use crate::exchange::request_back;
+use crate::exchange::{reply_back, request_back};
+use crate::opening::trials_of;
 use crate::refusal::Refusal;
+use crate::trial::Exchange;
 use crate::words::Asked;
 use dataset_meta::Name32;
 use key_service::{KeyFault, Keys, Service};
 use ps_config::{Config, KeyGroupPart, ring_of};
 
+/// Asks the service of the security group, writes its reply and reads it back, and tries each key where START is 0.
+pub(crate) fn exchange(config: &Config, asked: &Asked) -> Result<Exchange, Refusal>
+    requires { IsSound config.now }
+    ensures { IsExchange config.now asked.now result }
+{
+    match answer_of(config, asked) {
+        Ok(keys) => Ok(exchange_of(asked.start, &keys)),
+        Err(refusal) => Err(refusal),
+    }
+}
+
+fn exchange_of(start: u32, keys: &Keys) -> Exchange
+    requires reply { IsReply keys.now }
+    requires pullable { start ≡ 0 → IsPullable keys.now }
+    ensures { IsExchangeOf start keys.now result }
+{
+    let read = reply_back(keys);
+    let trials = if start == 0 {
+        Some(trials_of(keys, &read))
+    } else {
+        None
+    };
+    Exchange { read, trials }
+}
+
 /// What the service of the security group answers, once the request was written and read back.
-pub(crate) fn answer_of(config: &Config, asked: &Asked) -> Result<Keys, Refusal>
+fn answer_of(config: &Config, asked: &Asked) -> Result<Keys, Refusal>
     requires { IsSound config.now }
     ensures answer { IsAnswer config.now asked.now result }
     ensures reply { IfOk result IsReply }

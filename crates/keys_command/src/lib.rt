@@ -11,9 +11,13 @@ mod protecting;
 mod put;
 mod refusal;
 mod text;
+mod trial;
 mod words;
 
 pub use command::keys;
-pub use laws::{a_configuration_has_one_text, what_is_protected_is_found};
+pub use laws::{
+    a_configuration_has_one_text, each_key_that_is_tried_opens, what_is_protected_is_found,
+};
 pub use refusal::Refusal;
+pub use trial::{Exchange, Trial};
 pub use words::{Asked, keys_in};

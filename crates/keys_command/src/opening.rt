@@ -1,49 +1,93 @@
 //! A guard over a pulled ring, and what it opens.
-ghost use Rattle.std.specs.Prelude.{◌≡◌, [], All};
+ghost use Rattle.std.specs.Prelude.{◌≡◌, ◌≤◌, [], All, IfOk, length, option_map};
 ghost use Rattle.key_service.specs.Laws.{IsReply};
 ghost use Rattle.key_service.specs.Pulled.{as_read, IsPullable};
 ghost use Rattle.message_guard.specs.Guards.{IsGuardOf, setup_of};
-ghost use Rattle.keys_command.specs.Opening.{CanOpen, FindsZeros, HasLength, Opens};
+ghost use Rattle.keys_command.specs.Opening.{Finds, HasLength};
+ghost use Rattle.keys_command.specs.Trials.{AreTrials, IsTrial, puller_setup};
 
-use crate::protecting::{FIRST_BLOCK, ZEROS, protect_zeros};
+use crate::protecting::{FIRST_BLOCK, protect_zeros};
+use crate::trial::Trial;
+use arrayvec::ArrayVec;
 use group_keys::KeySet;
 use key_service::{Keys, a_read_answer_is_pulled_as_the_answer, pulled};
 use message_guard::{Guard, Mode};
 use uadp_header::read_header;
 
-/// The guard over the ring that a puller makes of the keys that it read.
-pub(crate) fn guard_of(keys: &Keys, back: &Keys) -> Guard
+/// Tries each key of an answer to START 0: a datagram is protected under it, and handed to a guard over the ring that a puller makes
+/// of the keys that it read.
+pub(crate) fn trials_of(keys: &Keys, back: &Keys) -> ArrayVec<Trial, 16>
     requires reply { IsReply keys.now }
     requires pullable { IsPullable keys.now }
     requires back { back.now ≡ as_read keys.now }
-    ensures { All (CanOpen result) keys.now.keys.items }
+    ensures { AreTrials (puller_setup back.now) keys.now.keys.items result.items }
+{
+    let guard = guard_of(keys, back);
+    each_trial(&guard, keys.long, keys.keys.as_slice())
+}
+
+/// The guard over the ring that a puller makes of the keys that it read.
+fn guard_of(keys: &Keys, back: &Keys) -> Guard
+    requires pullable { IsPullable keys.now }
+    requires back { back.now ≡ as_read keys.now }
+    ensures fresh { IsGuardOf [] result }
+    ensures setup { setup_of result ≡ puller_setup back.now }
 {
     a_read_answer_is_pulled_as_the_answer();
     Guard::new(pulled(back), Mode::Encrypt, FIRST_BLOCK)
 }
 
-/// Whether the guard opens a datagram of four zero bytes that is protected under the key.
-pub(crate) fn opens(guard: &Guard, long: bool, set: &KeySet) -> bool
+fn each_trial(guard: &Guard, long: bool, sets: &[KeySet]) -> ArrayVec<Trial, 16>
+    requires fresh { IsGuardOf [] guard.now }
+    requires lengths { All (HasLength long) sets.now }
+    requires few { length sets.now ≤ 16 }
+    ensures { AreTrials (setup_of guard.now) sets.now result.items }
+{
+    let mut trials = ArrayVec::new();
+    for set in sets {
+        trials.push(trial_of(guard, long, set));
+    }
+    trials
+}
+
+/// Protects four zero bytes under the key, and hands them to the guard.
+fn trial_of(guard: &Guard, long: bool, set: &KeySet) -> Trial
     requires fresh { IsGuardOf [] guard.now }
     requires length { HasLength long set.now }
-    ensures { Opens (setup_of guard.now) set.now result }
+    ensures { IsTrial (setup_of guard.now) set.now result }
 {
     let mut room = [0; 64];
     let end = protect_zeros(long, set, &mut room);
-    finds_zeros(guard, &mut room[..end])
+    let sent = copied(&room[..end]);
+    let found = found_by(guard, &mut room[..end]);
+    Trial {
+        token: set.token,
+        sent,
+        found,
+    }
 }
 
-/// Whether the guard passes the datagram, and finds four zero bytes once it is decrypted.
-fn finds_zeros(guard: &Guard, datagram: &mut [u8]) -> bool
-    requires { IsGuardOf [] guard.now }
-    ensures { FindsZeros (setup_of guard.now) datagram.old result }
+fn copied(bytes: &[u8]) -> ArrayVec<u8, 64>
+    requires { length bytes.now ≤ 64 }
+    ensures { result.items ≡ bytes.now }
+{
+    let mut copy = ArrayVec::new();
+    let _ = copy.try_extend_from_slice(bytes);
+    copy
+}
+
+/// What the guard decrypts of the datagram, where it passes it.
+fn found_by(guard: &Guard, datagram: &mut [u8]) -> Option<ArrayVec<u8, 64>>
+    requires fresh { IsGuardOf [] guard.now }
+    requires short { length datagram.old ≤ 64 }
+    ensures { Finds (setup_of guard.now) datagram.old (option_map (λ found. found.items) result) }
 {
     let Ok((header, payload)) = read_header(datagram) else {
-        return false;
+        return None;
     };
     let Ok(pass) = guard.test(header.security.as_ref(), datagram, payload) else {
-        return false;
+        return None;
     };
     guard.decrypt(&pass, datagram, payload);
-    datagram[payload..pass.end] == ZEROS[..]
+    Some(copied(&datagram[payload..pass.end]))
 }

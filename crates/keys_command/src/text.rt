@@ -1,37 +1,41 @@
-//! What is written of an answer.
-ghost use Rattle.std.specs.Prelude.{◌≡◌, ◌++◌, ◌==◌, true, false, IfOk, OnOk, Ok, All};
-ghost use Rattle.key_service.specs.Laws.{IsReply};
-ghost use Rattle.key_service.specs.Pulled.{as_read, IsPullable};
+//! What is written of what passed between a key service and a puller.
+ghost use Rattle.std.specs.Prelude.{◌≡◌, ◌++◌, false, IfOk, OnOk, Ok};
 ghost use Rattle.ps_config.specs.Sound.{IsSound};
-ghost use Rattle.keys_command.specs.Ends.{TellsAnswer};
-ghost use Rattle.keys_command.specs.Opening.{CanOpen, HasLength};
-ghost use Rattle.keys_command.specs.Texts.{key_line, key_lines, keys_text, refused_text};
+ghost use Rattle.keys_command.specs.Ends.{TellsAnswer, TellsExchange};
+ghost use Rattle.keys_command.specs.Texts.{exchange_lines, exchange_text, key_line, key_lines, refused_text, trial_lines};
+ghost use Rattle.keys_command.specs.Trials.{has_opened};
 
-use crate::answering::answer_of;
-use crate::exchange::reply_back;
-use crate::opening::{guard_of, opens};
+use crate::answering::exchange;
+use crate::protecting::ZEROS;
 use crate::put::{put_key, put_policy};
 use crate::refusal::Refusal;
+use crate::trial::{Exchange, Trial};
 use crate::words::Asked;
 use group_keys::KeySet;
-use key_service::Keys;
-use message_guard::Guard;
 use ps_config::Config;
 use ps_report::{put, put_end, put_feed};
 use std::alloc::Global;
 use ua_base::NoMemory;
 
-/// The lines that tell what is answered of the configuration.
+/// The lines that tell what is answered of the configuration, by what a puller made of it.
 pub(crate) fn answer_text(
     alloc: Global,
     config: &Config,
     asked: &Asked,
 ) -> Result<Vec<u8>, NoMemory>
     requires { IsSound config.now }
-    ensures { IfOk result (λ text. TellsAnswer config.now asked.now text.items) }
+    ensures exchange { IfOk result (λ text. TellsExchange config.now asked.now text.items) }
+    ensures answer { IfOk result (λ text. TellsAnswer config.now asked.now text.items) }
 {
-    match answer_of(config, asked) {
-        Ok(keys) => keys_text(alloc, asked.start, &keys),
+    exchange_text(alloc, exchange(config, asked))
+}
+
+/// The lines of what passed, and of nothing else.
+fn exchange_text(alloc: Global, made: Result<Exchange, Refusal>) -> Result<Vec<u8>, NoMemory>
+    ensures { IfOk result (λ text. text.items ≡ exchange_text made) }
+{
+    match made {
+        Ok(made) => made_text(alloc, &made),
         Err(refusal) => refused_text(alloc, refusal),
     }
 }
@@ -47,58 +51,51 @@ fn refused_text(alloc: Global, refusal: Refusal) -> Result<Vec<u8>, NoMemory>
     Ok(out)
 }
 
-/// The lines of keys, as a puller reads them in the reply.
-fn keys_text(alloc: Global, start: u32, keys: &Keys) -> Result<Vec<u8>, NoMemory>
-    requires reply { IsReply keys.now }
-    requires pullable { start ≡ 0 → IsPullable keys.now }
-    ensures { IfOk result (λ text. text.items ≡ keys_text start (Ok keys.now)) }
+fn made_text(alloc: Global, made: &Exchange) -> Result<Vec<u8>, NoMemory>
+    ensures { IfOk result (λ text. text.items ≡ exchange_text (Ok made.now)) }
 {
-    let back = reply_back(keys);
     let mut out = Vec::new(alloc);
-    put_policy(&mut out, &back)?;
-    put_each(&mut out, start, keys, &back)?;
+    put_policy(&mut out, &made.read)?;
+    put_made(&mut out, made)?;
     put_end(&mut out)?;
     Ok(out)
 }
 
-/// A line for each key. With START 0 it tells that a guard over the puller's ring opened what is protected under the service's key.
-fn put_each(out: &mut Vec<u8>, start: u32, keys: &Keys, back: &Keys) -> Result<(), NoMemory>
-    requires reply { IsReply keys.now }
-    requires pullable { start ≡ 0 → IsPullable keys.now }
-    requires back { back.now ≡ as_read keys.now }
+/// A line for each key: as it was tried, or, where none was, as it was read.
+fn put_made(out: &mut Vec<u8>, made: &Exchange) -> Result<(), NoMemory>
     ensures { OnOk result (out.new.items
-        ≡ out.old.items ++ key_lines (start == 0) keys.now.keys.items) }
+        ≡ out.old.items ++ exchange_lines made.now made.now.trials) }
 {
-    if start == 0 {
-        let guard = guard_of(keys, back);
-        return put_opened(out, &guard, keys.long, keys.keys.as_slice());
+    match &made.trials {
+        Some(trials) => put_trials(out, trials.as_slice()),
+        None => put_keys(out, made.read.keys.as_slice()),
     }
-    put_keys(out, back.keys.as_slice())
 }
 
-fn put_opened(out: &mut Vec<u8>, guard: &Guard, long: bool, sets: &[KeySet]) -> Result<(), NoMemory>
-    requires guard { All (CanOpen guard.now) sets.now }
-    requires lengths { All (HasLength long) sets.now }
-    ensures { OnOk result (out.new.items ≡ out.old.items ++ key_lines true sets.now) }
+fn put_trials(out: &mut Vec<u8>, trials: &[Trial]) -> Result<(), NoMemory>
+    ensures { OnOk result (out.new.items ≡ out.old.items ++ trial_lines trials.now) }
 {
-    for set in sets {
-        put_opened_key(out, guard, long, set)?;
+    for trial in trials {
+        put_trial(out, trial)?;
     }
     Ok(())
 }
 
-fn put_opened_key(
-    out: &mut Vec<u8>,
-    guard: &Guard,
-    long: bool,
-    set: &KeySet,
-) -> Result<(), NoMemory>
-    requires guard { CanOpen guard.now set.now }
-    requires length { HasLength long set.now }
-    ensures { OnOk result (out.new.items ≡ out.old.items ++ key_line true set.now.token) }
+fn put_trial(out: &mut Vec<u8>, trial: &Trial) -> Result<(), NoMemory>
+    ensures { OnOk result (out.new.items
+        ≡ out.old.items ++ key_line (has_opened trial.now) trial.now.token) }
 {
-    let opens = opens(guard, long, set);
-    put_key(out, set.token, opens)
+    put_key(out, trial.token, has_opened(trial))
+}
+
+/// Whether the guard found four zero bytes.
+fn has_opened(trial: &Trial) -> bool
+    ensures { result ≡ has_opened trial.now }
+{
+    match &trial.found {
+        Some(found) => found.as_slice() == &ZEROS[..],
+        None => false,
+    }
 }
 
 fn put_keys(out: &mut Vec<u8>, sets: &[KeySet]) -> Result<(), NoMemory>
