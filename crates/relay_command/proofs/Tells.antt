@@ -19,11 +19,12 @@ use Rattle.session_model.specs.Steps.{Plan, Step}
 use Rattle.session_laws.specs.Headline.{PublishesVersion, answered_turn}
 use Rattle.session_laws.specs.Pasts.{settings_at}
 use Rattle.session_laws.specs.Reading.{IsMatchedIn}
+use Rattle.session_laws.specs.Sessions.{AreVersions}
 use Rattle.session_laws.proofs.Ends.{reader-place, writer-place}
 use Rattle.session_laws.proofs.Telling.{some-index, writer-index}
 use Rattle.gateway_core.specs.declared.collected.StoreVersion.{StoreVersion}
 use Rattle.gateway_core.specs.Lived.{plan_again, version_in}
-use Rattle.gateway_laws.specs.Gateways.{set_of}
+use Rattle.gateway_laws.specs.Gateways.{IsRelay, set_of}
 use Rattle.gateway_laws.specs.Origins.{CameWith}
 use Rattle.gateway_laws.specs.Relays.{RelayStep, firsts, seconds, stored_rows}
 use Rattle.gateway_laws.specs.Sources.{Source, source_at}
@@ -114,7 +115,7 @@ line-so One Other text so h = record { front = h.front; line = h.line; behind = 
 -- ---- the whole text
 
 module _ (p : Plan) (first second : Config) (sources : List Source) (relay : List RelayStep) (rows : ℕ → ℕ → List DataValue) (closed : Closed) (text : List ℕ) (gateway : TellsGateway p second sources relay rows) (came : CameLaw p) where
-  stores-told : StoresLaw p second sources relay → (g w : ℕ) (line : List ℕ) → w < length (group_at second g).writer → IsWriterText second (seconds relay) (g, w) line → TellsStores p second sources relay rows g w line
+  pub stores-told : StoresLaw p second sources relay → (g w : ℕ) (line : List ℕ) → w < length (group_at second g).writer → IsWriterText second (seconds relay) (g, w) line → TellsStores p second sources relay rows g w line
   stores-told publish g w line within is = record {
     text_is = is;
     never_fall = gateway.never_fall g w within;
@@ -143,3 +144,9 @@ module _ (p : Plan) (first second : Config) (sources : List Source) (relay : Lis
             (line-in (IsReaderText second steps kept) (reader_places second) is.readers place.0 (r, i) is.readers_are place.1)));
         never_older = gateway.never_older;
       }
+
+-- the law of the text
+abbrev pub LinesLaw : Type 0
+LinesLaw = (p : Plan) (first second : Config) (sources : List Source) (relay : List RelayStep) (rows : ℕ → ℕ → List DataValue) (closed : Closed) (text : List ℕ)
+    → IsRelay p second sources relay → AreVersions p (firsts relay) rows → IsTextOf first closed second (seconds relay) (versions_of p sources relay) text
+    → TellsRelay p second sources relay rows text
