@@ -1,6 +1,7 @@
 -- A small relay meets the premises of the laws of gateways.
-use Rattle.std.proofs.Common.{◌≡◌, refl, sym, ap, ◌∙◌, subst, arith, ℕ, zero, suc, ◌+◌, ◌<◌, ◌≤◌, ◌⊎◌, lit<, lit≤, inl, inr, true, false, List, [], ◌∷◌, ◌++◌, length, map, All, Contains, Some, None, Ok}
-use Rattle.std.specs.Prelude.{codes, slice_index_or}
+use Rattle.std.proofs.Common.{◌≡◌, refl, sym, ap, ◌∙◌, subst, arith, ℕ, zero, suc, ◌+◌, ◌<◌, ◌≤◌, ◌⊎◌, lit<, lit≤, inl, inr, Bool, true, false, List, [], ◌∷◌, ◌++◌, length, map, All, Contains, Some, None, Ok}
+use Rattle.std.specs.Prelude.{◌==◌, slice_index_or, if◌then◌else◌}
+use Rattle.std.proofs.lemmas.Bool.Decides.{nat_tests}
 use Rattle.std.specs.Fmt.{digits}
 use Rattle.std.specs.Str.{is_utf8, chars}
 use Rattle.std.proofs.lemmas.List.{length-append}
@@ -397,6 +398,14 @@ entry-is : AgainLaws → IsEntry 8 (terms_of its_cell.quotas its_cell.meta) seve
 unfolding seven
 entry-is laws = record { author = lit< tt; row = record { whole = refl; meta = again_set; is_meta = its-meta laws; of_shape = refl; belongs = seven-belongs } }
 
+other-author : (k : ℕ) → (0 == suc k) ≡ false
+other-author k = grind (arith, nat_tests)
+
+none-own : (k : ℕ) → length (own (suc k) (seven_entry ∷ seven_entry ∷ [])) ≡ 0
+none-own k =
+    ap (λ (b : Bool). length (if b then seven_entry ∷ own (suc k) (seven_entry ∷ []) else own (suc k) (seven_entry ∷ []))) (other-author k)
+    ∙ ap (λ (b : Bool). length (if b then seven_entry ∷ [] else [])) (other-author k)
+
 pub its-lawful : AgainLaws → SeesLawful (pass_with (seven_entry ∷ seven_entry ∷ []))
 its-lawful laws = record {
   entries = All-cons (IsEntry 8 terms) seven_entry (seven_entry ∷ []) (entry-is laws) (All-cons (IsEntry 8 terms) seven_entry [] (entry-is laws) (All-nil (IsEntry 8 terms)));
@@ -408,7 +417,7 @@ its-lawful laws = record {
 
     within : (author : ℕ) → author < 8 → length (own author (seven_entry ∷ seven_entry ∷ [])) ≤ quota author terms
     within zero lt = lit≤ tt
-    within (suc k) lt = let none : length (own (suc k) (seven_entry ∷ seven_entry ∷ [])) ≡ 0 = refl in omega (arith, none)
+    within (suc k) lt = omega (arith, none-own k)
 
 pub its-stored : HasStored (held_store 1 ∷ held_store 0 ∷ []) its_cell.meta (pass_with (seven_entry ∷ seven_entry ∷ []))
 unfolding again_set row_in statuses_in
