@@ -1,15 +1,19 @@
 -- What the lines of a gateway tell.
-use Rattle.std.proofs.Common.{◌≡◌, refl, sym, ap, ◌∙◌, subst, ℕ, zero, suc, ◌<◌, true, List, [], ◌∷◌, ◌++◌, length, Option, None, Some, append_assoc, inl, inr}
+use Rattle.std.proofs.Common.{◌≡◌, refl, sym, ap, ◌∙◌, subst, arith, ℕ, zero, suc, ◌<◌, ◌≤◌, true, List, [], ◌∷◌, ◌++◌, length, Option, None, Some, append_assoc, inl, inr}
 use Rattle.std.specs.Prelude.{◌⊎◌, option_and_then, slice_get}
+use Rattle.std.proofs.lemmas.Bool.{cases_lt}
+use Rattle.std.proofs.lemmas.List.{get_or_past}
 use Rattle.dataset_meta.specs.declared.field.Field.{Field}
 use Rattle.dataset_meta.specs.DataValues.{DataValue}
 use Rattle.dataset_reader.specs.Kept.{Kept}
 use Rattle.pubsub_model.specs.Answers.{version_of}
 use Rattle.pubsub_model.specs.Cadence.{HadTurn, WriterDeed, WriterTurn, is_data}
 use Rattle.ps_config.specs.declared.parts.Config.{Config}
+use Rattle.ps_config.specs.declared.parts.ReadGroupPart.{ReadGroupPart}
 use Rattle.ps_report.specs.declared.closed.Closed.{Closed}
 use Rattle.ps_report.specs.Lines.{fields_text, waits_text}
 use Rattle.ps_report.specs.Reports.{end_line}
+use Rattle.reader_group.specs.Settings.{group_at as read_group_at, no_group as no_read_group}
 use Rattle.writer_group.specs.Parts.{group_at}
 use Rattle.session_model.specs.Closing.{MemberPlace, reader_places, writer_places}
 use Rattle.session_model.specs.Deeds.{log_at, writer_deeds}
@@ -21,7 +25,7 @@ use Rattle.session_laws.specs.Pasts.{settings_at}
 use Rattle.session_laws.specs.Reading.{IsMatchedIn}
 use Rattle.session_laws.specs.Sessions.{AreVersions}
 use Rattle.session_laws.proofs.Ends.{reader-place, writer-place}
-use Rattle.session_laws.proofs.Telling.{some-index, writer-index}
+use Rattle.session_laws.proofs.Telling.{writer-index}
 use Rattle.gateway_core.specs.declared.collected.StoreVersion.{StoreVersion}
 use Rattle.gateway_core.specs.Lived.{plan_again, version_in}
 use Rattle.gateway_laws.specs.Gateways.{IsRelay, set_of}
@@ -114,6 +118,16 @@ line-so One Other text so h = record { front = h.front; line = h.line; behind = 
 
 -- ---- the whole text
 
+-- a read group with a reader is there
+read-group-there : (config : Config) (r i : ℕ) → i < length (read_group_at config r).reader → r < length config.readgroup
+read-group-there config r i within = on (cases_lt r (length config.readgroup))
+  where
+    on : (r < length config.readgroup) ⊎ (length config.readgroup ≤ r) → r < length config.readgroup
+    on (inl less) = less
+    on (inr past) =
+        let none : length (read_group_at config r).reader ≡ 0 = ap (λ (group : ReadGroupPart). length group.reader) (get_or_past config.readgroup r no_read_group past) in
+        absurd (omega (arith, within, none))
+
 module _ (p : Plan) (first second : Config) (sources : List Source) (relay : List RelayStep) (rows : ℕ → ℕ → List DataValue) (closed : Closed) (text : List ℕ) (gateway : TellsGateway p second sources relay rows) (came : CameLaw p) where
   pub stores-told : StoresLaw p second sources relay → (g w : ℕ) (line : List ℕ) → w < length (group_at second g).writer → IsWriterText second (seconds relay) (g, w) line → TellsStores p second sources relay rows g w line
   stores-told publish g w line within is = record {
@@ -136,7 +150,7 @@ module _ (p : Plan) (first second : Config) (sources : List Source) (relay : Lis
             (line-so (IsWriterText second steps (g, w)) (TellsStores p second sources relay rows g w) is.writers (λ line own. stores-told publish g w line within own)
             (line-in (IsWriterText second steps) (writer_places second) is.writers place.0 (g, w) is.writers_are place.1)));
         readers = λ r i g w numbered honest.
-            (let place = reader-place second r i (some-index second r i numbered.matched.within) numbered.matched.within in
+            (let place = reader-place second r i (read-group-there second r i numbered.matched.within) numbered.matched.within in
             line-within (TellsReader p second sources relay rows r i g w) (is.report ++ is.writers) is.readers (link ++ end_line) text
             (is.text_is ∙ append_assoc (is.report ++ is.writers ++ is.readers) link end_line)
             (line-so (IsReaderText second steps kept (r, i)) (TellsReader p second sources relay rows r i g w) is.readers
