@@ -128,15 +128,16 @@ read-group-there config r i within = on (cases_lt r (length config.readgroup))
         let none : length (read_group_at config r).reader ≡ 0 = ap (λ (group : ReadGroupPart). length group.reader) (get_or_past config.readgroup r no_read_group past) in
         absurd (omega (arith, within, none))
 
-module _ (p : Plan) (first second : Config) (sources : List Source) (relay : List RelayStep) (rows : ℕ → ℕ → List DataValue) (closed : Closed) (text : List ℕ) (gateway : TellsGateway p second sources relay rows) (came : CameLaw p) where
-  pub stores-told : StoresLaw p second sources relay → (g w : ℕ) (line : List ℕ) → w < length (group_at second g).writer → IsWriterText second (seconds relay) (g, w) line → TellsStores p second sources relay rows g w line
-  stores-told publish g w line within is = record {
-    text_is = is;
-    never_fall = gateway.never_fall g w within;
-    each = λ place store has. gateway.stores g w place store within has;
-    publish = λ later before turn split sends. publish g w later before turn within split sends;
-  }
+pub stores-told : (p : Plan) (second : Config) (sources : List Source) (relay : List RelayStep) (rows : ℕ → ℕ → List DataValue) → TellsGateway p second sources relay rows → StoresLaw p second sources relay
+    → (g w : ℕ) (line : List ℕ) → w < length (group_at second g).writer → IsWriterText second (seconds relay) (g, w) line → TellsStores p second sources relay rows g w line
+stores-told p second sources relay rows gateway publish g w line within is = record {
+  text_is = is;
+  never_fall = gateway.never_fall g w within;
+  each = λ place store has. gateway.stores g w place store within has;
+  publish = λ later before turn split sends. publish g w later before turn within split sends;
+}
 
+module _ (p : Plan) (first second : Config) (sources : List Source) (relay : List RelayStep) (rows : ℕ → ℕ → List DataValue) (closed : Closed) (text : List ℕ) (gateway : TellsGateway p second sources relay rows) (came : CameLaw p) where
   pub tells-relay : StoresLaw p second sources relay → IsTextOf first closed second (seconds relay) (versions_of p sources relay) text → TellsRelay p second sources relay rows text
   tells-relay publish is =
       let steps = seconds relay in
@@ -147,7 +148,7 @@ module _ (p : Plan) (first second : Config) (sources : List Source) (relay : Lis
             (let place = writer-place second g w (writer-index second g w within) within in
             line-within (TellsStores p second sources relay rows g w) is.report is.writers (is.readers ++ (link ++ end_line)) text
             (is.text_is ∙ append_assoc (is.report ++ is.writers ++ is.readers) link end_line ∙ append_assoc (is.report ++ is.writers) is.readers (link ++ end_line))
-            (line-so (IsWriterText second steps (g, w)) (TellsStores p second sources relay rows g w) is.writers (λ line own. stores-told publish g w line within own)
+            (line-so (IsWriterText second steps (g, w)) (TellsStores p second sources relay rows g w) is.writers (λ line own. stores-told p second sources relay rows gateway publish g w line within own)
             (line-in (IsWriterText second steps) (writer_places second) is.writers place.0 (g, w) is.writers_are place.1)));
         readers = λ r i g w numbered honest.
             (let place = reader-place second r i (read-group-there second r i numbered.matched.within) numbered.matched.within in
