@@ -12,4 +12,5 @@ pub mod Twins
 pub mod Courses
 pub mod Newest
 pub mod Bare
+pub mod Complete
 pub mod Delivered

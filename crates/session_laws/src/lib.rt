@@ -2,6 +2,7 @@
 #![tactic(auto)]
 
 mod laws;
+mod premises;
 mod printed;
 mod turning;
 mod witness;
@@ -12,6 +13,9 @@ pub use laws::{
     a_session_has_at_most_4097_ticks, data_messages_stand_for_versions,
     matched_readers_hold_published_versions, no_token_and_number_come_twice_in_a_session,
     refused_datagrams_leave_no_trace_in_a_session,
+};
+pub use premises::{
+    a_session_closes_once_with_its_newest_versions, an_honest_link_delivers_what_was_sent,
 };
 pub use printed::{a_closed_session_tells_the_headline, closed_sessions_tell_published_versions};
 pub use turning::each_turn_of_a_session_holds;
