@@ -174,7 +174,7 @@ in-turned laws entries pump are = record {
   rise = (rise, (λ index now sample has. absurd has, tt));
   there = there-is;
   matched = matched-is;
-  taken = taken-of lone_plan 0 (turned_on entries) (sent_so_far ++ entries) (turned-run entries pump) (journal-is entries) ((0, lit< tt, refl), are);
+  honest = taken-of lone_plan 0 (turned_on entries) (sent_so_far ++ entries) (turned-run entries pump) (journal-is entries) ((0, lit< tt, refl), are);
 }
 
 in-old_first : LoneLaws → InSession lone_plan 0 0 0 0 old_first_session

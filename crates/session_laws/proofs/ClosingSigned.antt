@@ -45,7 +45,7 @@ before-pump p r i g w entries before is = record {
   rise = is.rise;
   there = is.there;
   matched = is.matched;
-  taken = taken-before p r (Pump entries) before is.taken;
+  honest = taken-before p r (Pump entries) before is.honest;
 }
 
 pub before-pumps : (p : Plan) (r i g w : ℕ) (pumps : List (List Entry)) (before : List Step) → InSession p r i g w (map Pump pumps ++ before) → InSession p r i g w before
@@ -60,7 +60,7 @@ before-tick p r i g w ms closing samples done before is = record {
   rise = is.rise.1;
   there = is.there;
   matched = is.matched;
-  taken = taken-before p r (Tick ms closing samples done) before is.taken;
+  honest = taken-before p r (Tick ms closing samples done) before is.honest;
 }
 
 pub deeds-behind : (p : Plan) (pumps : List (List Entry)) (before : List Step) → deeds p (map Pump pumps ++ before) ≡ deeds p before

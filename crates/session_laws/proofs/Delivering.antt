@@ -69,7 +69,7 @@ opening-session p r i g w plan matched = record {
   rise = tt;
   there = writer-index p.config g w matched.reads.within;
   matched = matched;
-  taken = taken-none p r;
+  honest = taken-none p r;
 }
 
 pub delivered-session : (p : Plan) (r i g w ms : ℕ) (closing : Bool) (samples : List Sampled) (before : List Step) → InSession p r i g w before → MayCome p before ms closing samples
@@ -82,7 +82,7 @@ delivered-session p r i g w ms closing samples before is may rise pump = record 
   rise = (rise, is.rise);
   there = is.there;
   matched = is.matched;
-  taken = delivered-taken p r ms closing samples before is.taken;
+  honest = delivered-taken p r ms closing samples before is.honest;
 }
 
 pub appended-session : (p : Plan) (r i g w set : ℕ) (field : Field) (before : List Step) → InSession p r i g w before → MayGrow p before set field → InSession p r i g w (Append set field ∷ before)
@@ -93,5 +93,5 @@ appended-session p r i g w set field before is may = record {
   rise = is.rise;
   there = is.there;
   matched = is.matched;
-  taken = taken-append p r set field before is.taken;
+  honest = taken-append p r set field before is.honest;
 }

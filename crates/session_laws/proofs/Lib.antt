@@ -41,6 +41,7 @@ mod KnownTokens
 mod BareMeeting
 mod BehindAnother
 mod ThreeGroups
+mod Noisy
 mod SinceCut
 mod Growing
 mod Passing

@@ -66,7 +66,7 @@ is-play laws p r i g w steps is = record {
   there = slice_get-get_or p.config.group g no_group is.there;
   matched = is.matched;
   pasts = pasts-are laws p steps is.plan is.steps_are (laws.hold p steps is.plan is.steps_are) is.rise;
-  came = came-as-made p r steps is.run is.taken;
+  came = came-as-made p r steps is.run is.honest;
   restarts = all-restarts p.config r steps;
   few = let few = ticks-few p steps is.steps_are in let ticks = log-few p g w steps in let count = length-log_of (settings_at (group_at p.config g) w) (writer_past w (pasts_at p steps g)) in omega (arith, few, ticks, count);
 }

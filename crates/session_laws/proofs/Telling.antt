@@ -239,7 +239,7 @@ session-of p r i g w steps rows is matched taken = record {
   rise = is.rise;
   there = writer-index p.config g w matched.reads.within;
   matched = matched;
-  taken = taken;
+  honest = taken;
 }
 
 reader-told-so : (laws : EndLaws) (p : Plan) (r i g w : ℕ) (steps : List Step) (rows : ℕ → ℕ → List DataValue) (closed : Closed) → HasRun p steps rows → IsClosedAfter p steps closed → IsMatchedIn p.config r i g w

@@ -28,7 +28,7 @@ pub record InSession (p : Plan) (r i g w : ℕ) (steps : List Step) : Type 0 whe
   pub rise : SamplesRise p steps
   pub there : g < length p.config.group
   pub matched : IsMatchedIn p.config r i g w
-  pub taken : TakesWhatWasSent p r steps
+  pub honest : TakesWhatWasSent p r steps
 
 -- the fields of a reader
 abbrev pub meta_of : Plan → ℕ → ℕ → MetaData

@@ -6,6 +6,7 @@ pub mod Sessions
 pub mod Headline
 pub mod Printed
 pub mod Witness
+pub mod Noise
 pub mod Telling
 pub mod Fresh
 pub mod Twins

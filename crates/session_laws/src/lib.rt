@@ -2,6 +2,7 @@
 #![tactic(auto)]
 
 mod laws;
+mod noise;
 mod premises;
 mod printed;
 mod turning;
@@ -14,6 +15,7 @@ pub use laws::{
     matched_readers_hold_published_versions, no_token_and_number_come_twice_in_a_session,
     refused_datagrams_leave_no_trace_in_a_session,
 };
+pub use noise::readers_hold_on_in_noise;
 pub use premises::{
     a_session_closes_once_with_its_newest_versions, an_honest_link_delivers_what_was_sent,
 };
