@@ -45,7 +45,7 @@ use Rattle.group_laws.specs.TurnItems.{IsUncut}
 use Rattle.session_model.specs.Counts.{most_taken}
 use Rattle.session_model.specs.Deeds.{Deed, group_past, has_turn, turn_input}
 use Rattle.session_model.specs.Keeping.{IsPlan, MayCome}
-use Rattle.session_model.specs.Sends.{IsPump, Send, journal, send_entries, sends_of}
+use Rattle.session_model.specs.Sends.{IsPump, IsRun, Send, journal, send_entries, sends_of}
 use Rattle.session_model.specs.Sets.{AreRowsOf, GrowTo, meta_in}
 use Rattle.session_model.specs.Steps.{Step, Pump, Tick}
 use Rattle.session_laws.specs.Bare.{CameQuietly, ClosingGotLast, ClosingGotSinceLast, NoOtherBehind, NoOtherKeys}

@@ -126,7 +126,7 @@ module _ (laws : ClosingLaws) (p : Plan) (r i g w : ℕ) (steps : List Step) (ro
   -- ---- what is told
 
   module _ (closed : Closed) (after : IsClosedAfter p steps closed) (reader : ReaderEnd) (ends : EndsReader p.config closed r i reader) (writer : WriterEnd) (ends_writer : EndsWriter p.config closed g w writer) where
-    values : HeldEnd → List DataValue
+    abbrev values : HeldEnd → List DataValue
     values held = row_in (meta_of p r i).fields held.row.words
 
     some-of : (o : Option HeldEnd) (row : List DataValue) → option_map values o ≡ Some row → (held : HeldEnd) × (o ≡ Some held) × (values held ≡ row)

@@ -38,6 +38,7 @@ mod Delivering
 mod OneTick
 mod Quiet
 mod KnownTokens
+mod Readers
 mod BareMeeting
 mod BehindAnother
 mod ThreeGroups

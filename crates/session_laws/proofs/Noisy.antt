@@ -61,7 +61,7 @@ behind-one p r before first (Long len) rest are = are
 behind-one p r before first ReceiveFailed rest are = are
 
 not-refused : (r : Result Opened Refusal) (opened : Opened) → r ≡ Ok opened → IsErr r → ⊥
-not-refused (Ok other) opened e none = none
+not-refused (Ok other) opened e none = cc
 not-refused (Err refusal) opened e none = absurd (cc)
 
 here-taken : (p : Plan) (r : ℕ) (before : List Step) (first : List Entry) (entry : Entry) (rest : List Entry) (d : List ℕ) → AreSentOrRefused p r before first (entry ∷ rest) → entry ≡ Got d → Takes p r before first d
@@ -105,7 +105,7 @@ noisy-sent = subst (λ (l : List Send). Contains (send_entries l (true ∷ [])) 
 
 noisy-are : AreSentOrRefused small_plan 0 (tick_on []) [] noisy_receives
 unfolding small_plan built_in_config built_in_group built_in_writer built_in_read_group built_in_reader demo byte number block when byte_when text publisher_id group_numbers group_when payload_header ids_when extras security_header parts header header_at ◌>>=◌ read no_keys
-noisy-are = (inr tt, (inr tt, (inr tt, (inl noisy-sent, (inr tt, (inr tt, (inr tt, tt)))))))
+noisy-are = (inr refl, (inr refl, (inr refl, (inl noisy-sent, (inr refl, (inr refl, (inr refl, tt)))))))
 
 noisy-run : IsRun small_plan noisy_session
 noisy-run = ((lit≤ tt, (lit≤ tt, (lit≤ tt, (lit≤ tt, (lit≤ tt, (lit≤ tt, (lit≤ tt, refl))))))), first-run.1)
@@ -175,7 +175,7 @@ got-sent p r before first (send ∷ sends) sent = (
 
 signed-are : AreSentOrRefused its 0 (sent beside) [] its_receives
 unfolding three_config signed_readers three_keys three_key byte number block when byte_when text publisher_id group_numbers group_when payload_header ids_when extras security_header parts header header_at ◌>>=◌ read
-signed-are = (inr tt, (inr tt, (inr tt, (inr tt, got-sent its 0 (sent beside) signed_noise (sends_of its (sent beside)) (has-sent (sends_of its (sent beside)))))))
+signed-are = (inr refl, (inr refl, (inr refl, (inr refl, got-sent its 0 (sent beside) signed_noise (sends_of its (sent beside)) (has-sent (sends_of its (sent beside)))))))
 
 in-its : ThreeLaws → InSession its 0 0 0 0 its_noisy
 unfolding three_plan three_config

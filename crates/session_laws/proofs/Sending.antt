@@ -206,9 +206,9 @@ all-made : (p : Plan) (r : ℕ) (steps : List Step) → IsRun p steps → TakesW
 unfolding AllMade
 all-made p r steps run taken = λ later before first behind datagram e takes.
     let pumped = Pump (first ++ Got datagram ∷ behind) ∷ before in
-    let then : Contains (journal p pumped) (Sent datagram) =
+    let there : Contains (journal p pumped) (Sent datagram) =
     Contains-append_left (journal p before) (first ++ Got datagram ∷ behind) (Sent datagram) (taken later before first behind datagram e takes) in
-    sent-made p steps datagram run (subst (λ (l : List Step). Contains (journal p l) (Sent datagram)) (sym e) (stays-sent p later pumped (Sent datagram) then))
+    sent-made p steps datagram run (subst (λ (l : List Step). Contains (journal p l) (Sent datagram)) (sym e) (stays-sent p later pumped (Sent datagram) there))
 
 left-made : (p : Plan) (r : ℕ) (pasts : ℕ → List GroupDeed) (step : Step) (before : List Step) → AllMade p r pasts (step ∷ before) → AllMade p r pasts before
 unfolding AllMade

@@ -1,5 +1,6 @@
 pub mod Below
 pub mod Reading
+pub mod Readers
 pub mod Pasts
 pub mod Plays
 pub mod Sessions

@@ -1,0 +1,22 @@
+//! Readers of a secured read group, told by datagrams.
+ghost use Rattle.std.specs.Prelude.{◌≡◌, true, List};
+ghost use Rattle.message_guard.specs.Modes.{is_secured};
+ghost use Rattle.reader_group.specs.Agreeing.{ChunksNear, IsWayOf, MemberIs, SendsRise};
+ghost use Rattle.reader_group.specs.Arrivals.{Way, goes_by_numbers, marks};
+ghost use Rattle.reader_group.specs.Plain.{Event, Setting, member_at, plain};
+ghost use Rattle.session_laws.specs.Readers.{Making, SignedAreMade};
+
+use reader_group::{secured_readers_have_their_records, what_a_secured_group_takes_is_signed};
+
+/// A reader that goes by numbers, of a secured read group, is what *Arrivals* and *Records* say of it, however many messages its
+/// writer sends, where each datagram that came with a signature under a key of the ring was made by one sender: with a number
+/// under each token that rises with the places of the writer's messages. What comes without such a signature is no matter.
+pub fn signed_readers_have_their_records()
+    ensures { (m : Making) (setting : Setting) (way : Way) (events : List Event)
+        → is_secured setting.setup.mode ≡ true → goes_by_numbers way ≡ true → SendsRise m.sent
+        → SignedAreMade m setting way events → IsWayOf setting way events → ChunksNear (marks setting way events)
+        → MemberIs way (marks setting way events) (member_at (plain setting events).members way.index) }
+{
+    secured_readers_have_their_records();
+    what_a_secured_group_takes_is_signed();
+}
