@@ -16,7 +16,7 @@ use Rattle.commands.specs.declared.status.Status.{Status}
 use Rattle.commands.specs.declared.status.Status.TheVariants.{Done, Unwritten, OutOfMemory, Unopened}
 use Rattle.commands.specs.Outside.{Wire, IsQuiet}
 use Rattle.commands.specs.Statuses.{IsDone, IsUnwritten, IsOutOfMemory, IsUnopened}
-use Rattle.commands.specs.Links.{UsesLink}
+use Rattle.commands.specs.Links.{IsQuietOrOpened, UsesLink}
 use Rattle.load_command.specs.Newest.{newest_text}
 
 -- ---- the outside
@@ -67,8 +67,8 @@ Loads _ n old new after = ⊥
 pub record LoadEnds (status : Status) (n : ℕ) (old new : Output) (before after : Wire) : Type 0 where
   pub says : Loads status n old new after
   pub link : UsesLink (OpensForWork n) (IsUnopened status) before after
-  -- the work is run, where no call fails
-  pub complete : IsQuiet old.faults new.faults → IsQuiet before.faults after.faults → IsDone status ⊎ IsOutOfMemory status
+  -- the work is run, where no write and no opening fails
+  pub complete : IsQuiet old.faults new.faults → IsQuietOrOpened before after → IsDone status ⊎ IsOutOfMemory status
   pub complete_but_for_opening : IsQuiet old.faults new.faults → IsDone status ⊎ IsOutOfMemory status ⊎ IsUnopened status
   -- a fault is answered only where the output's count of faults rose, and it doesn't fall
   pub writes : HasCause old.faults new.faults (IsUnwritten status)

@@ -35,7 +35,7 @@ use Rattle.session_laws.proofs.Meeting.{BuiltInLaws, first-are, first-rise, firs
 use Rattle.session_laws.proofs.OneTick as OneTick
 use Rattle.session_laws.proofs.OneTick.{all-short, config, four-sends, in-session, own_at, plan, sent, session, signed-came, signed-had, signed-took, turn_at, versions-are}
 use Rattle.session_laws.proofs.Taking.{taken-none, taken-pump, taken-tick}
-use Rattle.session_laws.proofs.ThreeGroups.{NewestLaw, ThreeLaws, in-signed, newest-where}
+use Rattle.session_laws.proofs.ThreeGroups.{NewestLaw, ThreeLaws, its-plan, newest-where, signed-matched}
 
 -- ---- what comes was sent, or is refused
 
@@ -177,22 +177,27 @@ signed-are : AreSentOrRefused its 0 (sent beside) [] its_receives
 unfolding three_config signed_readers three_keys three_key byte number block when byte_when text publisher_id group_numbers group_when payload_header ids_when extras security_header parts header header_at ◌>>=◌ read
 signed-are = (inr refl, (inr refl, (inr refl, (inr refl, got-sent its 0 (sent beside) signed_noise (sends_of its (sent beside)) (has-sent (sends_of its (sent beside)))))))
 
+behind-noise : IsPump 65532 (all_got its (sent beside))
+behind-noise = pump-of (sends_of its (sent beside)) 65532 (subst (λ (n : ℕ). n < 65532) (sym (four-sends beside)) (lit< tt)) (all-short beside)
+
+noisy-pump : IsPump most_taken its_receives
+noisy-pump = (lit≤ tt, (lit≤ tt, (lit≤ tt, (lit≤ tt, behind-noise))))
+
 in-its : ThreeLaws → InSession its 0 0 0 0 its_noisy
-unfolding three_plan three_config
 in-its laws =
-    let is = in-signed laws in
+    let is = in-session beside (its-plan laws) 0 0 signed-matched in
     record {
       plan = is.plan;
       steps_are = is.steps_are;
-      run = ((lit≤ tt, (lit≤ tt, (lit≤ tt, (lit≤ tt, pump-of (sends_of its (sent beside)) 65532 (subst (λ (n : ℕ). n < 65532) (sym (four-sends beside)) (lit< tt)) (all-short beside))))), is.run.1);
+      run = (noisy-pump, is.run.1);
       rise = is.rise;
       there = is.there;
       matched = is.matched;
       honest = pump-taken its 0 its_receives (sent beside) signed-are (taken-tick its 0 0 true (ones ∷ []) (all_done its 0 true (ones ∷ []) []) [] (taken-none its 0));
     }
 
-its-tick : ClosesInTick its 0 0 0 0 its_noisy (own_at beside 0)
-its-tick = record {
+abbrev its_tick : ClosesInTick its 0 0 0 0 its_noisy (own_at beside 0)
+its_tick = record {
   start = [];
   ms = 0;
   samples = ones ∷ [];
@@ -210,7 +215,7 @@ its-came datagram has = on (signed-came beside datagram has)
 
 its-got : ClosingGotSecured its 0 0 0 0 its_noisy (own_at beside 0)
 unfolding three_config signed_readers
-its-got = record { numbered = refl; secured = refl; named = λ (e : 1 ≡ 0). absurd (omega (arith, e)); tick = its-tick; came = λ datagram has part. its-came datagram has }
+its-got = record { numbered = refl; secured = refl; named = λ (e : 1 ≡ 0). absurd (omega (arith, e)); tick = its_tick; came = λ datagram has part. its-came datagram has }
 
 pub noisy-newest : ThreeLaws → NewestLaw ClosingGotSecured → IsNewestWhere ClosingGotSecured three_plan 0 0 noisy_three_session three_rows
 unfolding three_plan three_config
