@@ -180,8 +180,13 @@ signed-are = (inr refl, (inr refl, (inr refl, (inr refl, got-sent its 0 (sent be
 behind-noise : IsPump 65532 (all_got its (sent beside))
 behind-noise = pump-of (sends_of its (sent beside)) 65532 (subst (λ (n : ℕ). n < 65532) (sym (four-sends beside)) (lit< tt)) (all-short beside)
 
+noise-before : (left : ℕ) (rest : List Entry) → IsPump left rest → IsPump (suc (suc (suc (suc left)))) (signed_noise ++ rest)
+noise-before left rest pump = (lit≤ tt, (lit≤ tt, (lit≤ tt, (lit≤ tt, pump))))
+
 noisy-pump : IsPump most_taken its_receives
-noisy-pump = (lit≤ tt, (lit≤ tt, (lit≤ tt, (lit≤ tt, behind-noise))))
+noisy-pump =
+    let same : suc (suc (suc (suc 65532))) ≡ most_taken = omega arith in
+    subst (λ (n : ℕ). IsPump n its_receives) same (noise-before 65532 (all_got its (sent beside)) behind-noise)
 
 in-its : ThreeLaws → InSession its 0 0 0 0 its_noisy
 in-its laws =

@@ -12,7 +12,8 @@ use Rattle.dataset_reader.specs.Keeping.{jumps}
 use Rattle.frame_codec.specs.declared.fault.FrameFault.{FrameFault}
 use Rattle.frame_codec.specs.Frames.{Frame}
 use Rattle.frame_codec.specs.Reading.{frame_at}
-use Rattle.message_guard.specs.Acceptance.{Accepted, highest, is_acceptable, is_taken, is_too_old, numbers_of, raises}
+use Rattle.replay_window.specs.Taken.{is_taken, is_too_old}
+use Rattle.message_guard.specs.Acceptance.{Accepted, highest, is_acceptable, numbers_of, raises}
 use Rattle.message_guard.specs.Modes.{is_secured}
 use Rattle.message_guard.specs.Protection.{keys_with}
 use Rattle.message_guard.specs.declared.keys.TokenKeys.{TokenKeys}
@@ -118,13 +119,14 @@ module _ (m : Making) (setting : Setting) (way : Way) where
 
   not-low : (keys : List TokenKeys) (pairs : Accepted) (token number : ℕ) → is_acceptable keys pairs token number ≡ true → highest pairs ≤ token
   not-low keys pairs token number is =
-      let low = on (is_some (keys_with keys token)) (Rattle.std.specs.Prelude.nat_lt token (highest pairs)) (not (is_taken (numbers_of pairs token) number) && not (is_too_old (numbers_of pairs token) number)) is in
+      let low =
+      on (is_some (keys_with keys token)) (Rattle.std.specs.Prelude.nat_lt token (highest pairs)) (not (is_taken (numbers_of pairs token) number)) (not (is_too_old (numbers_of pairs token) number)) is in
       grind (arith, nat_tests, low)
     where
-      on : (a b c : Bool) → (a && not b && c) ≡ true → b ≡ false
-      on true false c e = refl
-      on true true c e = absurd (cc)
-      on false b c e = absurd (cc)
+      on : (a b c d : Bool) → (a && not b && c && d) ≡ true → b ≡ false
+      on true false c d e = refl
+      on true true c d e = absurd (cc)
+      on false b c d e = absurd (cc)
 
   highest-more : (token number : ℕ) (pairs : Accepted) → highest pairs ≤ token → highest ((token, number) ∷ pairs) ≡ token
   highest-more token number pairs le = omega (arith, le)
