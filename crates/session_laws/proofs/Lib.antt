@@ -38,7 +38,7 @@ mod Delivering
 mod OneTick
 mod Quiet
 mod KnownTokens
-mod Readers
+mod SignedReaders
 mod BareMeeting
 mod BehindAnother
 mod ThreeGroups
