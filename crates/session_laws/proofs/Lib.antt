@@ -39,6 +39,7 @@ mod OneTick
 mod Quiet
 mod KnownTokens
 mod SignedReaders
+mod MadeSigned
 mod BareMeeting
 mod BehindAnother
 mod ThreeGroups

@@ -21,7 +21,7 @@ pub use premises::{
     a_session_closes_once_with_its_newest_versions, an_honest_link_delivers_what_was_sent,
 };
 pub use printed::{a_closed_session_tells_the_headline, closed_sessions_tell_published_versions};
-pub use readers::signed_readers_have_their_records;
+pub use readers::{a_sessions_sender_makes_what_is_signed, signed_readers_have_their_records};
 pub use turning::each_turn_of_a_session_holds;
 pub use witness::{
     readers_of_each_kind_get_closing_frames, sessions_of_each_kind_meet_the_premises,
