@@ -21,7 +21,7 @@ use Rattle.commands.specs.Configurations.{IsConfigured, IsJudged, IsToldConfig}
 use Rattle.commands.specs.Files.{IsLong, IsTold}
 use Rattle.commands.specs.Outside.{Outside, Wire, IsQuiet}
 use Rattle.commands.specs.Scripts.{IsJudgedScript}
-use Rattle.commands.specs.Statuses.{IsDone, IsConfigRefused, IsScriptRefused, IsUnread, IsUnwritten, IsOutOfMemory, IsUnopened, IsTooLong}
+use Rattle.commands.specs.Statuses.{IsDone, IsConfigRefused, IsScriptRefused, IsUnread, IsUnwritten, IsOutOfMemory, IsUnopened, IsTooLong, IsPerformed}
 use Rattle.commands.specs.Links.{IsQuietOrOpened, UsesLink}
 
 -- ---- what is taken, and what is written of it
@@ -139,7 +139,7 @@ NamesLong _ name = ⊥
 -- How the command ends on the files of these names. old, new: what the folder and the output tell before and behind; before, after: what the link tells
 pub record SessionEnds (IsText : Text) (refusal : Refusal) (fates : Bool) (status : Status) (script_name : List ℕ) (config_name : Option (List ℕ)) (old new : Outside) (before after : Wire) : Type 0 where
   pub says : Says IsText refusal fates status script_name config_name old new after
-  pub link : UsesLink (OpensFor refusal fates old.file script_name config_name) (IsUnopened status) before after
+  pub link : UsesLink (OpensFor refusal fates old.file script_name config_name) (IsUnopened status) (IsPerformed status) before after
   -- what the definitions refuse is refused, and nothing else
   pub config_refused : (name bytes : List ℕ) → config_name ≡ Some name → IsTold (old.file name) bytes
       → ¬ IsUnread status → ¬ IsOutOfMemory status → IsConfigRefused status ↔ IsErr (configuration bytes)

@@ -15,7 +15,7 @@ use Rattle.script_runner.specs.Runs.{IsRunOf}
 use Rattle.commands.specs.declared.status.Status.{Status}
 use Rattle.commands.specs.declared.status.Status.TheVariants.{Done, Unwritten, OutOfMemory, Unopened}
 use Rattle.commands.specs.Outside.{Wire, IsQuiet}
-use Rattle.commands.specs.Statuses.{IsDone, IsUnwritten, IsOutOfMemory, IsUnopened}
+use Rattle.commands.specs.Statuses.{IsDone, IsUnwritten, IsOutOfMemory, IsUnopened, IsPerformed}
 use Rattle.commands.specs.Links.{IsQuietOrOpened, UsesLink}
 use Rattle.load_command.specs.Newest.{newest_text}
 
@@ -66,7 +66,7 @@ Loads _ n old new after = ⊥
 -- How the command ends. old, new: what the output tells before and behind; before, after: what the link tells
 pub record LoadEnds (status : Status) (n : ℕ) (old new : Output) (before after : Wire) : Type 0 where
   pub says : Loads status n old new after
-  pub link : UsesLink (OpensForWork n) (IsUnopened status) before after
+  pub link : UsesLink (OpensForWork n) (IsUnopened status) (IsPerformed status) before after
   -- the work is run, where no write and no opening fails
   pub complete : IsQuiet old.faults new.faults → IsQuietOrOpened before after → IsDone status ⊎ IsOutOfMemory status
   pub complete_but_for_opening : IsQuiet old.faults new.faults → IsDone status ⊎ IsOutOfMemory status ⊎ IsUnopened status

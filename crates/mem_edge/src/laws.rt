@@ -4,8 +4,9 @@ ghost use Rattle.std.specs.List.{All};
 ghost use Rattle.ua_base.specs.Journal.{LinkState, Sent, IsHonest};
 ghost use Rattle.ua_base.specs.Links.{Opening};
 ghost use Rattle.mem_edge.specs.declared.memory_link.MemoryLink.{MemoryLink as LinkValue};
-ghost use Rattle.mem_edge.specs.MemoryLinks.{told_by, opened_by, fates_of, injected_by, receives_made};
-ghost use Rattle.mem_edge.specs.Runs.{Call, AnswersAll, settings_of, state_after};
+ghost use Rattle.mem_edge.specs.MemoryLinks.{told_by, opened_by, made_by, fates_of, injected_by, receives_made};
+ghost use Rattle.mem_edge.specs.Runs.{AnswersAll, settings_of};
+ghost use Rattle.mem_edge.specs.Standings.{Call, Settings, IsFated, IsDelivered, state_after};
 
 /// A link in memory without injected datagrams delivers only what was sent, whatever its fates: each datagram that it
 /// tells as received was sent before, and so was each that waits.
@@ -21,6 +22,22 @@ pub fn a_memory_link_is_honest()
 pub fn fates_are_those_of_the_opening()
     ensures { (link : LinkValue) (opening : Opening) → opened_by link ≡ Some opening
         → fates_of link ≡ opening.fates }
+{}
+
+/// What a link in memory tells is the fated journal of its own sends, for what it was made to do and the fates that it was opened
+/// with: as long as it tells, it tells what the calls of its journal give. So what a session over it receives is what the
+/// definitions say of what it sent.
+pub fn a_memory_link_tells_its_fated_journal()
+    ensures { (link : LinkValue) (state : LinkState) (opening : Opening)
+        → told_by link ≡ Some state → opened_by link ≡ Some opening
+        → IsFated (record { making = made_by link; fates = opening.fates }) state }
+{}
+
+/// In a fated journal what was taken and what waits, together and in order, is what its sends queue: each copy, what waited for
+/// it, and what is injected behind it.
+pub fn a_fated_journal_delivers_what_its_sends_queue()
+    ensures { (settings : Settings) (state : LinkState)
+        → IsFated settings state → IsDelivered settings state }
 {}
 
 /// What a link in memory tells is determined by the calls since its opening, its fates, its failing calls and its

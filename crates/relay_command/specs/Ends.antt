@@ -15,8 +15,8 @@ use Rattle.commands.specs.Configurations.{IsJudged, EndsConfigFile}
 use Rattle.commands.specs.Files.{IsLong, IsTold}
 use Rattle.commands.specs.Outside.{Outside, Wire, IsQuiet}
 use Rattle.commands.specs.Scripts.{IsJudgedScript}
-use Rattle.commands.specs.Statuses.{IsDone, IsConfigRefused, IsScriptRefused, IsUnread, IsUnwritten, IsOutOfMemory, IsUnopened, IsTooLong}
-use Rattle.commands.specs.Links.{IsQuietOrOpened}
+use Rattle.commands.specs.Links.{IsOpenedOnce, IsQuietOrOpened}
+use Rattle.commands.specs.Statuses.{IsDone, IsConfigRefused, IsScriptRefused, IsUnread, IsUnwritten, IsOutOfMemory, IsUnopened, IsTooLong, IsPerformed}
 use Rattle.commands.specs.Sessions.{NamesLong}
 use Rattle.relay_command.specs.declared.command.Accepted.{Accepted}
 use Rattle.relay_command.specs.Links.{LeavesUnopened, opening_again}
@@ -105,6 +105,8 @@ pub record UsesLinks (tells : List ℕ → ToldFile) (names : Names) (status : S
   pub wire_opens : wire_after.opened_with ≢ wire.opened_with
       → (accepted : Accepted) × Accepts tells names accepted × (wire_after.opened_with ≡ Some (opening_again accepted.second))
   pub unopened : IsUnopened status → LeavesUnopened lab lab_after wire wire_after
+  pub lab_once : IsOpenedOnce (IsPerformed status) lab lab_after
+  pub wire_once : IsOpenedOnce (IsPerformed status) wire wire_after
   pub lab_counts : lab.faults ≤ lab_after.faults
   pub wire_counts : wire.faults ≤ wire_after.faults
 
