@@ -2,6 +2,7 @@
 use Rattle.std.proofs.Common.{◌≡◌, ◌≤◌, ◌⊎◌, true, inl, inr, ℕ, Bool, List, Option, Some, None, refl, sym, subst, arith}
 use Rattle.std.specs.Prelude.{◌≢◌}
 use Rattle.ua_base.specs.Cause.{Rose, HasCause, counted_if}
+use Rattle.ua_base.specs.Links.{Opening}
 use Rattle.ps_config.specs.declared.parts.Config.{Config}
 use Rattle.ps_script.specs.declared.script.Script.{Script}
 use Rattle.script_player.specs.declared.play.PlayEnd.{PlayEnd}
@@ -13,7 +14,7 @@ use Rattle.commands.specs.Outputs.{EndsWriting}
 use Rattle.commands.specs.Outside.{Outside, Wire}
 use Rattle.commands.specs.Statuses.{IsUnread, IsUnwritten, IsUnopened, IsPerformed}
 use Rattle.commands.specs.Endings.{status_of}
-use Rattle.commands.specs.Links.{UsesLink, IsOpenedOnce}
+use Rattle.commands.specs.Links.{IsOpenedOnce, IsQuietOrOpened, UsesLink}
 use Rattle.commands.specs.Sessions.{Text, Refusal, Accepts, EndsAccepting, OpensFor, Says, SessionEnds}
 use Rattle.commands.proofs.Ended.{says_written, says_unaccepted, written_late, accepting_early}
 use Rattle.commands.proofs.ToldSessions.{config_refused, config_long, script_refused, script_long, completes}
@@ -25,6 +26,11 @@ OpensAs config script before after = after.opened_with ≢ before.opened_with �
 -- the folder's files are as they were, and its count of faults doesn't fall
 abbrev pub KeepsFiles : Outside → Outside → Type 0
 KeepsFiles old new = ((name : List ℕ) → new.file name ≡ old.file name) × (old.read_faults ≤ new.read_faults)
+
+-- a link whose opening didn't fail wasn't left unopened
+pub not_unopened : (Opens : Option Opening → Type 0) (unopened performed : Type 0) (before after : Wire) → UsesLink Opens unopened performed before after → unopened → IsQuietOrOpened before after → ⊥
+not_unopened Opens unopened performed before after link is (inl quiet) = quiet (link.cause.rose is)
+not_unopened Opens unopened performed before after link is (inr opened) = opened (link.unused is).2
 
 -- a link that isn't used isn't opened
 pub stays-unopened : {performed : Type 0} (wire : Wire) → (performed → ⊥) → IsOpenedOnce performed wire wire
@@ -43,8 +49,9 @@ module _ (IsText : Text) (refusal : Refusal) (fates : Bool) where
     script_refused = λ reader config bytes. script_refused IsText refusal fates status script_name config_name old new after reader config bytes h;
     config_long = λ name bytes. config_long IsText refusal fates status script_name config_name old new after name bytes h;
     script_long = λ config bytes. script_long IsText refusal fates status script_name config_name old new after config bytes h;
-    complete = λ told folder_quiet out_quiet link_quiet.
-        elim (completes IsText refusal fates {X = ⊥} status script_name config_name old new after h told (λ is. folder_quiet (reads.rose is)) (λ is. out_quiet (writes.rose is)) (λ is. link_quiet (link.cause.rose is))) [
+    complete = λ told folder_quiet out_quiet opened.
+        elim (completes IsText refusal fates {X = ⊥} status script_name config_name old new after h told (λ is. folder_quiet (reads.rose is)) (λ is. out_quiet (writes.rose is))
+        (λ is. not_unopened (OpensFor refusal fates old.file script_name config_name) (IsUnopened status) (IsPerformed status) before after link is opened)) [
           | inl e ↦ inl e
           | inr rest ↦ elim rest [ inl e ↦ inr e | inr e ↦ absurd e ]
         ];

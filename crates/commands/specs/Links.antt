@@ -4,7 +4,7 @@ use Rattle.ua_base.specs.Cause.{HasCause}
 use Rattle.ua_base.specs.Links.{Opening}
 use Rattle.script_player.specs.Openings.{OpensOnce}
 use Rattle.commands.specs.declared.status.Status.{Status}
-use Rattle.commands.specs.Outside.{Wire}
+use Rattle.commands.specs.Outside.{Wire, IsQuiet}
 use Rattle.commands.specs.Statuses.{IsConfigRefused, IsScriptRefused, IsUnread, IsTooLong}
 
 -- the link was opened once or not at all, and once where the command's work was done
@@ -17,6 +17,10 @@ pub record UsesLink (Opens : Option Opening → Type 0) (unopened performed : Ty
   pub unused : unopened → (after.told ≡ before.told) × (after.opened_with ≡ before.opened_with) × (after.openings ≡ before.openings)
   pub once : IsOpenedOnce performed before after
   pub cause : HasCause before.faults after.faults unopened
+
+-- no opening of the link failed: no call over it failed at all, or it was opened
+abbrev pub IsQuietOrOpened : Wire → Wire → Type 0
+IsQuietOrOpened before after = IsQuiet before.faults after.faults ⊎ (after.openings ≢ before.openings)
 
 -- the statuses that come before a link is used
 abbrev pub IsBeforeLink : Status → Type 0

@@ -22,7 +22,7 @@ use Rattle.commands.specs.Files.{IsLong, IsTold}
 use Rattle.commands.specs.Outside.{Outside, Wire, IsQuiet}
 use Rattle.commands.specs.Scripts.{IsJudgedScript}
 use Rattle.commands.specs.Statuses.{IsDone, IsConfigRefused, IsScriptRefused, IsUnread, IsUnwritten, IsOutOfMemory, IsUnopened, IsTooLong, IsPerformed}
-use Rattle.commands.specs.Links.{UsesLink}
+use Rattle.commands.specs.Links.{IsQuietOrOpened, UsesLink}
 
 -- ---- what is taken, and what is written of it
 
@@ -149,9 +149,9 @@ pub record SessionEnds (IsText : Text) (refusal : Refusal) (fates : Bool) (statu
       → ¬ IsUnread status → ¬ IsOutOfMemory status → NamesLong status name ↔ IsLong bytes
   pub script_long : (config : Config) (bytes : List ℕ) → IsToldConfig old.file config_name config → old.file script_name ≡ Some (Some bytes)
       → ¬ IsUnread status → ¬ IsOutOfMemory status → IsTooLong status ↔ IsLong bytes
-  -- what is accepted and taken is performed, where no call fails
+  -- what is accepted and taken is performed, where no read, no write and no opening fails: a send or a receive may
   pub complete : AreTold refusal fates old.file script_name config_name → IsQuiet old.read_faults new.read_faults → IsQuiet old.write_faults new.write_faults
-      → IsQuiet before.faults after.faults → IsDone status ⊎ IsOutOfMemory status
+      → IsQuietOrOpened before after → IsDone status ⊎ IsOutOfMemory status
   pub complete_but_for_opening : AreTold refusal fates old.file script_name config_name → IsQuiet old.read_faults new.read_faults
       → IsQuiet old.write_faults new.write_faults → IsDone status ⊎ IsOutOfMemory status ⊎ IsUnopened status
   -- a fault is answered only where the count of faults of its object rose, and no count falls

@@ -11,6 +11,7 @@ use Rattle.script_player.specs.declared.play.PlayEnd.TheVariants as ends
 use Rattle.commands.specs.Endings.{status_of}
 use Rattle.commands.specs.Links.{UsesLink}
 use Rattle.commands.proofs.Ended.{written_late}
+use Rattle.commands.proofs.Ends.{not_unopened}
 use Rattle.load_command.specs.Loads.{LoadEnds, Loads, OpensForWork, Output, Summarizes}
 
 abbrev pub ended : {T : Type 0} → PlayEnd → Result T PlayEnd
@@ -67,8 +68,9 @@ load_ends : (status : Status) (n : ℕ) (old new : Output) (before after : Wire)
 load_ends status n old new before after says link writes = record {
   says = says;
   link = link;
-  complete = λ out_quiet link_quiet.
-      elim (completes {X = ⊥} status n old new after says (λ is. out_quiet (writes.rose is)) (λ is. link_quiet (link.cause.rose is))) [
+  complete = λ out_quiet opened.
+      elim (completes {X = ⊥} status n old new after says (λ is. out_quiet (writes.rose is))
+      (λ is. not_unopened (OpensForWork n) (IsUnopened status) (IsPerformed status) before after link is opened)) [
         | inl e ↦ inl e
         | inr rest ↦ elim rest [ inl e ↦ inr e | inr e ↦ absurd e ]
       ];

@@ -24,13 +24,13 @@ use Rattle.commands.specs.Statuses.{IsDone, IsConfigRefused, IsOutOfMemory, IsSc
 use Rattle.commands.proofs.Told.{judged_told, script_told, long_is, long_judged, long_short}
 use Rattle.commands.specs.Endings.{status_of}
 use Rattle.commands.specs.Sessions.{NamesLong}
-use Rattle.commands.specs.Links.{IsOpenedOnce}
+use Rattle.commands.specs.Links.{IsOpenedOnce, IsQuietOrOpened}
 use Rattle.commands.proofs.Ended.{written_late}
 use Rattle.commands.proofs.Ends.{stays-unopened}
 use Rattle.commands.proofs.ToldSessions.{short}
 use Rattle.relay_command.specs.declared.command.Accepted.{Accepted}
 use Rattle.relay_command.specs.Ends.{Accepts, AreConfigured, AreRefused, AreTold, AreToldConfigs, EndsAccepting, EndsSecond, Names, Reads, RelayEnds, Says, UsesLinks, Writes}
-use Rattle.relay_command.specs.Links.{LeavesUnopened, OpensSo, opening_again}
+use Rattle.relay_command.specs.Links.{LeavesUnopened, OpensSo, StaysClosed, opening_again}
 use Rattle.relay_command.specs.Sources.{AreSourced, IsUnsourced}
 
 -- ---- results
@@ -283,8 +283,12 @@ module _ (names : Names) (old new : Outside) (lab wire : Wire) where
 -- ---- how it ends
 
 -- one of the links failed to open
-rose_one : (lab lab_after wire wire_after : Wire) → LeavesUnopened lab lab_after wire wire_after → (Rose lab.faults lab_after.faults → ⊥) → (Rose wire.faults wire_after.faults → ⊥) → ⊥
-rose_one lab lab_after wire wire_after left a b = elim left [ inl closed ↦ a closed.0.rose | inr closed ↦ b closed.rose ]
+not_closed : (before after : Wire) → StaysClosed before after → IsQuietOrOpened before after → ⊥
+not_closed before after closed (inl quiet) = quiet closed.rose
+not_closed before after closed (inr opened) = opened closed.openings
+
+none_closed : (lab lab_after wire wire_after : Wire) → LeavesUnopened lab lab_after wire wire_after → IsQuietOrOpened lab lab_after → IsQuietOrOpened wire wire_after → ⊥
+none_closed lab lab_after wire wire_after left a b = elim left [ inl closed ↦ not_closed lab lab_after closed.0 a | inr closed ↦ not_closed wire wire_after closed b ]
 
 relay_ends : (status : Status) (names : Names) (old new : Outside) (lab lab_after wire wire_after : Wire) → Says status names old new lab_after wire_after
     → UsesLinks old.file names status lab lab_after wire wire_after → HasCause old.read_faults new.read_faults (IsUnread status) → HasCause old.write_faults new.write_faults (IsUnwritten status)
@@ -297,9 +301,9 @@ relay_ends status names old new lab lab_after wire wire_after h links reads writ
   first_long = λ bytes. first_long names old new lab_after wire_after status bytes h;
   second_long = λ first one bytes. second_long names old new lab_after wire_after status first one bytes h;
   script_long = λ first second bytes. script_long names old new lab_after wire_after status first second bytes h;
-  complete = λ told folder_quiet out_quiet lab_quiet wire_quiet.
+  complete = λ told folder_quiet out_quiet lab_opened wire_opened.
       elim (completes names old new lab_after wire_after {X = ⊥} status h told (λ is. folder_quiet (reads.rose is)) (λ is. out_quiet (writes.rose is))
-      (λ is. rose_one lab lab_after wire wire_after (links.unopened is) lab_quiet wire_quiet)) [
+      (λ is. none_closed lab lab_after wire wire_after (links.unopened is) lab_opened wire_opened)) [
         | inl e ↦ inl e
         | inr rest ↦ elim rest [ inl e ↦ inr e | inr e ↦ absurd e ]
       ];

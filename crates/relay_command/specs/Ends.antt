@@ -15,7 +15,7 @@ use Rattle.commands.specs.Configurations.{IsJudged, EndsConfigFile}
 use Rattle.commands.specs.Files.{IsLong, IsTold}
 use Rattle.commands.specs.Outside.{Outside, Wire, IsQuiet}
 use Rattle.commands.specs.Scripts.{IsJudgedScript}
-use Rattle.commands.specs.Links.{IsOpenedOnce}
+use Rattle.commands.specs.Links.{IsOpenedOnce, IsQuietOrOpened}
 use Rattle.commands.specs.Statuses.{IsDone, IsConfigRefused, IsScriptRefused, IsUnread, IsUnwritten, IsOutOfMemory, IsUnopened, IsTooLong, IsPerformed}
 use Rattle.commands.specs.Sessions.{NamesLong}
 use Rattle.relay_command.specs.declared.command.Accepted.{Accepted}
@@ -169,9 +169,9 @@ pub record RelayEnds (status : Status) (names : Names) (old new : Outside) (lab 
       → old.file names.second ≡ Some (Some bytes) → ¬ IsUnread status → ¬ IsOutOfMemory status → NamesLong status names.second ↔ IsLong bytes
   pub script_long : (first second : Config) (bytes : List ℕ) → AreToldConfigs old.file names first second → old.file names.script ≡ Some (Some bytes)
       → ¬ IsUnread status → ¬ IsOutOfMemory status → IsTooLong status ↔ IsLong bytes
-  -- what is accepted is relayed, where no call fails
+  -- what is accepted is relayed, where no read, no write and no opening fails: a send or a receive may
   pub complete : AreTold old.file names → IsQuiet old.read_faults new.read_faults → IsQuiet old.write_faults new.write_faults
-      → IsQuiet lab.faults lab_after.faults → IsQuiet wire.faults wire_after.faults → IsDone status ⊎ IsOutOfMemory status
+      → IsQuietOrOpened lab lab_after → IsQuietOrOpened wire wire_after → IsDone status ⊎ IsOutOfMemory status
   pub complete_but_for_opening : AreTold old.file names → IsQuiet old.read_faults new.read_faults
       → IsQuiet old.write_faults new.write_faults → IsDone status ⊎ IsOutOfMemory status ⊎ IsUnopened status
   -- a fault is answered only where the count of faults of its object rose, and no count falls
