@@ -35,10 +35,16 @@ pub fn listen<R: Files + Print + Input + Clock + Wait, L: Link>(
     let mut buffer = vec![in alloc; 0u8; MOST_BYTES]?;
     let watch = Stopwatch::new(rt)?;
     for _ in rt.forever() {
-        let (now, is_unknown) = hear(rt, &watch, &mut listener, &mut buffer, link)?;
-        if is_unknown {
-            look_for_keys(rt, alloc, config, now, &mut file, &mut listener)?;
-        }
+        let now = hear(
+            rt,
+            alloc,
+            config,
+            &watch,
+            &mut file,
+            &mut listener,
+            &mut buffer,
+            link,
+        )?;
         if ms <= now || keys && ends(rt) {
             return listener.tell_counts(rt, now);
         }
@@ -46,15 +52,18 @@ pub fn listen<R: Files + Print + Input + Clock + Wait, L: Link>(
     unreachable!()
 }
 
-/// One receive, and what it and the time that passed meanwhile bring. The answer is the moment, and whether a datagram had a token
-/// that isn't known.
-fn hear<R: Print + Clock, L: Link>(
+/// One receive, and what it and the time that passed meanwhile bring. The answer is the moment.
+fn hear<R: Files + Print + Clock, L: Link>(
     rt: &R,
+    alloc: Global,
+    config: &Config,
     watch: &Stopwatch,
+    file: &mut KeyFile<'_>,
     listener: &mut Listener<'_>,
     buffer: &mut [u8],
     link: &mut L,
-) -> Result<(u64, bool), Fault>
+) -> Result<u64, Fault>
+    requires good { IsGood config.now }
     requires open { IsSome (L.opened_with link.old) }
     requires listener { IsListener listener.old }
     ensures open { IsSome (L.opened_with link.new) }
@@ -66,15 +75,17 @@ fn hear<R: Print + Clock, L: Link>(
     listener.show(rt, now)?;
     match received {
         Received::Datagram(count) => {
-            let is_unknown = listener.datagram(now, &mut buffer[..count as usize])?;
+            if listener.datagram(now, &mut buffer[..count as usize])? {
+                look_for_keys(rt, alloc, config, now, file, listener)?;
+            }
             listener.show(rt, now)?;
-            Ok((now, is_unknown))
+            Ok(now)
         }
         Received::Long(_) | Received::Failed => {
             listener.lose();
-            Ok((now, false))
+            Ok(now)
         }
-        Received::Nothing => Ok((now, false)),
+        Received::Nothing => Ok(now),
     }
 }
 
