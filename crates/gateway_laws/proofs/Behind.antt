@@ -11,7 +11,7 @@ use Rattle.session_laws.specs.Sessions.{AreVersions, HasSample, SamplesRise, Tak
 use Rattle.session_laws.proofs.Taking.{taken-before}
 
 module _ (p : Plan) where
-  steps-behind : (later now : List Step) → AreSteps p (later ++ now) → AreSteps p now
+  pub steps-behind : (later now : List Step) → AreSteps p (later ++ now) → AreSteps p now
   steps-behind [] now are = are
   steps-behind (Enable id ∷ later) now are = steps-behind later now are.1
   steps-behind (Disable id ∷ later) now are = steps-behind later now are.1
@@ -19,7 +19,7 @@ module _ (p : Plan) where
   steps-behind (Tick ms closing samples done ∷ later) now are = steps-behind later now are.1
   steps-behind (Pump entries ∷ later) now are = steps-behind later now are.1
 
-  run-behind : (later now : List Step) → IsRun p (later ++ now) → IsRun p now
+  pub run-behind : (later now : List Step) → IsRun p (later ++ now) → IsRun p now
   run-behind [] now is = is
   run-behind (Enable id ∷ later) now is = run-behind later now is
   run-behind (Disable id ∷ later) now is = run-behind later now is
@@ -27,7 +27,7 @@ module _ (p : Plan) where
   run-behind (Tick ms closing samples done ∷ later) now is = run-behind later now is.1
   run-behind (Pump entries ∷ later) now is = run-behind later now is.1
 
-  rise-behind : (later now : List Step) → SamplesRise p (later ++ now) → SamplesRise p now
+  pub rise-behind : (later now : List Step) → SamplesRise p (later ++ now) → SamplesRise p now
   rise-behind [] now is = is
   rise-behind (Enable id ∷ later) now is = rise-behind later now is
   rise-behind (Disable id ∷ later) now is = rise-behind later now is

@@ -52,6 +52,12 @@ abbrev pub IsOfHistory : Plan → MetaData → Source → List Step → (ℕ →
 IsOfHistory p meta source all rows store row =
     ((store ≡ 0) × (row ≡ opening_row meta.fields)) ⊎ IsStoreOfVersion p source all rows store row
 
+-- the same by the version that is told of it, which is that of the row: 0 of store 0
+abbrev pub IsOfVersion : Plan → MetaData → Source → List Step → (ℕ → ℕ → List DataValue) → ℕ → ℕ → List DataValue → Type 0
+IsOfVersion p meta source all rows store version row =
+    ((store ≡ 0) × (version ≡ 0) × (row ≡ opening_row meta.fields))
+    ⊎ ((of : IsStoreOfVersion p source all rows store row) × (of.published.version ≡ version))
+
 -- the data set of a writer
 abbrev pub set_of : Config → ℕ → ℕ → ℕ
 set_of config g w = (writer_at (group_at config g) w).dataset

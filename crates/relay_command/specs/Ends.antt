@@ -8,7 +8,7 @@ use Rattle.ps_config.specs.Reading.{configuration}
 use Rattle.ps_script.specs.declared.script.Script.{Script}
 use Rattle.ps_script.specs.Scripts.{script as script_in}
 use Rattle.ps_script.specs.Values.{ValueReader}
-use Rattle.script_player.specs.Plays.{opening_of}
+use Rattle.script_player.specs.Plays.{opening_of, plan_by, row_written}
 use Rattle.commands.specs.declared.status.Status.{Status}
 use Rattle.commands.specs.declared.status.Status.TheVariants.{Done, ConfigRefused, NoSource, ScriptRefused, Unread, Unwritten, OutOfMemory, Unopened, Long}
 use Rattle.commands.specs.Configurations.{IsJudged, EndsConfigFile}
@@ -22,6 +22,7 @@ use Rattle.relay_command.specs.declared.command.Accepted.{Accepted}
 use Rattle.relay_command.specs.Links.{LeavesUnopened, opening_again}
 use Rattle.relay_command.specs.Relaying.{IsRelayOf}
 use Rattle.relay_command.specs.Sources.{AreSourced, IsUnsourced}
+use Rattle.relay_command.specs.Telling.{TellsRelay}
 
 -- the names of the files
 pub record Names : Type 0 where
@@ -56,6 +57,19 @@ pub record Writes (tells : List ℕ → ToldFile) (names : Names) (lab wire : Wi
   pub lab_opened : lab.opened_with ≡ Some (opening_of accepted.first accepted.script)
   pub wire_opened : wire.opened_with ≡ Some (opening_again accepted.second)
   pub relay : IsRelayOf accepted.first accepted.second accepted.script lab.told wire.told text
+
+-- What was written is the text of a play and of a gateway, of what was accepted: of one relay, which both links tell. Each data frame of the gateway has the number of its
+-- source's stores at its round, and publishes the row of that store; each reader that is matched within the second configuration, and goes by numbers, holds the row of the
+-- printed store and version, or has said why it waits; and neither falls from one pump to a later one, where nothing was cut.
+pub record WritesRelay (names : Names) (old new : Outside) (lab wire : Wire) : Type 0 where
+  pub accepted : Accepted
+  pub accepts : Accepts old.file names accepted
+  pub lab_opened : lab.opened_with ≡ Some (opening_of accepted.first accepted.script)
+  pub wire_opened : wire.opened_with ≡ Some (opening_again accepted.second)
+  pub text : List ℕ
+  pub relayed : IsRelayOf accepted.first accepted.second accepted.script lab.told wire.told text
+  pub gateway : TellsRelay (plan_by accepted.first accepted.script) accepted.second relayed.sources relayed.relay (row_written accepted.script) text
+  pub written : new.written ≡ appended old.written text
 
 -- ---- what each status says
 

@@ -18,6 +18,7 @@ ghost use Rattle.relay_command.specs.Relaying.{Follows, HasRelayed, Holds, Holds
 ghost use Rattle.relay_command.specs.Sources.{AreSourced};
 
 use crate::command::Accepted;
+use crate::laws::the_lines_of_a_gateway_tell_stores;
 use crate::text::text_of;
 use gateway_core::{Gateway, Ticked};
 use gateway_laws::passes_show_what_is_collected;
@@ -68,6 +69,7 @@ pub(crate) fn relayed_text<R: Wait, A: Link, B: Link>(
     histories_are_the_models();
     a_closed_session_tells_the_headline();
     passes_show_what_is_collected();
+    the_lines_of_a_gateway_tell_stores();
     let Accepted {
         first,
         second,

@@ -2,6 +2,7 @@ use Rattle.std.proofs.Common.{List, ℕ, Err, refl, ap, subst}
 use Rattle.commands.specs.Outputs.{EndsWriting}
 use Rattle.commands.proofs.Ended.{written_late}
 use Rattle.relay_command.proofs.Ending.{ends_unaccepted, ends_so, ends_written}
+use Rattle.relay_command.proofs.Writing.{writes-relay}
 use Rattle.relay_command.proofs.command.relay.Goals as goal
 
 pub returns-in-Ok-relayed_text-clause-ends : goal.returns-in-Ok-relayed_text-clause-ends
@@ -33,3 +34,12 @@ returns-clause-ends g c =
     (record { making = e.lab_once.making; at_most_once = e.lab_once.at_most_once; once = λ is. absurd is })
     (record { making = e.wire_once.making; at_most_once = e.wire_once.at_most_once; once = λ is. absurd is })
     e.lab_counts e.wire_counts (c.in-Ok.ensures.folder.files, c.in-Ok.ensures.folder.counted) refl
+
+pub returns-in-Ok-relayed_text-clause-relayed : goal.returns-in-Ok-relayed_text-clause-relayed
+returns-in-Ok-relayed_text-clause-relayed g c = λ done. writes-relay c.write_text.result _ _ _ _ _ (returns-in-Ok-relayed_text-clause-ends g c).says done
+
+pub returns-in-Err-clause-relayed : goal.returns-in-Err-clause-relayed
+returns-in-Err-clause-relayed g c = λ done. writes-relay c.in-Err.status _ _ _ _ _ (returns-in-Err-clause-ends g c).says done
+
+pub returns-clause-relayed : goal.returns-clause-relayed
+returns-clause-relayed g c = λ done. writes-relay c.status_of.result _ _ _ _ _ (returns-clause-ends g c).says done

@@ -65,7 +65,7 @@ returns-clause-text g c =
     let e = c.in_ok-end.ensures.relays a.second (holds-relay a.first a.second a.script _ _ _ c.play.new.self h) in
     relayed c.passes_show_what_is_collected.ensures c.histories_are_the_models.ensures.rows c.a_closed_session_tells_the_headline.ensures a.first a.second a.script c.requires.script
     c.in_ok-relay.ensures.new.plan (is-plan a.second [] c.requires.second.0 c.requires.second.1 tt) _ _ _ _ c.play.new.self c.end.new.self h e c.in_ok-closed.closed c.in_ok-closed.ensures.closes
-    c.in_ok-text_of.field-0.items c.in_ok-text_of.ensures
+    c.the_lines_of_a_gateway_tell_stores.ensures.text c.in_ok-text_of.field-0.items c.in_ok-text_of.ensures
 
 -- each link was opened once, and no call behind that opened it again
 pub returns-in_err-open_again-clause-lab_once : goal.returns-in_err-open_again-clause-lab_once
