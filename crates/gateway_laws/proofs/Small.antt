@@ -35,7 +35,7 @@ use Rattle.version_cell.specs.Histories.{own}
 use Rattle.version_cell.specs.Passes.{IsPassOf, SeesLawful}
 use Rattle.version_cell.specs.Terms.{IsEntry, quota}
 use Rattle.writer_group.specs.Turns.{no_sample}
-use Rattle.reader_group.specs.Settings.{no_keys, setting_of}
+use Rattle.reader_group.specs.Settings.{no_keys}
 use Rattle.session_model.specs.Deeds.{log_at}
 use Rattle.session_model.specs.Events.{reader_at}
 use Rattle.session_model.specs.Keeping.{IsPlan}
@@ -47,7 +47,7 @@ use Rattle.session_model.specs.Stores.{Store}
 use Rattle.session_laws.specs.Headline.{InSession}
 use Rattle.session_laws.specs.Reading.{IsMatchedIn, arrivals_at, first_number_of}
 use Rattle.session_laws.specs.Witness.{closing_on, first_session, last_receives, seven, small_datagram, small_plan, small_row, tick_on, whole_session}
-use Rattle.session_laws.proofs.Meeting.{AreSent, honest-of}
+use Rattle.session_laws.proofs.Meeting.{taken-of}
 use Rattle.gateway_core.specs.Lived.{collected, plan_again}
 use Rattle.gateway_core.specs.Sources.{HaveSources as HaveIndexes, IsSourceOf as IsIndexOf}
 use Rattle.gateway_laws.specs.Gateways.{IsHonestAgain, IsHonestSource, IsRelay}
@@ -165,7 +165,7 @@ again-journal =
     ∙ ap (λ (l : List Send). Sent (small_datagram 0) ∷ Got (small_datagram 0) ∷ Empty ∷ (send_entries l (true ∷ []) ++ gets 1)) last-sends
 
 pub honest-again : IsHonestAgain again_config 0 whole_relay
-honest-again = honest-of (setting_of again_config 0) its_journal (journal q whole_steps) again-journal ((0, lit< tt, refl), ((3, lit< tt, refl), tt))
+honest-again = taken-of q 0 whole_steps its_journal again-run again-journal ((0, lit< tt, refl), ((3, lit< tt, refl), tt))
 
 -- ---- the source
 

@@ -16,18 +16,17 @@ use Rattle.pubsub_model.specs.Frames.{Alive, Change, PlacedFrame, Whole, publish
 use Rattle.pubsub_model.proofs.AnswerPlaces.{took}
 use Rattle.config_tables.specs.declared.words.NumberingWord.TheVariants as words
 use Rattle.ps_config.specs.declared.parts.Config.{Config}
-use Rattle.reader_group.specs.Settings.{setting_of}
 use Rattle.writer_group.specs.declared.sampled.Sampled.{Sampled}
 use Rattle.writer_group.specs.Parts.{group_at, no_group}
 use Rattle.session_model.specs.Deeds.{log_at, writer_deeds}
 use Rattle.session_model.specs.Events.{reader_at}
-use Rattle.session_model.specs.Sends.{IsRun, journal}
+use Rattle.session_model.specs.Sends.{IsRun}
 use Rattle.session_model.specs.Sets.{meta_in, metas_at}
 use Rattle.session_model.specs.Steps as steps
 use Rattle.session_model.specs.Steps.{Plan, Step}
 use Rattle.session_laws.specs.Headline.{PublishesVersion, answered_turn}
 use Rattle.session_laws.specs.Pasts.{settings_at}
-use Rattle.session_laws.specs.Sessions.{AreVersions, HasSample}
+use Rattle.session_laws.specs.Sessions.{AreVersions, HasSample, TakesWhatWasSent}
 use Rattle.session_laws.proofs.Telling.{writer-index}
 use Rattle.gateway_core.specs.Lived.{plan_again}
 use Rattle.gateway_laws.specs.Gateways.{IsHonestAgain, IsHonestSource, IsRelay, set_of}
@@ -214,8 +213,8 @@ older-in laws p second sources later newer older r i g w is numbered honest hone
     let two = seconds-behind later (newer ++ older) in
     let source = source_of second sources g w in
     no-older laws p second sources newer older r i g w (relay-behind p second sources later (newer ++ older) is) numbered
-    (honest-behind (plan_again second) (setting_of second r) two.0 (seconds (newer ++ older)) (subst (λ (l : List Step). Rattle.session_laws.specs.Sessions.IsHonestFor (setting_of second r) (journal (plan_again second) l)) two.1 honest))
-    (honest-behind p (setting_of p.config source.read_group) one.0 (firsts (newer ++ older)) (subst (λ (l : List Step). Rattle.session_laws.specs.Sessions.IsHonestFor (setting_of p.config source.read_group) (journal p l)) one.1 honest_first))
+    (honest-behind (plan_again second) r two.0 (seconds (newer ++ older)) (subst (λ (l : List Step). TakesWhatWasSent (plan_again second) r l) two.1 honest))
+    (honest-behind p source.read_group one.0 (firsts (newer ++ older)) (subst (λ (l : List Step). TakesWhatWasSent p source.read_group l) one.1 honest_first))
 
 -- THE LAW
 pub tells-gateway : AllLaws → (p : Plan) (second : Config) (sources : List Source) (relay : List RelayStep) (rows : ℕ → ℕ → List DataValue) → IsRelay p second sources relay → AreVersions p (firsts relay) rows → TellsGateway p second sources relay rows
