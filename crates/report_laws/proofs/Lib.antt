@@ -1,0 +1,12 @@
+pub mod Causes
+pub mod Cutting
+pub mod Entries
+pub mod Groups
+pub mod Held
+pub mod Lines
+pub mod Parts
+pub mod Printing
+pub mod Telling
+pub mod Values
+pub mod Watches
+pub mod Words
