@@ -6,6 +6,7 @@ pub mod Held
 pub mod Lines
 pub mod Parts
 pub mod Printing
+pub mod Seeing
 pub mod Telling
 pub mod Values
 pub mod Watches
