@@ -1,7 +1,7 @@
 -- Lines of groups, each followed by those of its writers or readers.
-use Rattle.std.proofs.Common.{◌≡◌, ℕ, ◌<◌, List, [], ◌∷◌, ◌++◌, length, take, drop, refl, sym, ap, ◌∙◌, subst, arith, append_assoc}
-use Rattle.std.specs.Prelude.{codes, None}
-use Rattle.std.specs.List.{AllZip, AllByRecursion}
+use Rattle.std.proofs.Common.{◌≡◌, ℕ, List, [], ◌∷◌, ◌++◌, length, take, drop, refl, sym, ap, ◌∙◌, append_assoc}
+use Rattle.std.specs.Prelude.{codes}
+use Rattle.std.specs.List.{AllZip}
 use Rattle.std.proofs.lemmas.List.{take-append-drop}
 use Rattle.std.proofs.lemmas.List.Elements.{recursion_from_All}
 use Rattle.dataset_meta.specs.Metas.{MetaData}
@@ -19,7 +19,6 @@ use Rattle.ps_report.specs.Reports.{held_as, reader_line, writer_lines, group_li
 use Rattle.ps_report.proofs.Pairs.{zip_front, zip_behind}
 use Rattle.report_laws.specs.Alike.{AreReadersAlike}
 use Rattle.report_laws.specs.Numbers.{GroupHasNumbers, WriterHasNumbers, ReadGroupHasNumbers, ReaderHasNumbers}
-use Rattle.report_laws.proofs.Cutting.{Stops, is_visible, tail_same}
 use Rattle.report_laws.proofs.Entries.{BreakHasNumbers}
 use Rattle.report_laws.proofs.Held.{held_cut, held_stop}
 use Rattle.report_laws.proofs.Lines.{component_cut, group_cut, writer_cut, read_group_cut, gaps_cut}

@@ -1,31 +1,28 @@
 -- What a reader holds, or why it waits.
-use Rattle.std.proofs.Common.{◌≡◌, ℕ, ◌<◌, ◌^◌, Bool, true, false, List, [], ◌∷◌, ◌++◌, length, refl, sym, ap, ◌∙◌, subst, arith, append_assoc, inl, inr}
+use Rattle.std.proofs.Common.{◌≡◌, ℕ, ◌<◌, ◌^◌, Bool, true, false, List, [], ◌∷◌, ◌++◌, length, refl, sym, ap, ◌∙◌, subst, arith, append_assoc}
 use Rattle.std.specs.Prelude.{codes, Option, Some, None, IfSome, nat_eq, slice_get}
-use Rattle.std.specs.List.{flat_map, zip, AllZip}
+use Rattle.std.specs.List.{AllZip}
 use Rattle.std.proofs.lemmas.Bool.Decides.{nat_tests}
 use Rattle.std.proofs.lemmas.List.{append_cancel_left}
-use Rattle.ua_values.specs.declared.kind.Kind.{Kind}
 use Rattle.ua_values.specs.declared.value.Value.{Value}
-use Rattle.ua_values.specs.Values.{kind_of, IsValue}
 use Rattle.dataset_meta.specs.declared.field.Field.{Field}
 use Rattle.dataset_meta.specs.DataValues.{DataValue, FitsField, IsStatus}
 use Rattle.dataset_meta.specs.Metas.{MetaData}
-use Rattle.row_words.specs.declared.row.Row.{Row}
 use Rattle.row_words.specs.Belonging.{Belongs, row_in, spelled_row}
 use Rattle.pubsub_model.specs.declared.reading.Why.{Why}
 use Rattle.ps_config.specs.declared.parts.ReaderPart.{ReaderPart}
 use Rattle.value_texts.specs.Texts.{hex_text_32, value_text_of}
 use Rattle.value_texts.proofs.TextLaws.{hex_32_once}
 use Rattle.hex.proofs.HexLemmas.{length-encode_with}
-use Rattle.hex.specs.Hex.{encode_lower, lower_digits}
+use Rattle.hex.specs.Hex.{lower_digits}
 use Rattle.std.specs.Int.{w32, to_be_bytes}
 use Rattle.ps_report.specs.declared.closed.HeldEnd.{HeldEnd}
 use Rattle.ps_report.specs.Conditions.{BelongsTo}
 use Rattle.ps_report.specs.Lines.{status_mark, field_text, fields_text, numbered_text, number_or_dash, waits_text}
 use Rattle.ps_report.specs.Reports.{row_text, held_as}
-use Rattle.ps_report.specs.Words.{why_word}
+use Rattle.pubsub_model.specs.WhyWords.{why_word}
 use Rattle.report_laws.specs.Numbers.{IsNumber, HeldHasNumbers}
-use Rattle.report_laws.proofs.Cutting.{Stops, cut, cut_length, is_visible, head_same, tail_same}
+use Rattle.report_laws.proofs.Cutting.{Stops, cut_length, is_visible, head_same, tail_same}
 use Rattle.report_laws.proofs.Entries.{dash_cut}
 use Rattle.report_laws.proofs.Values.{value_cut}
 use Rattle.report_laws.proofs.Words.{why_cut}

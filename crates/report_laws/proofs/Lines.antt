@@ -1,5 +1,5 @@
 -- Each line of a report, whatever follows it.
-use Rattle.std.proofs.Common.{◌≡◌, ℕ, ◌<◌, List, [], ◌∷◌, ◌++◌, length, refl, sym, ap, ◌∙◌, subst, arith, append_assoc}
+use Rattle.std.proofs.Common.{◌≡◌, ℕ, List, [], ◌∷◌, ◌++◌, length, refl, sym, ap, ◌∙◌, subst, append_assoc}
 use Rattle.std.specs.Prelude.{codes, nat_eq}
 use Rattle.std.specs.Fmt.{decimal}
 use Rattle.std.specs.List.{AllByRecursion}
@@ -12,10 +12,10 @@ use Rattle.ps_report.specs.declared.closed.GroupEnd.{GroupEnd}
 use Rattle.ps_report.specs.declared.closed.LinkEnd.{LinkEnd}
 use Rattle.ps_report.specs.declared.closed.ReadGroupEnd.{ReadGroupEnd}
 use Rattle.ps_report.specs.declared.closed.WriterEnd.{WriterEnd}
-use Rattle.ps_report.specs.Lines.{component_text, count_text, numbers_text, log_text, causes_text, breaks_text, history_line, group_line, writer_line, read_group_line, gaps_line, watch_line, link_line}
+use Rattle.ps_report.specs.Lines.{component_text, count_text, numbers_text, log_text, causes_text, breaks_text, history_line, group_line, writer_line, read_group_line, gaps_line, link_line}
 use Rattle.report_laws.specs.Numbers.{IsNumber, GroupHasNumbers, WriterHasNumbers, ReadGroupHasNumbers, LinkHasNumbers}
 use Rattle.report_laws.proofs.Causes.{causes_cut}
-use Rattle.report_laws.proofs.Cutting.{Stops, cut, is_visible, head_same, tail_same}
+use Rattle.report_laws.proofs.Cutting.{Stops, is_visible, tail_same}
 use Rattle.report_laws.proofs.Entries.{number_cut, count_left, count_cut, numbers_cut, EntryHasNumbers, log_cut, BreakHasNumbers, breaks_cut}
 use Rattle.report_laws.proofs.Words.{state_cut}
 

@@ -1,6 +1,6 @@
 -- Lines of parts and their ends, in order.
-use Rattle.std.proofs.Common.{◌≡◌, ℕ, zero, suc, ◌<◌, List, [], ◌∷◌, ◌++◌, length, take, drop, refl, sym, ap, ◌∙◌, subst, arith, append_assoc}
-use Rattle.std.specs.List.{flat_map, zip, All, AllZip, AllByRecursion}
+use Rattle.std.proofs.Common.{◌≡◌, ℕ, zero, suc, List, [], ◌∷◌, ◌++◌, length, take, drop, refl, sym, ◌∙◌, arith, append_assoc}
+use Rattle.std.specs.List.{flat_map, zip, AllZip, AllByRecursion}
 
 -- a line tells of a part's end what `Same` says
 abbrev pub Tells : {A B : Type 0} → (A → B → List ℕ) → (A → B → Type 0) → (B → B → Type 0) → Type 0

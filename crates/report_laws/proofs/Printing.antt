@@ -1,7 +1,7 @@
 -- Sessions that are told alike have the same report.
-use Rattle.std.proofs.Common.{◌≡◌, ℕ, List, [], ◌∷◌, ◌++◌, length, take, drop, zero, suc, refl, sym, ap, ◌∙◌, subst}
-use Rattle.std.specs.Prelude.{Option, Some, None, slice_get}
-use Rattle.std.specs.List.{AllZip, flat_map, zip}
+use Rattle.std.proofs.Common.{◌≡◌, ℕ, List, [], ◌∷◌, ◌++◌, length, take, drop, zero, suc, refl, ap, ◌∙◌}
+use Rattle.std.specs.Prelude.{Option, Some, None}
+use Rattle.std.specs.List.{AllZip}
 use Rattle.dataset_meta.specs.Metas.{MetaData}
 use Rattle.pubsub_model.specs.declared.reading.Why.{Why}
 use Rattle.ps_config.specs.declared.parts.Config.{Config}
@@ -11,7 +11,7 @@ use Rattle.ps_report.specs.declared.closed.Closed.{Closed}
 use Rattle.ps_report.specs.declared.closed.HeldEnd.{HeldEnd}
 use Rattle.ps_report.specs.declared.closed.ReaderEnd.{ReaderEnd}
 use Rattle.ps_report.specs.declared.closed.ReadGroupEnd.{ReadGroupEnd}
-use Rattle.ps_report.specs.Lines.{feed, component_text, history_line, read_group_line, gaps_line, link_line}
+use Rattle.ps_report.specs.Lines.{feed, component_text, read_group_line, gaps_line, link_line}
 use Rattle.ps_report.specs.Reports.{held_as, reader_line, history_lines, group_lines, reader_lines, read_group_lines, watch_lines, end_line, report_text}
 use Rattle.std.specs.Prelude.{codes}
 use Rattle.report_laws.specs.Alike.{AreReadersAlike, AreToldAlike}

@@ -1,6 +1,5 @@
 -- A whole report, line by line.
-use Rattle.std.proofs.Common.{◌≡◌, ◌≢◌, ℕ, ◌<◌, List, [], ◌∷◌, ◌++◌, length, refl, sym, ap, ◌∙◌, subst, arith, append_assoc}
-use Rattle.std.specs.Prelude.{codes}
+use Rattle.std.proofs.Common.{◌≡◌, ℕ, ◌<◌, List, ◌++◌, length, sym, ap, ◌∙◌, append_assoc}
 use Rattle.std.specs.List.{AllZip, AllByRecursion}
 use Rattle.std.proofs.lemmas.List.Elements.{recursion_from_All}
 use Rattle.dataset_meta.specs.Metas.{MetaData}
@@ -9,23 +8,16 @@ use Rattle.ps_config.specs.declared.parts.GroupPart.{GroupPart}
 use Rattle.ps_config.specs.declared.parts.ReadGroupPart.{ReadGroupPart}
 use Rattle.ps_report.specs.declared.closed.Closed.{Closed}
 use Rattle.ps_report.specs.declared.closed.History.{History}
-use Rattle.ps_report.specs.declared.closed.ReaderEnd.{ReaderEnd}
-use Rattle.ps_report.specs.declared.closed.WatchEnd.{WatchEnd}
-use Rattle.ps_report.specs.declared.closed.GroupEnd.{GroupEnd}
-use Rattle.ps_report.specs.declared.closed.LinkEnd.{LinkEnd}
-use Rattle.ps_report.specs.declared.closed.ReadGroupEnd.{ReadGroupEnd}
-use Rattle.ps_report.specs.declared.closed.WriterEnd.{WriterEnd}
 use Rattle.ps_report.specs.Conditions.{IsClosedOf, HoldsRow, writers_of, readers_of}
 use Rattle.ps_report.specs.Lines.{history_line, link_line}
 use Rattle.ps_report.specs.Reports.{history_lines, group_lines, read_group_lines, watch_lines, end_line, report_text}
-use Rattle.report_laws.specs.Alike.{AreReadersAlike, AreToldAlike}
+use Rattle.report_laws.specs.Alike.{AreToldAlike}
 use Rattle.report_laws.specs.Numbers.{IsNumber, HistoryHasNumbers, GroupHasNumbers, WriterHasNumbers, ReadGroupHasNumbers, ReaderHasNumbers, WatchHasNumbers, HasNumbers}
 use Rattle.report_laws.specs.ReaderNames.{NamesReaders}
-use Rattle.report_laws.proofs.Cutting.{Stops}
 use Rattle.report_laws.proofs.Groups.{ReaderHas, WriterHas, groups_cut, read_groups_cut}
 use Rattle.report_laws.proofs.Lines.{history_cut, link_cut, link_begins}
 use Rattle.report_laws.proofs.Parts.{Tells, parts_cut, same_all, with_parts, and_ends}
-use Rattle.report_laws.proofs.Watches.{NoWatch, WatchHas, watches_cut, watches_have}
+use Rattle.report_laws.proofs.Watches.{WatchHas, watches_cut, watches_have}
 
 -- ---- histories
 

@@ -1,6 +1,6 @@
 -- A value's text has neither a space nor a line feed, so what follows it ends it.
-use Rattle.std.proofs.Common.{◌≡◌, ℕ, zero, suc, ◌/◌, ◌%◌, ◌<◌, Bool, true, false, List, [], ◌∷◌, ◌++◌, length, get_or, refl, sym, ap, ◌∙◌, subst, arith, lit<}
-use Rattle.std.specs.Prelude.{nat_le, cond, ℤ, pos, negsuc}
+use Rattle.std.proofs.Common.{◌≡◌, ℕ, zero, suc, ◌/◌, ◌%◌, ◌<◌, Bool, true, false, List, [], ◌∷◌, ◌++◌, length, get_or, refl, subst, arith}
+use Rattle.std.specs.Prelude.{cond, ℤ, pos, negsuc}
 use Rattle.std.specs.Fmt.{digit_glyph, decimal, signed_decimal}
 use Rattle.std.specs.Int.{w32, w64, to_be_bytes}
 use Rattle.std.specs.List.{list_all, flat_map, All, AllByRecursion}
@@ -12,8 +12,8 @@ use Rattle.uuid.specs.Text.{by_index, hex_digit, hyphenated_text, lower, nibble,
 use Rattle.ua_values.specs.declared.value.Value.{Value}
 use Rattle.ua_values.specs.declared.value.Value.TheVariants as values
 use Rattle.ua_values.specs.Values.{kind_of, IsValue}
-use Rattle.value_texts.specs.Texts.{is_plain, escape, byte_text, truth_text, hex_text, hex_text_32, value_text_of}
-use Rattle.value_texts.proofs.TextLaws.{small_32, small_64, hex_32_once, printed_is_text, text_once}
+use Rattle.value_texts.specs.Texts.{is_plain, escape, byte_text, truth_text, hex_text, value_text_of}
+use Rattle.value_texts.proofs.TextLaws.{small_32, small_64, printed_is_text, text_once}
 use Rattle.value_texts.specs.Spelling.{IsTextOf}
 use Rattle.std.specs.Char.{is_ascii_digit}
 use Rattle.report_laws.proofs.Cutting.{Stops, cut, is_visible, digit_visible, all_weaker, all_join}

@@ -1,12 +1,12 @@
 -- Lines of watches: a reader's name tells which one it is.
-use Rattle.std.proofs.Common.{◌≡◌, ◌≢◌, ℕ, zero, suc, ◌<◌, ◌≤◌, Bool, true, false, List, [], ◌∷◌, ◌++◌, length, get_or, refl, sym, ap, ◌∙◌, subst, arith, append_assoc, inl, inr}
-use Rattle.std.specs.Prelude.{codes, ◌&&◌, nat_le, nat_eq, map, slice_get, IsTrue, AllPairs, All}
+use Rattle.std.proofs.Common.{◌≡◌, ℕ, zero, suc, ◌<◌, Bool, true, false, List, [], ◌∷◌, ◌++◌, length, get_or, refl, sym, ap, ◌∙◌, subst, arith, append_assoc, inl, inr}
+use Rattle.std.specs.Prelude.{codes, ◌&&◌, nat_le, nat_eq, map, slice_get, IsTrue}
 use Rattle.std.specs.Fmt.{decimal}
-use Rattle.std.specs.List.{list_all, flat_map, AllByRecursion}
+use Rattle.std.specs.List.{list_all, AllByRecursion}
 use Rattle.std.specs.Option.{option_map_or}
 use Rattle.std.proofs.lemmas.Bool.{and_parts, cases_lt}
 use Rattle.std.proofs.lemmas.List.{append_cancel_left, length-map}
-use Rattle.std.proofs.lemmas.List.Elements.{recursion_from_All}
+use Rattle.std.proofs.lemmas.List.Elements.{recursion_from_All, All-map}
 use Rattle.dataset_meta.specs.Names.{is_name, is_name_byte, begins_with_letter}
 use Rattle.ps_config.specs.declared.parts.Config.{Config}
 use Rattle.ps_config.specs.declared.parts.ReaderPart.{ReaderPart}
@@ -15,11 +15,15 @@ use Rattle.ps_report.specs.Conditions.{readers_of}
 use Rattle.ps_report.specs.Lines.{numbers_text, watch_line}
 use Rattle.ps_report.specs.Reports.{reader_name, watch_lines}
 use Rattle.report_laws.specs.Numbers.{IsNumber, WatchHasNumbers}
-use Rattle.report_laws.specs.ReaderNames.{reader_names, NamesReaders}
-use Rattle.report_laws.proofs.Cutting.{Stops, cut, head_same, tail_same}
+use Rattle.report_laws.specs.ReaderNames.{NamesReaders}
+use Rattle.report_laws.proofs.Cutting.{Stops, cut, tail_same}
 use Rattle.report_laws.proofs.Entries.{number_cut, numbers_cut}
 
 -- ---- names
+
+-- the names of all readers, in order
+abbrev reader_names : Config → List (List ℕ)
+reader_names config = map (λ part. part.name) (readers_of config.readgroup)
 
 name_bytes : (name : List ℕ) → IsTrue (is_name name) → list_all is_name_byte name ≡ true
 name_bytes name is = (and_parts (begins_with_letter name && nat_le (length name) 32) (list_all is_name_byte name) is).1
@@ -39,7 +43,9 @@ inside config i lt = rw length-map lt
 
 is_spelled : (config : Config) (i : ℕ) → NamesReaders config → i < length (readers_of config.readgroup) → list_all is_name_byte (reader_name config i) ≡ true
 is_spelled config i names lt =
-    subst (λ name. list_all is_name_byte name ≡ true) (sym (name_is config i)) (name_bytes (get_or (reader_names config) i []) (names.names i [] (inside config i lt)))
+    subst (λ name. list_all is_name_byte name ≡ true) (sym (name_is config i))
+    (name_bytes (get_or (reader_names config) i [])
+    (All-map (λ name. IsTrue (is_name name)) (λ (part : ReaderPart). part.name) (readers_of config.readgroup) names.names i [] (inside config i lt)))
 
 -- one name, one reader
 reader_once : (config : Config) (i j : ℕ) → NamesReaders config → i < length (readers_of config.readgroup) → j < length (readers_of config.readgroup)

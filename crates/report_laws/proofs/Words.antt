@@ -1,12 +1,12 @@
 -- Words of states and of reasons: each has a length of its own.
-use Rattle.std.proofs.Common.{◌≡◌, ℕ, Bool, true, List, ◌++◌, length, refl, sym, ap, arith}
+use Rattle.std.proofs.Common.{◌≡◌, ℕ, true, List, ◌++◌, length, refl, ap, arith}
 use Rattle.std.specs.List.{list_all}
 use Rattle.pubsub_model.specs.declared.reading.Why.{Why}
 use Rattle.pubsub_model.specs.declared.reading.Why.TheVariants.{Start, Gap, Timeout, NewToken, Jump, Restarted}
 use Rattle.pubsub_states.specs.declared.state.State.{State}
 use Rattle.pubsub_states.specs.declared.state.State.TheVariants.{Disabled, Paused, Operational, Error, PreOperational}
 use Rattle.pubsub_states.specs.States.{word_of}
-use Rattle.ps_report.specs.Words.{why_word}
+use Rattle.pubsub_model.specs.WhyWords.{why_word}
 use Rattle.report_laws.proofs.Cutting.{Stops, cut, is_visible}
 
 state_visible : (state : State) → list_all is_visible (word_of state) ≡ true
