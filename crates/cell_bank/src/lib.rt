@@ -1,4 +1,4 @@
-//! One cell for each data set, up to eight, and sets of passes with one pass for each cell.
+//! One cell for each data set, and sets of passes with one pass for each cell.
 #![tactic(auto)]
 
 mod bank;

@@ -3,7 +3,7 @@ use Rattle.std.specs.Prelude.{◌≡◌, ◌≤◌, ℕ, List, Option}
 use Rattle.ua_base.specs.Cause.{Rose}
 use Rattle.ua_base.specs.Files.{ToldFile}
 use Rattle.ua_base.specs.Journal.{LinkState}
-use Rattle.ua_base.specs.Links.{Opening}
+use Rattle.ua_base.specs.Links.{Making, Opening}
 
 -- a folder and an output: what is told of the file of a name, how often a read has failed, what was written, and how often a write has failed
 pub record Outside : Type 0 where
@@ -16,14 +16,18 @@ abbrev pub outside_of : {F K : Type 0} → (F → List ℕ → ToldFile) → (F 
 outside_of tells read_faults written write_faults folder out =
     record { file = tells folder; read_faults = read_faults folder; written = written out; write_faults = write_faults out }
 
--- a link: its journal and what waits, how often it has failed, and what it was opened with
+-- a link: its journal and what waits, how often it has failed, what it was opened with, what it was made to do, and how often it
+-- was opened
 pub record Wire : Type 0 where
   pub told : Option LinkState
   pub faults : ℕ
   pub opened_with : Option Opening
+  pub made : Making
+  pub openings : ℕ
 
-abbrev pub wire_of : {L : Type 0} → (L → Option LinkState) → (L → ℕ) → (L → Option Opening) → L → Wire
-wire_of told faults opened_with link = record { told = told link; faults = faults link; opened_with = opened_with link }
+abbrev pub wire_of : {L : Type 0} → (L → Option LinkState) → (L → ℕ) → (L → Option Opening) → (L → Making) → (L → ℕ) → L → Wire
+wire_of told faults opened_with made openings link =
+    record { told = told link; faults = faults link; opened_with = opened_with link; made = made link; openings = openings link }
 
 -- What every call over a folder keeps: what is told of its files. Its count of faults doesn't fall.
 pub record KeepsFolder {F : Type 0} (tells : F → List ℕ → ToldFile) (faults : F → ℕ) (old new : F) : Type 0 where

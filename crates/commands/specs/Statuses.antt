@@ -1,8 +1,7 @@
 -- The statuses as numbers, and their texts on the error output.
-use Rattle.std.specs.Prelude.{◌≡◌, ℕ, ◌==◌, List, [], ◌∷◌, ◌++◌, codes, find}
+use Rattle.std.specs.Prelude.{◌≡◌, ℕ, List, [], ◌∷◌, ◌++◌, codes}
 use Rattle.std.specs.Fmt.{decimal}
-use Rattle.std.specs.Option.{option_map_or}
-use Rattle.config_tables.specs.FaultNumbers.{number_of as fault_number, fault_name, all_faults}
+use Rattle.ps_config.specs.EndTexts.{name_numbered}
 use Rattle.ps_script.specs.FaultNumbers.{number_of as script_number, fault_name as script_fault_name}
 use Rattle.ps_script.specs.declared.fault.ScriptFault.{ScriptFault}
 use Rattle.commands.specs.declared.status.Status.{Status}
@@ -51,10 +50,6 @@ IsTooLong status = number_of status ≡ 9
 
 abbrev pub line_feed : List ℕ
 line_feed = 10 ∷ []
-
--- the name of the fault of a configuration that has this number
-abbrev pub name_numbered : ℕ → List ℕ
-name_numbered code = option_map_or fault_name (find (λ fault. fault_number fault == code) all_faults) []
 
 -- `NAME PATH`
 abbrev pub place_text : ℕ → List ℕ → List ℕ

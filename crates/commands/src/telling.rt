@@ -1,11 +1,11 @@
 //! The text of a status on the error output.
 ghost use Rattle.std.specs.Prelude.{◌≡◌, ◌≤◌, ◌++◌};
-ghost use Rattle.commands.specs.Statuses.{name_numbered, place_text, config_text, source_text, script_text, lanes_text, fault_text, text_of};
+ghost use Rattle.commands.specs.Statuses.{place_text, config_text, source_text, script_text, lanes_text, fault_text, text_of};
 ghost use Rattle.commands.specs.Telling.{Puts, WritesText};
 
 use crate::status::Status;
 use itoa::Buffer;
-use ps_config::Fault;
+use ps_config::name_numbered;
 use ps_script::ScriptFault;
 use ua_base::{Sink, WriteEnd};
 
@@ -98,16 +98,6 @@ fn put_fault<E: Sink>(err: &mut E, fault: ScriptFault) -> bool
 {
     let mut digits = Buffer::new();
     put_three(err, digits.format(fault.number()), " ", fault.name()) && put(err, "\n")
-}
-
-// The name of the fault of a configuration that has this number.
-fn name_numbered(code: u8) -> &'static str
-    ensures { result.now ≡ name_numbered code }
-{
-    match Fault::numbered(code) {
-        Some(fault) => fault.name(),
-        None => "",
-    }
 }
 
 // Writes the texts one after another, since joining them would take memory, and answers whether all of them were written.

@@ -1,6 +1,6 @@
 //! Why a program ends before its time.
 use crate::calling::Program;
-use ps_config::{ConfigEnd, Fault as ConfigFault};
+use ps_config::ConfigEnd;
 use std::alloc::{AllocError, AllocFailed};
 use std::error::Error;
 use std::fmt::{self, Display, Formatter, Write};
@@ -86,13 +86,7 @@ impl Display for Fault {
 fn tell_config<W: Write>(end: &ConfigEnd, f: &mut Formatter<W>) -> fmt::Result {
     match end {
         ConfigEnd::Memory => f.write_str("out of memory"),
-        ConfigEnd::Refused { code, path } => {
-            let name = match ConfigFault::numbered(*code) {
-                Some(fault) => fault.name(),
-                None => "",
-            };
-            write!(f, "config: C{code} {name} {path}")
-        }
+        ConfigEnd::Refused { .. } => write!(f, "config: {end}"),
     }
 }
 

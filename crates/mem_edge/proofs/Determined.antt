@@ -9,24 +9,22 @@ use Rattle.ua_base.specs.declared.link.Received.TheVariants as received
 use Rattle.ua_base.specs.declared.link.Sent.{Sent as SentEnd}
 use Rattle.ua_base.specs.declared.link.Sent.TheVariants as sent
 use Rattle.ua_base.specs.Journal.{Entry, Sent, SendFailed, Got, Empty, Long, ReceiveFailed, LinkState, Tells, told_more}
+use Rattle.ua_base.specs.Links.{Making}
 use Rattle.ua_base.specs.Net.{Receives}
 use Rattle.ua_base.proofs.Told.{Tells-between, Tells-at}
 use Rattle.mem_edge.specs.declared.memory_link.MemoryLink.{MemoryLink}
 use Rattle.mem_edge.specs.Calls.{is_named, next_call}
 use Rattle.mem_edge.specs.Transits.{journal_in, waiting_in}
-use Rattle.mem_edge.specs.MemoryLinks.{told_by, journal_of, fates_of, injected_by, named_sends, named_receives, receives_made, fails_receiving, KeepsNamed, SendsInMemory}
+use Rattle.mem_edge.specs.MemoryLinks.{told_by, journal_of, fates_of, injected_by, named_sends, made_by, receives_made, fails_receiving, SendsInMemory}
 use Rattle.mem_edge.specs.Queueing.{queued_by}
 use Rattle.mem_edge.specs.Runs.{Settings, settings_of, Call, Send, Unsent, Receive, Standing, state_sent, state_received, first_taken, after_call, AnswersSend, AnswersReceive, Answers, AnswersAll}
 use Rattle.mem_edge.specs.Sends.{sends_in}
 use Rattle.mem_edge.proofs.Comes.{told_journal}
 
 -- the settings stay
-settings_same : (old new : MemoryLink) → KeepsNamed old new → fates_of new ≡ fates_of old → settings_of new ≡ settings_of old
+settings_same : (old new : MemoryLink) → made_by new ≡ made_by old → fates_of new ≡ fates_of old → settings_of new ≡ settings_of old
 settings_same old new kept fates =
-    ap (λ (f : List (ℕ × Fate)). record { fates = f; injected = injected_by new; send_fails = named_sends new; receive_fails = named_receives new }) fates
-    ∙ ap (λ (i : List (ℕ × List ℕ)). record { fates = fates_of old; injected = i; send_fails = named_sends new; receive_fails = named_receives new }) kept.injected
-    ∙ ap (λ (n : List ℕ). record { fates = fates_of old; injected = injected_by old; send_fails = n; receive_fails = named_receives new }) kept.sends
-    ∙ ap (λ (n : List ℕ). record { fates = fates_of old; injected = injected_by old; send_fails = named_sends old; receive_fails = n }) kept.receives
+    ap (λ (f : List (ℕ × Fate)). record { making = made_by new; fates = f }) fates ∙ ap (λ (m : Making). record { making = m; fates = fates_of old }) kept
 
 -- ---- a send
 
@@ -70,7 +68,7 @@ within_room n into le = let len : length (take n into) ≡ n = length-take-le n 
 over_room : (lost into : List ℕ) (n : ℕ) → length lost ≡ n → length into < n → nat_le (length lost) (length into) ≡ false
 over_room lost into n len lt = grind (arith, nat_tests)
 
-unfailed : (settings : Settings) (number room : ℕ) (before : LinkState) → is_named settings.receive_fails number ≡ false → state_received settings number room before ≡ first_taken room before.journal before.waiting
+unfailed : (settings : Settings) (number room : ℕ) (before : LinkState) → is_named settings.making.receive_fails number ≡ false → state_received settings number room before ≡ first_taken room before.journal before.waiting
 unfailed settings number room before not_named = rw not_named refl
 
 receive_step : (result : Received) (into : List ℕ) (old new : MemoryLink) (before after : LinkState) → told_by old ≡ Some before → told_by new ≡ Some after → AnswersReceive result into old new → after ≡ state_received (settings_of old) (receives_made old) (length into) before
@@ -135,17 +133,17 @@ one_step : (call : Call) (old new : MemoryLink) (standing : Standing) (after : L
 one_step (Send datagram) old new standing after start number end a = record {
   state = send_step a.0 old new datagram standing.state after start end a.1 a.2;
   receives = a.2.receives ∙ number;
-  stays = settings_same old new a.2.named a.2.fates;
+  stays = settings_same old new a.2.making a.2.fates;
 }
 one_step (Unsent datagram) old new standing after start number end a = record {
   state = one_state (told_by new) after standing.state end (a.adds.0 ∙ start);
   receives = a.receives ∙ number;
-  stays = settings_same old new a.named a.fates;
+  stays = settings_same old new a.making a.fates;
 }
 one_step (Receive room) old new standing after start number end a = record {
   state = receive_step a.0 a.1 old new standing.state after start end a.3 ∙ ap (λ (n : ℕ). state_received (settings_of old) n (length a.1) standing.state) number ∙ ap (λ (n : ℕ). state_received (settings_of old) standing.receives n standing.state) a.2;
   receives = a.3.receives ∙ ap next_call number;
-  stays = settings_same old new a.3.named a.3.fates;
+  stays = settings_same old new a.3.making a.3.fates;
 }
 
 pub run_is : (calls : List Call) (first last : MemoryLink) (standing : Standing) (state : LinkState) → told_by first ≡ Some standing.state → receives_made first ≡ standing.receives → AnswersAll calls first last → told_by last ≡ Some state

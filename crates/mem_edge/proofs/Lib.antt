@@ -5,6 +5,7 @@ pub mod Failings
 pub mod Filters
 pub mod Honesty
 pub mod Kept
+pub mod Makings
 pub mod Named
 pub mod Opened
 pub mod Waiting

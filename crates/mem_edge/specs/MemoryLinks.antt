@@ -5,7 +5,7 @@ use Rattle.ua_base.specs.declared.link.Fate.{Fate}
 use Rattle.ua_base.specs.declared.link.Sent.{Sent as SentEnd}
 use Rattle.ua_base.specs.declared.link.Sent.TheVariants as sent
 use Rattle.ua_base.specs.Journal.{Entry, Sent, SendFailed, LinkState, told_more}
-use Rattle.ua_base.specs.Links.{Opening}
+use Rattle.ua_base.specs.Links.{Making, Opening}
 use Rattle.mem_edge.specs.Calls.{is_named}
 use Rattle.mem_edge.specs.Transits.{journal_in, told_in, injected_in}
 use Rattle.mem_edge.specs.Queueing.{queued_by}
@@ -44,6 +44,14 @@ named_receives link = link.receive_fails.items
 abbrev pub fails_opening : MemoryLink → Bool
 fails_opening link = link.open_fails
 
+-- what it was made to do
+abbrev pub made_by : MemoryLink → Making
+made_by link = record { injected = injected_by link; send_fails = named_sends link; receive_fails = named_receives link; open_fails = fails_opening link }
+
+-- how many openings were Done
+abbrev pub openings_of : MemoryLink → ℕ
+openings_of link = link.openings
+
 -- how many receives there were since it was opened, which is the number of the next
 abbrev pub receives_made : MemoryLink → ℕ
 receives_made link = link.receives
@@ -54,13 +62,6 @@ fails_sending link = is_named (named_sends link) (length (sends_in (journal_of l
 
 abbrev pub fails_receiving : MemoryLink → Bool
 fails_receiving link = is_named (named_receives link) (receives_made link)
-
--- which calls fail stays, and what is injected
-pub record KeepsNamed (old new : MemoryLink) : Type 0 where
-  pub sends : named_sends new ≡ named_sends old
-  pub receives : named_receives new ≡ named_receives old
-  pub opening : fails_opening new ≡ fails_opening old
-  pub injected : injected_by new ≡ injected_by old
 
 -- a send and all that it queues, by its answer
 abbrev pub SendsInMemory : List ℕ → SentEnd → MemoryLink → MemoryLink → Type 0

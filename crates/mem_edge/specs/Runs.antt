@@ -8,20 +8,19 @@ use Rattle.ua_base.specs.declared.link.Received.TheVariants as received
 use Rattle.ua_base.specs.declared.link.Sent.{Sent as SentEnd}
 use Rattle.ua_base.specs.declared.link.Sent.TheVariants as sent
 use Rattle.ua_base.specs.Journal.{Entry, Sent, SendFailed, Got, Empty, Long, ReceiveFailed, LinkState, Tells}
+use Rattle.ua_base.specs.Links.{Making}
 use Rattle.ua_base.specs.Net.{Receives, FitsBuffer}
 use Rattle.mem_edge.specs.Calls.{is_named, next_call}
-use Rattle.mem_edge.specs.MemoryLinks.{told_by, fates_of, injected_by, named_sends, named_receives, receives_made, fails_sending, fails_receiving, KeepsNamed, SendsInMemory}
+use Rattle.mem_edge.specs.MemoryLinks.{told_by, fates_of, made_by, receives_made, fails_sending, fails_receiving, SendsInMemory}
 use Rattle.mem_edge.specs.Queueing.{queued_by}
 use Rattle.mem_edge.specs.Sends.{sends_in}
 
 pub record Settings : Type 0 where
+  pub making : Making
   pub fates : List (ℕ × Fate)
-  pub injected : List (ℕ × List ℕ)
-  pub send_fails : List ℕ
-  pub receive_fails : List ℕ
 
 abbrev pub settings_of : MemoryLink → Settings
-settings_of link = record { fates = fates_of link; injected = injected_by link; send_fails = named_sends link; receive_fails = named_receives link }
+settings_of link = record { making = made_by link; fates = fates_of link }
 
 -- a call of an open link: a send that is answered, one that finds no memory, or a receive with room for so many bytes
 pub data Call : Type 0 where
@@ -41,9 +40,9 @@ at_opening = record { state = record { journal = []; waiting = [] }; receives = 
 abbrev pub state_sent : Settings → List ℕ → LinkState → LinkState
 state_sent settings datagram state =
     let sends = sends_in state.journal in
-    if is_named settings.send_fails (length sends)
+    if is_named settings.making.send_fails (length sends)
     then record { journal = state.journal ++ SendFailed ∷ []; waiting = state.waiting }
-    else record { journal = state.journal ++ Sent datagram ∷ []; waiting = state.waiting ++ queued_by settings.fates settings.injected sends datagram }
+    else record { journal = state.journal ++ Sent datagram ∷ []; waiting = state.waiting ++ queued_by settings.fates settings.making.injected sends datagram }
 
 -- the first that waits is received, if it isn't longer than the room
 abbrev pub first_taken : ℕ → List Entry → List (List ℕ) → LinkState
@@ -54,7 +53,7 @@ first_taken room journal (datagram ∷ waiting) =
 -- a receive that its number names fails
 abbrev pub state_received : Settings → ℕ → ℕ → LinkState → LinkState
 state_received settings number room state =
-    if is_named settings.receive_fails number
+    if is_named settings.making.receive_fails number
     then record { journal = state.journal ++ ReceiveFailed ∷ []; waiting = state.waiting }
     else first_taken room state.journal state.waiting
 
@@ -73,7 +72,7 @@ pub record AnswersSend (datagram : List ℕ) (result : SentEnd) (old new : Memor
   pub failed : result ≡ sent.Failed → IsTrue (fails_sending old)
   pub done : result ≡ sent.Done → fails_sending old ≡ false
   pub receives : receives_made new ≡ receives_made old
-  pub named : KeepsNamed old new
+  pub making : made_by new ≡ made_by old
   pub fates : fates_of new ≡ fates_of old
 
 -- what a receive does; `into` is the buffer after the call
@@ -82,7 +81,7 @@ pub record AnswersReceive (result : Received) (into : List ℕ) (old new : Memor
   pub sizes : FitsBuffer result into
   pub failed : (result ≡ received.Failed) ↔ IsTrue (fails_receiving old)
   pub receives : receives_made new ≡ next_call (receives_made old)
-  pub named : KeepsNamed old new
+  pub making : made_by new ≡ made_by old
   pub fates : fates_of new ≡ fates_of old
 
 -- the link answered a call

@@ -5,7 +5,7 @@ ghost use Rattle.ua_base.specs.Cause.{HasCause, Rose, counted_if};
 ghost use Rattle.ua_base.specs.Fates.{AreFates};
 ghost use Rattle.ua_base.specs.Journal.{LinkState, Tells, sent_list, received_list};
 ghost use Rattle.ua_base.specs.Links.{KeepsLink};
-ghost use Rattle.ua_base.specs.Net.{Opens, Sends, Queues, Receives, FitsBuffer};
+ghost use Rattle.ua_base.specs.Net.{Opens, is_done, Sends, Queues, Receives, FitsBuffer};
 ghost use Rattle.mem_edge.specs.Calls.{named_from};
 ghost use Rattle.mem_edge.specs.Contents.{injections};
 ghost use Rattle.mem_edge.specs.Failings.{ahead_in, IsAhead};
@@ -44,6 +44,7 @@ pub struct MemoryLink {
     // The number of the next receive, of 128 bits so that no number of a list comes twice.
     receives: u128,
     faults: u64,
+    openings: u64,
     is_open: bool,
     ghost room: { IsTrue is_open → named_from receives receive_fails.items ≤ room_in transit },
     ghost planned: { IsTrue is_open → IsPlan fates.items (injected_in transit) plan },
@@ -55,7 +56,7 @@ pub struct MemoryLink {
 }
 
 impl MemoryLink {
-    ghost use Rattle.mem_edge.specs.MemoryLinks.{told_by, journal_of, faults_of, opened_by, injected_by, named_sends, named_receives, fails_opening, receives_made, KeepsNamed};
+    ghost use Rattle.mem_edge.specs.MemoryLinks.{told_by, journal_of, faults_of, opened_by, made_by, openings_of, receives_made};
 
     /// An injected datagram comes after all that the send of its number queues; of two with one number the first of
     /// the list comes first. Each is shorter than 2^32 bytes, since an answer counts its bytes in a u32.
@@ -68,10 +69,13 @@ impl MemoryLink {
     ) -> MemoryLink
         requires { All (λ p. vec_len p.1 < 2 ^ 32) injected.items }
         ensures told { told_by result ≡ Some (record { journal = []; waiting = [] }) }
-        ensures injected { injected_by result ≡ injections injected.items }
-        ensures named_sends { named_sends result ≡ send_fails.items }
-        ensures named_receives { named_receives result ≡ receive_fails.items }
-        ensures failing { fails_opening result ≡ open_fails }
+        ensures made { made_by result ≡ record {
+          injected = injections injected.items;
+          send_fails = send_fails.items;
+          receive_fails = receive_fails.items;
+          open_fails = open_fails;
+        } }
+        ensures openings { openings_of result ≡ 0 }
         ensures receives { receives_made result ≡ 0 }
         ensures faults { faults_of result ≡ 0 }
         ensures closed { opened_by result ≡ None }
@@ -89,6 +93,7 @@ impl MemoryLink {
             failing_receives: Failing::none(alloc),
             receives: 0,
             faults: 0,
+            openings: 0,
             is_open: false,
         }
     }
@@ -130,7 +135,8 @@ impl MemoryLink {
         ensures stays { OnErr result ((journal_of self.new ≡ journal_of self.old)
             × (receives_made self.new ≡ receives_made self.old)) }
         ensures faults { faults_of self.new ≡ faults_of self.old }
-        ensures named { KeepsNamed self.old self.new }
+        ensures making { made_by self.new ≡ made_by self.old }
+        ensures openings { openings_of self.new ≡ openings_of self.old }
     {
         let plan = Plan::new(self.alloc, fates, self.transit.injected())?;
         let given = Vec::from_slice(self.alloc, fates)?;
@@ -150,7 +156,7 @@ impl MemoryLink {
 }
 
 impl Link for MemoryLink {
-    ghost use Rattle.mem_edge.specs.MemoryLinks.{told_by, journal_of, faults_of, opened_by, fails_opening, fails_receiving, receives_made, is_failed, KeepsNamed};
+    ghost use Rattle.mem_edge.specs.MemoryLinks.{told_by, journal_of, faults_of, opened_by, made_by, openings_of, fails_opening, fails_receiving, receives_made, is_failed};
     ghost use Rattle.mem_edge.specs.Runs.{AnswersSend, AnswersReceive};
 
     ghost takes_memory = { true };
@@ -160,6 +166,10 @@ impl Link for MemoryLink {
     ghost faults = { λ m. faults_of m };
 
     ghost opened_with = { λ m. opened_by m };
+
+    ghost made = { λ m. made_by m };
+
+    ghost openings = { λ m. openings_of m };
 
     /// The numbers of sends and of receives begin anew.
     fn open(&mut self, port: u16, fates: &[(u64, Fate)]) -> Opened
@@ -172,6 +182,8 @@ impl Link for MemoryLink {
             → (told_by self.new ≡ told_by self.old) × (opened_by self.new ≡ opened_by self.old) }
         ensures cause { HasCause
             (faults_of self.old) (faults_of self.new) (result ≡ Opened.Failed) }
+        ensures making { made_by self.new ≡ made_by self.old }
+        ensures counted { openings_of self.new ≡ counted_if (is_done result) (openings_of self.old) }
 
         ensures failed { (result ≡ Opened.Failed) ↔ IsTrue (fails_opening self.old) }
         ensures faults { faults_of self.new
@@ -181,14 +193,16 @@ impl Link for MemoryLink {
             → (journal_of self.new ≡ []) × (receives_made self.new ≡ 0) }
         ensures stays { result ≢ Opened.Done → (journal_of self.new ≡ journal_of self.old)
             × (receives_made self.new ≡ receives_made self.old) }
-        ensures named { KeepsNamed self.old self.new }
     {
         if self.open_fails {
             self.faults = self.faults.saturating_add(1);
             return Opened::Failed;
         }
         match self.reopen(port, fates) {
-            Ok(()) => Opened::Done,
+            Ok(()) => {
+                self.openings = self.openings.saturating_add(1);
+                Opened::Done
+            }
             Err(_) => Opened::Memory,
         }
     }
@@ -200,7 +214,7 @@ impl Link for MemoryLink {
 
         ensures entry { Tells (told_by self.old) (told_by self.new) (Sends datagram.now result) }
         ensures waiting { Tells (told_by self.old) (told_by self.new) (Queues result) }
-        ensures link { KeepsLink opened_by faults_of self.old self.new }
+        ensures link { KeepsLink opened_by faults_of made_by openings_of self.old self.new }
         ensures only_where_taken { result ≡ Sent.Memory → IsTrue true }
         ensures cause { result ≡ Sent.Failed → Rose (faults_of self.old) (faults_of self.new) }
 
@@ -236,7 +250,7 @@ impl Link for MemoryLink {
 
         ensures entry { Tells (told_by self.old) (told_by self.new) (Receives result into.new) }
         ensures sizes { FitsBuffer result into.new }
-        ensures link { KeepsLink opened_by faults_of self.old self.new }
+        ensures link { KeepsLink opened_by faults_of made_by openings_of self.old self.new }
         ensures cause { result ≡ Received.Failed → Rose (faults_of self.old) (faults_of self.new) }
 
         ensures answers { AnswersReceive result into.new self.old self.new }

@@ -31,7 +31,7 @@ pub use parts::{
     Config, GroupPart, KeyBytes, KeyGroupPart, KeyPart, Parts, PublisherPart, ReadGroupPart,
     ReaderPart, WriterPart,
 };
-pub use read::{ConfigEnd, read_config};
+pub use read::{ConfigEnd, name_numbered, read_config};
 pub use ring::ring_of;
 pub use rooms::{chunk_room, is_fixed, lacks_room, largest_frame};
 pub use types::a_configuration_has_its_types;

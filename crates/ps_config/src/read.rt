@@ -1,5 +1,6 @@
 //! Reading a configuration.
 ghost use Rattle.std.specs.Prelude.{◌≡◌, Some, Ok, IfOk, IfErr};
+ghost use Rattle.ps_config.specs.EndTexts.{name_numbered};
 ghost use Rattle.ps_config.specs.Types.{HasTypes};
 ghost use Rattle.toml.specs.View.{table_view};
 ghost use Rattle.config_tables.specs.FaultNumbers.{number_of};
@@ -37,6 +38,17 @@ impl From<AllocError> for ConfigEnd {
     }
 }
 
+/// The name of the fault that has this number; nothing where none has it.
+pub fn name_numbered(code: u8) -> &'static str
+    ensures { result.now ≡ name_numbered code }
+{
+    match Fault::numbered(code) {
+        Some(fault) => fault.name(),
+        None => "",
+    }
+}
+
+/// The fault's number and name, and where it stands: `Cn NAME PATH`.
 impl Display for ConfigEnd {
     ghost use Rattle.std.specs.Prelude.{Some};
     ghost use Rattle.ps_config.specs.EndTexts.{config_end};
@@ -46,7 +58,8 @@ impl Display for ConfigEnd {
     fn fmt<W: Write>(&self, f: &mut Formatter<W>) -> fmt::Result {
         match self {
             ConfigEnd::Refused { code, path } => {
-                write!(f, "the configuration is refused: C{code} at {path}")
+                let name = name_numbered(*code);
+                write!(f, "C{code} {name} {path}")
             }
             ConfigEnd::Memory => f.write_str("out of memory"),
         }

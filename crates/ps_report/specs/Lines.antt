@@ -13,7 +13,8 @@ use Rattle.ps_report.specs.declared.closed.GroupEnd.{GroupEnd}
 use Rattle.ps_report.specs.declared.closed.LinkEnd.{LinkEnd}
 use Rattle.ps_report.specs.declared.closed.ReadGroupEnd.{ReadGroupEnd}
 use Rattle.ps_report.specs.declared.closed.WriterEnd.{WriterEnd}
-use Rattle.ps_report.specs.Words.{why_word, cause_words}
+use Rattle.pubsub_model.specs.WhyWords.{why_word}
+use Rattle.ps_report.specs.Words.{cause_words}
 
 abbrev pub feed : List ℕ
 feed = 10 ∷ []

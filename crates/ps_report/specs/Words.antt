@@ -1,15 +1,5 @@
 -- The words of a report.
 use Rattle.std.specs.Prelude.{ℕ, List, [], ◌∷◌, codes}
-use Rattle.pubsub_model.specs.declared.reading.Why.{Why}
-use Rattle.pubsub_model.specs.declared.reading.Why.TheVariants.{Start, Gap, Timeout, NewToken, Jump, Restarted}
-
-unfoldable pub why_word : Why → List ℕ
-why_word Start = codes "start"
-why_word Gap = codes "gap"
-why_word Timeout = codes "timeout"
-why_word NewToken = codes "newtoken"
-why_word Jump = codes "jump"
-why_word Restarted = codes "restarted"
 
 -- why a datagram is refused, in the order of a report: for its header, as another's, by the guard,
 -- for its writers, its sizes and its parts

@@ -3,7 +3,6 @@ ghost use Rattle.std.specs.Prelude.{◌≡◌, ◌++◌, OnOk};
 ghost use Rattle.row_words.specs.Belonging.{Belongs, row_in};
 ghost use Rattle.ps_report.specs.Conditions.{HoldsRow};
 ghost use Rattle.ps_report.specs.Lines.{status_mark, field_text, fields_text, numbered_text, waits_text};
-ghost use Rattle.ps_report.specs.Words.{why_word};
 ghost use Rattle.ps_report.specs.Reports.{held_text};
 
 use crate::closed::{HeldEnd, ReaderEnd};
@@ -42,22 +41,7 @@ pub fn put_waits(out: &mut Vec<u8>, why: Why) -> Result<(), NoMemory>
     ensures { OnOk result (out.new.items ≡ out.old.items ++ waits_text why) }
 {
     put(out, b" waits ")?;
-    put(out, why_word(why).as_bytes())
-}
-
-/// The word of a reason.
-#[tactic(auto, unfolding(crate::specs::Words::why_word))]
-fn why_word(why: Why) -> &'static str
-    ensures { result.now ≡ why_word why }
-{
-    match why {
-        Why::Start => "start",
-        Why::Gap => "gap",
-        Why::Timeout => "timeout",
-        Why::NewToken => "newtoken",
-        Why::Jump => "jump",
-        Why::Restarted => "restarted",
-    }
+    put(out, why.word().as_bytes())
 }
 
 /// The held message's number and version.

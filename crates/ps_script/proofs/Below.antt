@@ -162,10 +162,10 @@ pub same_last : (done last : Done) → ◌≡◌ {A = Result Done (ℕ × Script
 same_last done last e = cc
 
 -- the data sets by a line grow to those behind the last
-pub grow : (reader : ValueReader) (config : Config) (plain : Bool) (done last : Done) (number : ℕ) (lines : List (List ℕ))
-    → judged_from reader config plain done number lines ≡ Ok last → AllZip Below done.metas last.metas
-grow reader config plain done last number [] e =
+pub grow : (reader : ValueReader) (config : Config) (takes_fates : Bool) (done last : Done) (number : ℕ) (lines : List (List ℕ))
+    → judged_from reader config takes_fates done number lines ≡ Ok last → AllZip Below done.metas last.metas
+grow reader config takes_fates done last number [] e =
     subst (λ (d : Done). AllZip Below done.metas d.metas) (same_last done last e) (each_same done.metas)
-grow reader config plain done last number (line ∷ lines) e =
-    let p = passes number (fault_of reader config plain done line) (judged_from reader config plain (after config done line) (next_number number) lines) last e in
-    back_after config done last.metas line (grow reader config plain (after config done line) last (next_number number) lines p.1)
+grow reader config takes_fates done last number (line ∷ lines) e =
+    let p = passes number (fault_of reader config takes_fates done line) (judged_from reader config takes_fates (after config done line) (next_number number) lines) last e in
+    back_after config done last.metas line (grow reader config takes_fates (after config done line) last (next_number number) lines p.1)

@@ -65,41 +65,41 @@ watches_of done = done.watches
 abbrev pub appends_of : Done → ℕ
 appends_of done = done.appends
 
-counted_tick : (config : Config) (plain : Bool) (full : List MetaData) (done next : Done) (a : Act) → Does config plain full done next a → Counted is_tick ticks_of 4096 a done next
-counted_tick config plain full done next (act.Write thread set patch) w = inl (refl, ap ticks_of w.leaves)
-counted_tick config plain full done next (act.Tick ms) w = inr (refl, ap ticks_of w.leaves, w.few)
-counted_tick config plain full done next (act.Enable id) w = inl (refl, ap ticks_of w.leaves)
-counted_tick config plain full done next (act.Disable id) w = inl (refl, ap ticks_of w.leaves)
-counted_tick config plain full done next (act.Fated k fate) w = inl (refl, ap ticks_of w.leaves)
-counted_tick config plain full done next (act.Watch thread reader times) w = inl (refl, ap ticks_of w.leaves)
-counted_tick config plain full done next (act.Append set) w = inl (refl, ap ticks_of w.leaves)
+counted_tick : (config : Config) (takes_fates : Bool) (full : List MetaData) (done next : Done) (a : Act) → Does config takes_fates full done next a → Counted is_tick ticks_of 4096 a done next
+counted_tick config takes_fates full done next (act.Write thread set patch) w = inl (refl, ap ticks_of w.leaves)
+counted_tick config takes_fates full done next (act.Tick ms) w = inr (refl, ap ticks_of w.leaves, w.few)
+counted_tick config takes_fates full done next (act.Enable id) w = inl (refl, ap ticks_of w.leaves)
+counted_tick config takes_fates full done next (act.Disable id) w = inl (refl, ap ticks_of w.leaves)
+counted_tick config takes_fates full done next (act.Fated k fate) w = inl (refl, ap ticks_of w.leaves)
+counted_tick config takes_fates full done next (act.Watch thread reader times) w = inl (refl, ap ticks_of w.leaves)
+counted_tick config takes_fates full done next (act.Append set) w = inl (refl, ap ticks_of w.leaves)
 
-counted_write : (config : Config) (plain : Bool) (full : List MetaData) (done next : Done) (a : Act) → Does config plain full done next a → Counted is_some_write writes_of 32768 a done next
-counted_write config plain full done next (act.Write thread set patch) w = inr (refl, ap writes_of w.leaves, w.few)
-counted_write config plain full done next (act.Tick ms) w = inl (refl, ap writes_of w.leaves)
-counted_write config plain full done next (act.Enable id) w = inl (refl, ap writes_of w.leaves)
-counted_write config plain full done next (act.Disable id) w = inl (refl, ap writes_of w.leaves)
-counted_write config plain full done next (act.Fated k fate) w = inl (refl, ap writes_of w.leaves)
-counted_write config plain full done next (act.Watch thread reader times) w = inl (refl, ap writes_of w.leaves)
-counted_write config plain full done next (act.Append set) w = inl (refl, ap writes_of w.leaves)
+counted_write : (config : Config) (takes_fates : Bool) (full : List MetaData) (done next : Done) (a : Act) → Does config takes_fates full done next a → Counted is_some_write writes_of 32768 a done next
+counted_write config takes_fates full done next (act.Write thread set patch) w = inr (refl, ap writes_of w.leaves, w.few)
+counted_write config takes_fates full done next (act.Tick ms) w = inl (refl, ap writes_of w.leaves)
+counted_write config takes_fates full done next (act.Enable id) w = inl (refl, ap writes_of w.leaves)
+counted_write config takes_fates full done next (act.Disable id) w = inl (refl, ap writes_of w.leaves)
+counted_write config takes_fates full done next (act.Fated k fate) w = inl (refl, ap writes_of w.leaves)
+counted_write config takes_fates full done next (act.Watch thread reader times) w = inl (refl, ap writes_of w.leaves)
+counted_write config takes_fates full done next (act.Append set) w = inl (refl, ap writes_of w.leaves)
 
-counted_watch : (config : Config) (plain : Bool) (full : List MetaData) (done next : Done) (a : Act) → Does config plain full done next a → Counted is_watch watches_of 64 a done next
-counted_watch config plain full done next (act.Write thread set patch) w = inl (refl, ap watches_of w.leaves)
-counted_watch config plain full done next (act.Tick ms) w = inl (refl, ap watches_of w.leaves)
-counted_watch config plain full done next (act.Enable id) w = inl (refl, ap watches_of w.leaves)
-counted_watch config plain full done next (act.Disable id) w = inl (refl, ap watches_of w.leaves)
-counted_watch config plain full done next (act.Fated k fate) w = inl (refl, ap watches_of w.leaves)
-counted_watch config plain full done next (act.Watch thread reader times) w = inr (refl, ap watches_of w.leaves, w.few)
-counted_watch config plain full done next (act.Append set) w = inl (refl, ap watches_of w.leaves)
+counted_watch : (config : Config) (takes_fates : Bool) (full : List MetaData) (done next : Done) (a : Act) → Does config takes_fates full done next a → Counted is_watch watches_of 64 a done next
+counted_watch config takes_fates full done next (act.Write thread set patch) w = inl (refl, ap watches_of w.leaves)
+counted_watch config takes_fates full done next (act.Tick ms) w = inl (refl, ap watches_of w.leaves)
+counted_watch config takes_fates full done next (act.Enable id) w = inl (refl, ap watches_of w.leaves)
+counted_watch config takes_fates full done next (act.Disable id) w = inl (refl, ap watches_of w.leaves)
+counted_watch config takes_fates full done next (act.Fated k fate) w = inl (refl, ap watches_of w.leaves)
+counted_watch config takes_fates full done next (act.Watch thread reader times) w = inr (refl, ap watches_of w.leaves, w.few)
+counted_watch config takes_fates full done next (act.Append set) w = inl (refl, ap watches_of w.leaves)
 
-counted_append : (config : Config) (plain : Bool) (full : List MetaData) (done next : Done) (a : Act) → Does config plain full done next a → Counted is_some_append appends_of 16 a done next
-counted_append config plain full done next (act.Write thread set patch) w = inl (refl, ap appends_of w.leaves)
-counted_append config plain full done next (act.Tick ms) w = inl (refl, ap appends_of w.leaves)
-counted_append config plain full done next (act.Enable id) w = inl (refl, ap appends_of w.leaves)
-counted_append config plain full done next (act.Disable id) w = inl (refl, ap appends_of w.leaves)
-counted_append config plain full done next (act.Fated k fate) w = inl (refl, ap appends_of w.leaves)
-counted_append config plain full done next (act.Watch thread reader times) w = inl (refl, ap appends_of w.leaves)
-counted_append config plain full done next (act.Append set) w = inr (refl, ap appends_of w.leaves, w.few)
+counted_append : (config : Config) (takes_fates : Bool) (full : List MetaData) (done next : Done) (a : Act) → Does config takes_fates full done next a → Counted is_some_append appends_of 16 a done next
+counted_append config takes_fates full done next (act.Write thread set patch) w = inl (refl, ap appends_of w.leaves)
+counted_append config takes_fates full done next (act.Tick ms) w = inl (refl, ap appends_of w.leaves)
+counted_append config takes_fates full done next (act.Enable id) w = inl (refl, ap appends_of w.leaves)
+counted_append config takes_fates full done next (act.Disable id) w = inl (refl, ap appends_of w.leaves)
+counted_append config takes_fates full done next (act.Fated k fate) w = inl (refl, ap appends_of w.leaves)
+counted_append config takes_fates full done next (act.Watch thread reader times) w = inl (refl, ap appends_of w.leaves)
+counted_append config takes_fates full done next (act.Append set) w = inr (refl, ap appends_of w.leaves, w.few)
 
 pub record TellsCounts (before : List Line) (done : Done) : Type 0 where
   pub ticks : Counts is_tick ticks_of 4096 before done
@@ -107,29 +107,29 @@ pub record TellsCounts (before : List Line) (done : Done) : Type 0 where
   pub watches : Counts is_watch watches_of 64 before done
   pub appends : Counts is_some_append appends_of 16 before done
 
-pub counted : (config : Config) (plain : Bool) (full : List MetaData) (before : List Line) (number : ℕ) (done next : Done) (a : Act) → Does config plain full done next a → TellsCounts before done
+pub counted : (config : Config) (takes_fates : Bool) (full : List MetaData) (before : List Line) (number : ℕ) (done next : Done) (a : Act) → Does config takes_fates full done next a → TellsCounts before done
     → TellsCounts (before ++ record { at = number; act = a } ∷ []) next
-counted config plain full before number done next a w t = record {
-  ticks = counts_next is_tick ticks_of 4096 before number a done next (counted_tick config plain full done next a w) t.ticks;
-  writes = counts_next is_some_write writes_of 32768 before number a done next (counted_write config plain full done next a w) t.writes;
-  watches = counts_next is_watch watches_of 64 before number a done next (counted_watch config plain full done next a w) t.watches;
-  appends = counts_next is_some_append appends_of 16 before number a done next (counted_append config plain full done next a w) t.appends;
+counted config takes_fates full before number done next a w t = record {
+  ticks = counts_next is_tick ticks_of 4096 before number a done next (counted_tick config takes_fates full done next a w) t.ticks;
+  writes = counts_next is_some_write writes_of 32768 before number a done next (counted_write config takes_fates full done next a w) t.writes;
+  watches = counts_next is_watch watches_of 64 before number a done next (counted_watch config takes_fates full done next a w) t.watches;
+  appends = counts_next is_some_append appends_of 16 before number a done next (counted_append config takes_fates full done next a w) t.appends;
 }
 
 -- ---- fates
 
-pub record TellsFates (plain : Bool) (before : List Line) (done : Done) : Type 0 where
+pub record TellsFates (takes_fates : Bool) (before : List Line) (done : Done) : Type 0 where
   pub are : AreFates (fates_of before)
   pub same : (k : ℕ) → list_any (λ (other : ℕ). other == k) done.fated ≡ list_any (λ (other : ℕ × Fate). other.0 == k) (fates_of before)
   pub told : length (fates_of before) ≡ length done.fated
   pub few : length done.fated ≤ 256
-  pub none : plain ≡ false → fates_of before ≡ []
+  pub none : takes_fates ≡ false → fates_of before ≡ []
 
 fates_more : (before : List Line) (line : Line) → fates_of (before ++ line ∷ []) ≡ fates_of before ++ fates_by line.act
 fates_more before line = sym (flat_map_more (λ (l : Line). fates_by l.act) [] before line)
 
-fates_kept : (plain : Bool) (before : List Line) (line : Line) (done next : Done) → next.fated ≡ done.fated → fates_by line.act ≡ [] → TellsFates plain before done → TellsFates plain (before ++ line ∷ []) next
-fates_kept plain before line done next fated none t =
+fates_kept : (takes_fates : Bool) (before : List Line) (line : Line) (done next : Done) → next.fated ≡ done.fated → fates_by line.act ≡ [] → TellsFates takes_fates before done → TellsFates takes_fates (before ++ line ∷ []) next
+fates_kept takes_fates before line done next fated none t =
     let stay : fates_of (before ++ line ∷ []) ≡ fates_of before =
     fates_more before line ∙ ap (λ (fs : List (ℕ × Fate)). fates_of before ++ fs) none ∙ append-nil (fates_of before) in
     record {
@@ -154,9 +154,9 @@ fates_push (f ∷ fates) number fate are is none =
       fates_push fates number fate are.2 is p.1,
     )
 
-fated_next : (plain : Bool) (before : List Line) (number k : ℕ) (fate : Fate) (done next : Done) → GaveFate plain done next k fate → TellsFates plain before done
-    → TellsFates plain (before ++ record { at = number; act = act.Fated k fate } ∷ []) next
-fated_next plain before number k fate done next g t =
+fated_next : (takes_fates : Bool) (before : List Line) (number k : ℕ) (fate : Fate) (done next : Done) → GaveFate takes_fates done next k fate → TellsFates takes_fates before done
+    → TellsFates takes_fates (before ++ record { at = number; act = act.Fated k fate } ∷ []) next
+fated_next takes_fates before number k fate done next g t =
     let more : fates_of (before ++ record { at = number; act = act.Fated k fate } ∷ []) ≡ fates_of before ++ (k, fate) ∷ [] = fates_more before (record { at = number; act = act.Fated k fate }) in
     let fated : next.fated ≡ done.fated ++ k ∷ [] = ap (λ (d : Done). d.fated) g.leaves in
     record {
@@ -174,12 +174,12 @@ fated_next plain before number k fate done next g t =
       none = λ e. absurd (false≢true (sym e ∙ g.has_fates));
     }
 
-pub fates_next : (config : Config) (plain : Bool) (full : List MetaData) (before : List Line) (number : ℕ) (done next : Done) (a : Act) → Does config plain full done next a → TellsFates plain before done
-    → TellsFates plain (before ++ record { at = number; act = a } ∷ []) next
-fates_next config plain full before number done next (act.Write thread set patch) w t = fates_kept plain before (record { at = number; act = act.Write thread set patch }) done next (ap (λ (d : Done). d.fated) w.leaves) refl t
-fates_next config plain full before number done next (act.Tick ms) w t = fates_kept plain before (record { at = number; act = act.Tick ms }) done next (ap (λ (d : Done). d.fated) w.leaves) refl t
-fates_next config plain full before number done next (act.Enable id) w t = fates_kept plain before (record { at = number; act = act.Enable id }) done next (ap (λ (d : Done). d.fated) w.leaves) refl t
-fates_next config plain full before number done next (act.Disable id) w t = fates_kept plain before (record { at = number; act = act.Disable id }) done next (ap (λ (d : Done). d.fated) w.leaves) refl t
-fates_next config plain full before number done next (act.Fated k fate) w t = fated_next plain before number k fate done next w t
-fates_next config plain full before number done next (act.Watch thread reader times) w t = fates_kept plain before (record { at = number; act = act.Watch thread reader times }) done next (ap (λ (d : Done). d.fated) w.leaves) refl t
-fates_next config plain full before number done next (act.Append set) w t = fates_kept plain before (record { at = number; act = act.Append set }) done next (ap (λ (d : Done). d.fated) w.leaves) refl t
+pub fates_next : (config : Config) (takes_fates : Bool) (full : List MetaData) (before : List Line) (number : ℕ) (done next : Done) (a : Act) → Does config takes_fates full done next a → TellsFates takes_fates before done
+    → TellsFates takes_fates (before ++ record { at = number; act = a } ∷ []) next
+fates_next config takes_fates full before number done next (act.Write thread set patch) w t = fates_kept takes_fates before (record { at = number; act = act.Write thread set patch }) done next (ap (λ (d : Done). d.fated) w.leaves) refl t
+fates_next config takes_fates full before number done next (act.Tick ms) w t = fates_kept takes_fates before (record { at = number; act = act.Tick ms }) done next (ap (λ (d : Done). d.fated) w.leaves) refl t
+fates_next config takes_fates full before number done next (act.Enable id) w t = fates_kept takes_fates before (record { at = number; act = act.Enable id }) done next (ap (λ (d : Done). d.fated) w.leaves) refl t
+fates_next config takes_fates full before number done next (act.Disable id) w t = fates_kept takes_fates before (record { at = number; act = act.Disable id }) done next (ap (λ (d : Done). d.fated) w.leaves) refl t
+fates_next config takes_fates full before number done next (act.Fated k fate) w t = fated_next takes_fates before number k fate done next w t
+fates_next config takes_fates full before number done next (act.Watch thread reader times) w t = fates_kept takes_fates before (record { at = number; act = act.Watch thread reader times }) done next (ap (λ (d : Done). d.fated) w.leaves) refl t
+fates_next config takes_fates full before number done next (act.Append set) w t = fates_kept takes_fates before (record { at = number; act = act.Append set }) done next (ap (λ (d : Done). d.fated) w.leaves) refl t

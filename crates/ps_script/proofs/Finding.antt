@@ -50,19 +50,19 @@ found_late p (x ∷ xs) ys e =
     ap (λ (v : Bool). cond v (Some x) (find p (xs ++ ys))) s.0 ∙ found_late p xs ys s.1
 
 -- an early fault is the line's
-pub early_is_told : (reader : ValueReader) (config : Config) (plain : Bool) (done : Done) (line : List ℕ) (fault : ScriptFault) → Some fault ≡ first_of reader early_faults config plain done line → fault_of reader config plain done line ≡ Some fault
-early_is_told reader config plain done line fault e = found_early (λ f. stands reader f config plain done line) early_faults (BadAppend ∷ []) fault (sym e)
+pub early_is_told : (reader : ValueReader) (config : Config) (takes_fates : Bool) (done : Done) (line : List ℕ) (fault : ScriptFault) → Some fault ≡ first_of reader early_faults config takes_fates done line → fault_of reader config takes_fates done line ≡ Some fault
+early_is_told reader config takes_fates done line fault e = found_early (λ f. stands reader f config takes_fates done line) early_faults (BadAppend ∷ []) fault (sym e)
 
-last_decides : (reader : ValueReader) (config : Config) (plain : Bool) (done : Done) (line : List ℕ) → None ≡ first_of reader early_faults config plain done line → fault_of reader config plain done line ≡ cond (is_bad_append config done line (verb_of line)) (Some BadAppend) None
+last_decides : (reader : ValueReader) (config : Config) (takes_fates : Bool) (done : Done) (line : List ℕ) → None ≡ first_of reader early_faults config takes_fates done line → fault_of reader config takes_fates done line ≡ cond (is_bad_append config done line (verb_of line)) (Some BadAppend) None
 unfolding stands
-last_decides reader config plain done line e = found_late (λ f. stands reader f config plain done line) early_faults (BadAppend ∷ []) (sym e)
+last_decides reader config takes_fates done line e = found_late (λ f. stands reader f config takes_fates done line) early_faults (BadAppend ∷ []) (sym e)
 
 -- without an early fault the last is the line's where it stands
-pub last_is_told : (reader : ValueReader) (config : Config) (plain : Bool) (done : Done) (line : List ℕ) → None ≡ first_of reader early_faults config plain done line → is_bad_append config done line (verb_of line) ≡ true → fault_of reader config plain done line ≡ Some BadAppend
-last_is_told reader config plain done line e bad = last_decides reader config plain done line e ∙ ap (λ (v : Bool). cond v (Some BadAppend) None) bad
+pub last_is_told : (reader : ValueReader) (config : Config) (takes_fates : Bool) (done : Done) (line : List ℕ) → None ≡ first_of reader early_faults config takes_fates done line → is_bad_append config done line (verb_of line) ≡ true → fault_of reader config takes_fates done line ≡ Some BadAppend
+last_is_told reader config takes_fates done line e bad = last_decides reader config takes_fates done line e ∙ ap (λ (v : Bool). cond v (Some BadAppend) None) bad
 
-pub none_is_told : (reader : ValueReader) (config : Config) (plain : Bool) (done : Done) (line : List ℕ) → None ≡ first_of reader early_faults config plain done line → is_bad_append config done line (verb_of line) ≡ false → fault_of reader config plain done line ≡ None
-none_is_told reader config plain done line e good = last_decides reader config plain done line e ∙ ap (λ (v : Bool). cond v (Some BadAppend) None) good
+pub none_is_told : (reader : ValueReader) (config : Config) (takes_fates : Bool) (done : Done) (line : List ℕ) → None ≡ first_of reader early_faults config takes_fates done line → is_bad_append config done line (verb_of line) ≡ false → fault_of reader config takes_fates done line ≡ None
+none_is_told reader config takes_fates done line e good = last_decides reader config takes_fates done line e ∙ ap (λ (v : Bool). cond v (Some BadAppend) None) good
 
 -- none of them stands
 pub none_at : (p : ScriptFault → Bool) (xs : List ScriptFault) (k : ℕ) (d : ScriptFault) → find p xs ≡ None → k < length xs → p (get_or xs k d) ≡ false
@@ -75,28 +75,28 @@ unfolding early_faults
 tenth p e = none_at p early_faults 9 TooMany e (lit< tt)
 
 -- without an early fault no limit is passed
-pub within_limit : (reader : ValueReader) (config : Config) (plain : Bool) (done : Done) (line : List ℕ) → None ≡ first_of reader early_faults config plain done line → is_past_limit done (verb_of line) ≡ false
+pub within_limit : (reader : ValueReader) (config : Config) (takes_fates : Bool) (done : Done) (line : List ℕ) → None ≡ first_of reader early_faults config takes_fates done line → is_past_limit done (verb_of line) ≡ false
 unfolding stands
-within_limit reader config plain done line e = tenth (λ f. stands reader f config plain done line) (sym e)
+within_limit reader config takes_fates done line e = tenth (λ f. stands reader f config takes_fates done line) (sym e)
 
 -- a line without an early fault is judged by the last
-pub passed : (reader : ValueReader) (config : Config) (plain : Bool) (done next : Done) (line : List ℕ) (r : Option ScriptFault) → None ≡ first_of reader early_faults config plain done line → Passes config done next line r → Steps reader config plain done next line r
-passed reader config plain done next line (Some fault) e p = last_is_told reader config plain done line e p.1 ∙ ap Some (sym p.0)
-passed reader config plain done next line None e p = (none_is_told reader config plain done line e p.0, p.1)
+pub passed : (reader : ValueReader) (config : Config) (takes_fates : Bool) (done next : Done) (line : List ℕ) (r : Option ScriptFault) → None ≡ first_of reader early_faults config takes_fates done line → Passes config done next line r → Steps reader config takes_fates done next line r
+passed reader config takes_fates done next line (Some fault) e p = last_is_told reader config takes_fates done line e p.1 ∙ ap Some (sym p.0)
+passed reader config takes_fates done next line None e p = (none_is_told reader config takes_fates done line e p.0, p.1)
 
 -- the fault at this place among others: where it stands, it is the first from there on
-pub first_next : (reader : ValueReader) (config : Config) (plain : Bool) (done : Done) (line : List ℕ) (fs : List ScriptFault) (i : ℕ) (f : ScriptFault) → i < length fs → f ≡ get_or fs i f → stands reader f config plain done line ≡ false → first_of reader (drop (i + 1) fs) config plain done line ≡ first_of reader (drop i fs) config plain done line
-first_next reader config plain done line fs i f lt is free =
-    sym (at_drop_more (λ (gs : List ScriptFault). first_of reader gs config plain done line) fs i f lt
-    ∙ ap (λ (v : Bool). cond v (Some (get_or fs i f)) (first_of reader (drop (i + 1) fs) config plain done line)) (ap (λ (g : ScriptFault). stands reader g config plain done line) (sym is) ∙ free))
+pub first_next : (reader : ValueReader) (config : Config) (takes_fates : Bool) (done : Done) (line : List ℕ) (fs : List ScriptFault) (i : ℕ) (f : ScriptFault) → i < length fs → f ≡ get_or fs i f → stands reader f config takes_fates done line ≡ false → first_of reader (drop (i + 1) fs) config takes_fates done line ≡ first_of reader (drop i fs) config takes_fates done line
+first_next reader config takes_fates done line fs i f lt is free =
+    sym (at_drop_more (λ (gs : List ScriptFault). first_of reader gs config takes_fates done line) fs i f lt
+    ∙ ap (λ (v : Bool). cond v (Some (get_or fs i f)) (first_of reader (drop (i + 1) fs) config takes_fates done line)) (ap (λ (g : ScriptFault). stands reader g config takes_fates done line) (sym is) ∙ free))
 
-pub first_here : (reader : ValueReader) (config : Config) (plain : Bool) (done : Done) (line : List ℕ) (fs : List ScriptFault) (i : ℕ) (f : ScriptFault) → i < length fs → f ≡ get_or fs i f → stands reader f config plain done line ≡ true → first_of reader (drop i fs) config plain done line ≡ Some f
-first_here reader config plain done line fs i f lt is yes_ =
-    at_drop_more (λ (gs : List ScriptFault). first_of reader gs config plain done line) fs i f lt
-    ∙ ap (λ (v : Bool). cond v (Some (get_or fs i f)) (first_of reader (drop (i + 1) fs) config plain done line)) (ap (λ (g : ScriptFault). stands reader g config plain done line) (sym is) ∙ yes_)
+pub first_here : (reader : ValueReader) (config : Config) (takes_fates : Bool) (done : Done) (line : List ℕ) (fs : List ScriptFault) (i : ℕ) (f : ScriptFault) → i < length fs → f ≡ get_or fs i f → stands reader f config takes_fates done line ≡ true → first_of reader (drop i fs) config takes_fates done line ≡ Some f
+first_here reader config takes_fates done line fs i f lt is yes_ =
+    at_drop_more (λ (gs : List ScriptFault). first_of reader gs config takes_fates done line) fs i f lt
+    ∙ ap (λ (v : Bool). cond v (Some (get_or fs i f)) (first_of reader (drop (i + 1) fs) config takes_fates done line)) (ap (λ (g : ScriptFault). stands reader g config takes_fates done line) (sym is) ∙ yes_)
     ∙ ap Some (sym is)
 
-pub next_at : (reader : ValueReader) (config : Config) (plain : Bool) (done : Done) (line : List ℕ) (fs : List ScriptFault) (i : ℕ) (d : ScriptFault) → i < length fs → stands reader (get_or fs i d) config plain done line ≡ false → first_of reader (drop (i + 1) fs) config plain done line ≡ first_of reader (drop i fs) config plain done line
-next_at reader config plain done line fs i d lt free =
-    sym (at_drop_more (λ (gs : List ScriptFault). first_of reader gs config plain done line) fs i d lt
-    ∙ ap (λ (v : Bool). cond v (Some (get_or fs i d)) (first_of reader (drop (i + 1) fs) config plain done line)) free)
+pub next_at : (reader : ValueReader) (config : Config) (takes_fates : Bool) (done : Done) (line : List ℕ) (fs : List ScriptFault) (i : ℕ) (d : ScriptFault) → i < length fs → stands reader (get_or fs i d) config takes_fates done line ≡ false → first_of reader (drop (i + 1) fs) config takes_fates done line ≡ first_of reader (drop i fs) config takes_fates done line
+next_at reader config takes_fates done line fs i d lt free =
+    sym (at_drop_more (λ (gs : List ScriptFault). first_of reader gs config takes_fates done line) fs i d lt
+    ∙ ap (λ (v : Bool). cond v (Some (get_or fs i d)) (first_of reader (drop (i + 1) fs) config takes_fates done line)) free)

@@ -47,21 +47,21 @@ use Rattle.ps_script.proofs.Below.{Below, whole_at, same_named, position_within}
 use Rattle.ps_script.proofs.Writing.{written}
 
 -- none of the faults that matter behind the words stands at a line with this verb
-pub record Fine (reader : ValueReader) (config : Config) (plain : Bool) (done : Done) (line : List ℕ) (v : Option Verb) : Type 0 where
+pub record Fine (reader : ValueReader) (config : Config) (takes_fates : Bool) (done : Done) (line : List ℕ) (v : Option Verb) : Type 0 where
   pub shape : option_map_or (has_shape line) v true ≡ true
   pub number : option_map_or (has_numbers line) v true ≡ true
   pub name : option_map_or (has_name config done line) v true ≡ true
   pub value : is_bad_value reader done line v ≡ false
   pub state : is_bad_state config done line v ≡ false
   pub limit : is_past_limit done v ≡ false
-  pub fate : is_bad_fate plain done line v ≡ false
+  pub fate : is_bad_fate takes_fates done line v ≡ false
   pub append : is_bad_append config done line v ≡ false
 
-pub fine : (reader : ValueReader) (config : Config) (plain : Bool) (done : Done) (line : List ℕ) → fault_of reader config plain done line ≡ None
-    → Fine reader config plain done line (verb_of line)
+pub fine : (reader : ValueReader) (config : Config) (takes_fates : Bool) (done : Done) (line : List ℕ) → fault_of reader config takes_fates done line ≡ None
+    → Fine reader config takes_fates done line (verb_of line)
 unfolding early_faults stands
-fine reader config plain done line e =
-    let p : ScriptFault → Bool = λ f. stands reader f config plain done line in
+fine reader config takes_fates done line e =
+    let p : ScriptFault → Bool = λ f. stands reader f config takes_fates done line in
     record {
       shape = not-false (option_map_or (has_shape line) (verb_of line) true) (none_at p faults 3 fault.BadText e (lit< tt));
       number = not-false (option_map_or (has_numbers line) (verb_of line) true) (none_at p faults 4 fault.BadText e (lit< tt));
@@ -126,8 +126,8 @@ pub record Switched (config : Config) (done next : Done) (id : ℕ) (on : Bool) 
   pub was : get_or done.enabled id true ≡ not on
   pub leaves : next ≡ record done { enabled = slice_set done.enabled id on }
 
-pub record GaveFate (plain : Bool) (done next : Done) (number : ℕ) (fate : Fate) : Type 0 where
-  pub has_fates : plain ≡ true
+pub record GaveFate (takes_fates : Bool) (done next : Done) (number : ℕ) (fate : Fate) : Type 0 where
+  pub has_fates : takes_fates ≡ true
   pub is_fated : IsFated number fate
   pub fresh : list_any (λ other. other == number) done.fated ≡ false
   pub few : length done.fated < 256
@@ -151,18 +151,18 @@ pub record Appended (config : Config) (done next : Done) (set : ℕ) : Type 0 wh
   pub leaves : next ≡ record done { metas = slice_set done.metas set (grown meta field); appends = done.appends + 1 }
 
 abbrev pub Does : Config → Bool → List MetaData → Done → Done → Act → Type 0
-Does config plain full done next (act.Write thread set patch) = Wrote full done next thread set patch
-Does config plain full done next (act.Tick ms) = Ticked done next ms
-Does config plain full done next (act.Enable id) = Switched config done next id true
-Does config plain full done next (act.Disable id) = Switched config done next id false
-Does config plain full done next (act.Fated number fate) = GaveFate plain done next number fate
-Does config plain full done next (act.Watch thread reader times) = Watched config done next thread reader times
-Does config plain full done next (act.Append set) = Appended config done next set
+Does config takes_fates full done next (act.Write thread set patch) = Wrote full done next thread set patch
+Does config takes_fates full done next (act.Tick ms) = Ticked done next ms
+Does config takes_fates full done next (act.Enable id) = Switched config done next id true
+Does config takes_fates full done next (act.Disable id) = Switched config done next id false
+Does config takes_fates full done next (act.Fated number fate) = GaveFate takes_fates done next number fate
+Does config takes_fates full done next (act.Watch thread reader times) = Watched config done next thread reader times
+Does config takes_fates full done next (act.Append set) = Appended config done next set
 
 -- what a line does, or that it does nothing
 abbrev pub Acts : Config → Bool → List MetaData → Done → Done → Option Act → Type 0
-Acts config plain full done next None = next ≡ done
-Acts config plain full done next (Some act) = Does config plain full done next act
+Acts config takes_fates full done next None = next ≡ done
+Acts config takes_fates full done next (Some act) = Does config takes_fates full done next act
 
 below : (n most : ℕ) → nat_le most n ≡ false → n < most
 below n most e = leb-false most n e
@@ -195,10 +195,10 @@ holds P xs at x there is d = subst P (sym (get_or_from_slice_get xs at x d there
 pub of_all : {X : Type 0} (P : X → Type 0) (xs : List X) (at : ℕ) (x : X) → All P xs → slice_get xs at ≡ Some x → P x
 of_all P xs at x all there = subst P (get_or_from_slice_get xs at x x there) (all at x (slice_get_within xs at x there))
 
-does_write : (reader : ValueReader) (config : Config) (plain : Bool) (full : List MetaData) (done : Done) (line : List ℕ) → Fine reader config plain done line (Some verb.Write)
+does_write : (reader : ValueReader) (config : Config) (takes_fates : Bool) (full : List MetaData) (done : Done) (line : List ℕ) → Fine reader config takes_fates done line (Some verb.Write)
     → AllZip Below done.metas full → All (λ (meta : MetaData). IsMeta meta.fields) done.metas → All (λ (meta : MetaData). IsMeta meta.fields) full
-    → Acts config plain full done (done_with config done line (Some verb.Write)) (act_by reader config full line (Some verb.Write))
-does_write reader config plain full done line f zip metas wholes =
+    → Acts config takes_fates full done (done_with config done line (Some verb.Write)) (act_by reader config full line (Some verb.Write))
+does_write reader config takes_fates full done line f zip metas wholes =
     let n = found (set_named done.metas (word 2 line)) f.name in
     let lt : n.at < length done.metas = position_within (λ (m : MetaData). bytes_eq m.name (word 2 line)) done.metas n.at n.is in
     let first : MetaData = record { name = []; fields = []; major = 0; minor = 0; quality = false } in
@@ -219,7 +219,7 @@ does_write reader config plain full done line f zip metas wholes =
       few = below done.writes 32768 f.limit;
       leaves = refl;
     } in
-    subst (Acts config plain full done (done_with config done line (Some verb.Write))) (sym (write_act reader full line n.at w.whole named w.found)) wrote
+    subst (Acts config takes_fates full done (done_with config done line (Some verb.Write))) (sym (write_act reader full line n.at w.whole named w.found)) wrote
 
 -- ---- a line `fate`
 
@@ -236,16 +236,16 @@ numbered line (Some fated.Hold) number late =
 numbered line (Some fated.Again) number late =
     ((number_is 0 1000000 (word 3 line) number).1, below (number_at 0 1000000 (word 1 line)) (number_at 0 1000000 (word 3 line)) late)
 
-does_fate : (reader : ValueReader) (config : Config) (plain : Bool) (full : List MetaData) (done : Done) (line : List ℕ) → Fine reader config plain done line (Some verb.Fate)
-    → Acts config plain full done (done_with config done line (Some verb.Fate)) (act_by reader config full line (Some verb.Fate))
-does_fate reader config plain full done line f =
+does_fate : (reader : ValueReader) (config : Config) (takes_fates : Bool) (full : List MetaData) (done : Done) (line : List ℕ) → Fine reader config takes_fates done line (Some verb.Fate)
+    → Acts config takes_fates full done (done_with config done line (Some verb.Fate)) (act_by reader config full line (Some verb.Fate))
+does_fate reader config takes_fates full done line f =
     let number : ℕ = number_at 0 1000000 (word 1 line) in
     let n = and_parts (is_number 0 1000000 (word 1 line)) (has_fate_number line (fate_of line)) f.number in
-    let late = or_parts (not plain || list_any (λ other. other == number) done.fated) (is_early line (fate_of line)) f.fate in
-    let fresh = or_parts (not plain) (list_any (λ other. other == number) done.fated) late.0 in
+    let late = or_parts (not takes_fates || list_any (λ other. other == number) done.fated) (is_early line (fate_of line)) f.fate in
+    let fresh = or_parts (not takes_fates) (list_any (λ other. other == number) done.fated) late.0 in
     let is = numbered line (fate_of line) n.1 late.1 in
     record {
-      has_fates = not-false plain fresh.0;
+      has_fates = not-false takes_fates fresh.0;
       is_fated = record { bound = (number_is 0 1000000 (word 1 line) n.0).1; last = is.0; is_fate = is.1 };
       fresh = fresh.1;
       few = below (length done.fated) 256 f.limit;
@@ -293,9 +293,9 @@ appended_at config done line at meta named there good few =
     }
 
 -- the place of the data set that a line `append` names
-appended : (reader : ValueReader) (config : Config) (plain : Bool) (done : Done) (line : List ℕ) → Fine reader config plain done line (Some verb.Append)
+appended : (reader : ValueReader) (config : Config) (takes_fates : Bool) (done : Done) (line : List ℕ) → Fine reader config takes_fates done line (Some verb.Append)
     → Appended config done (done_with config done line (Some verb.Append)) (unwrap_or (set_named done.metas (word 1 line)) 0)
-appended reader config plain done line f =
+appended reader config takes_fates done line f =
     let n = found (set_named done.metas (word 1 line)) f.name in
     let lt : n.at < length done.metas = position_within (λ (m : MetaData). bytes_eq m.name (word 1 line)) done.metas n.at n.is in
     let first : MetaData = record { name = []; fields = []; major = 0; minor = 0; quality = false } in
@@ -303,18 +303,18 @@ appended reader config plain done line f =
     subst (Appended config done (done_with config done line (Some verb.Append))) (sym (ap (λ (o : Option ℕ). unwrap_or o 0) n.is))
     (appended_at config done line n.at (get_or done.metas n.at first) n.is there f.append (below done.appends 16 f.limit))
 
-does_append : (reader : ValueReader) (config : Config) (plain : Bool) (full : List MetaData) (done : Done) (line : List ℕ) → Fine reader config plain done line (Some verb.Append)
+does_append : (reader : ValueReader) (config : Config) (takes_fates : Bool) (full : List MetaData) (done : Done) (line : List ℕ) → Fine reader config takes_fates done line (Some verb.Append)
     → AllZip Below done.metas full
-    → Acts config plain full done (done_with config done line (Some verb.Append)) (act_by reader config full line (Some verb.Append))
-does_append reader config plain full done line f zip =
+    → Acts config takes_fates full done (done_with config done line (Some verb.Append)) (act_by reader config full line (Some verb.Append))
+does_append reader config takes_fates full done line f zip =
     subst (Appended config done (done_with config done line (Some verb.Append)))
-    (ap (λ (o : Option ℕ). unwrap_or o 0) (sym (same_named (word 1 line) done.metas full zip))) (appended reader config plain done line f)
+    (ap (λ (o : Option ℕ). unwrap_or o 0) (sym (same_named (word 1 line) done.metas full zip))) (appended reader config takes_fates done line f)
 
 -- ---- any line
 
-does_watch : (reader : ValueReader) (config : Config) (plain : Bool) (full : List MetaData) (done : Done) (line : List ℕ) → Fine reader config plain done line (Some verb.Watch)
-    → Acts config plain full done (done_with config done line (Some verb.Watch)) (act_by reader config full line (Some verb.Watch))
-does_watch reader config plain full done line f =
+does_watch : (reader : ValueReader) (config : Config) (takes_fates : Bool) (full : List MetaData) (done : Done) (line : List ℕ) → Fine reader config takes_fates done line (Some verb.Watch)
+    → Acts config takes_fates full done (done_with config done line (Some verb.Watch)) (act_by reader config full line (Some verb.Watch))
+does_watch reader config takes_fates full done line f =
     let n = and_parts (is_number 0 7 (word 1 line)) (is_number 1 1000 (word 3 line)) f.number in
     let at = found (reader_named config (word 2 line)) f.name in
     let thread = number_is 0 7 (word 1 line) n.0 in
@@ -327,32 +327,32 @@ does_watch reader config plain full done line f =
       leaves = refl;
     }
 
-pub does : (reader : ValueReader) (config : Config) (plain : Bool) (full : List MetaData) (done : Done) (line : List ℕ) (v : Option Verb) → Fine reader config plain done line v
+pub does : (reader : ValueReader) (config : Config) (takes_fates : Bool) (full : List MetaData) (done : Done) (line : List ℕ) (v : Option Verb) → Fine reader config takes_fates done line v
     → AllZip Below done.metas full → All (λ (meta : MetaData). IsMeta meta.fields) done.metas → All (λ (meta : MetaData). IsMeta meta.fields) full
-    → Acts config plain full done (done_with config done line v) (act_by reader config full line v)
-does reader config plain full done line None f zip metas wholes = refl
-does reader config plain full done line (Some verb.Write) f zip metas wholes = does_write reader config plain full done line f zip metas wholes
-does reader config plain full done line (Some verb.Tick) f zip metas wholes =
+    → Acts config takes_fates full done (done_with config done line v) (act_by reader config full line v)
+does reader config takes_fates full done line None f zip metas wholes = refl
+does reader config takes_fates full done line (Some verb.Write) f zip metas wholes = does_write reader config takes_fates full done line f zip metas wholes
+does reader config takes_fates full done line (Some verb.Tick) f zip metas wholes =
     record { span = number_is 1 3600000 (word 1 line) f.number; few = below done.ticks 4096 f.limit; leaves = refl }
-does reader config plain full done line (Some verb.Enable) f zip metas wholes =
+does reader config takes_fates full done line (Some verb.Enable) f zip metas wholes =
     switched_at config done line (component_named config (word 1 line)) true f.name refl f.state
-does reader config plain full done line (Some verb.Disable) f zip metas wholes =
+does reader config takes_fates full done line (Some verb.Disable) f zip metas wholes =
     switched_at config done line (component_named config (word 1 line)) false f.name refl (not-false (is_on config done (word 1 line)) f.state)
-does reader config plain full done line (Some verb.Append) f zip metas wholes = does_append reader config plain full done line f zip
-does reader config plain full done line (Some verb.Fate) f zip metas wholes = does_fate reader config plain full done line f
-does reader config plain full done line (Some verb.Watch) f zip metas wholes = does_watch reader config plain full done line f
+does reader config takes_fates full done line (Some verb.Append) f zip metas wholes = does_append reader config takes_fates full done line f zip
+does reader config takes_fates full done line (Some verb.Fate) f zip metas wholes = does_fate reader config takes_fates full done line f
+does reader config takes_fates full done line (Some verb.Watch) f zip metas wholes = does_watch reader config takes_fates full done line f
 
 -- data sets that each make a meta do so behind the line
-pub metas_with : (reader : ValueReader) (config : Config) (plain : Bool) (done : Done) (line : List ℕ) (v : Option Verb) → Fine reader config plain done line v
+pub metas_with : (reader : ValueReader) (config : Config) (takes_fates : Bool) (done : Done) (line : List ℕ) (v : Option Verb) → Fine reader config takes_fates done line v
     → All (λ (meta : MetaData). IsMeta meta.fields) done.metas → All (λ (meta : MetaData). IsMeta meta.fields) (done_with config done line v).metas
-metas_with reader config plain done line None f metas = metas
-metas_with reader config plain done line (Some verb.Write) f metas = metas
-metas_with reader config plain done line (Some verb.Tick) f metas = metas
-metas_with reader config plain done line (Some verb.Enable) f metas = metas
-metas_with reader config plain done line (Some verb.Disable) f metas = metas
-metas_with reader config plain done line (Some verb.Append) f metas =
-    let a = appended reader config plain done line f in
+metas_with reader config takes_fates done line None f metas = metas
+metas_with reader config takes_fates done line (Some verb.Write) f metas = metas
+metas_with reader config takes_fates done line (Some verb.Tick) f metas = metas
+metas_with reader config takes_fates done line (Some verb.Enable) f metas = metas
+metas_with reader config takes_fates done line (Some verb.Disable) f metas = metas
+metas_with reader config takes_fates done line (Some verb.Append) f metas =
+    let a = appended reader config takes_fates done line f in
     subst (λ (d : Done). All (λ (meta : MetaData). IsMeta meta.fields) d.metas) (sym a.leaves)
     (All-set (λ (m : MetaData). IsMeta m.fields) done.metas (unwrap_or (set_named done.metas (word 1 line)) 0) (grown a.meta a.field) a.is_meta metas)
-metas_with reader config plain done line (Some verb.Fate) f metas = metas
-metas_with reader config plain done line (Some verb.Watch) f metas = metas
+metas_with reader config takes_fates done line (Some verb.Fate) f metas = metas
+metas_with reader config takes_fates done line (Some verb.Watch) f metas = metas

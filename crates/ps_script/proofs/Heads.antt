@@ -86,14 +86,14 @@ few_writes : (writes : ℕ) → writes < 32768 → nat_le 32768 writes ≡ false
 few_writes writes few = grind (arith, nat_tests)
 
 -- a line `write` that is judged and read at once has no fault, and does what was read
-pub sound_write : (reader : ValueReader) (config : Config) (plain : Bool) (done : Done) (line fields : List ℕ) (thread set : ℕ) (meta : MetaData) (patch : Patch) → is_bad_text line ≡ false → is_long line ≡ false → done.writes < 32768 → BeginsWrite done.metas line thread set fields → slice_get done.metas set ≡ Some meta → GivesPatch reader meta (words_of fields) patch → IsSoundWrite reader config plain done line thread set patch
+pub sound_write : (reader : ValueReader) (config : Config) (takes_fates : Bool) (done : Done) (line fields : List ℕ) (thread set : ℕ) (meta : MetaData) (patch : Patch) → is_bad_text line ≡ false → is_long line ≡ false → done.writes < 32768 → BeginsWrite done.metas line thread set fields → slice_get done.metas set ≡ Some meta → GivesPatch reader meta (words_of fields) patch → IsSoundWrite reader config takes_fates done line thread set patch
 unfolding stands
-sound_write reader config plain done line fields thread set meta patch plain_text short few b found g =
+sound_write reader config takes_fates done line fields thread set meta patch plain_text short few b found g =
     let named : meta_named done.metas (word 2 line) ≡ Some meta = named_meta done.metas (word 2 line) set meta b.of_set found in
     record {
       is_write = b.is_write;
       faultless =
-          none_stands (λ f. stands reader f config plain done line) plain_text short (none_unknown line b.is_write)
+          none_stands (λ f. stands reader f config takes_fates done line) plain_text short (none_unknown line b.is_write)
           (well_shaped line fields b.is_write b.fields g.some g.shaped)
           (ap (λ (v : Option Verb). not (option_map_or (has_numbers line) v true)) b.is_write ∙ ap (λ (o : Option ℕ). not (is_some o)) b.of_thread)
           (ap (λ (v : Option Verb). not (option_map_or (has_name config done line) v true)) b.is_write ∙ ap (λ (o : Option ℕ). not (is_some o)) b.of_set)
@@ -102,7 +102,7 @@ sound_write reader config plain done line fields thread set meta patch plain_tex
           (ap (is_bad_value reader done line) b.is_write ∙ ap (λ (o : Option MetaData). option_map_or (has_bad_value_in reader line) o false) named
           ∙ ap (list_any (λ (w : List ℕ). is_none (change_of reader meta.quality meta.fields w))) (sym b.fields) ∙ g.valued)
           (ap (is_bad_state config done line) b.is_write) (ap (is_past_limit done) b.is_write ∙ few_writes done.writes few)
-          (ap (is_bad_fate plain done line) b.is_write) (ap (is_bad_append config done line) b.is_write);
+          (ap (is_bad_fate takes_fates done line) b.is_write) (ap (is_bad_append config done line) b.is_write);
       acts =
           sym (act_write reader config done.metas line (Some (act.Write thread set patch)) b.is_write
           (wrote reader done.metas line set meta thread patch b.of_set found (sym (ap (λ (o : Option ℕ). unwrap_or o 0) b.of_thread))
@@ -129,18 +129,18 @@ true_not true e = sym e
 true_not false e = refl
 
 -- such a line has no fault
-pub idle_faultless : (reader : ValueReader) (config : Config) (plain : Bool) (done : Done) (line : List ℕ) → is_idle_line line ≡ true → fault_of reader config plain done line ≡ None
+pub idle_faultless : (reader : ValueReader) (config : Config) (takes_fates : Bool) (done : Done) (line : List ℕ) → is_idle_line line ≡ true → fault_of reader config takes_fates done line ≡ None
 unfolding stands
-idle_faultless reader config plain done line idle =
+idle_faultless reader config takes_fates done line idle =
     let none : verb_of line ≡ None = idle_verb line idle in
     let parts = and_parts (is_idle (word 0 line)) (not (is_long line) && not (is_bad_text line)) idle in
     let fine = and_parts (not (is_long line)) (not (is_bad_text line)) parts.1 in
-    none_stands (λ f. stands reader f config plain done line) (true_not (is_bad_text line) fine.1) (true_not (is_long line) fine.0)
+    none_stands (λ f. stands reader f config takes_fates done line) (true_not (is_bad_text line) fine.1) (true_not (is_long line) fine.0)
     (ap (λ (b : Bool). not b && (is_none (verb_of line) || has_unknown_fate line (verb_of line))) parts.0)
     (ap (λ (v : Option Verb). not (option_map_or (has_shape line) v true)) none) (ap (λ (v : Option Verb). not (option_map_or (has_numbers line) v true)) none)
     (ap (λ (v : Option Verb). not (option_map_or (has_name config done line) v true)) none)
     (ap (is_bad_field done line) none) (ap (is_bad_value reader done line) none) (ap (is_bad_state config done line) none) (ap (is_past_limit done) none)
-    (ap (is_bad_fate plain done line) none) (ap (is_bad_append config done line) none)
+    (ap (is_bad_fate takes_fates done line) none) (ap (is_bad_append config done line) none)
 
 -- and has done nothing
 pub idle_after : (config : Config) (done : Done) (line : List ℕ) → is_idle_line line ≡ true → done ≡ after config done line

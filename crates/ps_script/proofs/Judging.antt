@@ -22,24 +22,24 @@ line_first rest front back some is_front is_back =
     ∙ ap (λ (bytes : List ℕ). front ∷ lines_of bytes) (sym is_back)
 
 -- what is judged at a line without a fault is judged behind it
-pub judged_next : (reader : ValueReader) (config : Config) (plain : Bool) (done next : Done) (number more : ℕ) (rest front back : List ℕ) (all : Result Done (ℕ × ScriptFault)) → judged_from reader config plain done number (lines_of rest) ≡ all → 0 < length rest → front ≡ until 10 rest → back ≡ behind 10 rest → fault_of reader config plain done front ≡ None → next ≡ after config done front → more ≡ next_number number → judged_from reader config plain next more (lines_of back) ≡ all
-judged_next reader config plain done next number more rest front back all judged some is_front is_back none is is_more =
-    ap (λ (d : Done). judged_from reader config plain d more (lines_of back)) is
-    ∙ ap (λ (n : ℕ). judged_from reader config plain (after config done front) n (lines_of back)) is_more
-    ∙ sym (ap (λ (o : Option ScriptFault). refused_or number o (judged_from reader config plain (after config done front) (next_number number) (lines_of back))) none)
-    ∙ sym (ap (judged_from reader config plain done number) (line_first rest front back some is_front is_back))
+pub judged_next : (reader : ValueReader) (config : Config) (takes_fates : Bool) (done next : Done) (number more : ℕ) (rest front back : List ℕ) (all : Result Done (ℕ × ScriptFault)) → judged_from reader config takes_fates done number (lines_of rest) ≡ all → 0 < length rest → front ≡ until 10 rest → back ≡ behind 10 rest → fault_of reader config takes_fates done front ≡ None → next ≡ after config done front → more ≡ next_number number → judged_from reader config takes_fates next more (lines_of back) ≡ all
+judged_next reader config takes_fates done next number more rest front back all judged some is_front is_back none is is_more =
+    ap (λ (d : Done). judged_from reader config takes_fates d more (lines_of back)) is
+    ∙ ap (λ (n : ℕ). judged_from reader config takes_fates (after config done front) n (lines_of back)) is_more
+    ∙ sym (ap (λ (o : Option ScriptFault). refused_or number o (judged_from reader config takes_fates (after config done front) (next_number number) (lines_of back))) none)
+    ∙ sym (ap (judged_from reader config takes_fates done number) (line_first rest front back some is_front is_back))
     ∙ judged
 
 -- a line with a fault is what is told
-pub judged_fault : (reader : ValueReader) (config : Config) (plain : Bool) (done : Done) (number : ℕ) (rest front back : List ℕ) (fault : ScriptFault) (all : Result Done (ℕ × ScriptFault)) → judged_from reader config plain done number (lines_of rest) ≡ all → 0 < length rest → front ≡ until 10 rest → back ≡ behind 10 rest → fault_of reader config plain done front ≡ Some fault → all ≡ Err (number, fault)
-judged_fault reader config plain done number rest front back fault all judged some is_front is_back found =
-    sym judged ∙ ap (judged_from reader config plain done number) (line_first rest front back some is_front is_back)
-    ∙ ap (λ (o : Option ScriptFault). refused_or number o (judged_from reader config plain (after config done front) (next_number number) (lines_of back))) found
+pub judged_fault : (reader : ValueReader) (config : Config) (takes_fates : Bool) (done : Done) (number : ℕ) (rest front back : List ℕ) (fault : ScriptFault) (all : Result Done (ℕ × ScriptFault)) → judged_from reader config takes_fates done number (lines_of rest) ≡ all → 0 < length rest → front ≡ until 10 rest → back ≡ behind 10 rest → fault_of reader config takes_fates done front ≡ Some fault → all ≡ Err (number, fault)
+judged_fault reader config takes_fates done number rest front back fault all judged some is_front is_back found =
+    sym judged ∙ ap (judged_from reader config takes_fates done number) (line_first rest front back some is_front is_back)
+    ∙ ap (λ (o : Option ScriptFault). refused_or number o (judged_from reader config takes_fates (after config done front) (next_number number) (lines_of back))) found
 
 -- behind the last line nothing is refused
-pub judged_end : (reader : ValueReader) (config : Config) (plain : Bool) (done : Done) (number : ℕ) (rest : List ℕ) (all : Result Done (ℕ × ScriptFault)) → judged_from reader config plain done number (lines_of rest) ≡ all → length rest ≡ 0 → all ≡ Ok done
-judged_end reader config plain done number rest all judged none =
-    sym judged ∙ ap (judged_from reader config plain done number) (pieces_none 10 rest none)
+pub judged_end : (reader : ValueReader) (config : Config) (takes_fates : Bool) (done : Done) (number : ℕ) (rest : List ℕ) (all : Result Done (ℕ × ScriptFault)) → judged_from reader config takes_fates done number (lines_of rest) ≡ all → length rest ≡ 0 → all ≡ Ok done
+judged_end reader config takes_fates done number rest all judged none =
+    sym judged ∙ ap (judged_from reader config takes_fates done number) (pieces_none 10 rest none)
 
 acts_cut : (reader : ValueReader) (config : Config) (metas : List MetaData) (number more : ℕ) (rest front back : List ℕ) → 0 < length rest → front ≡ until 10 rest → back ≡ behind 10 rest → more ≡ next_number number → acts_from reader config metas number (lines_of rest) ≡ with_act number (act_of reader config metas front) (acts_from reader config metas more (lines_of back))
 acts_cut reader config metas number more rest front back some is_front is_back is_more =

@@ -33,62 +33,62 @@ use Rattle.ps_script.proofs.Fine.{Fine, fine, Does, Acts, does, metas_with, of_a
 use Rattle.ps_script.proofs.Telling.{MetaAt, TellsMetas, metas_next, are_behind, TellsEnabled, enabled_next}
 use Rattle.ps_script.proofs.Counting.{TellsCounts, counted, TellsFates, fates_next}
 
-pub record Tells (config : Config) (plain : Bool) (full : List MetaData) (before : List Line) (done : Done) : Type 0 where
+pub record Tells (config : Config) (takes_fates : Bool) (full : List MetaData) (before : List Line) (done : Done) : Type 0 where
   pub below : AllZip Below done.metas full
   pub metas : TellsMetas config before done
   pub enabled : TellsEnabled before done
   pub counts : TellsCounts before done
-  pub fates : TellsFates plain before done
+  pub fates : TellsFates takes_fates before done
 
-tells_next : (config : Config) (plain : Bool) (full : List MetaData) (before : List Line) (number : ℕ) (done next : Done) (a : Act) → length (component_names config) ≤ 64 → Does config plain full done next a
-    → AllZip Below next.metas full → Tells config plain full before done → Tells config plain full (before ++ record { at = number; act = a } ∷ []) next
-tells_next config plain full before number done next a few d zip t = record {
+tells_next : (config : Config) (takes_fates : Bool) (full : List MetaData) (before : List Line) (number : ℕ) (done next : Done) (a : Act) → length (component_names config) ≤ 64 → Does config takes_fates full done next a
+    → AllZip Below next.metas full → Tells config takes_fates full before done → Tells config takes_fates full (before ++ record { at = number; act = a } ∷ []) next
+tells_next config takes_fates full before number done next a few d zip t = record {
   below = zip;
-  metas = metas_next config plain full before number done next a d t.metas;
-  enabled = enabled_next config plain full before number done next a few d t.enabled;
-  counts = counted config plain full before number done next a d t.counts;
-  fates = fates_next config plain full before number done next a d t.fates;
+  metas = metas_next config takes_fates full before number done next a d t.metas;
+  enabled = enabled_next config takes_fates full before number done next a few d t.enabled;
+  counts = counted config takes_fates full before number done next a d t.counts;
+  fates = fates_next config takes_fates full before number done next a d t.fates;
 }
 
 -- what a line does is within its limits
-is_act : (config : Config) (plain : Bool) (full : List MetaData) (before : List Line) (done next : Done) (a : Act) → length (component_names config) ≤ 64 → Does config plain full done next a
-    → Tells config plain full before done → IsAct config full before a
-is_act config plain full before done next (act.Write thread set patch) few w t = record {
+is_act : (config : Config) (takes_fates : Bool) (full : List MetaData) (before : List Line) (done next : Done) (a : Act) → length (component_names config) ≤ 64 → Does config takes_fates full done next a
+    → Tells config takes_fates full before done → IsAct config full before a
+is_act config takes_fates full before done next (act.Write thread set patch) few w t = record {
   bound = w.bound;
   there = w.there;
   of = w.of;
   some = w.some;
   marks = subst (λ (ms : List MetaData). HoldsAt (λ (meta : MetaData). patch.mask < 2 ^ length meta.fields) ms set) (are_behind config full before done t.below t.metas) w.marks;
 }
-is_act config plain full before done next (act.Tick ms) few w t = w.span
-is_act config plain full before done next (act.Enable id) few w t = record { there = w.there; was = sym (t.enabled.each id (omega (arith, few, w.there))) ∙ w.was }
-is_act config plain full before done next (act.Disable id) few w t = record { there = w.there; was = sym (t.enabled.each id (omega (arith, few, w.there))) ∙ w.was }
-is_act config plain full before done next (act.Fated number fate) few w t = w.is_fated
-is_act config plain full before done next (act.Watch thread reader times) few w t =
+is_act config takes_fates full before done next (act.Tick ms) few w t = w.span
+is_act config takes_fates full before done next (act.Enable id) few w t = record { there = w.there; was = sym (t.enabled.each id (omega (arith, few, w.there))) ∙ w.was }
+is_act config takes_fates full before done next (act.Disable id) few w t = record { there = w.there; was = sym (t.enabled.each id (omega (arith, few, w.there))) ∙ w.was }
+is_act config takes_fates full before done next (act.Fated number fate) few w t = w.is_fated
+is_act config takes_fates full before done next (act.Watch thread reader times) few w t =
     record { bound = w.bound; there = subst (λ (n : ℕ). reader < n) (readers_counted config) w.there; looks = w.looks }
-is_act config plain full before done next (act.Append set) few w t =
+is_act config takes_fates full before done next (act.Append set) few w t =
     let lt : set < length done.metas = slice_get_within done.metas set w.meta w.found in
     record { there = subst (λ (n : ℕ). set < n) (sym (same_length done.metas full t.below)) lt; told = w.told }
 
 -- each of these lines, behind the first, and what all have done
-pub record AllTell (config : Config) (plain : Bool) (full : List MetaData) (before lines : List Line) (done : Done) : Type 0 where
+pub record AllTell (config : Config) (takes_fates : Bool) (full : List MetaData) (before lines : List Line) (done : Done) : Type 0 where
   pub acts : (k : ℕ) (line : Line) → slice_get lines k ≡ Some line → IsAct config full (before ++ take k lines) line.act
   pub behind : (k : ℕ) → FitConfig config (metas_behind config.dataset full (before ++ take k lines))
-  pub last : Tells config plain full (before ++ lines) done
+  pub last : Tells config takes_fates full (before ++ lines) done
 
 no_more : (k : ℕ) → take {A = Line} k [] ≡ []
 no_more zero = refl
 no_more (suc k) = refl
 
-fit_behind : (config : Config) (plain : Bool) (full : List MetaData) (before : List Line) (done : Done) → Tells config plain full before done → FitConfig config (metas_behind config.dataset full before)
-fit_behind config plain full before done t = subst (FitConfig config) (are_behind config full before done t.below t.metas) t.metas.fit
+fit_behind : (config : Config) (takes_fates : Bool) (full : List MetaData) (before : List Line) (done : Done) → Tells config takes_fates full before done → FitConfig config (metas_behind config.dataset full before)
+fit_behind config takes_fates full before done t = subst (FitConfig config) (are_behind config full before done t.below t.metas) t.metas.fit
 
-all_none : (config : Config) (plain : Bool) (full : List MetaData) (before : List Line) (done : Done) → Tells config plain full before done → AllTell config plain full before [] done
-all_none config plain full before done t = record {
+all_none : (config : Config) (takes_fates : Bool) (full : List MetaData) (before : List Line) (done : Done) → Tells config takes_fates full before done → AllTell config takes_fates full before [] done
+all_none config takes_fates full before done t = record {
   acts = λ k line found. absurd (none-some line found);
   behind = λ k.
-      subst (λ (ls : List Line). FitConfig config (metas_behind config.dataset full ls)) (sym (ap (λ (ls : List Line). before ++ ls) (no_more k) ∙ append-nil before)) (fit_behind config plain full before done t);
-  last = subst (λ (ls : List Line). Tells config plain full ls done) (sym (append-nil before)) t;
+      subst (λ (ls : List Line). FitConfig config (metas_behind config.dataset full ls)) (sym (ap (λ (ls : List Line). before ++ ls) (no_more k) ∙ append-nil before)) (fit_behind config takes_fates full before done t);
+  last = subst (λ (ls : List Line). Tells config takes_fates full ls done) (sym (append-nil before)) t;
 }
 
 acts_cons : (config : Config) (full : List MetaData) (before rest : List Line) (first : Line) → IsAct config full before first.act
@@ -106,55 +106,55 @@ behind_cons config full before rest first here later zero = subst (λ (ls : List
 behind_cons config full before rest first here later (suc k) =
     subst (λ (ls : List Line). FitConfig config (metas_behind config.dataset full ls)) (append_assoc before (first ∷ []) (take k rest)) (later k)
 
-all_cons : (config : Config) (plain : Bool) (full : List MetaData) (before rest : List Line) (first : Line) (done last : Done) → IsAct config full before first.act → Tells config plain full before done
-    → AllTell config plain full (before ++ first ∷ []) rest last → AllTell config plain full before (first ∷ rest) last
-all_cons config plain full before rest first done last here t all = record {
+all_cons : (config : Config) (takes_fates : Bool) (full : List MetaData) (before rest : List Line) (first : Line) (done last : Done) → IsAct config full before first.act → Tells config takes_fates full before done
+    → AllTell config takes_fates full (before ++ first ∷ []) rest last → AllTell config takes_fates full before (first ∷ rest) last
+all_cons config takes_fates full before rest first done last here t all = record {
   acts = acts_cons config full before rest first here all.acts;
-  behind = behind_cons config full before rest first (fit_behind config plain full before done t) all.behind;
-  last = subst (λ (ls : List Line). Tells config plain full ls last) (append_assoc before (first ∷ []) rest) all.last;
+  behind = behind_cons config full before rest first (fit_behind config takes_fates full before done t) all.behind;
+  last = subst (λ (ls : List Line). Tells config takes_fates full ls last) (append_assoc before (first ∷ []) rest) all.last;
 }
 
-line_does : (reader : ValueReader) (config : Config) (plain : Bool) (full : List MetaData) (done : Done) (line : List ℕ) → Fine reader config plain done line (verb_of line)
+line_does : (reader : ValueReader) (config : Config) (takes_fates : Bool) (full : List MetaData) (done : Done) (line : List ℕ) → Fine reader config takes_fates done line (verb_of line)
     → AllZip Below done.metas full → All (λ (meta : MetaData). IsMeta meta.fields) done.metas → All (λ (meta : MetaData). IsMeta meta.fields) full
-    → Acts config plain full done (after config done line) (act_of reader config full line)
+    → Acts config takes_fates full done (after config done line) (act_of reader config full line)
 unfolding after act_of
-line_does reader config plain full done line f zip metas wholes = does reader config plain full done line (verb_of line) f zip metas wholes
+line_does reader config takes_fates full done line f zip metas wholes = does reader config takes_fates full done line (verb_of line) f zip metas wholes
 
 -- a line, whether it does something or not
-all_with : (config : Config) (plain : Bool) (full : List MetaData) (before rest : List Line) (number : ℕ) (done next last : Done) (o : Option Act) → length (component_names config) ≤ 64
-    → Acts config plain full done next o → AllZip Below next.metas full → Tells config plain full before done
-    → ((ls : List Line) → Tells config plain full ls next → AllTell config plain full ls rest last) → AllTell config plain full before (with_act number o rest) last
-all_with config plain full before rest number done next last None few d zip t later = later before (subst (Tells config plain full before) (sym d) t)
-all_with config plain full before rest number done next last (Some a) few d zip t later =
-    all_cons config plain full before rest (record { at = number; act = a }) done last (is_act config plain full before done next a few d t) t
-    (later (before ++ record { at = number; act = a } ∷ []) (tells_next config plain full before number done next a few d zip t))
+all_with : (config : Config) (takes_fates : Bool) (full : List MetaData) (before rest : List Line) (number : ℕ) (done next last : Done) (o : Option Act) → length (component_names config) ≤ 64
+    → Acts config takes_fates full done next o → AllZip Below next.metas full → Tells config takes_fates full before done
+    → ((ls : List Line) → Tells config takes_fates full ls next → AllTell config takes_fates full ls rest last) → AllTell config takes_fates full before (with_act number o rest) last
+all_with config takes_fates full before rest number done next last None few d zip t later = later before (subst (Tells config takes_fates full before) (sym d) t)
+all_with config takes_fates full before rest number done next last (Some a) few d zip t later =
+    all_cons config takes_fates full before rest (record { at = number; act = a }) done last (is_act config takes_fates full before done next a few d t) t
+    (later (before ++ record { at = number; act = a } ∷ []) (tells_next config takes_fates full before number done next a few d zip t))
 
-all_lines : (reader : ValueReader) (config : Config) (plain : Bool) (done last : Done) (before : List Line) (number : ℕ) (lines : List (List ℕ)) → length (component_names config) ≤ 64
-    → judged_from reader config plain done number lines ≡ Ok last → All (λ (meta : MetaData). IsMeta meta.fields) last.metas → Tells config plain last.metas before done
-    → AllTell config plain last.metas before (acts_from reader config last.metas number lines) last
-all_lines reader config plain done last before number [] few e wholes t =
-    subst (AllTell config plain last.metas before []) (same_last done last e) (all_none config plain last.metas before done t)
-all_lines reader config plain done last before number (line ∷ lines) few e wholes t =
+all_lines : (reader : ValueReader) (config : Config) (takes_fates : Bool) (done last : Done) (before : List Line) (number : ℕ) (lines : List (List ℕ)) → length (component_names config) ≤ 64
+    → judged_from reader config takes_fates done number lines ≡ Ok last → All (λ (meta : MetaData). IsMeta meta.fields) last.metas → Tells config takes_fates last.metas before done
+    → AllTell config takes_fates last.metas before (acts_from reader config last.metas number lines) last
+all_lines reader config takes_fates done last before number [] few e wholes t =
+    subst (AllTell config takes_fates last.metas before []) (same_last done last e) (all_none config takes_fates last.metas before done t)
+all_lines reader config takes_fates done last before number (line ∷ lines) few e wholes t =
     let next : Done = after config done line in
-    let p = passes number (fault_of reader config plain done line) (judged_from reader config plain next (next_number number) lines) last e in
-    let f = fine reader config plain done line p.0 in
-    all_with config plain last.metas before (acts_from reader config last.metas (next_number number) lines) number done next last (act_of reader config last.metas line) few
-    (line_does reader config plain last.metas done line f t.below t.metas.fit.each wholes)
-    (grow reader config plain next last (next_number number) lines p.1) t
-    (λ ls tells. all_lines reader config plain next last ls (next_number number) lines few p.1 wholes tells)
+    let p = passes number (fault_of reader config takes_fates done line) (judged_from reader config takes_fates next (next_number number) lines) last e in
+    let f = fine reader config takes_fates done line p.0 in
+    all_with config takes_fates last.metas before (acts_from reader config last.metas (next_number number) lines) number done next last (act_of reader config last.metas line) few
+    (line_does reader config takes_fates last.metas done line f t.below t.metas.fit.each wholes)
+    (grow reader config takes_fates next last (next_number number) lines p.1) t
+    (λ ls tells. all_lines reader config takes_fates next last ls (next_number number) lines few p.1 wholes tells)
 
-metas_behind_line : (reader : ValueReader) (config : Config) (plain : Bool) (done : Done) (line : List ℕ) → Fine reader config plain done line (verb_of line)
+metas_behind_line : (reader : ValueReader) (config : Config) (takes_fates : Bool) (done : Done) (line : List ℕ) → Fine reader config takes_fates done line (verb_of line)
     → All (λ (meta : MetaData). IsMeta meta.fields) done.metas → All (λ (meta : MetaData). IsMeta meta.fields) (after config done line).metas
 unfolding after
-metas_behind_line reader config plain done line f metas = metas_with reader config plain done line (verb_of line) f metas
+metas_behind_line reader config takes_fates done line f metas = metas_with reader config takes_fates done line (verb_of line) f metas
 
-all_metas : (reader : ValueReader) (config : Config) (plain : Bool) (done last : Done) (number : ℕ) (lines : List (List ℕ)) → judged_from reader config plain done number lines ≡ Ok last
+all_metas : (reader : ValueReader) (config : Config) (takes_fates : Bool) (done last : Done) (number : ℕ) (lines : List (List ℕ)) → judged_from reader config takes_fates done number lines ≡ Ok last
     → All (λ (meta : MetaData). IsMeta meta.fields) done.metas → All (λ (meta : MetaData). IsMeta meta.fields) last.metas
-all_metas reader config plain done last number [] e metas = subst (λ (d : Done). All (λ (m : MetaData). IsMeta m.fields) d.metas) (same_last done last e) metas
-all_metas reader config plain done last number (line ∷ lines) e metas =
+all_metas reader config takes_fates done last number [] e metas = subst (λ (d : Done). All (λ (m : MetaData). IsMeta m.fields) d.metas) (same_last done last e) metas
+all_metas reader config takes_fates done last number (line ∷ lines) e metas =
     let next : Done = after config done line in
-    let p = passes number (fault_of reader config plain done line) (judged_from reader config plain next (next_number number) lines) last e in
-    all_metas reader config plain next last (next_number number) lines p.1 (metas_behind_line reader config plain done line (fine reader config plain done line p.0) metas)
+    let p = passes number (fault_of reader config takes_fates done line) (judged_from reader config takes_fates next (next_number number) lines) last e in
+    all_metas reader config takes_fates next last (next_number number) lines p.1 (metas_behind_line reader config takes_fates done line (fine reader config takes_fates done line p.0) metas)
 
 -- ---- before the first line
 
@@ -178,9 +178,9 @@ fit_configured config sound = record {
 zero_le : (n : ℕ) → 0 ≤ n
 zero_le n = omega arith
 
-nothing_tells : (config : Config) (plain : Bool) (full : List MetaData) → IsSound config → AllZip Below (nothing_done config).metas full → Tells config plain full [] (nothing_done config)
+nothing_tells : (config : Config) (takes_fates : Bool) (full : List MetaData) → IsSound config → AllZip Below (nothing_done config).metas full → Tells config takes_fates full [] (nothing_done config)
 unfolding nothing_done
-nothing_tells config plain full sound zip = record {
+nothing_tells config takes_fates full sound zip = record {
   below = zip;
   metas = record {
     sets = refl;
@@ -248,8 +248,8 @@ grown_of set lines configured full m is = record {
   is_meta = is;
 }
 
-few_of : (lines : List Line) (plain : Bool) (done : Done) → TellsCounts lines done → TellsFates plain lines done → AreFew lines
-few_of lines plain done c f = record {
+few_of : (lines : List Line) (takes_fates : Bool) (done : Done) → TellsCounts lines done → TellsFates takes_fates lines done → AreFew lines
+few_of lines takes_fates done c f = record {
   ticks = subst (λ (n : ℕ). n ≤ 4096) (sym c.ticks.told) c.ticks.few;
   writes = subst (λ (n : ℕ). n ≤ 32768) (sym c.writes.told) c.writes.few;
   fates = subst (λ (n : ℕ). n ≤ 256) (sym f.told) f.few;
@@ -257,45 +257,45 @@ few_of lines plain done c f = record {
   appends = subst (λ (n : ℕ). n ≤ 16) (sym c.appends.told) c.appends.few;
 }
 
-script_of : (config : Config) (plain : Bool) (lines : List Line) (last : Done) → All (λ (meta : MetaData). IsMeta meta.fields) last.metas → AllTell config plain last.metas [] lines last → AreNumbered 1 lines
+script_of : (config : Config) (takes_fates : Bool) (lines : List Line) (last : Done) → All (λ (meta : MetaData). IsMeta meta.fields) last.metas → AllTell config takes_fates last.metas [] lines last → AreNumbered 1 lines
     → IsScript config (record { lines = lines; metas = last.metas })
-script_of config plain lines last wholes all numbers = record {
+script_of config takes_fates lines last wholes all numbers = record {
   sets = all.last.metas.sets;
   metas = λ set configured full here there.
       grown_of set lines configured full (all.last.metas.metas set configured full here there) (of_all (λ (m : MetaData). IsMeta m.fields) last.metas set full wholes there);
   acts = all.acts;
   behind = all.behind;
-  few = few_of lines plain last all.last.counts all.last.fates;
+  few = few_of lines takes_fates last all.last.counts all.last.fates;
   numbers = numbers;
   fates = all.last.fates.are;
 }
 
-judged_tells : (reader : ValueReader) (config : Config) (plain : Bool) (bytes : List ℕ) (last : Done) → IsSound config → judged reader config plain bytes ≡ Ok last
-    → AllTell config plain last.metas [] (acts_from reader config last.metas 1 (lines_of bytes)) last
+judged_tells : (reader : ValueReader) (config : Config) (takes_fates : Bool) (bytes : List ℕ) (last : Done) → IsSound config → judged reader config takes_fates bytes ≡ Ok last
+    → AllTell config takes_fates last.metas [] (acts_from reader config last.metas 1 (lines_of bytes)) last
 unfolding judged
-judged_tells reader config plain bytes last sound e =
-    all_lines reader config plain (nothing_done config) last [] 1 (lines_of bytes) (few_components config sound) e
-    (all_metas reader config plain (nothing_done config) last 1 (lines_of bytes) e (nothing_metas config sound))
-    (nothing_tells config plain last.metas sound (grow reader config plain (nothing_done config) last 1 (lines_of bytes) e))
+judged_tells reader config takes_fates bytes last sound e =
+    all_lines reader config takes_fates (nothing_done config) last [] 1 (lines_of bytes) (few_components config sound) e
+    (all_metas reader config takes_fates (nothing_done config) last 1 (lines_of bytes) e (nothing_metas config sound))
+    (nothing_tells config takes_fates last.metas sound (grow reader config takes_fates (nothing_done config) last 1 (lines_of bytes) e))
 
-judged_metas : (reader : ValueReader) (config : Config) (plain : Bool) (bytes : List ℕ) (last : Done) → IsSound config → judged reader config plain bytes ≡ Ok last → All (λ (meta : MetaData). IsMeta meta.fields) last.metas
+judged_metas : (reader : ValueReader) (config : Config) (takes_fates : Bool) (bytes : List ℕ) (last : Done) → IsSound config → judged reader config takes_fates bytes ≡ Ok last → All (λ (meta : MetaData). IsMeta meta.fields) last.metas
 unfolding judged
-judged_metas reader config plain bytes last sound e = all_metas reader config plain (nothing_done config) last 1 (lines_of bytes) e (nothing_metas config sound)
+judged_metas reader config takes_fates bytes last sound e = all_metas reader config takes_fates (nothing_done config) last 1 (lines_of bytes) e (nothing_metas config sound)
 
 same_script : (one other : Script) → ◌≡◌ {A = Result Script (ℕ × ScriptFault)} (Ok one) (Ok other) → one ≡ other
 same_script one other e = cc
 
-sound_by : (reader : ValueReader) (config : Config) (plain : Bool) (bytes : List ℕ) (judgement : Result Done (ℕ × ScriptFault)) (found : Script) → IsSound config → judged reader config plain bytes ≡ judgement
+sound_by : (reader : ValueReader) (config : Config) (takes_fates : Bool) (bytes : List ℕ) (judgement : Result Done (ℕ × ScriptFault)) (found : Script) → IsSound config → judged reader config takes_fates bytes ≡ judgement
     → script_by reader config bytes judgement ≡ Ok found → IsScript config found
 unfolding script_with
-sound_by reader config plain bytes (Ok last) found sound is e =
+sound_by reader config takes_fates bytes (Ok last) found sound is e =
     subst (IsScript config) (same_script (script_with reader config bytes last.metas) found e)
-    (script_of config plain (acts_from reader config last.metas 1 (lines_of bytes)) last (judged_metas reader config plain bytes last sound is) (judged_tells reader config plain bytes last sound is)
+    (script_of config takes_fates (acts_from reader config last.metas 1 (lines_of bytes)) last (judged_metas reader config takes_fates bytes last sound is) (judged_tells reader config takes_fates bytes last sound is)
     (from_one reader config last.metas (lines_of bytes)))
-sound_by reader config plain bytes (Err end) found sound is e = let bad : ⊥ = cc in absurd bad
+sound_by reader config takes_fates bytes (Err end) found sound is e = let bad : ⊥ = cc in absurd bad
 
-pub sound_script : (reader : ValueReader) (config : Config) (bytes : List ℕ) (plain : Bool) (found : Script) → IsSound config → script reader config bytes plain ≡ Ok found → IsScript config found
-sound_script reader config bytes plain found sound e = sound_by reader config plain bytes (judged reader config plain bytes) found sound refl e
+pub sound_script : (reader : ValueReader) (config : Config) (bytes : List ℕ) (takes_fates : Bool) (found : Script) → IsSound config → script reader config bytes takes_fates ≡ Ok found → IsScript config found
+sound_script reader config bytes takes_fates found sound e = sound_by reader config takes_fates bytes (judged reader config takes_fates bytes) found sound refl e
 
 fateless_by : (reader : ValueReader) (config : Config) (bytes : List ℕ) (judgement : Result Done (ℕ × ScriptFault)) (found : Script) → IsSound config → judged reader config false bytes ≡ judgement
     → script_by reader config bytes judgement ≡ Ok found → fates_of found.lines ≡ []

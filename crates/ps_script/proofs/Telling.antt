@@ -129,15 +129,15 @@ metas_appended config before number at done next a t =
       };
     }
 
-pub metas_next : (config : Config) (plain : Bool) (full : List MetaData) (before : List Line) (number : ℕ) (done next : Done) (a : Act) → Does config plain full done next a → TellsMetas config before done
+pub metas_next : (config : Config) (takes_fates : Bool) (full : List MetaData) (before : List Line) (number : ℕ) (done next : Done) (a : Act) → Does config takes_fates full done next a → TellsMetas config before done
     → TellsMetas config (before ++ record { at = number; act = a } ∷ []) next
-metas_next config plain full before number done next (act.Write thread set patch) w t = metas_kept config before (record { at = number; act = act.Write thread set patch }) done next (ap (λ (d : Done). d.metas) w.leaves) (λ k. refl) t
-metas_next config plain full before number done next (act.Tick ms) w t = metas_kept config before (record { at = number; act = act.Tick ms }) done next (ap (λ (d : Done). d.metas) w.leaves) (λ k. refl) t
-metas_next config plain full before number done next (act.Enable id) w t = metas_kept config before (record { at = number; act = act.Enable id }) done next (ap (λ (d : Done). d.metas) w.leaves) (λ k. refl) t
-metas_next config plain full before number done next (act.Disable id) w t = metas_kept config before (record { at = number; act = act.Disable id }) done next (ap (λ (d : Done). d.metas) w.leaves) (λ k. refl) t
-metas_next config plain full before number done next (act.Fated k fate) w t = metas_kept config before (record { at = number; act = act.Fated k fate }) done next (ap (λ (d : Done). d.metas) w.leaves) (λ j. refl) t
-metas_next config plain full before number done next (act.Watch thread reader times) w t = metas_kept config before (record { at = number; act = act.Watch thread reader times }) done next (ap (λ (d : Done). d.metas) w.leaves) (λ k. refl) t
-metas_next config plain full before number done next (act.Append set) w t = metas_appended config before number set done next w t
+metas_next config takes_fates full before number done next (act.Write thread set patch) w t = metas_kept config before (record { at = number; act = act.Write thread set patch }) done next (ap (λ (d : Done). d.metas) w.leaves) (λ k. refl) t
+metas_next config takes_fates full before number done next (act.Tick ms) w t = metas_kept config before (record { at = number; act = act.Tick ms }) done next (ap (λ (d : Done). d.metas) w.leaves) (λ k. refl) t
+metas_next config takes_fates full before number done next (act.Enable id) w t = metas_kept config before (record { at = number; act = act.Enable id }) done next (ap (λ (d : Done). d.metas) w.leaves) (λ k. refl) t
+metas_next config takes_fates full before number done next (act.Disable id) w t = metas_kept config before (record { at = number; act = act.Disable id }) done next (ap (λ (d : Done). d.metas) w.leaves) (λ k. refl) t
+metas_next config takes_fates full before number done next (act.Fated k fate) w t = metas_kept config before (record { at = number; act = act.Fated k fate }) done next (ap (λ (d : Done). d.metas) w.leaves) (λ j. refl) t
+metas_next config takes_fates full before number done next (act.Watch thread reader times) w t = metas_kept config before (record { at = number; act = act.Watch thread reader times }) done next (ap (λ (d : Done). d.metas) w.leaves) (λ k. refl) t
+metas_next config takes_fates full before number done next (act.Append set) w t = metas_appended config before number set done next w t
 
 -- ---- so they are those behind the lines
 
@@ -227,12 +227,12 @@ switched config before number at on done next few s t =
           ∙ sym (enabled_more id before (record { at = number; act = switch on at }));
     }
 
-pub enabled_next : (config : Config) (plain : Bool) (full : List MetaData) (before : List Line) (number : ℕ) (done next : Done) (a : Act) → length (component_names config) ≤ 64 → Does config plain full done next a → TellsEnabled before done
+pub enabled_next : (config : Config) (takes_fates : Bool) (full : List MetaData) (before : List Line) (number : ℕ) (done next : Done) (a : Act) → length (component_names config) ≤ 64 → Does config takes_fates full done next a → TellsEnabled before done
     → TellsEnabled (before ++ record { at = number; act = a } ∷ []) next
-enabled_next config plain full before number done next (act.Write thread set patch) few w t = enabled_kept before (record { at = number; act = act.Write thread set patch }) done next (ap (λ (d : Done). d.enabled) w.leaves) (λ id on. refl) t
-enabled_next config plain full before number done next (act.Tick ms) few w t = enabled_kept before (record { at = number; act = act.Tick ms }) done next (ap (λ (d : Done). d.enabled) w.leaves) (λ id on. refl) t
-enabled_next config plain full before number done next (act.Enable id) few w t = switched config before number id true done next few w t
-enabled_next config plain full before number done next (act.Disable id) few w t = switched config before number id false done next few w t
-enabled_next config plain full before number done next (act.Fated k fate) few w t = enabled_kept before (record { at = number; act = act.Fated k fate }) done next (ap (λ (d : Done). d.enabled) w.leaves) (λ id on. refl) t
-enabled_next config plain full before number done next (act.Watch thread reader times) few w t = enabled_kept before (record { at = number; act = act.Watch thread reader times }) done next (ap (λ (d : Done). d.enabled) w.leaves) (λ id on. refl) t
-enabled_next config plain full before number done next (act.Append set) few w t = enabled_kept before (record { at = number; act = act.Append set }) done next (ap (λ (d : Done). d.enabled) w.leaves) (λ id on. refl) t
+enabled_next config takes_fates full before number done next (act.Write thread set patch) few w t = enabled_kept before (record { at = number; act = act.Write thread set patch }) done next (ap (λ (d : Done). d.enabled) w.leaves) (λ id on. refl) t
+enabled_next config takes_fates full before number done next (act.Tick ms) few w t = enabled_kept before (record { at = number; act = act.Tick ms }) done next (ap (λ (d : Done). d.enabled) w.leaves) (λ id on. refl) t
+enabled_next config takes_fates full before number done next (act.Enable id) few w t = switched config before number id true done next few w t
+enabled_next config takes_fates full before number done next (act.Disable id) few w t = switched config before number id false done next few w t
+enabled_next config takes_fates full before number done next (act.Fated k fate) few w t = enabled_kept before (record { at = number; act = act.Fated k fate }) done next (ap (λ (d : Done). d.enabled) w.leaves) (λ id on. refl) t
+enabled_next config takes_fates full before number done next (act.Watch thread reader times) few w t = enabled_kept before (record { at = number; act = act.Watch thread reader times }) done next (ap (λ (d : Done). d.enabled) w.leaves) (λ id on. refl) t
+enabled_next config takes_fates full before number done next (act.Append set) few w t = enabled_kept before (record { at = number; act = act.Append set }) done next (ap (λ (d : Done). d.enabled) w.leaves) (λ id on. refl) t

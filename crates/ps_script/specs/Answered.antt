@@ -45,16 +45,16 @@ IsBadWrite past line bad =
 -- whether a fault stands at a line, and the first that does, but for the last
 abbrev pub TellsFault : ScriptFault → Given → Past → List ℕ → Bool → Type 0
 TellsFault fault given past line stood =
-    (reader : ValueReader) → stood ≡ stands reader fault given.config.now given.plain (done_by past) line
+    (reader : ValueReader) → stood ≡ stands reader fault given.config.now given.takes_fates (done_by past) line
 
 abbrev pub IsEarlyFault : Given → Past → List ℕ → Option ScriptFault → Type 0
 IsEarlyFault given past line fault =
-    (reader : ValueReader) → fault ≡ first_of reader early_faults given.config.now given.plain (done_by past) line
+    (reader : ValueReader) → fault ≡ first_of reader early_faults given.config.now given.takes_fates (done_by past) line
 
 -- a line is judged, and done where it has no fault
 abbrev pub StepsBy : {E : Type 0} → Given → Past → Past → List ℕ → Result (Option ScriptFault) E → Type 0
 StepsBy given old new line result =
-    (reader : ValueReader) → IfOk result (Steps reader given.config.now given.plain (done_by old) (done_by new) line)
+    (reader : ValueReader) → IfOk result (Steps reader given.config.now given.takes_fates (done_by old) (done_by new) line)
 
 -- and read, behind those that were read before it
 abbrev pub ReadsBy : {E : Type 0} → Given → ℕ → List ℕ → List Line → Reading → Result (Option ScriptFault) E → Type 0
@@ -66,7 +66,7 @@ ReadsBy given number line before new result =
 abbrev pub HasDone : {E : Type 0} → Given → List ℕ → Result Reading E → Type 0
 HasDone given bytes result =
     (reader : ValueReader)
-    → IfOk result (λ reading. judged reader given.config.now given.plain bytes ≡ Ok (done_by reading.past))
+    → IfOk result (λ reading. judged reader given.config.now given.takes_fates bytes ≡ Ok (done_by reading.past))
 
 abbrev pub HasRead : {E : Type 0} → Given → List ℕ → Result Reading E → Type 0
 HasRead given bytes result =
@@ -75,7 +75,7 @@ HasRead given bytes result =
 
 abbrev pub IsEndAt : {T : Type 0} → Given → List ℕ → Result T ScriptEnd → Type 0
 IsEndAt given bytes result =
-    (reader : ValueReader) → IfErr result (IsEndOf (judged reader given.config.now given.plain bytes))
+    (reader : ValueReader) → IfErr result (IsEndOf (judged reader given.config.now given.takes_fates bytes))
 
 -- the lines that were read, where none of them appends
 abbrev pub AreReadLines : Given → Past → List ℕ → List Line → Type 0
@@ -86,5 +86,5 @@ AreReadLines given past bytes lines =
 -- a line `write` without a fault, for whatever configuration
 abbrev pub IsFaultlessWrite : Past → List ℕ → Patch → Option Target → Type 0
 IsFaultlessWrite past line patch result =
-    (reader : ValueReader) (config : Config) (plain : Bool)
-    → IfSome result (λ target. IsSoundWrite reader config plain (done_by past) line target.thread target.set patch)
+    (reader : ValueReader) (config : Config) (takes_fates : Bool)
+    → IfSome result (λ target. IsSoundWrite reader config takes_fates (done_by past) line target.thread target.set patch)

@@ -147,9 +147,9 @@ is_early line _ = false
 
 -- BadFate: a second fate of a datagram, one until no later datagram, or any where links have none
 abbrev pub is_bad_fate : Bool → Done → List ℕ → Option Verb → Bool
-is_bad_fate plain done line (Some verb.Fate) =
-    not plain || list_any (λ other. other == number_at 0 1000000 (word 1 line)) done.fated || is_early line (fate_of line)
-is_bad_fate plain done line _ = false
+is_bad_fate takes_fates done line (Some verb.Fate) =
+    not takes_fates || list_any (λ other. other == number_at 0 1000000 (word 1 line)) done.fated || is_early line (fate_of line)
+is_bad_fate takes_fates done line _ = false
 
 -- no earlier field has the name of the field at this index
 abbrev pub is_fresh : List Field → ℕ → Bool

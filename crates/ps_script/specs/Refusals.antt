@@ -10,18 +10,18 @@ use Rattle.ps_script.specs.Faults.{is_bad_text, is_long, has_unknown_word, is_ba
 
 -- the fault stands at this line, after what the lines before have done
 unfoldable pub stands : ValueReader → ScriptFault → Config → Bool → Done → List ℕ → Bool
-stands reader fault.BadText config plain done line = is_bad_text line
-stands reader fault.LongLine config plain done line = is_long line
-stands reader fault.UnknownWord config plain done line = has_unknown_word line
-stands reader fault.BadShape config plain done line = is_bad_shape line
-stands reader fault.BadNumber config plain done line = has_bad_number line
-stands reader fault.UnknownName config plain done line = has_unknown_name config done line
-stands reader fault.BadField config plain done line = is_bad_field done line (verb_of line)
-stands reader fault.BadValue config plain done line = is_bad_value reader done line (verb_of line)
-stands reader fault.BadState config plain done line = is_bad_state config done line (verb_of line)
-stands reader fault.TooMany config plain done line = is_past_limit done (verb_of line)
-stands reader fault.BadFate config plain done line = is_bad_fate plain done line (verb_of line)
-stands reader fault.BadAppend config plain done line = is_bad_append config done line (verb_of line)
+stands reader fault.BadText config takes_fates done line = is_bad_text line
+stands reader fault.LongLine config takes_fates done line = is_long line
+stands reader fault.UnknownWord config takes_fates done line = has_unknown_word line
+stands reader fault.BadShape config takes_fates done line = is_bad_shape line
+stands reader fault.BadNumber config takes_fates done line = has_bad_number line
+stands reader fault.UnknownName config takes_fates done line = has_unknown_name config done line
+stands reader fault.BadField config takes_fates done line = is_bad_field done line (verb_of line)
+stands reader fault.BadValue config takes_fates done line = is_bad_value reader done line (verb_of line)
+stands reader fault.BadState config takes_fates done line = is_bad_state config done line (verb_of line)
+stands reader fault.TooMany config takes_fates done line = is_past_limit done (verb_of line)
+stands reader fault.BadFate config takes_fates done line = is_bad_fate takes_fates done line (verb_of line)
+stands reader fault.BadAppend config takes_fates done line = is_bad_append config done line (verb_of line)
 
 -- the faults in the order in which they are judged, up to the last
 unfoldable pub early_faults : List ScriptFault
@@ -35,7 +35,7 @@ faults = early_faults ++ fault.BadAppend ∷ []
 
 -- the first of these faults that stands at the line
 abbrev pub first_of : ValueReader → List ScriptFault → Config → Bool → Done → List ℕ → Option ScriptFault
-first_of reader faults config plain done line = find (λ fault. stands reader fault config plain done line) faults
+first_of reader faults config takes_fates done line = find (λ fault. stands reader fault config takes_fates done line) faults
 
 abbrev pub fault_of : ValueReader → Config → Bool → Done → List ℕ → Option ScriptFault
-fault_of reader config plain done line = first_of reader faults config plain done line
+fault_of reader config takes_fates done line = first_of reader faults config takes_fates done line

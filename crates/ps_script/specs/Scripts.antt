@@ -22,14 +22,14 @@ refused_or number None rest = rest
 
 -- what all lines have done, or the number of the first line with a fault, and the least of its faults
 abbrev pub judged_from : ValueReader → Config → Bool → Done → ℕ → List (List ℕ) → Result Done (ℕ × ScriptFault)
-judged_from reader config plain done number [] = Ok done
-judged_from reader config plain done number (line ∷ lines) =
-    refused_or number (fault_of reader config plain done line)
-    (judged_from reader config plain (after config done line) (next_number number) lines)
+judged_from reader config takes_fates done number [] = Ok done
+judged_from reader config takes_fates done number (line ∷ lines) =
+    refused_or number (fault_of reader config takes_fates done line)
+    (judged_from reader config takes_fates (after config done line) (next_number number) lines)
 
 -- lines count from 1
 unfoldable pub judged : ValueReader → Config → Bool → List ℕ → Result Done (ℕ × ScriptFault)
-judged reader config plain bytes = judged_from reader config plain (nothing_done config) 1 (lines_of bytes)
+judged reader config takes_fates bytes = judged_from reader config takes_fates (nothing_done config) 1 (lines_of bytes)
 
 -- the lines of the script, and its data sets with all fields that it appends
 unfoldable pub script_with : ValueReader → Config → List ℕ → List MetaData → Script
@@ -41,7 +41,7 @@ script_by reader config bytes (Err end) = Err end
 
 -- accepted, or refused
 abbrev pub script : ValueReader → Config → List ℕ → Bool → Result Script (ℕ × ScriptFault)
-script reader config bytes plain = script_by reader config bytes (judged reader config plain bytes)
+script reader config bytes takes_fates = script_by reader config bytes (judged reader config takes_fates bytes)
 
 -- what an end says of what was judged
 abbrev pub IsEndOf : {T : Type 0} → Result T (ℕ × ScriptFault) → ScriptEnd → Type 0
@@ -54,19 +54,19 @@ IsEnd judgement end = IsEndOf judgement end
 
 -- a result that is a script is the one that the bytes are
 abbrev pub IsScriptOf : Config → List ℕ → Bool → Result Script ScriptEnd → Type 0
-IsScriptOf config bytes plain result =
-    (reader : ValueReader) → IfOk result (λ found. script reader config bytes plain ≡ Ok found)
+IsScriptOf config bytes takes_fates result =
+    (reader : ValueReader) → IfOk result (λ found. script reader config bytes takes_fates ≡ Ok found)
 
 -- a result that is an end tells what refuses the bytes, unless memory ran out
 abbrev pub IsRefusalOf : Config → List ℕ → Bool → Result Script ScriptEnd → Type 0
-IsRefusalOf config bytes plain result =
-    (reader : ValueReader) → IfErr result (IsEnd (script reader config bytes plain))
+IsRefusalOf config bytes takes_fates result =
+    (reader : ValueReader) → IfErr result (IsEnd (script reader config bytes takes_fates))
 
 -- what a line gives: the first of its faults, or what is done then
 abbrev pub Steps : ValueReader → Config → Bool → Done → Done → List ℕ → Option ScriptFault → Type 0
-Steps reader config plain done next line (Some fault) = fault_of reader config plain done line ≡ Some fault
-Steps reader config plain done next line None =
-    (fault_of reader config plain done line ≡ None) × (next ≡ after config done line)
+Steps reader config takes_fates done next line (Some fault) = fault_of reader config takes_fates done line ≡ Some fault
+Steps reader config takes_fates done next line None =
+    (fault_of reader config takes_fates done line ≡ None) × (next ≡ after config done line)
 
 -- the same of a line without an early fault
 abbrev pub Passes : Config → Done → Done → List ℕ → Option ScriptFault → Type 0

@@ -47,9 +47,9 @@ pub record IsEmptyPatch (patch : Patch) : Type 0 where
   pub empty : (fields : List Field) → patch_in fields patch ≡ []
 
 -- a line `write` that has no fault: this thread writes this patch to this data set
-pub record IsSoundWrite (reader : ValueReader) (config : Config) (plain : Bool) (done : Done) (line : List ℕ) (thread set : ℕ) (patch : Patch) : Type 0 where
+pub record IsSoundWrite (reader : ValueReader) (config : Config) (takes_fates : Bool) (done : Done) (line : List ℕ) (thread set : ℕ) (patch : Patch) : Type 0 where
   pub is_write : verb_of line ≡ Some verb.Write
-  pub faultless : fault_of reader config plain done line ≡ None
+  pub faultless : fault_of reader config takes_fates done line ≡ None
   pub acts : act_of reader config done.metas line ≡ Some (act.Write thread set patch)
 
 -- a line without a fault is read behind those before it, by these data sets

@@ -3,11 +3,12 @@ ghost use Rattle.std.specs.Prelude.{◌≡◌, ◌<◌, ◌≤◌, [], length, O
 ghost use Rattle.std.specs.List.{list_any, HoldsAt};
 ghost use Rattle.ua_values.specs.Values.{Fits};
 ghost use Rattle.dataset_meta.specs.DataValues.{IsStatus};
+ghost use Rattle.dataset_meta.specs.Rows.{FitsAt};
 ghost use Rattle.row_words.specs.Patches.{IsPatchOf, patch_in, spelled_patch};
 ghost use Rattle.ps_script.specs.Fields.{field_name, value_text, status_text, field_named, status_by, status_spelled, change_of, has_bad_field, patch_with};
 ghost use Rattle.ps_script.specs.Faults.{field_words, has_bad_field_in, has_bad_value_in};
 ghost use Rattle.ps_script.specs.Values.{ValueReader};
-ghost use Rattle.ps_script.specs.Changes.{change_by, FitsMeta};
+ghost use Rattle.ps_script.specs.Changes.{change_by};
 ghost use Rattle.ps_script.specs.Acts.{patch_of};
 
 use crate::laws::a_patch_is_the_words_of_what_it_stands_for;
@@ -34,7 +35,8 @@ pub(crate) struct Change {
 pub(crate) fn change_of(meta: &Meta, word: &[u8]) -> Option<Change>
     ensures change { (reader : ValueReader) → option_map change_by result
         ≡ change_of reader meta.now.quality meta.now.fields word.now }
-    ensures fits { IfSome result (FitsMeta meta.now) }
+    ensures fits { IfSome result (λ change.
+        FitsAt meta.now change.index change.value change.status) }
     ensures place { IfSome result (λ change.
         field_named meta.now.fields (field_name word.now) ≡ Some change.index) }
 {

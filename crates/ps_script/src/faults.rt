@@ -134,11 +134,11 @@ pub(crate) fn is_past_limit(past: &Past, verb: Option<Verb>) -> bool
 /// A second fate of a datagram, one until no later datagram, or any where links have none.
 pub(crate) fn is_bad_fate(given: &Given, past: &Past, line: &[u8], verb: Option<Verb>) -> bool
     ensures { result
-        ≡ is_bad_fate given.now.plain (done_by past.now) line.now verb }
+        ≡ is_bad_fate given.now.takes_fates (done_by past.now) line.now verb }
 {
     match verb {
         Some(Verb::Fate) => {
-            !given.plain
+            !given.takes_fates
                 || has_fate(&past.fated, number_at(word(line, 1), 0, LAST_DATAGRAM))
                 || is_early(line, FateWord::of(line))
         }

@@ -23,7 +23,7 @@ use std::alloc::{AllocError, Global};
 pub(crate) struct Given<'a> {
     pub(crate) config: &'a Config,
     /// Whether links have fates.
-    pub(crate) plain: bool,
+    pub(crate) takes_fates: bool,
     /// The names of all components, in the order of their ids.
     pub(crate) components: Vec<Name32>,
     /// The names of all readers, in order.
@@ -32,15 +32,19 @@ pub(crate) struct Given<'a> {
 
 impl Given<'_> {
     #[tactic(auto, using(crate::proofs::Counts::few_components, crate::proofs::Counts::few_readers))]
-    pub(crate) fn new(alloc: Global, config: &Config, plain: bool) -> Result<Given, AllocError>
+    pub(crate) fn new(
+        alloc: Global,
+        config: &Config,
+        takes_fates: bool,
+    ) -> Result<Given, AllocError>
         requires { IsSound config.now }
         ensures names { IfOk result HasNames }
         ensures config { IfOk result (λ given. given.config.now ≡ config.now) }
-        ensures plain { IfOk result (λ given. given.plain ≡ plain) }
+        ensures takes_fates { IfOk result (λ given. given.takes_fates ≡ takes_fates) }
     {
         Ok(Given {
             config,
-            plain,
+            takes_fates,
             components: component_names(alloc, config)?,
             readers: reader_names(alloc, config)?,
         })

@@ -56,34 +56,39 @@ impl From<AllocError> for ScriptEnd {
 }
 
 /// The script that the bytes are, for a session with this configuration. Where links have no fates,
-/// `plain` is false, and a line that gives one is refused.
+/// `takes_fates` is false, and a line that gives a fate is refused.
 pub fn read_script(
     alloc: Global,
     config: &Config,
     bytes: &[u8],
-    plain: bool,
+    takes_fates: bool,
 ) -> Result<Script, ScriptEnd>
     requires { IsSound config.now }
-    ensures ok { IsScriptOf config.now bytes.now plain result }
-    ensures refused { IsRefusalOf config.now bytes.now plain result }
+    ensures ok { IsScriptOf config.now bytes.now takes_fates result }
+    ensures refused { IsRefusalOf config.now bytes.now takes_fates result }
     // What lines name is there, patches are of their data sets, numbers and counts are in range.
     ensures sound { IfOk result (IsScript config.now) }
-    ensures fateless { IfOk result (λ found. plain ≡ false → fates_of found.lines ≡ []) }
+    ensures fateless { IfOk result (λ found. takes_fates ≡ false → fates_of found.lines ≡ []) }
 {
     there_is_one_reader_of_values();
     an_accepted_script_is_sound();
-    read(alloc, config, bytes, plain)
+    read(alloc, config, bytes, takes_fates)
 }
 
 /// The script, or what refuses it: lines are judged and read, and read again where data sets grew
 /// meanwhile.
 #[tactic(auto, using(crate::proofs::Reading::ended, crate::proofs::Reading::accepted), unfolding(crate::specs::Scripts::script_with))]
-fn read(alloc: Global, config: &Config, bytes: &[u8], plain: bool) -> Result<Script, ScriptEnd>
+fn read(
+    alloc: Global,
+    config: &Config,
+    bytes: &[u8],
+    takes_fates: bool,
+) -> Result<Script, ScriptEnd>
     requires { IsSound config.now }
-    ensures ok { IsScriptOf config.now bytes.now plain result }
-    ensures refused { IsRefusalOf config.now bytes.now plain result }
+    ensures ok { IsScriptOf config.now bytes.now takes_fates result }
+    ensures refused { IsRefusalOf config.now bytes.now takes_fates result }
 {
-    let given = Given::new(alloc, config, plain)?;
+    let given = Given::new(alloc, config, takes_fates)?;
     let reading = match judged(alloc, &given, bytes) {
         Ok(reading) => reading,
         Err(end) => return Err(end),

@@ -4,3 +4,4 @@ pub mod Frames
 pub mod Cadence
 pub mod Records
 pub mod Answers
+pub mod WhyWords

@@ -1,4 +1,5 @@
 //! How a reader's run of frames breaks, and why a reader holds nothing.
+use std::fmt;
 
 /// Why a reader holds no row.
 #[derive(Clone, Copy, Debug, PartialEq, Eq)]
@@ -15,6 +16,38 @@ pub enum Why {
     Jump,
     /// The reader, or a component above it, was disabled.
     Restarted,
+}
+
+impl Why {
+    ghost use Rattle.std.specs.Prelude.{◌≡◌};
+    ghost use Rattle.pubsub_model.specs.WhyWords.{why_word};
+
+    /// The word of a report.
+    #[tactic(auto, unfolding(crate::specs::WhyWords::why_word))]
+    pub fn word(self) -> &'static str
+        ensures { result.now ≡ why_word self }
+    {
+        match self {
+            Why::Start => "start",
+            Why::Gap => "gap",
+            Why::Timeout => "timeout",
+            Why::NewToken => "newtoken",
+            Why::Jump => "jump",
+            Why::Restarted => "restarted",
+        }
+    }
+}
+
+/// The word of a report.
+impl fmt::Display for Why {
+    ghost use Rattle.std.specs.Prelude.{Some};
+    ghost use Rattle.pubsub_model.specs.WhyWords.{why_word};
+
+    ghost output = { λ why. Some (why_word why) };
+
+    fn fmt<W: fmt::Write>(&self, f: &mut fmt::Formatter<W>) -> fmt::Result {
+        f.write_str(self.word())
+    }
 }
 
 /// A place where the run of message numbers broke: the number that was due, and the one that came.

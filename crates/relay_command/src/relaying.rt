@@ -49,16 +49,16 @@ pub(crate) fn relayed_text<R: Wait, A: Link, B: Link>(
     ensures wire_opened { OnOk result
         (B.opened_with wire.new ≡ Some (opening_again accepted.now.second)) }
     ensures lab_opens { OpensSo (Some (opening_of accepted.now.first accepted.now.script))
-        (wire_of A.told A.faults A.opened_with lab.old)
-        (wire_of A.told A.faults A.opened_with lab.new) }
+        (wire_of A.told A.faults A.opened_with A.made A.openings lab.old)
+        (wire_of A.told A.faults A.opened_with A.made A.openings lab.new) }
     ensures wire_opens { OpensSo (Some (opening_again accepted.now.second))
-        (wire_of B.told B.faults B.opened_with wire.old)
-        (wire_of B.told B.faults B.opened_with wire.new) }
+        (wire_of B.told B.faults B.opened_with B.made B.openings wire.old)
+        (wire_of B.told B.faults B.opened_with B.made B.openings wire.new) }
     ensures unopened { result ≡ Err PlayEnd.Unopened → LeavesUnopened
-        (wire_of A.told A.faults A.opened_with lab.old)
-        (wire_of A.told A.faults A.opened_with lab.new)
-        (wire_of B.told B.faults B.opened_with wire.old)
-        (wire_of B.told B.faults B.opened_with wire.new) }
+        (wire_of A.told A.faults A.opened_with A.made A.openings lab.old)
+        (wire_of A.told A.faults A.opened_with A.made A.openings lab.new)
+        (wire_of B.told B.faults B.opened_with B.made B.openings wire.old)
+        (wire_of B.told B.faults B.opened_with B.made B.openings wire.new) }
     ensures lab_counts { A.faults lab.old ≤ A.faults lab.new }
     ensures wire_counts { B.faults wire.old ≤ B.faults wire.new }
 {
@@ -162,8 +162,8 @@ impl<'c> Relay<'c> {
             → HasRelayed first second script.now [] (A.told lab.old) (B.told wire.old) self.old
             → HasRelayed first second script.now (reverse script.now.lines)
             (A.told lab.new) (B.told wire.new) self.new) }
-        ensures lab { KeepsLink A.opened_with A.faults lab.old lab.new }
-        ensures wire { KeepsLink B.opened_with B.faults wire.old wire.new }
+        ensures lab { KeepsLink A.opened_with A.faults A.made A.openings lab.old lab.new }
+        ensures wire { KeepsLink B.opened_with B.faults B.made B.openings wire.old wire.new }
     {
         passes_show_what_is_collected();
         for line in script.lines.as_slice() {
@@ -188,8 +188,8 @@ impl<'c> Relay<'c> {
         ensures relays { OnOk result ((second : ConfigValue) → HoldsRelay second 0 self.old
             → RelaysLine second line.now.act self.old self.new
             (A.told lab.old) (A.told lab.new) (B.told wire.old) (B.told wire.new)) }
-        ensures lab { KeepsLink A.opened_with A.faults lab.old lab.new }
-        ensures wire { KeepsLink B.opened_with B.faults wire.old wire.new }
+        ensures lab { KeepsLink A.opened_with A.faults A.made A.openings lab.old lab.new }
+        ensures wire { KeepsLink B.opened_with B.faults B.made B.openings wire.old wire.new }
     {
         self.player.play_line(rt, alloc, line, lab)?;
         match &line.act {
@@ -212,8 +212,8 @@ impl<'c> Relay<'c> {
         ensures relays { OnOk result ((second : ConfigValue) → HoldsRelay second 0 self.old
             → RelaysEnd second self.old self.new
             (A.told lab.old) (A.told lab.new) (B.told wire.old) (B.told wire.new)) }
-        ensures lab { KeepsLink A.opened_with A.faults lab.old lab.new }
-        ensures wire { KeepsLink B.opened_with B.faults wire.old wire.new }
+        ensures lab { KeepsLink A.opened_with A.faults A.made A.openings lab.old lab.new }
+        ensures wire { KeepsLink B.opened_with B.faults B.made B.openings wire.old wire.new }
     {
         self.player.end(rt, lab)?;
         self.follow(rt, 0, true, wire)
@@ -231,7 +231,7 @@ impl<'c> Relay<'c> {
         requires may { MayFollow ms closing self.old }
         ensures follows { OnOk result ((second : ConfigValue) → HoldsRelay second 1 self.old
             → Follows second ms closing self.old self.new (B.told wire.old) (B.told wire.new)) }
-        ensures link { KeepsLink B.opened_with B.faults wire.old wire.new }
+        ensures link { KeepsLink B.opened_with B.faults B.made B.openings wire.old wire.new }
     {
         passes_show_what_is_collected();
         self.player.level(rt);

@@ -1,5 +1,5 @@
 -- What the calls of a link do to what it tells.
-use Rattle.std.specs.Prelude.{◌≡◌, ◌≤◌, ◌<◌, ℕ, List, [], ◌∷◌, ◌++◌, length, take}
+use Rattle.std.specs.Prelude.{◌≡◌, ◌≤◌, ◌<◌, ℕ, Bool, true, false, List, [], ◌∷◌, ◌++◌, length, take}
 use Rattle.ua_base.specs.Journal.{Sent, SendFailed, Got, Empty, Long, ReceiveFailed, LinkState}
 use Rattle.ua_base.specs.declared.link.Opened.{Opened}
 use Rattle.ua_base.specs.declared.link.Opened.TheVariants as opened
@@ -13,6 +13,12 @@ abbrev pub Opens : Opened → LinkState → LinkState → Type 0
 Opens opened.Done before after = (after.journal ≡ []) × (after.waiting ≡ [])
 Opens opened.Failed before after = Unit {0}
 Opens opened.Memory before after = Unit {0}
+
+-- an opening that is counted
+abbrev pub is_done : Opened → Bool
+is_done opened.Done = true
+is_done opened.Failed = false
+is_done opened.Memory = false
 
 abbrev pub Sends : List ℕ → SentEnd → LinkState → LinkState → Type 0
 Sends datagram sent.Done before after = after.journal ≡ before.journal ++ Sent datagram ∷ []

@@ -19,6 +19,8 @@ pub fn an_honest_journal_begins_honestly()
 
 /// What each of two calls in a row keeps of a link, both keep.
 pub fn calls_in_a_row_keep_a_link<L: Link>()
-    ensures { (first next last : L) → KeepsLink L.opened_with L.faults first next
-        → KeepsLink L.opened_with L.faults next last → KeepsLink L.opened_with L.faults first last }
+    ensures { (first next last : L)
+        → KeepsLink L.opened_with L.faults L.made L.openings first next
+        → KeepsLink L.opened_with L.faults L.made L.openings next last
+        → KeepsLink L.opened_with L.faults L.made L.openings first last }
 {}

@@ -1,10 +1,10 @@
 //! Datagrams.
 ghost use Rattle.std.specs.Prelude.{◌≡◌, ◌≢◌, ◌<◌, ◌^◌, ℕ, length, Option, Bool, IsTrue, IsSome, Some};
-ghost use Rattle.ua_base.specs.Cause.{HasCause, Rose};
+ghost use Rattle.ua_base.specs.Cause.{HasCause, Rose, counted_if};
 ghost use Rattle.ua_base.specs.Fates.{AreFates};
 ghost use Rattle.ua_base.specs.Journal.{LinkState, Tells};
-ghost use Rattle.ua_base.specs.Links.{Opening, KeepsLink};
-ghost use Rattle.ua_base.specs.Net.{Opens, Sends, Queues, Receives, FitsBuffer};
+ghost use Rattle.ua_base.specs.Links.{Making, Opening, KeepsLink};
+ghost use Rattle.ua_base.specs.Net.{Opens, is_done, Sends, Queues, Receives, FitsBuffer};
 
 /// What happens to a datagram on its way. `after` is the number of a later datagram.
 #[derive(Clone, Copy, Debug, PartialEq, Eq)]
@@ -68,6 +68,12 @@ pub trait Link {
     /// What it was opened with; nothing before an opening that was Done.
     ghost opened_with: { Self → Option Opening };
 
+    /// What it was made to do, whatever it is opened with. No call changes it.
+    ghost made: { Self → Making };
+
+    /// How many openings were Done. The count stands still at 2^64 - 1.
+    ghost openings: { Self → ℕ };
+
     /// Opens the link at a port. Fates name datagrams by their numbers, counted from 0 by the calls of `send`
     /// since this opening. A link may leave them alone.
     fn open(&mut self, port: u16, fates: &[(u64, Fate)]) -> Opened
@@ -77,7 +83,9 @@ pub trait Link {
             → opened_with self.new ≡ Some (record { port = port; fates = fates.now }) }
         ensures refused { result ≢ Opened.Done
             → (told self.new ≡ told self.old) × (opened_with self.new ≡ opened_with self.old) }
-        ensures cause { HasCause (faults self.old) (faults self.new) (result ≡ Opened.Failed) };
+        ensures cause { HasCause (faults self.old) (faults self.new) (result ≡ Opened.Failed) }
+        ensures making { made self.new ≡ made self.old }
+        ensures counted { openings self.new ≡ counted_if (is_done result) (openings self.old) };
 
     /// Each answer but `Memory` is an entry of the journal.
     fn send(&mut self, datagram: &[u8]) -> Sent
@@ -85,7 +93,7 @@ pub trait Link {
         requires short { length datagram.now < 2 ^ 32 }
         ensures entry { Tells (told self.old) (told self.new) (Sends datagram.now result) }
         ensures waiting { Tells (told self.old) (told self.new) (Queues result) }
-        ensures link { KeepsLink opened_with faults self.old self.new }
+        ensures link { KeepsLink opened_with faults made openings self.old self.new }
         ensures only_where_taken { result ≡ Sent.Memory → IsTrue takes_memory }
         ensures cause { result ≡ Sent.Failed → Rose (faults self.old) (faults self.new) };
 
@@ -94,6 +102,6 @@ pub trait Link {
         requires { IsSome (opened_with self.old) }
         ensures entry { Tells (told self.old) (told self.new) (Receives result into.new) }
         ensures sizes { FitsBuffer result into.new }
-        ensures link { KeepsLink opened_with faults self.old self.new }
+        ensures link { KeepsLink opened_with faults made openings self.old self.new }
         ensures cause { result ≡ Received.Failed → Rose (faults self.old) (faults self.new) };
 }

@@ -4,7 +4,7 @@ ghost use Rattle.ua_base.specs.Cause.{HasCause, Rose, counted_if};
 ghost use Rattle.ua_base.specs.Fates.{AreFates};
 ghost use Rattle.ua_base.specs.Journal.{Tells};
 ghost use Rattle.ua_base.specs.Links.{KeepsLink};
-ghost use Rattle.ua_base.specs.Net.{Opens, Sends, Queues, Receives, FitsBuffer};
+ghost use Rattle.ua_base.specs.Net.{Opens, is_done, Sends, Queues, Receives, FitsBuffer};
 
 use crate::traffic::Traffic;
 use std::alloc::{AllocError, Global};
@@ -54,10 +54,11 @@ pub struct UdpLink<'a, R: Net> {
     buffer: Buffer,
     traffic: Traffic,
     faults: u64,
+    openings: u64,
 }
 
 impl<'a, R: Net> UdpLink<'a, R> {
-    ghost use Rattle.udp_edge.specs.UdpLinks.{opened_by, faults_of};
+    ghost use Rattle.udp_edge.specs.UdpLinks.{opened_by, faults_of, openings_of};
     ghost use Rattle.udp_edge.specs.Traffics.{IsSettled};
 
     /// A link of 127.0.0.1 that sends to itself. A receive waits at most 10 ms, and where nothing can be on its way not at all: where
@@ -65,6 +66,7 @@ impl<'a, R: Net> UdpLink<'a, R> {
     pub fn new(rt: &'a R, alloc: Global) -> UdpLink<'a, R>
         ensures closed { opened_by result ≡ None }
         ensures faults { faults_of result ≡ 0 }
+        ensures openings { openings_of result ≡ 0 }
     {
         let local = IpAddr::V4(Ipv4Addr::LOCALHOST);
         UdpLink::of(rt, alloc, local, None, Duration::from_millis(WAIT_MS))
@@ -81,6 +83,7 @@ impl<'a, R: Net> UdpLink<'a, R> {
     ) -> UdpLink<'a, R>
         ensures closed { opened_by result ≡ None }
         ensures faults { faults_of result ≡ 0 }
+        ensures openings { openings_of result ≡ 0 }
     {
         UdpLink::of(rt, alloc, local, Some(peer), wait)
     }
@@ -105,6 +108,7 @@ impl<'a, R: Net> UdpLink<'a, R> {
     ) -> UdpLink<'a, R>
         ensures closed { opened_by result ≡ None }
         ensures faults { faults_of result ≡ 0 }
+        ensures openings { openings_of result ≡ 0 }
     {
         UdpLink {
             rt,
@@ -118,6 +122,7 @@ impl<'a, R: Net> UdpLink<'a, R> {
             },
             traffic: Traffic::new(),
             faults: 0,
+            openings: 0,
         }
     }
 
@@ -166,7 +171,7 @@ fn memory(alloc: Global, fates: &[(u64, Fate)]) -> Result<(Vec<(u64, Fate)>, Buf
 }
 
 impl<R: Net> Link for UdpLink<'_, R> {
-    ghost use Rattle.udp_edge.specs.UdpLinks.{told_by, opened_by, faults_of};
+    ghost use Rattle.udp_edge.specs.UdpLinks.{told_by, opened_by, faults_of, made_by, openings_of};
 
     ghost takes_memory = { false };
 
@@ -175,6 +180,10 @@ impl<R: Net> Link for UdpLink<'_, R> {
     ghost faults = { λ l. faults_of l };
 
     ghost opened_with = { λ l. opened_by l };
+
+    ghost made = { λ l. made_by l };
+
+    ghost openings = { λ l. openings_of l };
 
     /// A link that is open keeps its socket until the next one is bound. So its own port, where the machine didn't
     /// choose it, can't be opened again: that answers Failed.
@@ -188,6 +197,8 @@ impl<R: Net> Link for UdpLink<'_, R> {
             → (told_by self.new ≡ told_by self.old) × (opened_by self.new ≡ opened_by self.old) }
         ensures cause { HasCause
             (faults_of self.old) (faults_of self.new) (result ≡ Opened.Failed) }
+        ensures making { made_by self.new ≡ made_by self.old }
+        ensures counted { openings_of self.new ≡ counted_if (is_done result) (openings_of self.old) }
 
         ensures failed { result ≡ Opened.Failed
             → faults_of self.new ≡ counted_if true (faults_of self.old) }
@@ -209,6 +220,7 @@ impl<R: Net> Link for UdpLink<'_, R> {
         });
         self.buffer = buffer;
         self.traffic = Traffic::new();
+        self.openings = self.openings.saturating_add(1);
         Opened::Done
     }
 
@@ -219,7 +231,7 @@ impl<R: Net> Link for UdpLink<'_, R> {
 
         ensures entry { Tells (told_by self.old) (told_by self.new) (Sends datagram.now result) }
         ensures waiting { Tells (told_by self.old) (told_by self.new) (Queues result) }
-        ensures link { KeepsLink opened_by faults_of self.old self.new }
+        ensures link { KeepsLink opened_by faults_of made_by openings_of self.old self.new }
         ensures only_where_taken { result ≡ Sent.Memory → IsTrue false }
         ensures cause { result ≡ Sent.Failed → Rose (faults_of self.old) (faults_of self.new) }
 
@@ -248,7 +260,7 @@ impl<R: Net> Link for UdpLink<'_, R> {
 
         ensures entry { Tells (told_by self.old) (told_by self.new) (Receives result into.new) }
         ensures sizes { FitsBuffer result into.new }
-        ensures link { KeepsLink opened_by faults_of self.old self.new }
+        ensures link { KeepsLink opened_by faults_of made_by openings_of self.old self.new }
         ensures cause { result ≡ Received.Failed → Rose (faults_of self.old) (faults_of self.new) }
 
         ensures failed { result ≡ Received.Failed

@@ -3,7 +3,8 @@ use Rattle.std.specs.Fmt.{digits}
 use Rattle.hex.specs.Hex.{encode_with}
 use Rattle.value_texts.specs.Texts.{value_text_of}
 use Rattle.ps_report.specs.Lines.{component_text, count_text, history_line, group_line, writer_line, cause_text, read_group_line, numbered_text, number_or_dash, status_mark, field_text, gaps_line, waits_text, watch_line, link_line}
-use Rattle.ps_report.specs.Words.{why_word, cause_words}
+use Rattle.pubsub_model.specs.WhyWords.{why_word}
+use Rattle.ps_report.specs.Words.{cause_words}
 use Rattle.ps_report.proofs.laws.lines_read_so.Goals as goal
 
 pub returns-clause-history : goal.returns-clause-history

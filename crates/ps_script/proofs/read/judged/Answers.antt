@@ -12,8 +12,8 @@ use Rattle.ps_script.proofs.read.judged.Goals as goal
 pub returns-in-Some-clause-refused : goal.returns-in-Some-clause-refused
 returns-in-Some-clause-refused c = λ reader.
     let some : 0 < length c.lines.rest.now = grind (arith, common_steps) in
-    let steps = subst (Steps reader c.args.given.now.config.now c.args.given.now.plain (done_by c.lines.reading.past) (done_by c.read.new.self.past) c.cut.result.0.now) c.in-Some.is (c.in_ok-fault.ensures.steps reader) in
-    judged_fault reader c.args.given.now.config.now c.args.given.now.plain (done_by c.lines.reading.past) c.lines.number c.lines.rest.now c.cut.result.0.now c.cut.result.1.now c.in-Some.fault (judged reader c.args.given.now.config.now c.args.given.now.plain c.args.bytes.now) (c.lines.invariant.judged reader) some c.cut.ensures.front c.cut.ensures.rest steps
+    let steps = subst (Steps reader c.args.given.now.config.now c.args.given.now.takes_fates (done_by c.lines.reading.past) (done_by c.read.new.self.past) c.cut.result.0.now) c.in-Some.is (c.in_ok-fault.ensures.steps reader) in
+    judged_fault reader c.args.given.now.config.now c.args.given.now.takes_fates (done_by c.lines.reading.past) c.lines.number c.lines.rest.now c.cut.result.0.now c.cut.result.1.now c.in-Some.fault (judged reader c.args.given.now.config.now c.args.given.now.takes_fates c.args.bytes.now) (c.lines.invariant.judged reader) some c.cut.ensures.front c.cut.ensures.rest steps
 
 pub lines-preserved : goal.lines-preserved
 lines-preserved c =
@@ -21,11 +21,11 @@ lines-preserved c =
     let config = c.args.given.now.config.now in
     let old = c.lines.reading in
     let new = c.read.new.self in
-    let steps = λ (reader : ValueReader). subst (Steps reader config c.args.given.now.plain (done_by old.past) (done_by new.past) c.cut.result.0.now) c.in_default.is (c.in_ok-fault.ensures.steps reader) in
+    let steps = λ (reader : ValueReader). subst (Steps reader config c.args.given.now.takes_fates (done_by old.past) (done_by new.past) c.cut.result.0.now) c.in_default.is (c.in_ok-fault.ensures.steps reader) in
     record {
       few = omega (arith, c.read.ensures.kept, c.lines.invariant.few);
       judged = λ reader.
-          judged_next reader config c.args.given.now.plain (done_by old.past) (done_by new.past) c.lines.number c.saturating_add-number.result c.lines.rest.now c.cut.result.0.now c.cut.result.1.now (judged reader config c.args.given.now.plain c.args.bytes.now) (c.lines.invariant.judged reader) some c.cut.ensures.front c.cut.ensures.rest (steps reader).0 (steps reader).1 c.saturating_add-number.ensures;
+          judged_next reader config c.args.given.now.takes_fates (done_by old.past) (done_by new.past) c.lines.number c.saturating_add-number.result c.lines.rest.now c.cut.result.0.now c.cut.result.1.now (judged reader config c.args.given.now.takes_fates c.args.bytes.now) (c.lines.invariant.judged reader) some c.cut.ensures.front c.cut.ensures.rest (steps reader).0 (steps reader).1 c.saturating_add-number.ensures;
       same = λ reader none.
           let u = none_appended config (done_by old.past) (done_by new.past) c.cut.result.0.now (steps reader).1 none in
           u.1 ∙ c.lines.invariant.same reader u.0;

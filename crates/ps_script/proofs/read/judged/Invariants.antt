@@ -10,8 +10,8 @@ use Rattle.ps_script.proofs.read.judged.Given as goal
 abbrev pub invariant-lines : goal.invariant-lines
 invariant-lines l = record {
   few : length l.reading.past.metas.items ≤ 8;
-  judged : (reader : ValueReader) → judged_from reader l.given.config.now l.given.plain (done_by l.reading.past) l.number (lines_of l.rest)
-      ≡ judged reader l.given.config.now l.given.plain l.bytes;
+  judged : (reader : ValueReader) → judged_from reader l.given.config.now l.given.takes_fates (done_by l.reading.past) l.number (lines_of l.rest)
+      ≡ judged reader l.given.config.now l.given.takes_fates l.bytes;
   same : (reader : ValueReader) → l.reading.past.appends ≡ 0 → l.reading.past.metas.items ≡ l.given.config.now.dataset;
   read : (reader : ValueReader) → l.reading.past.appends ≡ 0
       → l.reading.lines.items ++ acts_from reader l.given.config.now l.given.config.now.dataset l.number (lines_of l.rest)

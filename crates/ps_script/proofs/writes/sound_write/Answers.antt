@@ -11,10 +11,10 @@ overflow_cast-result c =
     omega (arith, there, c.requires.few)
 
 pub returns-clause-sound : goal.returns-clause-sound
-returns-clause-sound c = λ reader config plain.
+returns-clause-sound c = λ reader config takes_fates.
     let metas = c.args.past.now.metas.items in
     let head = c.in_ok-head.head in
     let begins : BeginsWrite metas c.args.line.now head.thread head.set head.fields.now = subst (λ xs. BeginsWrite xs c.args.line.now head.thread head.set head.fields.now) c.deref.ensures.value c.in_ok-head.ensures in
     let found : slice_get metas head.set ≡ Some c.index.result.now = slice_get_read metas (length metas) head.set c.index.result.now refl begins.there c.index.ensures in
-    sound_write reader config plain (done_by c.args.past.now) c.args.line.now head.fields.now head.thread head.set c.index.result.now c.fill.new.patch
+    sound_write reader config takes_fates (done_by c.args.past.now) c.args.line.now head.fields.now head.thread head.set c.index.result.now c.fill.new.patch
     (sym c.is_bad_text.ensures ∙ c.if-is_bad_text.false) (sym c.is_long.ensures ∙ c.if-is_long.false) (omega arith) begins found (c.fill.ensures reader c.if-not-fill.false)

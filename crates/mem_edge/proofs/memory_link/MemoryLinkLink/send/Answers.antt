@@ -7,6 +7,7 @@ use Rattle.mem_edge.specs.Sends.{sends_in}
 use Rattle.mem_edge.proofs.Failings.{next_is}
 use Rattle.mem_edge.proofs.Opened.{is_open_from, sends_counted}
 use Rattle.mem_edge.proofs.Waiting.{injected_low, queued_is}
+use Rattle.mem_edge.proofs.Makings.{same_making}
 use Rattle.mem_edge.proofs.memory_link.MemoryLinkLink.send.Goals as goal
 
 pub send-requires-clause-injected : goal.send-requires-clause-injected
@@ -43,6 +44,6 @@ returns-in-Ok-send-clause-answers c =
       done = λ is.
           ap (λ (n : ℕ). is_named s.send_fails.items n) (sym c.sends-number.ensures) ∙ sym (c.names.ensures.value s.send_fails.items (rw c.sends-number.ensures (s.sends_ahead is_open))) ∙ c.if-names.false;
       receives = refl;
-      named = record { sends = refl; receives = refl; opening = refl; injected = c.in-Ok-send.ensures.injected };
+      making = same_making _ _ s.send_fails.items s.receive_fails.items s.open_fails c.in-Ok-send.ensures.injected;
       fates = refl;
     }

@@ -8,7 +8,7 @@ use Rattle.ps_script.proofs.lines.Reading.read.Goals as goal
 pub returns-then-is_idle_line-clause-steps : goal.returns-then-is_idle_line-clause-steps
 returns-then-is_idle_line-clause-steps c = λ reader.
     let idle = sym c.is_idle_line.ensures ∙ c.if-is_idle_line.true in
-    (idle_faultless reader c.args.given.now.config.now c.args.given.now.plain (done_by c.args.self.now.past) c.args.line.now idle, idle_after c.args.given.now.config.now (done_by c.args.self.now.past) c.args.line.now idle)
+    (idle_faultless reader c.args.given.now.config.now c.args.given.now.takes_fates (done_by c.args.self.now.past) c.args.line.now idle, idle_after c.args.given.now.config.now (done_by c.args.self.now.past) c.args.line.now idle)
 
 pub returns-then-is_idle_line-clause-lines : goal.returns-then-is_idle_line-clause-lines
 returns-then-is_idle_line-clause-lines c = λ reader.
@@ -21,10 +21,10 @@ sound_write-requires-clause-empty c = record { of = c.empty-patch.ensures.of; em
 
 pub returns-clause-steps : goal.returns-clause-steps
 returns-clause-steps c = λ reader.
-    let sound = c.in-Some.ensures.sound reader c.args.given.now.config.now c.args.given.now.plain in
+    let sound = c.in-Some.ensures.sound reader c.args.given.now.config.now c.args.given.now.takes_fates in
     (sound.faultless, wrote_one c.args.given.now.config.now (done_by c.args.self.now.past) c.args.line.now sound.is_write)
 
 pub returns-clause-lines : goal.returns-clause-lines
 returns-clause-lines c = λ reader.
-    let sound = c.in-Some.ensures.sound reader c.args.given.now.config.now c.args.given.now.plain in
+    let sound = c.in-Some.ensures.sound reader c.args.given.now.config.now c.args.given.now.takes_fates in
     c.in_ok-push.ensures.items ∙ ap (λ (found : Option Act). c.args.self.now.lines.items ++ with_act c.args.number found []) (sym sound.acts)
