@@ -173,7 +173,7 @@ gives config tree moment r datagram on old new x y t u result groups tallies low
     tallied q within d (inl is) =
         subst (λ (l : List Event). IsTallyOf (answered_on (setting_in config q (from q)) (from q) l) (get_or (set old.tallies.items r u) q d)) (sym (with_own q is.0 is.1))
         (subst (λ (k : ℕ). IsTallyOf (answered_on (setting_in config k (from k)) (from k) (event ∷ befell r)) (get_or (set old.tallies.items r u) k d)) (sym is.1)
-        (subst (λ (s : Tally). IsTallyOf (answers (setting_of config r) (event ∷ befell r)) s) (sym (get_or-set_same old.tallies.items r u d told)) own_tally))
+        (subst (λ (s : Tally). IsTallyOf (answered_on setting (from r) (event ∷ befell r)) s) (sym (get_or-set_same old.tallies.items r u d told)) own_tally))
     tallied q within d (inr other) =
         subst (λ (l : List Event). IsTallyOf (answered_on (setting_in config q (from q)) (from q) l) (get_or (set old.tallies.items r u) q d)) (sym (with_other q other.0))
         (subst (λ (s : Tally). IsTallyOf (answered_on (setting_in config q (from q)) (from q) (befell q)) s) (sym (get_or-set_other old.tallies.items r q u d other.1)) (got.tallies q within d))
