@@ -5,4 +5,3 @@ pub mod Ticking
 pub mod Authored
 pub mod Ending
 pub mod Logs
-pub mod Showing

@@ -6,17 +6,16 @@ ghost use Rattle.session_model.specs.Steps.{Plan, Step, moment_of};
 ghost use Rattle.session_model.specs.Answers.{answers_at};
 ghost use Rattle.session_model.specs.Closing.{link_end};
 ghost use Rattle.session_model.specs.States.{state_at};
+ghost use Rattle.session_parts.specs.Showing.{IsReaderAt, standing_at};
 ghost use Rattle.session_parts.specs.Standing.{IsTallyOf};
 ghost use Rattle.pubsub_engine.specs.Holding.{IsSession, plan_of};
-ghost use Rattle.pubsub_engine.specs.Showing.{IsReaderAt, standing_at};
 ghost use Rattle.pubsub_engine.specs.Standing.{Stands};
 
-use crate::ends::link_end;
 use crate::session::Session;
 use dataset_reader::Reader;
 use ps_report::LinkEnd;
 use pubsub_states::{Component, State};
-use session_parts::Tally;
+use session_parts::{Tally, link_end};
 
 impl Session<'_> {
     /// Milliseconds since it was opened: the sum of what its ticks took.

@@ -32,3 +32,4 @@ pub mod Pumped
 pub mod Ended
 pub mod Begun
 pub mod Fresh
+pub mod Showing

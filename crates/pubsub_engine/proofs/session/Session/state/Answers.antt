@@ -1,7 +1,7 @@
 use Rattle.std.proofs.Common.{◌∙◌, sym, subst}
 use Rattle.pubsub_states.specs.Components.{Counts, IsAmong}
 use Rattle.session_model.specs.States.{flags_at}
-use Rattle.pubsub_engine.proofs.EndParts.{state-told}
+use Rattle.session_parts.proofs.Showing.{state-told}
 use Rattle.pubsub_engine.proofs.session.Session.state.Goals as goal
 
 pub returns : goal.returns

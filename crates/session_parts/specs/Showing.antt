@@ -1,4 +1,4 @@
--- What a session shows while it runs.
+-- What a session and a gateway show while they run.
 use Rattle.std.specs.Prelude.{◌≡◌, ℕ, List}
 use Rattle.dataset_reader.specs.declared.reader.Reader.{Reader}
 use Rattle.dataset_reader.specs.Reader.{IsReaderOf, kept_by}
