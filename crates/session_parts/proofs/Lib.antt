@@ -33,3 +33,5 @@ pub mod Ended
 pub mod Begun
 pub mod Fresh
 pub mod Showing
+pub mod Rekeying
+pub mod Accounts

@@ -5,3 +5,4 @@ pub mod Ticking
 pub mod Pumping
 pub mod Befalling
 pub mod Showing
+pub mod Renewing

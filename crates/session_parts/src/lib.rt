@@ -5,6 +5,7 @@
 mod making;
 mod publisher;
 mod receiving;
+mod renewing;
 mod sends;
 mod showing;
 mod subscriber;
