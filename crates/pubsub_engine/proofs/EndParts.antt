@@ -44,6 +44,7 @@ use Rattle.session_model.specs.Steps.{Plan, Step}
 use Rattle.session_model.specs.Sets.{metas_at}
 use Rattle.session_model.specs.Deeds.{deeds, group_past, log_at, logs_cut}
 use Rattle.session_model.specs.Events.{events, reader_at}
+use Rattle.session_model.specs.Readings.{Reading, setting_in}
 use Rattle.session_model.specs.States.{flags_at}
 use Rattle.session_model.specs.Closing.{IsWriterEndWith, Shows, group_end, read_group_end}
 use Rattle.session_parts.specs.declared.publisher.Publisher.{Publisher}
@@ -51,13 +52,13 @@ use Rattle.session_parts.specs.declared.sends.GroupSends.{GroupSends}
 use Rattle.session_parts.specs.declared.subscriber.Subscriber.{Subscriber}
 use Rattle.session_parts.specs.declared.tally.Tally.{Tally}
 use Rattle.session_parts.specs.Holding.{AreAllLogged, HoldSubscriber, MayReceive}
-use Rattle.session_parts.specs.Standing.{HasFlags, HavePast, HaveRead}
+use Rattle.session_parts.specs.Standing.{HasFlags, HavePast, HaveRead, HaveReadings}
 use Rattle.session_parts.proofs.Few.{group-among, writer-among}
 use Rattle.session_parts.proofs.TellingReaders.{low-among}
 use Rattle.pubsub_engine.specs.Ending.{HavePublished, HaveReceived, IsNumbered, IsToldAt, MayTellReaders, MayTellWriters, reader_in}
 use Rattle.pubsub_engine.specs.Logs.{IsLogRead}
-use Rattle.session_parts.specs.Showing.{IsReaderAt}
-use Rattle.session_parts.proofs.Showing.{state-told}
+use Rattle.session_parts.specs.Showing.{IsReaderAt, IsReaderIn}
+use Rattle.session_parts.proofs.StatesTold.{state-told}
 
 -- ---- states
 
@@ -156,6 +157,21 @@ reader-at config p steps subscriber r i group reader holds plan readings low at 
   kept = is_kept (setting_of p.config r) (plain (setting_of p.config r) (events p.config r steps))
       (subst (ReadingStands (setting_of p.config r) (plain (setting_of p.config r) (events p.config r steps))) (sym at)
       (readings r (subst (λ (c : Config). r < length c.readgroup) (sym plan) low) group));
+}
+  where
+    own : MayReceive config r group
+    own = subst (MayReceive config r) (sym at) (holds.groups.each r low group)
+
+-- in a life
+pub reader-in : (config : Config) (p : Plan) (readings : ℕ → Reading) (subscriber : Subscriber) (r i : ℕ) (group : ReaderGroup) (reader : DataSetReader)
+    → HoldSubscriber config subscriber → p.config ≡ config → HaveReadings p.config readings subscriber.groups.items → r < length config.readgroup
+    → group ≡ get_or subscriber.groups.items r group → IsKeptAt group i reader → IsMadeAt group i reader → IsReaderIn p readings (r, i) reader
+reader-in config p readings subscriber r i group reader holds plan stand low at is_kept is_made = record {
+  made = subst (λ (c : Config). IsReaderOf (seat_at (setting_of c r).seats i).meta reader) (sym plan)
+      (subst (λ (q : ℕ). IsReaderOf (seat_at (setting_of config q).seats i).meta reader) own.index (is_made config own.made));
+  kept = is_kept (setting_in p.config r (readings r)) (readings r).value
+      (subst (ReadingStands (setting_in p.config r (readings r)) (readings r).value) (sym at)
+      (stand r (subst (λ (c : Config). r < length c.readgroup) (sym plan) low) group));
 }
   where
     own : MayReceive config r group

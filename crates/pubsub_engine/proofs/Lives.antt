@@ -1,37 +1,20 @@
 -- Where a session stands behind steps alone is where it stands as what became of them.
-use Rattle.std.proofs.Common.{◌≡◌, refl, sym, ap, ◌∙◌, subst, ℕ, ◌<◌, List, ◌∷◌, length, get_or}
-use Rattle.std.specs.List.{HoldsAt}
-use Rattle.ps_config.specs.declared.parts.Config.{Config}
-use Rattle.pubsub_states.specs.declared.component.Component.{Component}
-use Rattle.pubsub_states.specs.declared.component.Component.TheVariants.{Root, Connection, Group, Writer, ReadGroup, Reader}
-use Rattle.pubsub_states.specs.declared.flags.Flags.{Flags}
-use Rattle.pubsub_states.specs.Components.{IsAmong}
-use Rattle.pubsub_states.specs.Changes.{TreeValue, flags_in}
+use Rattle.std.proofs.Common.{◌≡◌, refl, sym, ◌∙◌, subst, ℕ, List, get_or}
 use Rattle.reader_group.specs.Groups.{Stands as ReadingStands}
-use Rattle.session_model.specs.Steps.{Plan, Step, is_on}
+use Rattle.session_model.specs.Steps.{Plan, Step}
 use Rattle.session_model.specs.Keeping.{AreStepsOf}
-use Rattle.session_model.specs.Lives.{Account, account_of, flags_by, late_in, ready_in}
+use Rattle.session_model.specs.Lives.{Account, account_of}
 use Rattle.session_model.specs.Readings.{Reading, setting_in}
 use Rattle.session_model.specs.Sends.{IsRun}
-use Rattle.session_model.specs.States.{flags_at}
 use Rattle.session_model.specs.Stores.{Store}
 use Rattle.session_model.specs.Turns.{TurnsHold}
-use Rattle.session_parts.specs.Standing.{HasFlags, HaveReadings, HaveTallies, IsTallyOf}
+use Rattle.session_parts.specs.Standing.{IsTallyOf}
+use Rattle.session_parts.proofs.Accounts.{flags-as, same-flags}
 use Rattle.pubsub_engine.specs.declared.session.Session.{Session}
 use Rattle.pubsub_engine.specs.Holding.{ticks_of}
 use Rattle.pubsub_engine.specs.Standing.{Stands}
 use Rattle.pubsub_engine.specs.Living.{StandsAs}
-use Rattle.pubsub_engine.specs.Storing.{HaveStored, IsStoredAs, meta_at_place}
-
--- ---- flags
-
-flags-as : (p : Plan) (steps : List Step) (c : Component) → flags_at p steps c ≡ flags_by p.config steps (account_of p steps) c
-flags-as p steps Root = refl
-flags-as p steps Connection = refl
-flags-as p steps (Group g) = refl
-flags-as p steps (Writer g w) = refl
-flags-as p steps (ReadGroup r) = refl
-flags-as p steps (Reader r i) = refl
+use Rattle.pubsub_engine.specs.Storing.{IsStoredAs, meta_at_place}
 
 -- ---- steps alone
 
@@ -77,16 +60,6 @@ stands-of p steps s run steps_are turns stands = record {
 }
 
 -- ---- accounts that differ in readings and stores by their form alone
-
-same-flags : (config : Config) (steps : List Step) (a b : Account) → b ≡ record a { readings = b.readings; stores = b.stores } → ((r : ℕ) → a.readings r ≡ b.readings r)
-    → (c : Component) → flags_by config steps a c ≡ flags_by config steps b c
-same-flags config steps a b rest same Root = refl
-same-flags config steps a b rest same Connection = refl
-same-flags config steps a b rest same (Group g) = ap (λ (x : Account). flags_by config steps x (Group g)) (sym rest)
-same-flags config steps a b rest same (Writer g w) = refl
-same-flags config steps a b rest same (ReadGroup r) = refl
-same-flags config steps a b rest same (Reader r i) =
-    ap (λ (x : Reading). record { enabled = is_on config steps (Reader r i); fault = late_in (λ _. x) r i; ready = ready_in (λ _. x) r i }) (same r)
 
 pub same-stands : (p : Plan) (steps : List Step) (a b : Account) (s : Session) → b ≡ record a { readings = b.readings; stores = b.stores } → ((r : ℕ) → a.readings r ≡ b.readings r)
     → ((r i : ℕ) → a.stores r i ≡ b.stores r i) → StandsAs p steps a s → StandsAs p steps b s

@@ -1,4 +1,4 @@
--- What a step brings a read group is what it adds to what befell the group before.
+-- What a step brings a read group is what it adds to what befell the group before; and the flags of an account.
 use Rattle.std.proofs.Common.{◌≡◌, refl, sym, ap, ◌∙◌, ℕ, Bool, true, false, List, [], ◌∷◌, ◌++◌}
 use Rattle.std.specs.Prelude.{fold, Result, if◌then◌else◌}
 use Rattle.dataset_meta.specs.Rows.{cons_if}
@@ -6,17 +6,19 @@ use Rattle.pubsub_model.specs.declared.reading.Why.TheVariants.{Restarted}
 use Rattle.ua_base.specs.Journal.{Entry, Sent, SendFailed, Got, Empty, Long, ReceiveFailed}
 use Rattle.ps_config.specs.declared.parts.Config.{Config}
 use Rattle.pubsub_states.specs.declared.component.Component.{Component}
-use Rattle.pubsub_states.specs.declared.component.Component.TheVariants.{Reader}
+use Rattle.pubsub_states.specs.declared.component.Component.TheVariants.{Root, Connection, Group, Writer, ReadGroup, Reader}
 use Rattle.pubsub_states.specs.Components.{is_at_or_above}
 use Rattle.reader_group.specs.declared.refusal.Refusal.{Refusal}
 use Rattle.reader_group.specs.declared.refusal.Taken.{Taken}
 use Rattle.reader_group.specs.Plain as befalls
 use Rattle.reader_group.specs.Plain.{Event, Expired, PlainGroup, Setting, Stopped, answer, plain, step}
 use Rattle.reader_group.specs.Settings.{setting_of}
-use Rattle.session_model.specs.Steps.{Step, Disable, Pump, moment_of}
+use Rattle.session_model.specs.Steps.{Plan, Step, Disable, Pump, is_on, moment_of}
 use Rattle.session_model.specs.Deeds.{component_at}
 use Rattle.session_model.specs.Events.{events, got_all, got_on, reader_indexes, readers_on, receives, stopped_below}
 use Rattle.session_model.specs.Answers.{answers}
+use Rattle.session_model.specs.Lives.{Account, account_of, flags_by, late_in, ready_in, stepped}
+use Rattle.session_model.specs.States.{flags_at}
 use Rattle.session_model.specs.Readings.{Reading, answered_on, goes_on, read_on, reading_at}
 
 -- ---- the reading goes on
@@ -93,3 +95,31 @@ pub reading-pumped : (config : Config) (before : List Step) (entries : List Entr
 reading-pumped config before entries r =
     reading-behind config before (Pump entries ∷ before) r (got_all config before r entries [])
     (got-if (receives config before r) (moment_of before) (readers_on config before r) entries (events config r before))
+
+-- ---- flags
+
+pub flags-as : (p : Plan) (steps : List Step) (c : Component) → flags_at p steps c ≡ flags_by p.config steps (account_of p steps) c
+flags-as p steps Root = refl
+flags-as p steps Connection = refl
+flags-as p steps (Group g) = refl
+flags-as p steps (Writer g w) = refl
+flags-as p steps (ReadGroup r) = refl
+flags-as p steps (Reader r i) = refl
+
+-- accounts that differ in readings and stores by their form alone have the same flags
+pub same-flags : (config : Config) (steps : List Step) (a b : Account) → b ≡ record a { readings = b.readings; stores = b.stores } → ((r : ℕ) → a.readings r ≡ b.readings r)
+    → (c : Component) → flags_by config steps a c ≡ flags_by config steps b c
+same-flags config steps a b rest same Root = refl
+same-flags config steps a b rest same Connection = refl
+same-flags config steps a b rest same (Group g) = ap (λ (x : Account). flags_by config steps x (Group g)) (sym rest)
+same-flags config steps a b rest same (Writer g w) = refl
+same-flags config steps a b rest same (ReadGroup r) = refl
+same-flags config steps a b rest same (Reader r i) =
+    ap (λ (x : Reading). record { enabled = is_on config steps (Reader r i); fault = late_in (λ _. x) r i; ready = ready_in (λ _. x) r i }) (same r)
+
+-- behind a pump
+pub flags-pumped-as : (p : Plan) (before : List Step) (entries : List Entry) (c : Component)
+    → flags_by p.config (Pump entries ∷ before) (stepped p before (account_of p before) (Pump entries)) c ≡ flags_at p (Pump entries ∷ before) c
+flags-pumped-as p before entries c =
+    same-flags p.config (Pump entries ∷ before) (stepped p before (account_of p before) (Pump entries)) (account_of p (Pump entries ∷ before)) refl (λ r. reading-pumped p.config before entries r) c
+    ∙ sym (flags-as p (Pump entries ∷ before) c)

@@ -82,7 +82,7 @@ still-publishes k sets old new x y there read is rest items config holds = subst
   groups = holds.groups;
   senders = record {
     count = ap (λ (l : List SenderState). length l) items ∙ length-set old.senders.items k y ∙ holds.senders.count;
-    each = subst (All IsSender) (sym items) (All-set IsSender old.senders.items k y holds.senders.each (subst IsSender (sym is) own));
+    each = subst (All IsSender) (sym items) (All-set IsSender old.senders.items k y (subst IsSender (sym is) own) holds.senders.each);
   };
   reserved = holds.reserved;
   sends = holds.sends;

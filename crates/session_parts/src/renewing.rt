@@ -68,5 +68,8 @@ fn renew_if(group: &mut ReaderGroup, is_rekeyed: bool, ring: &Ring)
     if !is_rekeyed {
         return;
     }
-    group.renew(ring.clone());
+    match ring.clone() {
+        Ok(copy) => group.renew(copy),
+        Err(_) => unreachable!(),
+    }
 }

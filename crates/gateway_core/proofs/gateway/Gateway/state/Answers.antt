@@ -1,7 +1,7 @@
 use Rattle.std.proofs.Common.{◌∙◌, sym, subst}
 use Rattle.pubsub_states.specs.Components.{Counts, IsAmong}
 use Rattle.session_model.specs.States.{flags_at}
-use Rattle.session_parts.proofs.Showing.{state-told}
+use Rattle.session_parts.proofs.StatesTold.{state-told}
 use Rattle.gateway_core.specs.Lived.{plan_again}
 use Rattle.gateway_core.specs.Standing.{steps_of}
 use Rattle.gateway_core.proofs.gateway.Gateway.state.Goals as goal

@@ -20,11 +20,11 @@ returns-clause-renewed c =
     let x = c.index_mut-sender.result.now in
     let items = c.args.self.now.senders.items in
     subst (λ (n : ℕ). HaveRenewed c.args.key_group (key_sets c.args.ring) items (set items n c.renew.new.self)) (sym c.from.ensures)
-    (subst (λ (y : SenderState). HaveRenewed c.args.key_group (key_sets c.args.ring) items (set items c.args.key_group y)) (sym c.renew.ensures)
+    (subst (λ (y : SenderState). HaveRenewed c.args.key_group (key_sets c.args.ring) items (set items c.args.key_group y)) (sym c.renew.ensures.state)
     (renewed-sent c.args.key_group (key_sets c.args.ring) items x c.requires.there
     (c.index_mut-sender.ensures.value ∙ ap (λ (n : ℕ). get_or items n x) c.from.ensures)))
 
 pub returns-clause-holds : goal.returns-clause-holds
 returns-clause-holds c =
     still-publishes c.from.result (key_sets c.args.ring) c.args.self.now _ c.index_mut-sender.result.now c.renew.new.self
-    (subst (λ (n : ℕ). n < length c.args.self.now.senders.items) (sym c.from.ensures) c.requires.there) c.index_mut-sender.ensures.value c.renew.ensures refl refl
+    (subst (λ (n : ℕ). n < length c.args.self.now.senders.items) (sym c.from.ensures) c.requires.there) c.index_mut-sender.ensures.value c.renew.ensures.state refl refl
