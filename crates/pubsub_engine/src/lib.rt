@@ -6,6 +6,7 @@ mod closing;
 mod ends;
 mod logs;
 mod opening;
+mod renewing;
 mod sampling;
 mod session;
 mod sets;

@@ -21,7 +21,7 @@ use Rattle.reader_group.specs.Arrivals.{accepted}
 use Rattle.reader_group.specs.Opening.{verdict}
 use Rattle.reader_group.specs.Settings.{setting_of}
 use Rattle.session_model.specs.Steps.{Plan, Step, Enable, Disable, Append, Tick, Pump, moment_of}
-use Rattle.session_model.specs.Deeds.{Deed, RefreshedBelow, RefreshedSet, CameTo, TookTurn, component_at, group_past, is_writer_below, is_writer_of, writer_indexes, turn_of, deeds}
+use Rattle.session_model.specs.Deeds.{Deed, RefreshedBelow, RefreshedSet, CameTo, TookTurn, RenewedKeys, component_at, group_past, is_writer_below, is_writer_of, writer_indexes, turn_of, deeds}
 use Rattle.writer_group.specs.Parts.{group_at, no_group}
 use Rattle.session_model.specs.Sends.{Send, sends_by, last_sends, sends_of, send_entries, journal, IsPump, IsRun}
 use Rattle.session_model.specs.Events.{events, got_on, receives, readers_on, reader_indexes}
@@ -52,6 +52,7 @@ made-stays config datagram (RefreshedSet set) earlier is = record {
   made = refreshed-keeps (λ past. WasMade past datagram) (λ writer past made. made) (is_writer_of (group_at config is.group) set) (group_past config is.group earlier) (writer_indexes (group_at config is.group)) is.made;
 }
 made-stays config datagram (CameTo moment) earlier is = record { group = is.group; part = is.part; there = is.there; made = is.made }
+made-stays config datagram (RenewedKeys keygroup sets) earlier is = record { group = is.group; part = is.part; there = is.there; made = is.made }
 made-stays config datagram (TookTurn g turn) earlier is = record {
   group = is.group;
   part = is.part;
