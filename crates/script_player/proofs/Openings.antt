@@ -16,7 +16,7 @@ opens-once opened_with faults made openings performed old opened new making coun
 -- of what stands behind another
 pub opens-behind : {L T : Type 0} (made : L → Making) (openings : L → ℕ) (behind : T → L) (performed : Type 0) (old new : T) (first last : L)
     → behind old ≡ first → last ≡ behind new → OpensOnce (λ t. made (behind t)) (λ t. openings (behind t)) performed old new → OpensOnce made openings performed first last
-opens-behind made openings behind performed old new first last from to once = record {
+opens-behind {L = L} made openings behind performed old new first last from to once = record {
   making = ap made to ∙ once.making ∙ ap made from;
   at_most_once = elim once.at_most_once [ inl same ↦ inl (ap openings to ∙ same ∙ ap openings from) | inr more ↦ inr (ap openings to ∙ more ∙ ap (λ (l : L). counted_if true (openings l)) from) ];
   once = λ is. ap openings to ∙ once.once is ∙ ap (λ (l : L). counted_if true (openings l)) from;
