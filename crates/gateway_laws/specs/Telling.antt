@@ -56,7 +56,8 @@ pub record IsTurnOf (second : Config) (relay : List RelayStep) (g w : ℕ) (turn
   pub behind : before ≡ since ++ writer_deeds (plan_again second) g w (seconds older)
 
 -- A data frame of this place tells this store: it is the number of stores that the source has at the frame's own round, behind the first session's pump, and up to the
--- frame the writer's frames publish the row of the store. Where H or S holds on the first link, its version is known.
+-- frame the writer's frames publish the row of the store. Where the source's read group takes
+-- nothing but what was sent, its version is known.
 pub record TellsStore (p : Plan) (second : Config) (sources : List Source) (relay : List RelayStep) (rows : ℕ → ℕ → List DataValue) (g w place store : ℕ) : Type 0 where
   pub turn : WriterTurn
   pub before : List WriterDeed

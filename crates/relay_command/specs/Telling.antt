@@ -41,7 +41,8 @@ abbrev pub line_of : List ℕ → List ℕ → List ℕ
 line_of name rest = codes "relayed " ++ name ++ rest ++ feed
 
 -- The line of a reader that holds a row has the number of this, the store that its writer's log has there, the version that is told of the store, and the store's row. The
--- version is the one that the store came with; where H or S holds on the first link it is known, and that of the row in the first history.
+-- version is the one that the store came with; where the source's read group takes nothing but what was sent it is known, and that of the row in the
+-- first history.
 pub record TellsHeld (p : Plan) (second : Config) (sources : List Source) (relay : List RelayStep) (rows : ℕ → ℕ → List DataValue) (r i g w : ℕ) (row : List DataValue) (text : List ℕ) : Type 0 where
   pub holds : HoldsStore p second sources relay rows r i g w row
   pub text_is : text ≡ line_of (seat_in second r i).part.name
@@ -71,8 +72,8 @@ pub record HasLine (text : List ℕ) (Tells : List ℕ → Type 0) : Type 0 wher
   pub tells : Tells line
 
 -- The text of a relay has a line of each writer, and one of each reader that is matched within the second configuration and goes by numbers. From one moment of the relay to
--- a later one the store and the version that such a reader holds don't fall, where neither it nor its source was cut. For readers H or S is asked of the second link, and
--- for versions of the first.
+-- a later one the store and the version that such a reader holds don't fall, where neither it nor its source was cut. The reader's read group takes nothing but
+-- what was sent, and for versions so does the source's.
 pub record TellsRelay (p : Plan) (second : Config) (sources : List Source) (relay : List RelayStep) (rows : ℕ → ℕ → List DataValue) (text : List ℕ) : Type 0 where
   pub writers : (g w : ℕ) → w < length (group_at second g).writer → HasLine text (TellsStores p second sources relay rows g w)
   pub readers : (r i g w : ℕ) → IsNumbered second r i g w → IsHonestAgain second r relay
