@@ -28,3 +28,4 @@ pub mod Whole
 pub mod OpenRows
 pub mod SampleLoop
 pub mod Rings
+pub mod Unrenewed
