@@ -17,6 +17,7 @@ use crate::session::Session;
 use app_threads::{Done, Looked};
 use ps_config::Parts;
 use ps_report::{Closed, History, WatchEnd};
+use session_parts::link_end;
 use std::alloc::Global;
 use ua_base::NoMemory;
 
