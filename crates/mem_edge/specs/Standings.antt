@@ -1,5 +1,5 @@
 -- What a link in memory tells after a list of calls: it is determined by the calls, by what it was made to do, and by its fates.
-use Rattle.std.specs.Prelude.{◌≡◌, ℕ, Bool, IsTrue, List, [], ◌∷◌, ◌++◌, length, map, nat_le, fold, if◌then◌else◌, Option, Some, None}
+use Rattle.std.specs.Prelude.{◌≡◌, ℕ, Bool, false, IsTrue, List, [], ◌∷◌, ◌++◌, length, map, nat_le, fold, if◌then◌else◌, Option, Some, None}
 use Rattle.std.proofs.Props.{props}
 use Rattle.ua_base.specs.declared.link.Fate.{Fate}
 use Rattle.ua_base.specs.Journal.{Entry, Sent, SendFailed, Got, Empty, Long, ReceiveFailed, LinkState}
@@ -117,3 +117,13 @@ pub record IsDelivered (settings : Settings) (state : LinkState) : Type 0 where
   pub taken : List (List ℕ)
   pub are_taken : AreTaken state.journal taken
   pub all : taken ++ state.waiting ≡ queued_in settings state.journal
+
+-- ---- three sends
+
+-- the settings of a link that was made to do nothing of its own
+abbrev pub obeying : List (ℕ × Fate) → Settings
+obeying fates = settings_with [] [] [] false fates
+
+-- the journal of three datagrams that were sent
+abbrev pub three_sent : List ℕ → List ℕ → List ℕ → List Entry
+three_sent first second third = Sent first ∷ Sent second ∷ Sent third ∷ []
