@@ -4,7 +4,7 @@ ghost use Rattle.ps_config.specs.Sound.{IsSound};
 ghost use Rattle.json_frames.specs.Parts.{IsPartOf, parts_in};
 ghost use Rattle.json_frames.specs.Reading.{HavePlaces};
 ghost use Rattle.json_tap.specs.Transcoding.{sets_of};
-ghost use Rattle.json_text.specs.Reading.{AreLines, ArePartsOf, IsLine};
+ghost use Rattle.json_text.specs.Reading.{ReadsLines};
 ghost use Rattle.json_text.specs.Parts.{AddsLine};
 
 use crate::sets::sets_of;
@@ -20,9 +20,8 @@ pub(crate) fn parts_of(
     config: &Config,
     lines: &[JsonLine],
 ) -> Result<Vec<JsonPart>, NoMemory>
-    requires sound { IsSound config.now }
-    requires lines { AreLines config.now lines.now }
-    ensures read { IfOk result (λ parts. ArePartsOf config.now lines.now
+    requires { IsSound config.now }
+    ensures read { IfOk result (λ parts. ReadsLines config.now lines.now
         (parts_in config.now.dataset parts.items)) }
     ensures writable { IfOk result (λ parts. All (IsPartOf config.now.dataset) parts.items) }
 {
@@ -34,7 +33,7 @@ pub(crate) fn parts_of(
     Ok(parts)
 }
 
-/// Puts the parts of a line behind those so far.
+/// Puts the parts of a line behind those so far. A line that is refused has none.
 fn read_line(
     alloc: Global,
     config: &Config,
@@ -44,7 +43,6 @@ fn read_line(
 ) -> Result<(), NoMemory>
     requires sets { sets.now ≡ sets_of config.now }
     requires places { HavePlaces config.now.dataset sets.now }
-    requires line { IsLine config.now line.now }
     ensures { OnOk result (AddsLine config.now line.now parts.old.items parts.new.items) }
 {
     match read_json(alloc, config.dataset.as_slice(), sets, line) {
@@ -53,6 +51,6 @@ fn read_line(
             Ok(())
         }
         Err(JsonEnd::Memory) => Err(NoMemory),
-        Err(_) => unreachable!(),
+        Err(_) => Ok(()),
     }
 }
