@@ -41,9 +41,8 @@ short_append [] other first second = second
 short_append (part ∷ one) other first second = (first.0, short_append one other first.1 second)
 
 line_short : (config : Config) (line : List ℕ) (parts : List Part) → ReadsLine config line parts → AreShortParts parts
-line_short config line parts (inl read) =
+line_short config line parts read =
     subst AreShortParts (sym read.2) (parts_short config.dataset (sets_of config) read.1.items (parts_in config.dataset read.0.parts) read.1.bad read.1.parts)
-line_short config line parts (inr refused) = subst AreShortParts (sym refused.1) tt
 
 lines_short : (config : Config) (lines : List (List ℕ)) (parts : List Part) → ReadsLines config lines parts → AreShortParts parts
 lines_short config [] parts read = subst AreShortParts (sym read) tt

@@ -1,6 +1,7 @@
 //! Reading the lines back.
-ghost use Rattle.std.specs.Prelude.{◌≡◌, IfOk, OnOk, All};
+ghost use Rattle.std.specs.Prelude.{◌≡◌, IfOk, IsOk, OnOk, All};
 ghost use Rattle.ps_config.specs.Sound.{IsSound};
+ghost use Rattle.json_frames.specs.Documents.{document};
 ghost use Rattle.json_frames.specs.Parts.{IsPartOf, parts_in};
 ghost use Rattle.json_frames.specs.Reading.{HavePlaces};
 ghost use Rattle.json_tap.specs.Transcoding.{sets_of};
@@ -33,7 +34,7 @@ pub(crate) fn parts_of(
     Ok(parts)
 }
 
-/// Puts the parts of a line behind those so far. A line that is refused has none.
+/// Puts the parts of a line behind those so far.
 fn read_line(
     alloc: Global,
     config: &Config,
@@ -43,6 +44,7 @@ fn read_line(
 ) -> Result<(), NoMemory>
     requires sets { sets.now ≡ sets_of config.now }
     requires places { HavePlaces config.now.dataset sets.now }
+    requires accepted { IsOk (document line.now) }
     ensures { OnOk result (AddsLine config.now line.now parts.old.items parts.new.items) }
 {
     match read_json(alloc, config.dataset.as_slice(), sets, line) {
@@ -51,6 +53,7 @@ fn read_line(
             Ok(())
         }
         Err(JsonEnd::Memory) => Err(NoMemory),
-        Err(_) => Ok(()),
+        Err(JsonEnd::NotJson | JsonEnd::NotData | JsonEnd::BadPublisher | JsonEnd::NoMessages) =>
+            unreachable!(),
     }
 }

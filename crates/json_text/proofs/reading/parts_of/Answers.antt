@@ -11,6 +11,6 @@ read_line-requires-clause-places c =
 pub loop-line-preserved : goal.loop-line-preserved
 loop-line-preserved c = (
   lines_more c.args.config.now c.args.lines.now c.loop-line.line-index c.line-item.result c.as_bytes.result.now c.loop-line.parts.items c.read_line.new.parts.items
-      (omega arith) c.line-item.is c.as_bytes.ensures c.loop-line.invariant.0 c.in_ok-read_line.ensures,
+      (omega arith) c.line-item.is c.as_bytes.ensures.bytes c.loop-line.invariant.0 c.in_ok-read_line.ensures,
   writable_more c.args.config.now c.as_bytes.result.now c.loop-line.parts.items c.read_line.new.parts.items c.loop-line.invariant.1 c.in_ok-read_line.ensures,
 )
