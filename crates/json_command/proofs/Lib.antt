@@ -1,2 +1,4 @@
-pub mod Jsoned
 pub mod Matching
+pub mod Owned
+pub mod Kept
+pub mod Jsoned

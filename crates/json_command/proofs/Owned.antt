@@ -5,7 +5,7 @@ use Rattle.std.specs.List.{cons_option}
 use Rattle.std.proofs.lemmas.Bool.{eqb-true, eq-eqb, false≢true}
 use Rattle.std.proofs.lemmas.Bool.Decides.{nat_tests}
 use Rattle.std.proofs.lemmas.List.{drop_at}
-use Rattle.std.proofs.lemmas.List.Elements.{All-head, All-tail, Contains-here, Contains-later}
+use Rattle.std.proofs.lemmas.List.Elements.{All-head, All-tail}
 use Rattle.std.proofs.lemmas.Option.{get_or_from_slice_get, slice_get-get_or}
 use Rattle.ua_base.specs.Journal.{Entry, Sent, SendFailed, Got, Empty, Long, ReceiveFailed, LinkState, sent_list}
 use Rattle.dataset_meta.specs.Metas.{MetaData, no_meta}
@@ -61,7 +61,6 @@ use Rattle.session_laws.proofs.Sending.{sent-made}
 use Rattle.session_laws.proofs.Sources.{IsOfAnswer}
 use Rattle.json_frames.specs.Parts.{Part}
 use Rattle.json_frames.specs.Reading.{set_of}
-use Rattle.json_tap.specs.Keeping.{IsOfLink}
 use Rattle.json_tap.specs.Transcoding.{Message, all_of, are_past, frame_if, is_spelled, message_in, message_of, message_read, messages_of, part_for, part_of, parts_for, publisher_of, sets_of, transcoded}
 use Rattle.json_text.specs.Matching.{is_plain}
 use Rattle.json_text.specs.Reading.{parts_of}
@@ -334,23 +333,24 @@ module _ (config : Config) (g w : ℕ) (answered : List Answered) where
     split true message rest e all = ((λ same. All-head IsItsPiece (Whole message.1) (mine rest) all), All-tail IsItsPiece (Whole message.1) (mine rest) all)
     split false message rest e all = ((λ same. absurd (false≢true (sym e ∙ eq-eqb message.0 its_id same))), all)
 
+    with-rest : (part : Part) (rest : Option (List Part)) (found : List Part) → IsAnsweredIf part → ((others : List Part) → rest ≡ Some others → AreAnswered others)
+        → option_map (λ others. part ∷ others) rest ≡ Some found → AreAnswered found
+    with-rest part None found one later e = none-some found e
+    with-rest part (Some others) found one later e = subst AreAnswered (some-same (part ∷ others) found e) (one, later others refl)
+
+    with-part : (message : ℕ × List ℕ) (messages : List (ℕ × List ℕ)) (part : Option Part) (found : List Part) → part_of config message ≡ part
+        → (message.0 ≡ its_id → OfRead (IsOfAnswer its_meta answered) (frame_at its_meta message.1))
+        → ((others : List Part) → all_of (map (part_of config) messages) ≡ Some others → AreAnswered others) → all_of (part ∷ map (part_of config) messages) ≡ Some found → AreAnswered found
+    with-part message messages None found e own later is = none-some found is
+    with-part message messages (Some part) found e own later is =
+        let read = is-read-part config message part e in
+        with-rest part (all_of (map (part_of config) messages)) found (one-answered message part (λ its. own (sym read.writer ∙ its.id)) read) later is
+
     pub each-answered : (messages : List (ℕ × List ℕ)) (found : List Part) → All IsItsPiece (mine messages) → all_of (map (part_of config) messages) ≡ Some found → AreAnswered found
     each-answered [] found all is = subst AreAnswered (some-same [] found is) tt
-    each-answered (message ∷ messages) found all is = on (part_of config message) refl is
-      where
-        pieces_of = split (message.0 == its_id) message messages refl all
-
-        with-rest : (part : Part) (rest : Option (List Part)) → IsAnsweredIf part → ((others : List Part) → rest ≡ Some others → AreAnswered others) → option_map (λ others. part ∷ others) rest ≡ Some found
-            → AreAnswered found
-        with-rest part None one later e = none-some found e
-        with-rest part (Some others) one later e = subst AreAnswered (some-same (part ∷ others) found e) (one, later others refl)
-
-        on : (part : Option Part) → part_of config message ≡ part → all_of (part ∷ map (part_of config) messages) ≡ Some found → AreAnswered found
-        on None e is = none-some found is
-        on (Some part) e is =
-            let read = is-read-part config message part e in
-            with-rest part (all_of (map (part_of config) messages)) (one-answered message part (λ its. pieces_of.0 (sym read.writer ∙ its.id)) read)
-            (λ others e. each-answered messages others pieces_of.1 e) is
+    each-answered (message ∷ messages) found all is =
+        let so = split (message.0 == its_id) message messages refl all in
+        with-part message messages (part_of config message) found refl so.0 (λ others e. each-answered messages others so.1 e) is
 
 -- ---- a datagram of a session
 
@@ -411,33 +411,37 @@ module _ (laws : Laws) (p : Plan) (steps : List Step) (plan : IsPlan p) (are : A
   message-own : (datagram : List ℕ) (message : Message) → IsMade p.config (pasts_at p steps) datagram → transcoded p.config datagram ≡ Some message → HaveOwnFrames p steps message.parts
   message-own datagram message made is = all-own message.parts (λ g w writer. datagram-answered g w writer datagram message made is)
 
+  one-sent : (datagram : List ℕ) (m : Option Message) (rest : List Message) → transcoded p.config datagram ≡ m → IsMade p.config (pasts_at p steps) datagram → HaveOwnFrames p steps (parts_of rest)
+      → HaveOwnFrames p steps (parts_of (cons_option m rest))
+  one-sent datagram None rest e made own = own
+  one-sent datagram (Some message) rest e made own = own-append message.parts (parts_of rest) (message-own datagram message made e) own
+
   sent-own : (sent : List (List ℕ)) → ((datagram : List ℕ) → Contains sent datagram → IsMade p.config (pasts_at p steps) datagram) → HaveOwnFrames p steps (parts_of (messages_of p.config sent))
   sent-own [] made = tt
-  sent-own (datagram ∷ sent) made = on (transcoded p.config datagram) refl
-    where
-      rest : HaveOwnFrames p steps (parts_of (messages_of p.config sent))
-      rest = sent-own sent (λ d has. made d (Contains-later datagram sent d has))
-
-      on : (m : Option Message) → transcoded p.config datagram ≡ m → HaveOwnFrames p steps (parts_of (cons_option m (messages_of p.config sent)))
-      on None e = rest
-      on (Some message) e = own-append message.parts (parts_of (messages_of p.config sent)) (message-own datagram message (made datagram (Contains-here datagram sent)) e) rest
+  sent-own (datagram ∷ sent) made =
+      one-sent datagram (transcoded p.config datagram) (messages_of p.config sent) refl (made datagram (zero, omega arith, refl))
+      (sent-own sent (λ d has. made d (suc has.0, let below = has.1 in omega (arith, below), has.2)))
 
   -- what was sent stands in the journal
+  later : (first : Entry) (entries : List Entry) (datagram : List ℕ) → Contains entries (Sent datagram) → Contains (first ∷ entries) (Sent datagram)
+  later first entries datagram has = (suc has.0, let below = has.1 in omega (arith, below), has.2)
+
   listed-sent : (entries : List Entry) (datagram : List ℕ) → Contains (sent_list entries) datagram → Contains entries (Sent datagram)
   listed-sent [] datagram has = absurd (let below = has.1 in omega (arith, below))
   listed-sent (Sent bytes ∷ entries) datagram (zero, below, same) = (zero, omega arith, ap Sent same)
-  listed-sent (Sent bytes ∷ entries) datagram (suc k, below, same) = Contains-later (Sent bytes) entries (Sent datagram) (listed-sent entries datagram (k, omega (arith, below), same))
-  listed-sent (SendFailed ∷ entries) datagram has = Contains-later SendFailed entries (Sent datagram) (listed-sent entries datagram has)
-  listed-sent (Got bytes ∷ entries) datagram has = Contains-later (Got bytes) entries (Sent datagram) (listed-sent entries datagram has)
-  listed-sent (Empty ∷ entries) datagram has = Contains-later Empty entries (Sent datagram) (listed-sent entries datagram has)
-  listed-sent (Long size ∷ entries) datagram has = Contains-later (Long size) entries (Sent datagram) (listed-sent entries datagram has)
-  listed-sent (ReceiveFailed ∷ entries) datagram has = Contains-later ReceiveFailed entries (Sent datagram) (listed-sent entries datagram has)
+  listed-sent (Sent bytes ∷ entries) datagram (suc k, below, same) = later (Sent bytes) entries datagram (listed-sent entries datagram (k, omega (arith, below), same))
+  listed-sent (SendFailed ∷ entries) datagram has = later SendFailed entries datagram (listed-sent entries datagram has)
+  listed-sent (Got bytes ∷ entries) datagram has = later (Got bytes) entries datagram (listed-sent entries datagram has)
+  listed-sent (Empty ∷ entries) datagram has = later Empty entries datagram (listed-sent entries datagram has)
+  listed-sent (Long size ∷ entries) datagram has = later (Long size) entries datagram (listed-sent entries datagram has)
+  listed-sent (ReceiveFailed ∷ entries) datagram has = later ReceiveFailed entries datagram (listed-sent entries datagram has)
 
   journal-own : HaveOwnFrames p steps (parts_of (messages_of p.config (sent_list (journal p steps))))
   journal-own = sent-own (sent_list (journal p steps)) (λ datagram has. sent-made p steps datagram run (listed-sent (journal p steps) datagram has))
 
-  pub frames-own : (told : Option LinkState) (messages : List Message) (skipped : ℕ) → IsSome told → TellsRun p steps told → IsOfLink p.config told messages skipped → HaveOwnFrames p steps (parts_of messages)
-  frames-own None messages skipped some tells of_sent = absurd cc
-  frames-own (Some state) messages skipped some tells of_sent =
-      let is = (of_sent state refl).messages_are ∙ ap (λ (l : List Entry). messages_of p.config (sent_list l)) (tells state refl) in
-      subst (λ (l : List Message). HaveOwnFrames p steps (parts_of l)) (sym is) journal-own
+  pub frames-own : (told : Option LinkState) (parts : List Part) → IsSome told → TellsRun p steps told
+      → ((state : LinkState) → told ≡ Some state → parts ≡ parts_of (messages_of p.config (sent_list state.journal))) → HaveOwnFrames p steps parts
+  frames-own None parts some tells sent = absurd cc
+  frames-own (Some state) parts some tells sent =
+      let is = sent state refl ∙ ap (λ (l : List Entry). parts_of (messages_of p.config (sent_list l))) (tells state refl) in
+      subst (HaveOwnFrames p steps) (sym is) journal-own

@@ -11,9 +11,10 @@ ghost use Rattle.commands.specs.Statuses.{IsDone, IsUnwritten};
 ghost use Rattle.commands.specs.Links.{IsBeforeLink};
 ghost use Rattle.json_command.specs.Jsons.{IsJsonOf, JsonEnds};
 
+use crate::laws::lines_have_their_writers_frames;
 use crate::playing::written_play;
 use commands::{Accepted, Status, accept, status_of, write_text};
-use json_text::{readers_keep_records, text_of_lines};
+use json_text::{lines_are_read_as_their_messages, readers_keep_records, text_of_lines};
 use script_player::PlayEnd;
 use std::alloc::Global;
 use std::sync::Wait;
@@ -73,6 +74,8 @@ fn written<R: Wait, A: Link>(
     ensures faults { A.faults lab.old ≤ A.faults lab.new }
 {
     readers_keep_records();
+    lines_are_read_as_their_messages();
+    lines_have_their_writers_frames();
     let written = written_play(rt, alloc, &accepted.config, &accepted.script, lab)?;
     Ok(text_of_lines(alloc, &accepted.config, &written.lines, written.skipped)?)
 }

@@ -7,4 +7,4 @@ mod laws;
 mod playing;
 
 pub use command::json;
-pub use laws::matched_readers_are_told;
+pub use laws::{lines_have_their_writers_frames, matched_readers_are_told};

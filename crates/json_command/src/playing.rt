@@ -7,6 +7,7 @@ ghost use Rattle.writer_group.specs.Standing.{IsGood};
 ghost use Rattle.script_player.specs.Openings.{OpensOnce};
 ghost use Rattle.script_player.specs.Plays.{IsPlayOf, opening_of};
 ghost use Rattle.json_tap.specs.Keeping.{IsOfLink};
+ghost use Rattle.json_tap.specs.Reading.{LinkIsReadAs};
 ghost use Rattle.json_command.specs.Playing.{IsTapped};
 
 use json_tap::{Inner, JsonLine, Made, Tap, Tapped};
@@ -97,6 +98,7 @@ fn tapped_play<'a, M: Made, R: Wait, L: Link>(
     ensures played { IfOk result.end (IsPlayOf M.config script.now (L.told result.link.now)) }
     ensures of_sent { OnOk result.end
         (IsOfLink M.config (L.told result.link.now) result.lines.items result.skipped) }
+    ensures read_as { OnOk result.end (LinkIsReadAs M.config (L.told result.link.now)) }
     ensures opened { OnOk result.end
         (L.opened_with result.link.now ≡ Some (opening_of M.config script.now)) }
     ensures opens { L.opened_with result.link.now ≢ M.opening

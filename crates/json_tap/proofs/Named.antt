@@ -1,7 +1,7 @@
 -- The parts of a message that is transcoded are parts that can be written, of the data sets that the configuration names for their writers; so its line is read as
 -- the message.
 use Rattle.std.proofs.Common.{◌≡◌, ℕ, zero, suc, ◌+◌, ◌*◌, ◌<◌, ◌≤◌, ◌^◌, List, [], ◌∷◌, ◌++◌, length, take, drop, map, Bool, true, false, cond, Option, Some, None, Result, Ok, Err, inl, inr, refl, sym, ap, ◌∙◌, subst, arith}
-use Rattle.std.specs.Prelude.{◌==◌, nat_lt, is_some, is_none, zip, option_map, option_and_then, slice_get, IsSome}
+use Rattle.std.specs.Prelude.{◌==◌, nat_lt, is_some, is_none, zip, option_map, option_and_then, slice_get, IsOk, IsSome, is_ok}
 use Rattle.std.specs.List.{All, AllByRecursion, flat_map}
 use Rattle.std.specs.Str.{is_utf8}
 use Rattle.std.proofs.lemmas.Bool.{eqb-true}
@@ -11,6 +11,7 @@ use Rattle.std.proofs.lemmas.Option.{get_or_from_slice_get, slice_get_within}
 use Rattle.dataset_meta.specs.Metas.{MetaData, IsMeta}
 use Rattle.ua_binary.specs.Wire.{AreBytes}
 use Rattle.ua_binary.proofs.Grammar.{rest-bytes}
+use Rattle.ua_values.specs.declared.text.TextFault.TheVariants.{BadUtf8, TooLong}
 use Rattle.ua_values.specs.Texts.{text_of}
 use Rattle.frame_codec.specs.declared.fault.FrameFault.{FrameFault}
 use Rattle.frame_codec.specs.Frames.{Frame, IsFrame}
@@ -27,13 +28,12 @@ use Rattle.ps_config.specs.declared.parts.GroupPart.{GroupPart}
 use Rattle.ps_config.specs.declared.parts.WriterPart.{WriterPart}
 use Rattle.ps_config.specs.Sound.{IsGroup, IsSound, IsWriter, writers}
 use Rattle.json_frames.specs.Parts.{HasVersions, IsPart, Part, meta_at, no_meta}
-use Rattle.json_frames.specs.Documents.{value_of}
+use Rattle.json_frames.specs.Documents.{document, value_of}
 use Rattle.json_frames.specs.Reading.{IsNamedPart, set_of}
-use Rattle.json_frames.specs.Written.{elements_json, message_json}
-use Rattle.json_frames.proofs.MessagesRead.{message_is_document}
-use Rattle.json_frames.proofs.WrittenElements.{parts_are}
+use Rattle.json_frames.specs.Written.{message_json}
+use Rattle.json_frames.proofs.MessagesRead.{message_is_document, message_is_read}
 use Rattle.json_tap.specs.Transcoding.{Message, all_of, are_paired, are_past, frame_if, has_numbers, is_spelled, line, listed, message_in, message_of, message_read, part_for, part_of, parts_for, publisher_of, publisher_text, sets_of, text_if, transcoded}
-use Rattle.json_tap.specs.Reading.{IsReadAs}
+use Rattle.json_tap.specs.Reading.{IsReadAs, IsReadBack}
 use Rattle.json_tap.proofs.Sets.{pairs}
 
 none-some : {X Y : Type 0} (x : X) → Path (Option X) None (Some x) → Y
@@ -88,7 +88,8 @@ read-written : (meta : MetaData) (bytes : List ℕ) (read : Result Frame FrameFa
 read-written meta bytes (Err fault) found are e is = none-some found is
 read-written meta bytes (Ok frame) found are e is =
     let so = frame-numbers (is_spelled frame) frame found refl is in
-    subst (CanWrite meta) so.0 (read-fits meta bytes frame are e, numbers-are frame.number frame.major frame.minor so.1)
+    let numbers = numbers-are frame.number frame.major frame.minor so.1 in
+    subst (CanWrite meta) so.0 (read-fits meta bytes frame are e, numbers.0, numbers.1)
 
 -- ---- a part
 
@@ -138,15 +139,17 @@ module _ (config : Config) (sound : IsSound config) where
   one-more part None found is later e = none-some found e
   one-more part (Some others) found is later e = subst (AllByRecursion Named) (some-same (part ∷ others) found e) (is, later others refl)
 
+  all-on : (message : ℕ × List ℕ) (messages : List (ℕ × List ℕ)) (part : Option Part) (found : List Part) → part_of config message ≡ part → AreBytes message.1
+      → ((others : List Part) → all_of (map (part_of config) messages) ≡ Some others → AllByRecursion Named others) → all_of (part ∷ map (part_of config) messages) ≡ Some found
+      → AllByRecursion Named found
+  all-on message messages None found e are later is = none-some found is
+  all-on message messages (Some part) found e are later is = one-more part (all_of (map (part_of config) messages)) found (part-named message part are e) later is
+
   all-named : (messages : List (ℕ × List ℕ)) (found : List Part) → All HasBytes messages → all_of (map (part_of config) messages) ≡ Some found → AllByRecursion Named found
   all-named [] found are is = subst (AllByRecursion Named) (some-same [] found is) tt
-  all-named (message ∷ messages) found are is = on (part_of config message) refl is
-    where
-      on : (part : Option Part) → part_of config message ≡ part → all_of (part ∷ map (part_of config) messages) ≡ Some found → AllByRecursion Named found
-      on None e is = none-some found is
-      on (Some part) e is =
-          one-more part (all_of (map (part_of config) messages)) found (part-named message part (All-head HasBytes message messages are) e)
-          (λ others e. all-named messages others (All-tail HasBytes message messages are) e) is
+  all-named (message ∷ messages) found are is =
+      all-on message messages (part_of config message) found refl (All-head HasBytes message messages are)
+      (λ others e. all-named messages others (All-tail HasBytes message messages are) e) is
 
   cut-bytes : (sizes bytes : List ℕ) → AreBytes bytes → All AreBytes (cut_by sizes bytes)
   cut-bytes [] bytes are = All-nil AreBytes
@@ -178,55 +181,88 @@ module _ (config : Config) (sound : IsSound config) where
 
   -- ---- a message
 
-  pub record IsNamed (message : Message) : Type 0 where
-    pub short : length message.publisher ≤ 256
-    pub parts : AllByRecursion Named message.parts
-
-  short-by : (b c : Bool) (bytes found : List ℕ) → nat_lt 256 (length bytes) ≡ b → text_if (cond b (Err Rattle.ua_values.specs.declared.text.TextFault.TheVariants.TooLong) (cond c (Ok bytes) (Err Rattle.ua_values.specs.declared.text.TextFault.TheVariants.BadUtf8))) ≡ Some found → length found ≤ 256
-  short-by true c bytes found e is = none-some found is
-  short-by false false bytes found e is = none-some found is
-  short-by false true bytes found e is =
-      let low : length bytes ≤ 256 = grind (arith, nat_tests, e) in
-      subst (λ (l : List ℕ). length l ≤ 256) (some-same bytes found is) low
-
-  publisher-short : (publisher : Option PublisherValue) (found : List ℕ) → publisher_of publisher ≡ Some found → length found ≤ 256
-  publisher-short None found is = none-some found is
-  publisher-short (Some publisher) found is =
-      let text = publisher_text publisher in
-      short-by (nat_lt 256 (length text)) (is_utf8 text) text found refl is
-
-  both-named : (publisher : Option (List ℕ)) (parts : Option (List Part)) (found : Message) → ((text : List ℕ) → publisher ≡ Some text → length text ≤ 256)
-      → ((list : List Part) → parts ≡ Some list → AllByRecursion Named list) → message_of publisher parts ≡ Some found → IsNamed found
-  both-named None parts found short named is = none-some found is
-  both-named (Some publisher) None found short named is = none-some found is
-  both-named (Some publisher) (Some parts) found short named is =
-      subst IsNamed (some-same (record { publisher = publisher; parts = parts }) found is) (record { short = short publisher refl; parts = named parts refl })
+  both-named : (publisher : Option (List ℕ)) (parts : Option (List Part)) (found : Message) → ((list : List Part) → parts ≡ Some list → AllByRecursion Named list)
+      → message_of publisher parts ≡ Some found → AllByRecursion Named found.parts
+  both-named None parts found named is = none-some found is
+  both-named (Some publisher) None found named is = none-some found is
+  both-named (Some publisher) (Some parts) found named is =
+      subst (λ (m : Message). AllByRecursion Named m.parts) (some-same (record { publisher = publisher; parts = parts }) found is) (named parts refl)
 
   header-named : (security : Option SecurityValue) (header : HeaderValue) (payload : List ℕ) (found : Message) → AreBytes payload
-      → cond (is_some security) None (message_of (publisher_of header.publisher) (parts_for config header.ids payload)) ≡ Some found → IsNamed found
+      → cond (is_some security) None (message_of (publisher_of header.publisher) (parts_for config header.ids payload)) ≡ Some found → AllByRecursion Named found.parts
   header-named (Some security) header payload found are is = none-some found is
   header-named None header payload found are is =
-      both-named (publisher_of header.publisher) (parts_for config header.ids payload) found (λ text e. publisher-short header.publisher text e)
-      (λ list e. parts-named header.ids payload list are e) is
+      both-named (publisher_of header.publisher) (parts_for config header.ids payload) found (λ list e. parts-named header.ids payload list are e) is
 
   read-named : (datagram : List ℕ) (read : Result (HeaderValue × List ℕ) HeaderFault) (found : Message) → AreBytes datagram → header_at datagram ≡ read → message_read config read ≡ Some found
-      → IsNamed found
+      → AllByRecursion Named found.parts
   read-named datagram (Err fault) found are e is = none-some found is
   read-named datagram (Ok read) found are e is =
       let begins : BeginsWithHeader datagram read.0 read.1 = wire-back datagram read.1 read.0 are e in
       header-named read.0.security read.0 read.1 found (rest-bytes datagram (wire_bytes begins.wire) read.1 are begins.split) is
 
-  transcoded-named : (datagram : List ℕ) (found : Message) → AreBytes datagram → transcoded config datagram ≡ Some found → IsNamed found
+  transcoded-named : (datagram : List ℕ) (found : Message) → AreBytes datagram → transcoded config datagram ≡ Some found → AllByRecursion Named found.parts
   unfolding transcoded
   transcoded-named datagram found are is = read-named datagram (header_at datagram) found are refl is
 
--- the line of what is transcoded of a datagram, which is the JSON text of the message, is read as the message
-pub line-read : (config : Config) (number : ℕ) (datagram : List ℕ) (message : Message) → IsSound config → AreBytes datagram → transcoded config datagram ≡ Some message
-    → value_of (line config number message) ≡ Some (message_json config.dataset number message.publisher message.parts) → IsReadAs config (line config number message) message
-line-read config number datagram message sound are is value =
-    let named = transcoded-named config sound datagram message are is in
-    record {
-      elements = elements_json config.dataset message.parts;
-      document_is = message_is_document config.dataset number message.publisher message.parts (line config number message) named.short value;
-      parts = parts_are config.dataset (sets_of config) message.parts named.parts;
-    }
+-- ---- its publisher is short
+
+short-by : (b c : Bool) (bytes found : List ℕ) → nat_lt 256 (length bytes) ≡ b → text_if (cond b (Err TooLong) (cond c (Ok bytes) (Err BadUtf8))) ≡ Some found → length found ≤ 256
+short-by true c bytes found e is = none-some found is
+short-by false false bytes found e is = none-some found is
+short-by false true bytes found e is =
+    let low : length bytes ≤ 256 = grind (arith, nat_tests, e) in
+    subst (λ (l : List ℕ). length l ≤ 256) (some-same bytes found is) low
+
+publisher-short : (publisher : Option PublisherValue) (found : List ℕ) → publisher_of publisher ≡ Some found → length found ≤ 256
+publisher-short None found is = none-some found is
+publisher-short (Some publisher) found is =
+    let text = publisher_text publisher in
+    short-by (nat_lt 256 (length text)) (is_utf8 text) text found refl is
+
+both-short : (publisher : Option (List ℕ)) (parts : Option (List Part)) (found : Message) → ((text : List ℕ) → publisher ≡ Some text → length text ≤ 256) → message_of publisher parts ≡ Some found
+    → length found.publisher ≤ 256
+both-short None parts found short is = none-some found is
+both-short (Some publisher) None found short is = none-some found is
+both-short (Some publisher) (Some parts) found short is =
+    subst (λ (m : Message). length m.publisher ≤ 256) (some-same (record { publisher = publisher; parts = parts }) found is) (short publisher refl)
+
+header-short : (config : Config) (security : Option SecurityValue) (header : HeaderValue) (payload : List ℕ) (found : Message)
+    → cond (is_some security) None (message_of (publisher_of header.publisher) (parts_for config header.ids payload)) ≡ Some found → length found.publisher ≤ 256
+header-short config (Some security) header payload found is = none-some found is
+header-short config None header payload found is =
+    both-short (publisher_of header.publisher) (parts_for config header.ids payload) found (λ text e. publisher-short header.publisher text e) is
+
+read-short : (config : Config) (read : Result (HeaderValue × List ℕ) HeaderFault) (found : Message) → message_read config read ≡ Some found → length found.publisher ≤ 256
+read-short config (Err fault) found is = none-some found is
+read-short config (Ok read) found is = header-short config read.0.security read.0 read.1 found is
+
+transcoded-short : (config : Config) (datagram : List ℕ) (found : Message) → transcoded config datagram ≡ Some found → length found.publisher ≤ 256
+unfolding transcoded
+transcoded-short config datagram found is = read-short config (header_at datagram) found is
+
+-- ---- a line
+
+-- the text of what is transcoded of a datagram is refused for nothing
+pub line-accepted : (config : Config) (number : ℕ) (datagram bytes : List ℕ) (message : Message) → transcoded config datagram ≡ Some message
+    → value_of bytes ≡ Some (message_json config.dataset number message.publisher message.parts) → IsOk (document bytes)
+line-accepted config number datagram bytes message is value =
+    ap is_ok (message_is_document config.dataset number message.publisher message.parts bytes (transcoded-short config datagram message is) value)
+
+-- and is read as the message
+pub line-read : (config : Config) (number : ℕ) (datagram bytes : List ℕ) (message : Message) → IsSound config → AreBytes datagram → transcoded config datagram ≡ Some message
+    → value_of bytes ≡ Some (message_json config.dataset number message.publisher message.parts) → IsReadAs config bytes message
+line-read config number datagram bytes message sound are is value found read =
+    message_is_read config.dataset (sets_of config) number message.publisher message.parts bytes found (transcoded-short config datagram message is)
+    (transcoded-named config sound datagram message are is) value read
+
+-- the same of the line that was made
+pub line-back : (config : Config) (number : ℕ) (datagram bytes : List ℕ) (message : Message) → AreBytes datagram → transcoded config datagram ≡ Some message → bytes ≡ line config number message
+    → value_of bytes ≡ Some (message_json config.dataset number message.publisher message.parts) → IsReadBack config number datagram
+line-back config number datagram bytes message are is line_is value other sound also =
+    let same : message ≡ other = some-same message other (sym is ∙ also) in
+    subst (λ (m : Message). IsReadAs config (line config number m) m) same
+    (subst (λ (b : List ℕ). IsReadAs config b message) line_is (line-read config number datagram bytes message sound are is value))
+
+pub none-back : (config : Config) (number : ℕ) (datagram : List ℕ) → transcoded config datagram ≡ None → IsReadBack config number datagram
+none-back config number datagram none message sound is = none-some message (sym none ∙ is)

@@ -5,31 +5,21 @@ use Rattle.ua_base.specs.declared.link.Sent.TheVariants as sent
 use Rattle.ua_base.specs.Journal.{LinkState, sent_list}
 use Rattle.ua_base.specs.Links.{Opening}
 use Rattle.ps_config.specs.declared.parts.Config.{Config}
-use Rattle.ps_config.specs.Sound.{IsSound}
-use Rattle.json_tap.specs.Transcoding.{Message, transcoded, line, lines_of, messages_of, skipped_of}
-use Rattle.json_tap.specs.Reading.{AreReadAs}
+use Rattle.json_tap.specs.Transcoding.{transcoded, line, lines_of, skipped_of}
 
 -- a count that stands still at the end of 64 bits
 abbrev pub counted : ℕ → ℕ
 counted n = min n (2 ^ 64 - 1)
 
--- the messages are those that are transcoded of the datagrams that were sent, in order, and the others are counted
-pub record IsOf (config : Config) (sent : List (List ℕ)) (messages : List Message) (skipped : ℕ) : Type 0 where
-  pub messages_are : messages ≡ messages_of config sent
+-- the lines are those of the datagrams that were sent, in order, and the others are counted
+pub record IsOf (config : Config) (sent : List (List ℕ)) (lines : List (List ℕ)) (skipped : ℕ) : Type 0 where
+  pub lines_are : lines ≡ lines_of config sent
   pub others : skipped ≡ counted (skipped_of config sent)
 
 -- the same of what a link tells that it sent since it was opened
-abbrev pub IsOfLink : Config → Option LinkState → List Message → ℕ → Type 0
-IsOfLink config told messages skipped =
-    (state : LinkState) → told ≡ Some state → IsOf config (sent_list state.journal) messages skipped
-
--- The lines are those of messages, numbered from 0, and for a sound configuration each is read as its message. The messages are those of the datagrams that the
--- link sent.
-pub record HasLines (config : Config) (told : Option LinkState) (lines : List (List ℕ)) (skipped : ℕ) : Type 0 where
-  pub messages : List Message
-  pub lines_are : lines ≡ lines_of config messages
-  pub read : IsSound config → AreReadAs config 0 messages
-  pub of_sent : IsOfLink config told messages skipped
+abbrev pub IsOfLink : Config → Option LinkState → List (List ℕ) → ℕ → Type 0
+IsOfLink config told lines skipped =
+    (state : LinkState) → told ≡ Some state → IsOf config (sent_list state.journal) lines skipped
 
 -- what a link was opened with by way of a tap
 abbrev pub opened_if : Bool → Option Opening → Option Opening

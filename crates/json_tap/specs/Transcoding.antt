@@ -129,13 +129,13 @@ abbrev pub lines_from : Config → ℕ → List Message → List (List ℕ)
 lines_from config number [] = []
 lines_from config number (message ∷ messages) = line config number message ∷ lines_from config (number + 1) messages
 
--- the lines of all messages, numbered from 0
-abbrev pub lines_of : Config → List Message → List (List ℕ)
-lines_of config messages = lines_from config 0 messages
-
 -- the messages that are transcoded of datagrams, in their order
 abbrev pub messages_of : Config → List (List ℕ) → List Message
 messages_of config datagrams = filter_map (transcoded config) datagrams
+
+-- their lines, numbered from 0
+abbrev pub lines_of : Config → List (List ℕ) → List (List ℕ)
+lines_of config datagrams = lines_from config 0 (messages_of config datagrams)
 
 -- how many datagrams are not transcoded
 abbrev pub skipped_of : Config → List (List ℕ) → ℕ

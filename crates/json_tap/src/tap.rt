@@ -4,7 +4,9 @@ ghost use Rattle.ua_base.specs.Cause.{Rose};
 ghost use Rattle.ua_base.specs.Journal.{Tells};
 ghost use Rattle.ua_base.specs.Links.{KeepsLink};
 ghost use Rattle.ua_base.specs.Net.{Sends, Queues};
-ghost use Rattle.json_tap.specs.Keeping.{HasLines};
+ghost use Rattle.std.proofs.Props.{props};
+ghost use Rattle.json_tap.specs.Keeping.{IsOfLink};
+ghost use Rattle.json_tap.specs.Reading.{LinkIsReadAs, link-prop};
 
 use crate::book::Book;
 use crate::inner::{Inner, Tapped};
@@ -34,7 +36,8 @@ pub struct Tap<'a, L: Link, M: Made> {
         → (L.told link.now ≡ M.told) × (L.opened_with link.now ≡ M.opening) },
     ghost opened: { is_open ≡ true → IsSome (L.opened_with link.now) },
     ghost kept: { is_open ≡ true
-        → HasLines M.config (L.told link.now) book.lines.items book.skipped },
+        → IsOfLink M.config (L.told link.now) book.lines.items book.skipped },
+    ghost read: { is_open ≡ true → LinkIsReadAs M.config (L.told link.now) } by { Prim.hlevel (link-prop, props) },
 }
 
 impl<'a, L: Link, M: Made> Tap<'a, L, M> {
@@ -68,7 +71,7 @@ impl<'a, L: Link, M: Made> Tap<'a, L, M> {
     /// The lines, in the order of the datagrams.
     pub fn lines(&self) -> &[JsonLine]
         ensures lines { result.now ≡ lines_in self.now }
-        ensures of_sent { is_open self.now ≡ true → HasLines
+        ensures of_sent { is_open self.now ≡ true → IsOfLink
             M.config (L.told (link_of self.now)) result.now (skipped_in self.now) }
     {
         &self.book.lines
@@ -77,7 +80,7 @@ impl<'a, L: Link, M: Made> Tap<'a, L, M> {
     /// How many datagrams that were sent gave no line. The count stands still at 2^64 - 1.
     pub fn skipped(&self) -> u64
         ensures skipped { result ≡ skipped_in self.now }
-        ensures of_sent { is_open self.now ≡ true → HasLines
+        ensures of_sent { is_open self.now ≡ true → IsOfLink
             M.config (L.told (link_of self.now)) (lines_in self.now) result }
     {
         self.book.skipped
@@ -89,8 +92,9 @@ impl<'a, L: Link, M: Made> Tap<'a, L, M> {
         ensures link { result.link.now ≡ link_of self.entry }
         ensures lines { result.lines.items ≡ lines_in self.entry }
         ensures skipped { result.skipped ≡ skipped_in self.entry }
-        ensures of_sent { is_open self.entry ≡ true → HasLines
+        ensures of_sent { is_open self.entry ≡ true → IsOfLink
             M.config (L.told result.link.now) result.lines.items result.skipped }
+        ensures read { is_open self.entry ≡ true → LinkIsReadAs M.config (L.told result.link.now) }
         ensures opened { is_open self.entry ≡ true → IsSome (L.opened_with result.link.now) }
         ensures unopened { is_open self.entry ≡ false
             → (L.told result.link.now ≡ M.told) × (L.opened_with result.link.now ≡ M.opening) }

@@ -11,9 +11,7 @@ use Rattle.ps_config.specs.declared.parts.Config.{Config}
 use Rattle.ps_config.specs.declared.parts.ReaderPart.{ReaderPart}
 use Rattle.reader_group.specs.Members.{numbering_of}
 use Rattle.json_frames.specs.Parts.{Part, meta_at}
-use Rattle.json_tap.specs.Reading.{AreReadAs}
-use Rattle.json_tap.specs.Transcoding.{Message}
-use Rattle.json_text.specs.Reading.{parts_of}
+use Rattle.json_text.specs.Reading.{ReadsLines}
 use Rattle.json_text.specs.Readers.{HasRecords, KeepsRecords, brought, came, is_for}
 use Rattle.json_text.proofs.NearPlaces.{near-arrivals}
 use Rattle.json_text.proofs.ShortNumbers.{came-short}
@@ -75,8 +73,8 @@ keeps_by arrives numbered unnumbered numberings.Unnumbered major events short ba
     let some = arrives numberings.Unnumbered major events short in
     record { arrivals = some.0; are = some.1; near = tt; keeps = λ others is near. unnumbered major events others is }
 
-pub keeps-records : Arrives → Numbered → Unnumbered → (config : Config) (messages : List Message) (reader : ReaderPart) → AreReadAs config 0 messages
-    → HasRecords config (parts_of messages) reader
-keeps-records arrives numbered unnumbered config messages reader read =
-    keeps_by arrives numbered unnumbered (numbering_of reader.numbering) (meta_at config.dataset reader.dataset).major (came reader (parts_of messages))
-    (came-short config messages reader read) (bare reader (reverse (parts_of messages)))
+pub keeps-records : Arrives → Numbered → Unnumbered → (config : Config) (lines : List (List ℕ)) (parts : List Part) (reader : ReaderPart) → ReadsLines config lines parts
+    → HasRecords config parts reader
+keeps-records arrives numbered unnumbered config lines parts reader read =
+    keeps_by arrives numbered unnumbered (numbering_of reader.numbering) (meta_at config.dataset reader.dataset).major (came reader parts)
+    (came-short config lines parts reader read) (bare reader (reverse parts))

@@ -1,5 +1,5 @@
 -- The frames that are read of lines have numbers of 16 bits.
-use Rattle.std.proofs.Common.{inl, inr, ℕ, ◌+◌, ◌%◌, ◌<◌, List, [], ◌∷◌, ◌++◌, reverse, Bool, true, false, cond, Option, Some, None, sym, subst, arith}
+use Rattle.std.proofs.Common.{inl, inr, ℕ, ◌%◌, ◌<◌, List, [], ◌∷◌, ◌++◌, reverse, Bool, true, false, cond, Option, Some, None, sym, subst, arith}
 use Rattle.std.specs.Prelude.{◌^◌, IfSome, option_map, ⊤}
 use Rattle.std.specs.List.{cons_option, filter_map}
 use Rattle.std.proofs.lemmas.List.{reverse-append}
@@ -9,11 +9,10 @@ use Rattle.frame_codec.specs.Frames.{Frame}
 use Rattle.dataset_reader.specs.Keeping.{AreShort, Event, Framed}
 use Rattle.ps_config.specs.declared.parts.Config.{Config}
 use Rattle.ps_config.specs.declared.parts.ReaderPart.{ReaderPart}
-use Rattle.json_frames.specs.Parts.{Part}
+use Rattle.json_frames.specs.Parts.{Part, parts_in}
 use Rattle.json_frames.specs.Reading.{GivesFrame, ReadAs}
-use Rattle.json_tap.specs.Reading.{AreReadAs}
-use Rattle.json_tap.specs.Transcoding.{Message, sets_of}
-use Rattle.json_text.specs.Reading.{parts_of}
+use Rattle.json_tap.specs.Transcoding.{sets_of}
+use Rattle.json_text.specs.Reading.{ReadsLine, ReadsLines}
 use Rattle.json_text.specs.Readers.{brought, came, is_for}
 
 abbrev IsShort : Option ℕ → Type 0
@@ -41,11 +40,14 @@ short_append : (one other : List Part) → AreShortParts one → AreShortParts o
 short_append [] other first second = second
 short_append (part ∷ one) other first second = (first.0, short_append one other first.1 second)
 
-messages_short : (config : Config) (number : ℕ) (messages : List Message) → AreReadAs config number messages → AreShortParts (parts_of messages)
-messages_short config number [] read = tt
-messages_short config number (message ∷ messages) read =
-    short_append message.parts (parts_of messages) (parts_short config.dataset (sets_of config) read.0.elements message.parts 0 read.0.parts)
-    (messages_short config (number + 1) messages read.1)
+line_short : (config : Config) (line : List ℕ) (parts : List Part) → ReadsLine config line parts → AreShortParts parts
+line_short config line parts read =
+    subst AreShortParts (sym read.2) (parts_short config.dataset (sets_of config) read.1.items (parts_in config.dataset read.0.parts) read.1.bad read.1.parts)
+
+lines_short : (config : Config) (lines : List (List ℕ)) (parts : List Part) → ReadsLines config lines parts → AreShortParts parts
+lines_short config [] parts read = subst AreShortParts (sym read) tt
+lines_short config (line ∷ lines) parts read =
+    subst AreShortParts (sym read.4) (short_append read.0 read.1 (line_short config line read.0 read.2) (lines_short config lines read.1 read.3))
 
 short_reverse : (parts : List Part) → AreShortParts parts → AreShortParts (reverse parts)
 short_reverse [] short = tt
@@ -61,5 +63,5 @@ events_short reader [] short = tt
 events_short reader (part ∷ parts) short =
     event_short (is_for reader part.writer part.set) part.frame (filter_map (brought reader) parts) short.0 (events_short reader parts short.1)
 
-pub came-short : (config : Config) (messages : List Message) (reader : ReaderPart) → AreReadAs config 0 messages → AreShort (came reader (parts_of messages))
-came-short config messages reader read = events_short reader (reverse (parts_of messages)) (short_reverse (parts_of messages) (messages_short config 0 messages read))
+pub came-short : (config : Config) (lines : List (List ℕ)) (parts : List Part) (reader : ReaderPart) → ReadsLines config lines parts → AreShort (came reader parts)
+came-short config lines parts reader read = events_short reader (reverse parts) (short_reverse parts (lines_short config lines parts read))

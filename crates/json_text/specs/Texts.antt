@@ -10,8 +10,7 @@ use Rattle.ps_report.specs.Lines.{feed, fields_text, number_or_dash, waits_text}
 use Rattle.ps_report.specs.Reports.{end_line}
 use Rattle.json_frames.specs.Parts.{Part, meta_at}
 use Rattle.json_text.specs.Matching.{json_readers}
-use Rattle.json_tap.specs.Transcoding.{Message, lines_of}
-use Rattle.json_text.specs.Reading.{AreLinesOf, parts_of}
+use Rattle.json_text.specs.Reading.{ReadsLines}
 use Rattle.json_text.specs.Readers.{kept_for}
 
 -- each line ends with a line feed
@@ -43,13 +42,13 @@ readers_text config parts readers = flat_map (reader_line config parts) readers
 unfoldable pub count_line : ℕ → ℕ → List ℕ
 count_line lines skipped = codes "json lines " ++ decimal lines ++ codes " skipped " ++ decimal skipped ++ feed
 
--- the lines of the messages, what the readers keep of their parts, and the numbers of the lines and of the datagrams without one
-abbrev pub json_text : Config → List Message → ℕ → List ℕ
-json_text config messages skipped =
-    lines_text (lines_of config messages) ++ readers_text config (parts_of messages) (json_readers config)
-    ++ count_line (length messages) skipped ++ end_line
+-- the lines, what the readers keep of the parts that are read of them, and the numbers of the lines and of the datagrams without one
+abbrev pub json_text : Config → List (List ℕ) → List Part → ℕ → List ℕ
+json_text config lines parts skipped =
+    lines_text lines ++ readers_text config parts (json_readers config) ++ count_line (length lines) skipped ++ end_line
 
--- the text tells the messages that the lines are of
-abbrev pub TellsLines : Config → List (List ℕ) → ℕ → List ℕ → Type 0
-TellsLines config lines skipped text =
-    (messages : List Message) → AreLinesOf config messages lines → text ≡ json_text config messages skipped
+-- the text tells these lines, and what is kept of the parts that are read of them
+pub record TellsLines (config : Config) (lines : List (List ℕ)) (skipped : ℕ) (text : List ℕ) : Type 0 where
+  pub parts : List Part
+  pub read : ReadsLines config lines parts
+  pub text_is : text ≡ json_text config lines parts skipped

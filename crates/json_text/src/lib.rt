@@ -10,5 +10,5 @@ mod records;
 mod sets;
 mod text;
 
-pub use laws::readers_keep_records;
+pub use laws::{lines_are_read_as_their_messages, readers_keep_records};
 pub use text::text_of_lines;

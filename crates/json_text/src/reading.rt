@@ -1,10 +1,11 @@
 //! Reading the lines back.
-ghost use Rattle.std.specs.Prelude.{◌≡◌, IfOk, OnOk, All};
+ghost use Rattle.std.specs.Prelude.{◌≡◌, IfOk, IsOk, OnOk, All};
 ghost use Rattle.ps_config.specs.Sound.{IsSound};
+ghost use Rattle.json_frames.specs.Documents.{document};
 ghost use Rattle.json_frames.specs.Parts.{IsPartOf, parts_in};
 ghost use Rattle.json_frames.specs.Reading.{HavePlaces};
 ghost use Rattle.json_tap.specs.Transcoding.{sets_of};
-ghost use Rattle.json_text.specs.Reading.{AreLines, ArePartsOf, IsLine};
+ghost use Rattle.json_text.specs.Reading.{ReadsLines};
 ghost use Rattle.json_text.specs.Parts.{AddsLine};
 
 use crate::sets::sets_of;
@@ -20,9 +21,8 @@ pub(crate) fn parts_of(
     config: &Config,
     lines: &[JsonLine],
 ) -> Result<Vec<JsonPart>, NoMemory>
-    requires sound { IsSound config.now }
-    requires lines { AreLines config.now lines.now }
-    ensures read { IfOk result (λ parts. ArePartsOf config.now lines.now
+    requires { IsSound config.now }
+    ensures read { IfOk result (λ parts. ReadsLines config.now lines.now
         (parts_in config.now.dataset parts.items)) }
     ensures writable { IfOk result (λ parts. All (IsPartOf config.now.dataset) parts.items) }
 {
@@ -44,7 +44,7 @@ fn read_line(
 ) -> Result<(), NoMemory>
     requires sets { sets.now ≡ sets_of config.now }
     requires places { HavePlaces config.now.dataset sets.now }
-    requires line { IsLine config.now line.now }
+    requires accepted { IsOk (document line.now) }
     ensures { OnOk result (AddsLine config.now line.now parts.old.items parts.new.items) }
 {
     match read_json(alloc, config.dataset.as_slice(), sets, line) {
@@ -53,6 +53,7 @@ fn read_line(
             Ok(())
         }
         Err(JsonEnd::Memory) => Err(NoMemory),
-        Err(_) => unreachable!(),
+        Err(JsonEnd::NotJson | JsonEnd::NotData | JsonEnd::BadPublisher | JsonEnd::NoMessages) =>
+            unreachable!(),
     }
 }

@@ -4,7 +4,6 @@ ghost use Rattle.dataset_reader.specs.Reader.{IsReaderOf, kept_by};
 ghost use Rattle.ps_config.specs.Sound.{IsSound, IsReader, IsReadGroup};
 ghost use Rattle.json_frames.specs.Parts.{IsPartOf, meta_at, parts_in};
 ghost use Rattle.json_text.specs.Matching.{is_matched, readers_in, json_readers};
-ghost use Rattle.json_text.specs.Reading.{AreLines};
 ghost use Rattle.json_text.specs.Texts.{lines_text, kept_text, reader_line, readers_text, TellsLines};
 
 use crate::matching::{is_matched, is_plain};
@@ -27,8 +26,7 @@ pub fn text_of_lines(
     lines: &[JsonLine],
     skipped: u64,
 ) -> Result<Vec<u8>, NoMemory>
-    requires sound { IsSound config.now }
-    requires lines { AreLines config.now lines.now }
+    requires { IsSound config.now }
     ensures { IfOk result (λ text. TellsLines config.now lines.now skipped text.items) }
 {
     let parts = parts_of(alloc, config, lines)?;

@@ -4,4 +4,8 @@ use Rattle.json_command.proofs.command.written.Goals as goal
 pub returns-clause-text : goal.returns-clause-text
 returns-clause-text g c =
     is-json c.args.accepted.now.config c.args.accepted.now.script (g.A.Link.told c.written_play.new.link) c.in_ok-written.written.lines.items c.deref.result.now c.in_ok-written.written.skipped
-    c.in_ok-text_of_lines.field-0.items c.deref.ensures.value c.in_ok-written.ensures.written c.in_ok-text_of_lines.ensures c.readers_keep_records.ensures
+    c.in_ok-text_of_lines.field-0.items c.requires.good.sound c.deref.ensures.value c.in_ok-written.ensures.written c.in_ok-text_of_lines.ensures (record {
+      records = c.readers_keep_records.ensures;
+      messages = c.lines_are_read_as_their_messages.ensures;
+      own = c.lines_have_their_writers_frames.ensures;
+    })
