@@ -3,7 +3,6 @@ use Rattle.lane_groups.specs.declared.turn.TurnIn.{TurnIn}
 use Rattle.lane_groups.specs.Deeds.{turns_deeds}
 use Rattle.lanes_command.specs.Courses.{AreTurnsOf}
 use Rattle.lanes_command.proofs.Played.{have-groups, is-lanes, opened-new, stand-all}
-use Rattle.ua_base.proofs.Links.{KeepsLink-then}
 use Rattle.script_player.proofs.Openings.{opens-once}
 use Rattle.lanes_command.proofs.playing.play_lanes.Goals as goal
 
