@@ -1,5 +1,5 @@
 -- What a tick leaves of the session.
-use Rattle.std.proofs.Common.{◌≡◌, refl, sym, ap, ◌∙◌, subst, arith, ℕ, ◌+◌, ◌<◌, List, length, Bool, Option}
+use Rattle.std.proofs.Common.{◌≡◌, refl, sym, ap, ◌∙◌, subst, arith, ℕ, ◌+◌, ◌<◌, List, ◌∷◌, length, Bool, Option}
 use Rattle.ua_base.specs.Journal.{LinkState}
 use Rattle.pubsub_states.specs.Changes.{TreeValue}
 use Rattle.dataset_meta.specs.Metas.{HasGrown}

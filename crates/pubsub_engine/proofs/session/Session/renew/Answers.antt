@@ -6,11 +6,11 @@ use Rattle.pubsub_engine.specs.declared.session.Session.{Session}
 use Rattle.pubsub_engine.proofs.Rings.{DoesRenew, renewed-lives, renewed-session}
 use Rattle.pubsub_engine.proofs.session.Session.renew.Goals as goal
 
-pub renew-requires-clause-holds : goal.renew-requires-clause-holds
-renew-requires-clause-holds c = c.requires.session.subscriber
+pub renew-requires : goal.renew-requires
+renew-requires c = c.requires.session.subscriber
 
-pub renew-2-requires-clause-there : goal.renew-2-requires-clause-there
-renew-2-requires-clause-there c =
+pub renew-requires-2 : goal.renew-requires-2
+renew-requires-2 c =
     let count = c.requires.session.publisher.senders.count in omega (arith, count, c.requires.there)
 
 pub returns-clause-session : goal.returns-clause-session
