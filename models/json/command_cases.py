@@ -99,6 +99,7 @@ row("two writers in a datagram, two groups, and readers of either", TWO, ["write
     expect=["json lines 8 skipped 0", "end"])
 row("a script that is refused", None, ["tick 100", "tock"], status="4")
 row("a configuration that is refused", config().replace("UInt32", "UInt33"), [TICK], status="3")
+row("a link that isn't opened, which isn't want of memory", None, [WRITE, TICK], "unopened", status="8")
 
 
 def check(path):

@@ -14,6 +14,8 @@ pub(crate) struct Case {
     /// The numbers of the sends and of the receives that fail.
     pub(crate) sends: Vec<u64>,
     pub(crate) receives: Vec<u64>,
+    /// Each opening of the link fails.
+    pub(crate) open_fails: bool,
 }
 
 impl Case {
@@ -24,6 +26,7 @@ impl Case {
             script: Vec::new(alloc),
             sends: Vec::new(alloc),
             receives: Vec::new(alloc),
+            open_fails: false,
         }
     }
 
@@ -35,6 +38,7 @@ impl Case {
             "script" => self.script = line.text(alloc)?,
             "sends" => self.sends = numbers_of(alloc, line)?,
             "receives" => self.receives = numbers_of(alloc, line)?,
+            "unopened" => self.open_fails = true,
             "json" => return run(rt, alloc, self),
             _ => return Err(LineFault::Call),
         }

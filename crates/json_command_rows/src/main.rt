@@ -1,6 +1,6 @@
 //! Cases of the command `json`, in lines. `config` gives the configuration that the file `c` has, and `script` the script that the
 //! file `s` has, several lines in one; `no_config` takes the configuration away; `sends` and `receives` give the numbers of the calls
-//! of the link that fail; `json` runs the command. Each line is printed again, and behind `json` what the command writes and the
+//! of the link that fail, and from `unopened` on each opening of it fails; `json` runs the command. Each line is printed again, and behind `json` what the command writes and the
 //! status that it ends with.
 #![tactic(auto)]
 

@@ -12,7 +12,7 @@ pub(crate) fn run<R: Wait>(rt: &R, alloc: Global, case: &Case) -> Answer {
     let mut folder = folder_of(alloc, case)?;
     let sends = Vec::from_slice(alloc, &case.sends)?;
     let receives = Vec::from_slice(alloc, &case.receives)?;
-    let mut link = MemoryLink::new(alloc, Vec::new(alloc), sends, receives, false);
+    let mut link = MemoryLink::new(alloc, Vec::new(alloc), sends, receives, case.open_fails);
     let mut out = MemorySink::new(alloc, Vec::new(alloc))?;
     let config = config_name(case);
     let status = json(rt, alloc, "s", config, &mut folder, &mut link, &mut out).number();
