@@ -7,7 +7,7 @@ use Rattle.pubsub_engine.proofs.Rings.{DoesRenew, renewed-lives, renewed-session
 use Rattle.pubsub_engine.proofs.session.Session.renew.Goals as goal
 
 pub renew-requires : goal.renew-requires
-renew-requires c = c.requires.session.subscriber
+renew-requires c = record { holds = c.requires.session.subscriber }
 
 pub renew-requires-2 : goal.renew-requires-2
 renew-requires-2 c =
