@@ -1,8 +1,12 @@
 // Refuses the allocation with the number FAIL_AT of a program that is started with this library before the C library, and with
-// COUNT tells their number on the error output behind all else.
+// COUNT tells their number on the error output behind all else. With LARGE it refuses each allocation of so many bytes or more from the
+// moment on at which the program binds a socket.
+#define _GNU_SOURCE
+#include <dlfcn.h>
 #include <errno.h>
 #include <stdio.h>
 #include <stdlib.h>
+#include <sys/socket.h>
 #include <sys/syscall.h>
 #include <unistd.h>
 
@@ -11,26 +15,33 @@ void *__libc_calloc(size_t, size_t);
 void *__libc_realloc(void *, size_t);
 void *__libc_memalign(size_t, size_t);
 
-static long made, refused = -1;
+static long made, refused = -1, large;
 
-static int refuses(void) {
+int bind(int socket, const struct sockaddr *address, socklen_t length) {
+  const char *bytes = getenv("LARGE");
+  large = bytes ? atol(bytes) : 0;
+  return ((int (*)(int, const struct sockaddr *, socklen_t))dlsym(RTLD_NEXT, "bind"))(socket, address, length);
+}
+
+static int refuses(size_t size) {
   if (refused < 0) {
     const char *at = getenv("FAIL_AT");
     refused = at ? atol(at) : 0;
   }
-  if (__atomic_add_fetch(&made, 1, __ATOMIC_SEQ_CST) != refused) return 0;
+  int is_large = large && size >= (size_t)large;
+  if (__atomic_add_fetch(&made, 1, __ATOMIC_SEQ_CST) != refused && !is_large) return 0;
   errno = ENOMEM;
   return 1;
 }
 
-void *malloc(size_t size) { return refuses() ? NULL : __libc_malloc(size); }
-void *calloc(size_t count, size_t size) { return refuses() ? NULL : __libc_calloc(count, size); }
-void *realloc(void *old, size_t size) { return refuses() ? NULL : __libc_realloc(old, size); }
-void *memalign(size_t align, size_t size) { return refuses() ? NULL : __libc_memalign(align, size); }
+void *malloc(size_t size) { return refuses(size) ? NULL : __libc_malloc(size); }
+void *calloc(size_t count, size_t size) { return refuses(count * size) ? NULL : __libc_calloc(count, size); }
+void *realloc(void *old, size_t size) { return refuses(size) ? NULL : __libc_realloc(old, size); }
+void *memalign(size_t align, size_t size) { return refuses(size) ? NULL : __libc_memalign(align, size); }
 void *aligned_alloc(size_t align, size_t size) { return memalign(align, size); }
 
 int posix_memalign(void **result, size_t align, size_t size) {
-  if (refuses()) return ENOMEM;
+  if (refuses(size)) return ENOMEM;
   *result = __libc_memalign(align, size);
   return *result ? 0 : ENOMEM;
 }

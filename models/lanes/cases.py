@@ -54,6 +54,10 @@ row("no group", config(), FIRST, expect=["lanes sent 0 failed 0", "end", "status
 row("fates are taken, and don't matter here", None, ["fate 0 drop", "fate 1 repeat 3"] + FIRST, expect=["lane g1 sent 2", "writer w1 2: 0=1 1=1", "lanes sent 2 failed 0"])
 row("the first send fails", None, FIRST, "sends 0", expect=["lane g1 sent 1", "writer w1 2: 0=1 1=1", "lanes sent 1 failed 1", "status 0"])
 row("both sends fail", None, FIRST, "sends 0 1", expect=["lane g1 sent 0", "writer w1 2: 0=1 1=1", "lanes sent 0 failed 2", "status 0"])
+UNOPENED = ["cannot open link", "status 8"]
+row("a link that can't be opened", None, FIRST, "unopened", expect=UNOPENED)
+row("two groups over a link that can't be opened", TWO, FIRST, "unopened", "room 1", expect=UNOPENED)
+row("a line that lanes don't take is told before a link is opened", None, ["disable w1"], "unopened", expect=["script: line 1 S13 NotInLanes"] + S13)
 DELTAS = ", key_frame_count = 10"
 row("each tick has the sample of the writes before it", config(group(1, writer=DELTAS)),
     ["write 0 demo a=1", "write 5 demo b=1", "tick 100", "write 3 demo a=2", "tick 100", "tick 100", "write 0 demo a=3"],

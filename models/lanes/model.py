@@ -77,15 +77,16 @@ def told(text, script, fails=()):
             out.append(f"writer {c.name} {len(w.log)}:" + "".join(f" {p}={v}" for p, v in w.log))
     return out + [f"lanes sent {sum(sent)} failed {failed}", "end"]
 
-def answer(text, script, fails, refusal):
+def answer(text, script, fails, opens, refusal):
     """what the command writes, and its status"""
     if refusal: return [refusal[1], f"status {refusal[0]}"]
     line = refused(script)
     if line is not None: return [f"script: line {line} S13 NotInLanes", "status 4"]
+    if not opens: return ["cannot open link", "status 8"]
     return told(text, script, fails) + ["status 0"]
 
 def main():
-    text, script, fails, refusal = "", "", set(), None
+    text, script, fails, opens, refusal = "", "", set(), True, None
     for line in sys.stdin.read().splitlines():
         print(line + (" ->" if line == "run" else ""))
         if line.startswith("# refused "):
@@ -96,8 +97,9 @@ def main():
         if word == "config": text = rest
         elif word == "script": script = rest
         elif word == "sends": fails = {int(k) for k in rest.split()}
+        elif word == "unopened": opens = False
         elif word == "run":
-            for answered in answer(text, script, fails, refusal): print(answered)
-            text, script, fails, refusal = "", "", set(), None
+            for answered in answer(text, script, fails, opens, refusal): print(answered)
+            text, script, fails, opens, refusal = "", "", set(), True, None
 
 if __name__ == "__main__": main()

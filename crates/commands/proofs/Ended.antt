@@ -5,7 +5,7 @@ use Rattle.commands.specs.declared.status.Status.{Status}
 use Rattle.commands.specs.declared.status.Status.TheVariants.{Done, BadWords, ConfigRefused, NoSource, ScriptRefused, NotInLanes, Unread, Unwritten, OutOfMemory, Unopened, Long}
 use Rattle.commands.specs.Outputs.{EndsWriting}
 use Rattle.commands.specs.Outside.{Outside, Wire}
-use Rattle.commands.specs.Statuses.{IsDone, IsUnread, IsUnwritten, IsUnopened}
+use Rattle.commands.specs.Statuses.{IsDone, IsUnread, IsUnwritten, IsUnopened, IsPerformed}
 use Rattle.commands.specs.Links.{IsBeforeLink}
 use Rattle.commands.specs.Sessions.{Text, Refusal, EndsAccepting, EndsBefore, Writes, Says}
 
@@ -39,6 +39,7 @@ written_late (Long file) old new text written = absurd written
 pub record IsEarly (status : Status) : Type 0 where
   pub opened : IsUnopened status → ⊥
   pub written : IsUnwritten status → ⊥
+  pub performed : IsPerformed status → ⊥
 
 pub accepting_early : (fates : Bool) (status : Status) (tells : List ℕ → ToldFile) (script_name : List ℕ) (config_name : Option (List ℕ)) → EndsAccepting fates tells script_name config_name status
     → IsEarly status
@@ -48,11 +49,11 @@ accepting_early fates Done tells script_name config_name ends = absurd ends
 accepting_early fates BadWords tells script_name config_name ends = absurd ends
 accepting_early fates (NoSource set) tells script_name config_name ends = absurd ends
 accepting_early fates (NotInLanes line) tells script_name config_name ends = absurd ends
-accepting_early fates (ConfigRefused code path) tells script_name config_name ends = record { opened = λ is. omega arith; written = λ is. omega arith }
-accepting_early fates (ScriptRefused line fault) tells script_name config_name ends = record { opened = λ is. omega arith; written = λ is. omega arith }
-accepting_early fates (Unread file) tells script_name config_name ends = record { opened = λ is. omega arith; written = λ is. omega arith }
-accepting_early fates OutOfMemory tells script_name config_name ends = record { opened = λ is. omega arith; written = λ is. omega arith }
-accepting_early fates (Long file) tells script_name config_name ends = record { opened = λ is. omega arith; written = λ is. omega arith }
+accepting_early fates (ConfigRefused code path) tells script_name config_name ends = record { opened = λ is. omega arith; written = λ is. omega arith; performed = λ is. elim is [ inl e ↦ omega (arith, e) | inr e ↦ omega (arith, e) ] }
+accepting_early fates (ScriptRefused line fault) tells script_name config_name ends = record { opened = λ is. omega arith; written = λ is. omega arith; performed = λ is. elim is [ inl e ↦ omega (arith, e) | inr e ↦ omega (arith, e) ] }
+accepting_early fates (Unread file) tells script_name config_name ends = record { opened = λ is. omega arith; written = λ is. omega arith; performed = λ is. elim is [ inl e ↦ omega (arith, e) | inr e ↦ omega (arith, e) ] }
+accepting_early fates OutOfMemory tells script_name config_name ends = record { opened = λ is. omega arith; written = λ is. omega arith; performed = λ is. elim is [ inl e ↦ omega (arith, e) | inr e ↦ omega (arith, e) ] }
+accepting_early fates (Long file) tells script_name config_name ends = record { opened = λ is. omega arith; written = λ is. omega arith; performed = λ is. elim is [ inl e ↦ omega (arith, e) | inr e ↦ omega (arith, e) ] }
 
 module _ (IsText : Text) (refusal : Refusal) (fates : Bool) where
   -- the last write ends the command

@@ -1,7 +1,8 @@
 -- How the command ends, from what its parts did.
-use Rattle.std.proofs.Common.{◌≡◌, ◌≤◌, inl, inr, ℕ, Bool, List, Option, Some, None, refl, sym, subst, arith}
+use Rattle.std.proofs.Common.{◌≡◌, ◌≤◌, ◌⊎◌, true, inl, inr, ℕ, Bool, List, Option, Some, None, refl, sym, subst, arith}
 use Rattle.std.specs.Prelude.{◌≢◌}
-use Rattle.ua_base.specs.Cause.{Rose, HasCause}
+use Rattle.ua_base.specs.Cause.{Rose, HasCause, counted_if}
+use Rattle.ua_base.specs.Links.{Opening}
 use Rattle.ps_config.specs.declared.parts.Config.{Config}
 use Rattle.ps_script.specs.declared.script.Script.{Script}
 use Rattle.script_player.specs.declared.play.PlayEnd.{PlayEnd}
@@ -11,9 +12,9 @@ use Rattle.commands.specs.declared.status.Status.{Status}
 use Rattle.commands.specs.declared.status.Status.TheVariants.{NotInLanes}
 use Rattle.commands.specs.Outputs.{EndsWriting}
 use Rattle.commands.specs.Outside.{Outside, Wire}
-use Rattle.commands.specs.Statuses.{IsUnread, IsUnwritten, IsUnopened}
+use Rattle.commands.specs.Statuses.{IsUnread, IsUnwritten, IsUnopened, IsPerformed}
 use Rattle.commands.specs.Endings.{status_of}
-use Rattle.commands.specs.Links.{UsesLink}
+use Rattle.commands.specs.Links.{IsOpenedOnce, IsQuietOrOpened, UsesLink}
 use Rattle.commands.specs.Sessions.{Text, Refusal, Accepts, EndsAccepting, OpensFor, Says, SessionEnds}
 use Rattle.commands.proofs.Ended.{says_written, says_unaccepted, written_late, accepting_early}
 use Rattle.commands.proofs.ToldSessions.{config_refused, config_long, script_refused, script_long, completes}
@@ -26,10 +27,19 @@ OpensAs config script before after = after.opened_with ≢ before.opened_with �
 abbrev pub KeepsFiles : Outside → Outside → Type 0
 KeepsFiles old new = ((name : List ℕ) → new.file name ≡ old.file name) × (old.read_faults ≤ new.read_faults)
 
+-- a link whose opening didn't fail wasn't left unopened
+pub not_unopened : (Opens : Option Opening → Type 0) (unopened performed : Type 0) (before after : Wire) → UsesLink Opens unopened performed before after → unopened → IsQuietOrOpened before after → ⊥
+not_unopened Opens unopened performed before after link is (inl quiet) = quiet (link.cause.rose is)
+not_unopened Opens unopened performed before after link is (inr opened) = opened (link.unused is).2
+
+-- a link that isn't used isn't opened
+pub stays-unopened : {performed : Type 0} (wire : Wire) → (performed → ⊥) → IsOpenedOnce performed wire wire
+stays-unopened wire not_so = record { making = refl; at_most_once = inl refl; once = λ is. absurd (not_so is) }
+
 module _ (IsText : Text) (refusal : Refusal) (fates : Bool) where
   session_ends : (status : Status) (script_name : List ℕ) (config_name : Option (List ℕ)) (old new : Outside) (before after : Wire)
       → Says IsText refusal fates status script_name config_name old new after
-      → UsesLink (OpensFor refusal fates old.file script_name config_name) (IsUnopened status) before after → HasCause old.read_faults new.read_faults (IsUnread status)
+      → UsesLink (OpensFor refusal fates old.file script_name config_name) (IsUnopened status) (IsPerformed status) before after → HasCause old.read_faults new.read_faults (IsUnread status)
       → HasCause old.write_faults new.write_faults (IsUnwritten status) → ((name : List ℕ) → new.file name ≡ old.file name)
       → SessionEnds IsText refusal fates status script_name config_name old new before after
   session_ends status script_name config_name old new before after h link reads writes files = record {
@@ -39,8 +49,9 @@ module _ (IsText : Text) (refusal : Refusal) (fates : Bool) where
     script_refused = λ reader config bytes. script_refused IsText refusal fates status script_name config_name old new after reader config bytes h;
     config_long = λ name bytes. config_long IsText refusal fates status script_name config_name old new after name bytes h;
     script_long = λ config bytes. script_long IsText refusal fates status script_name config_name old new after config bytes h;
-    complete = λ told folder_quiet out_quiet link_quiet.
-        elim (completes IsText refusal fates {X = ⊥} status script_name config_name old new after h told (λ is. folder_quiet (reads.rose is)) (λ is. out_quiet (writes.rose is)) (λ is. link_quiet (link.cause.rose is))) [
+    complete = λ told folder_quiet out_quiet opened.
+        elim (completes IsText refusal fates {X = ⊥} status script_name config_name old new after h told (λ is. folder_quiet (reads.rose is)) (λ is. out_quiet (writes.rose is))
+        (λ is. not_unopened (OpensFor refusal fates old.file script_name config_name) (IsUnopened status) (IsPerformed status) before after link is opened)) [
           | inl e ↦ inl e
           | inr rest ↦ elim rest [ inl e ↦ inr e | inr e ↦ absurd e ]
         ];
@@ -58,7 +69,7 @@ module _ (IsText : Text) (refusal : Refusal) (fates : Bool) where
   ends_unaccepted status script_name config_name old new wire ends rose keeps same =
       let early = accepting_early fates status old.file script_name config_name ends in
       session_ends status script_name config_name old new wire wire (says_unaccepted IsText refusal fates status script_name config_name old new wire ends)
-      (record { opens = λ differs. absurd (differs refl); unused = λ is. absurd (early.opened is); cause = record { later = omega arith; rose = λ is. absurd (early.opened is) } })
+      (record { opens = λ differs. absurd (differs refl); unused = λ is. absurd (early.opened is); once = stays-unopened wire early.performed; cause = record { later = omega arith; rose = λ is. absurd (early.opened is) } })
       (record { later = keeps.1; rose = rose }) (record { later = omega (arith, same); rose = λ is. absurd (early.written is) }) keeps.0
 
   -- the script has a line that the command doesn't take, and the link was not used
@@ -67,28 +78,31 @@ module _ (IsText : Text) (refusal : Refusal) (fates : Bool) where
       → SessionEnds IsText refusal fates (NotInLanes line) script_name config_name old new wire wire
   ends_refused line script_name config_name old new wire config script accepts refused keeps same =
       session_ends (NotInLanes line) script_name config_name old new wire wire (record { config = config; script = script; accepts = accepts; refused = refused })
-      (record { opens = λ differs. absurd (differs refl); unused = λ is. absurd (omega (arith, is)); cause = record { later = omega arith; rose = λ is. absurd (omega (arith, is)) } })
+      (record { opens = λ differs. absurd (differs refl); unused = λ is. absurd (omega (arith, is)); once = stays-unopened wire (λ is. elim is [ inl e ↦ omega (arith, e) | inr e ↦ omega (arith, e) ]); cause = record { later = omega arith; rose = λ is. absurd (omega (arith, is)) } })
       (record { later = keeps.1; rose = λ is. absurd (omega (arith, is)) }) (record { later = omega (arith, same); rose = λ is. absurd (omega (arith, is)) }) keeps.0
 
   -- memory ran out, or the link could not be opened
   pub ends_unplayed : (end : PlayEnd) (script_name : List ℕ) (config_name : Option (List ℕ)) (old new : Outside) (before after : Wire) (config : Config) (script : Script)
       → Accepts fates old.file script_name config_name config script → refusal script ≡ None → OpensAs config script before after
-      → (end ≡ ends.Unopened → (after.told ≡ before.told) × (after.opened_with ≡ before.opened_with)) → (end ≡ ends.Unopened → Rose before.faults after.faults)
-      → before.faults ≤ after.faults → KeepsFiles old new → old.write_faults ≡ new.write_faults
+      → (end ≡ ends.Unopened → (after.told ≡ before.told) × (after.opened_with ≡ before.opened_with) × (after.openings ≡ before.openings)) → (end ≡ ends.Unopened → Rose before.faults after.faults)
+      → before.faults ≤ after.faults → after.made ≡ before.made → (after.openings ≡ before.openings) ⊎ (after.openings ≡ counted_if true before.openings)
+      → KeepsFiles old new → old.write_faults ≡ new.write_faults
       → SessionEnds IsText refusal fates (status_of end) script_name config_name old new before after
-  ends_unplayed ends.Memory script_name config_name old new before after config script accepts taken opens unused rose later keeps same =
+  ends_unplayed ends.Memory script_name config_name old new before after config script accepts taken opens unused rose later making at_most_once keeps same =
       session_ends (status_of ends.Memory) script_name config_name old new before after tt
       (record {
         opens = λ differs. record { config = config; script = script; accepts = accepts; taken = taken; opened_is = opens differs };
         unused = λ is. absurd (omega (arith, is));
+        once = record { making = making; at_most_once = at_most_once; once = λ is. absurd (elim is [ inl e ↦ omega (arith, e) | inr e ↦ omega (arith, e) ]) };
         cause = record { later = later; rose = λ is. absurd (omega (arith, is)) };
       })
       (record { later = keeps.1; rose = λ is. absurd (omega (arith, is)) }) (record { later = omega (arith, same); rose = λ is. absurd (omega (arith, is)) }) keeps.0
-  ends_unplayed ends.Unopened script_name config_name old new before after config script accepts taken opens unused rose later keeps same =
+  ends_unplayed ends.Unopened script_name config_name old new before after config script accepts taken opens unused rose later making at_most_once keeps same =
       session_ends (status_of ends.Unopened) script_name config_name old new before after (record { config = config; script = script; accepts = accepts; taken = taken })
       (record {
         opens = λ differs. record { config = config; script = script; accepts = accepts; taken = taken; opened_is = opens differs };
         unused = λ is. unused refl;
+        once = record { making = making; at_most_once = at_most_once; once = λ is. absurd (elim is [ inl e ↦ omega (arith, e) | inr e ↦ omega (arith, e) ]) };
         cause = record { later = later; rose = λ is. rose refl };
       })
       (record { later = keeps.1; rose = λ is. absurd (omega (arith, is)) }) (record { later = omega (arith, same); rose = λ is. absurd (omega (arith, is)) }) keeps.0
@@ -96,10 +110,11 @@ module _ (IsText : Text) (refusal : Refusal) (fates : Bool) where
   -- the text was made, and the last write ends the command
   pub ends_written : (status : Status) (script_name : List ℕ) (config_name : Option (List ℕ)) (old new : Outside) (before after : Wire) (config : Config) (script : Script) (text : List ℕ)
       → Accepts fates old.file script_name config_name config script → refusal script ≡ None → IsText config script after.told text
-      → after.opened_with ≡ Some (opening_of config script) → before.faults ≤ after.faults → EndsWriting old.written new.written text status
+      → after.opened_with ≡ Some (opening_of config script) → before.faults ≤ after.faults → after.made ≡ before.made
+      → after.openings ≡ counted_if true before.openings → EndsWriting old.written new.written text status
       → HasCause old.write_faults new.write_faults (IsUnwritten status) → KeepsFiles old new
       → SessionEnds IsText refusal fates status script_name config_name old new before after
-  ends_written status script_name config_name old new before after config script text accepts taken is_text opened later written writes keeps =
+  ends_written status script_name config_name old new before after config script text accepts taken is_text opened later making counted written writes keeps =
       let late = written_late status old.written new.written text written in
       session_ends status script_name config_name old new before after
       (says_written IsText refusal fates status script_name config_name old new after text
@@ -107,6 +122,7 @@ module _ (IsText : Text) (refusal : Refusal) (fates : Bool) where
       (record {
         opens = λ differs. record { config = config; script = script; accepts = accepts; taken = taken; opened_is = opened };
         unused = λ is. absurd (late.opened is);
+        once = record { making = making; at_most_once = inr counted; once = λ is. counted };
         cause = record { later = later; rose = λ is. absurd (late.opened is) };
       })
       (record { later = keeps.1; rose = λ is. absurd (late.read is) }) writes keeps.0

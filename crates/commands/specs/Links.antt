@@ -2,15 +2,25 @@
 use Rattle.std.specs.Prelude.{◌≡◌, ◌≢◌, ◌⊎◌, Option}
 use Rattle.ua_base.specs.Cause.{HasCause}
 use Rattle.ua_base.specs.Links.{Opening}
+use Rattle.script_player.specs.Openings.{OpensOnce}
 use Rattle.commands.specs.declared.status.Status.{Status}
-use Rattle.commands.specs.Outside.{Wire}
+use Rattle.commands.specs.Outside.{Wire, IsQuiet}
 use Rattle.commands.specs.Statuses.{IsConfigRefused, IsScriptRefused, IsUnread, IsTooLong}
 
--- the link is opened so or not at all, and one that can't be opened stays as it was, its count of faults aside
-pub record UsesLink (Opens : Option Opening → Type 0) (unopened : Type 0) (before after : Wire) : Type 0 where
+-- the link was opened once or not at all, and once where the command's work was done
+abbrev pub IsOpenedOnce : Type 0 → Wire → Wire → Type 0
+IsOpenedOnce performed before after = OpensOnce (λ (w : Wire). w.made) (λ (w : Wire). w.openings) performed before after
+
+-- the link is opened so, and once, or not at all, and one that can't be opened stays as it was, its count of faults aside
+pub record UsesLink (Opens : Option Opening → Type 0) (unopened performed : Type 0) (before after : Wire) : Type 0 where
   pub opens : after.opened_with ≢ before.opened_with → Opens after.opened_with
-  pub unused : unopened → (after.told ≡ before.told) × (after.opened_with ≡ before.opened_with)
+  pub unused : unopened → (after.told ≡ before.told) × (after.opened_with ≡ before.opened_with) × (after.openings ≡ before.openings)
+  pub once : IsOpenedOnce performed before after
   pub cause : HasCause before.faults after.faults unopened
+
+-- no opening of the link failed: no call over it failed at all, or it was opened
+abbrev pub IsQuietOrOpened : Wire → Wire → Type 0
+IsQuietOrOpened before after = IsQuiet before.faults after.faults ⊎ (after.openings ≢ before.openings)
 
 -- the statuses that come before a link is used
 abbrev pub IsBeforeLink : Status → Type 0

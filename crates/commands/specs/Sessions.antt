@@ -21,8 +21,8 @@ use Rattle.commands.specs.Configurations.{IsConfigured, IsJudged, IsToldConfig}
 use Rattle.commands.specs.Files.{IsLong, IsTold}
 use Rattle.commands.specs.Outside.{Outside, Wire, IsQuiet}
 use Rattle.commands.specs.Scripts.{IsJudgedScript}
-use Rattle.commands.specs.Statuses.{IsDone, IsConfigRefused, IsScriptRefused, IsUnread, IsUnwritten, IsOutOfMemory, IsUnopened, IsTooLong}
-use Rattle.commands.specs.Links.{UsesLink}
+use Rattle.commands.specs.Statuses.{IsDone, IsConfigRefused, IsScriptRefused, IsUnread, IsUnwritten, IsOutOfMemory, IsUnopened, IsTooLong, IsPerformed}
+use Rattle.commands.specs.Links.{IsQuietOrOpened, UsesLink}
 
 -- ---- what is taken, and what is written of it
 
@@ -139,7 +139,7 @@ NamesLong _ name = ⊥
 -- How the command ends on the files of these names. old, new: what the folder and the output tell before and behind; before, after: what the link tells
 pub record SessionEnds (IsText : Text) (refusal : Refusal) (fates : Bool) (status : Status) (script_name : List ℕ) (config_name : Option (List ℕ)) (old new : Outside) (before after : Wire) : Type 0 where
   pub says : Says IsText refusal fates status script_name config_name old new after
-  pub link : UsesLink (OpensFor refusal fates old.file script_name config_name) (IsUnopened status) before after
+  pub link : UsesLink (OpensFor refusal fates old.file script_name config_name) (IsUnopened status) (IsPerformed status) before after
   -- what the definitions refuse is refused, and nothing else
   pub config_refused : (name bytes : List ℕ) → config_name ≡ Some name → IsTold (old.file name) bytes
       → ¬ IsUnread status → ¬ IsOutOfMemory status → IsConfigRefused status ↔ IsErr (configuration bytes)
@@ -149,9 +149,9 @@ pub record SessionEnds (IsText : Text) (refusal : Refusal) (fates : Bool) (statu
       → ¬ IsUnread status → ¬ IsOutOfMemory status → NamesLong status name ↔ IsLong bytes
   pub script_long : (config : Config) (bytes : List ℕ) → IsToldConfig old.file config_name config → old.file script_name ≡ Some (Some bytes)
       → ¬ IsUnread status → ¬ IsOutOfMemory status → IsTooLong status ↔ IsLong bytes
-  -- what is accepted and taken is performed, where no call fails
+  -- what is accepted and taken is performed, where no read, no write and no opening fails: a send or a receive may
   pub complete : AreTold refusal fates old.file script_name config_name → IsQuiet old.read_faults new.read_faults → IsQuiet old.write_faults new.write_faults
-      → IsQuiet before.faults after.faults → IsDone status ⊎ IsOutOfMemory status
+      → IsQuietOrOpened before after → IsDone status ⊎ IsOutOfMemory status
   pub complete_but_for_opening : AreTold refusal fates old.file script_name config_name → IsQuiet old.read_faults new.read_faults
       → IsQuiet old.write_faults new.write_faults → IsDone status ⊎ IsOutOfMemory status ⊎ IsUnopened status
   -- a fault is answered only where the count of faults of its object rose, and no count falls

@@ -1,5 +1,5 @@
 -- The statuses as numbers, and their texts on the error output.
-use Rattle.std.specs.Prelude.{◌≡◌, ℕ, List, [], ◌∷◌, ◌++◌, codes}
+use Rattle.std.specs.Prelude.{◌≡◌, ◌⊎◌, ℕ, List, [], ◌∷◌, ◌++◌, codes}
 use Rattle.std.specs.Fmt.{decimal}
 use Rattle.ps_config.specs.EndTexts.{name_numbered}
 use Rattle.ps_script.specs.FaultNumbers.{number_of as script_number, fault_name as script_fault_name}
@@ -36,6 +36,10 @@ IsUnread status = number_of status ≡ 5
 
 abbrev pub IsUnwritten : Status → Type 0
 IsUnwritten status = number_of status ≡ 6
+
+-- the command's work was done, and its text was written or was to be
+abbrev pub IsPerformed : Status → Type 0
+IsPerformed status = IsDone status ⊎ IsUnwritten status
 
 abbrev pub IsOutOfMemory : Status → Type 0
 IsOutOfMemory status = number_of status ≡ 7

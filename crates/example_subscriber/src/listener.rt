@@ -11,9 +11,11 @@ use crate::live::{DRAWING, put_begin, put_clear, put_end};
 use crate::news::{Head, Standing, Told};
 use dataset_meta::Meta;
 use example_parts::Fault;
+use group_keys::Ring;
+use message_guard::OpenFault;
 use ps_config::{Config, ReadGroupPart, ReaderPart};
 use ps_report::{put_feed, put_named};
-use reader_group::ReaderGroup;
+use reader_group::{ReaderGroup, Refusal};
 use std::alloc::Global;
 use std::io;
 use udp_edge::write_whole;
@@ -70,13 +72,26 @@ impl<'c> Listener<'c> {
         self.group.expire(now);
     }
 
-    /// A datagram comes.
-    pub fn datagram(&mut self, now: u64, bytes: &mut [u8]) -> Result<(), Fault>
+    /// A datagram comes. The answer is whether it has a token that none of the group's keys has.
+    pub fn datagram(&mut self, now: u64, bytes: &mut [u8]) -> Result<bool, Fault>
         requires { IsListener self.old }
         ensures { IsListener self.new }
     {
         let answer = self.group.datagram(self.config, now, &self.on, bytes);
-        self.counts.note(&answer)
+        self.counts.note(&answer)?;
+        Ok(matches!(answer, Err(Refusal::Guard(OpenFault::UnknownToken { .. }))))
+    }
+
+    /// Goes on with these keys, and says so.
+    pub fn renew<R: Print>(&mut self, rt: &R, now: u64, ring: Ring) -> Result<(), Fault>
+        requires { IsListener self.old }
+        ensures { IsListener self.new }
+    {
+        self.group.renew(ring);
+        match self.view {
+            View::News => println!(rt; "{now}: goes on with new keys").map_err(unwritten),
+            View::Live { .. } => Ok(()),
+        }
     }
 
     /// A datagram was too long, or a receive failed.
@@ -178,6 +193,10 @@ impl<'c> Listener<'c> {
         put_feed(&mut self.lines)?;
         print_all(rt, &self.lines)
     }
+}
+
+pub fn unwritten(_: io::Error) -> Fault {
+    Fault::Unwritten
 }
 
 /// Prints lines, if there are any.

@@ -3,11 +3,13 @@ ghost use Rattle.std.specs.Prelude.{IsSome};
 ghost use Rattle.writer_group.specs.Standing.{IsGood};
 ghost use Rattle.example_subscriber.specs.Listeners.{IsListener};
 
+use crate::key_file::KeyFile;
 use crate::listener::{Listener, View};
 use example_parts::{Fault, Stopwatch};
 use ps_config::Config;
 use std::alloc::Global;
 use std::io::Read;
+use std::rt::Files;
 use std::sync::Wait;
 use std::time::Clock;
 use ua_base::{Link, Received};
@@ -16,13 +18,14 @@ use ua_base::{Link, Received};
 const MOST_BYTES: usize = 65_536;
 
 /// Listens for so many milliseconds, or until a key ends it, with a look at the readers after each datagram and each wait.
-pub fn listen<R: Print + Input + Clock + Wait, L: Link>(
+pub fn listen<R: Files + Print + Input + Clock + Wait, L: Link>(
     rt: &R,
     alloc: Global,
     config: &Config,
     ms: u64,
     view: View,
     keys: bool,
+    mut file: KeyFile<'_>,
     link: &mut L,
 ) -> Result<(), Fault>
     requires good { IsGood config.now }
@@ -32,7 +35,16 @@ pub fn listen<R: Print + Input + Clock + Wait, L: Link>(
     let mut buffer = vec![in alloc; 0u8; MOST_BYTES]?;
     let watch = Stopwatch::new(rt)?;
     for _ in rt.forever() {
-        let now = hear(rt, &watch, &mut listener, &mut buffer, link)?;
+        let now = hear(
+            rt,
+            alloc,
+            config,
+            &watch,
+            &mut file,
+            &mut listener,
+            &mut buffer,
+            link,
+        )?;
         if ms <= now || keys && ends(rt) {
             return listener.tell_counts(rt, now);
         }
@@ -41,13 +53,17 @@ pub fn listen<R: Print + Input + Clock + Wait, L: Link>(
 }
 
 /// One receive, and what it and the time that passed meanwhile bring. The answer is the moment.
-fn hear<R: Print + Clock, L: Link>(
+fn hear<R: Files + Print + Clock, L: Link>(
     rt: &R,
+    alloc: Global,
+    config: &Config,
     watch: &Stopwatch,
+    file: &mut KeyFile<'_>,
     listener: &mut Listener<'_>,
     buffer: &mut [u8],
     link: &mut L,
 ) -> Result<u64, Fault>
+    requires good { IsGood config.now }
     requires open { IsSome (L.opened_with link.old) }
     requires listener { IsListener listener.old }
     ensures open { IsSome (L.opened_with link.new) }
@@ -59,7 +75,9 @@ fn hear<R: Print + Clock, L: Link>(
     listener.show(rt, now)?;
     match received {
         Received::Datagram(count) => {
-            listener.datagram(now, &mut buffer[..count as usize])?;
+            if listener.datagram(now, &mut buffer[..count as usize])? {
+                look_for_keys(rt, alloc, config, now, file, listener)?;
+            }
             listener.show(rt, now)?;
             Ok(now)
         }
@@ -68,6 +86,25 @@ fn hear<R: Print + Clock, L: Link>(
             Ok(now)
         }
         Received::Nothing => Ok(now),
+    }
+}
+
+/// Goes on with the keys that the file has now, where it has some.
+fn look_for_keys<R: Files + Print>(
+    rt: &R,
+    alloc: Global,
+    config: &Config,
+    now: u64,
+    file: &mut KeyFile<'_>,
+    listener: &mut Listener<'_>,
+) -> Result<(), Fault>
+    requires good { IsGood config.now }
+    requires listener { IsListener listener.old }
+    ensures listener { IsListener listener.new }
+{
+    match file.ring(rt, alloc, now, config) {
+        Some(ring) => listener.renew(rt, now, ring),
+        None => Ok(()),
     }
 }
 

@@ -1,19 +1,21 @@
 //! A subscriber that goes on: it takes what comes over a link, and prints a line whenever a reader holds another row, begins to wait
-//! or recovers, and whenever what hangs on its values goes to its safe state or leaves it. On a terminal it may show the same lines
-//! again and again in place.
+//! or recovers, and whenever what hangs on its values goes to its safe state or leaves it. Where a datagram has a token that it
+//! doesn't know, it reads its keys anew. On a terminal it may show the same lines again and again in place.
 #![tactic(auto)]
 
 mod causes;
+mod key_file;
 mod listener;
 mod listening;
 mod live;
 mod news;
 
-use crate::listener::View;
+use crate::key_file::KeyFile;
+use crate::listener::{View, unwritten};
 use crate::listening::listen;
 use example_parts::{Fault, Program, Words, configuration, link_to, words_of};
 use std::alloc::Global;
-use std::io::{self, IsTerminal};
+use std::io::IsTerminal;
 use std::net::Net;
 use std::process::ExitCode;
 use std::rt::{Env, Files};
@@ -54,7 +56,8 @@ fn run<R: Files + Env + AllocGlobal + Print + Input + Clock + Net + Wait>(
     } else {
         View::News
     };
-    listen(rt, alloc, &config, ms, view, keys, &mut link)
+    let file = KeyFile::new(words.config.as_str());
+    listen(rt, alloc, &config, ms, view, keys, file, &mut link)
 }
 
 /// Whether there is a live view, and whether keys are read.
@@ -73,8 +76,4 @@ fn tell_address<R: Print + Net>(rt: &R, link: &UdpLink<'_, R>) -> Result<(), Fau
         Some(address) => println!(rt; "0: listens at {address}").map_err(unwritten),
         None => Ok(()),
     }
-}
-
-fn unwritten(_: io::Error) -> Fault {
-    Fault::Unwritten
 }

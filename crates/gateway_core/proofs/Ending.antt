@@ -18,6 +18,8 @@ use Rattle.gateway_core.specs.Holding.{MayTick, plan_of, sampled_by, ticks_neede
 use Rattle.gateway_core.specs.Standing.{StandsAsSession}
 use Rattle.session_parts.specs.Ticking.{Holds, IsAt, TellsSoFar, deeds_to}
 use Rattle.gateway_core.specs.Beginning.{HasBegun, tick_of}
+use Rattle.session_model.specs.Lives.{account_of}
+use Rattle.session_parts.proofs.Accounts.{flags-as}
 use Rattle.session_parts.proofs.Ended.{flags-end, or-none, receives-stay}
 
 -- ---- the gateway
@@ -72,8 +74,8 @@ ends p before ms closing old mid publisher tree done told after may stands begun
     readings = begun.read p before done stands;
     tallies = subst (λ (l : Vec Tally Global). HaveTallied p.config (Tick ms closing (sampled_by old) done ∷ before) l.items) (sym begun.tallied) stands.tallies;
     receives = subst (λ (s : Gateway). AreReceivesIn (journal p (Tick ms closing (sampled_by old) done ∷ before)) (Tick ms closing (sampled_by old) done ∷ before) s.receiving)
-        (sym begun.changed) (receives-stay p before ms closing (sampled_by old) done old.receiving stands.receives);
-    flags = flags-end (tick_of p before ms closing old) done tree at.flags;
+        (sym begun.changed) (receives-stay p before (account_of p before) ms closing (sampled_by old) done old.receiving stands.receives);
+    flags = λ c there. flags-end (tick_of p before ms closing old) done tree at.flags c there ∙ sym (flags-as p (Tick ms closing (sampled_by old) done ∷ before) c);
   };
   tells = tells;
 }

@@ -1,5 +1,5 @@
 -- A pump: where its receives, and what the tree is told of readers, leave the gateway, as a session.
-use Rattle.std.proofs.Common.{◌≡◌, sym, ap, ◌∙◌, subst, arith, ℕ, ◌-◌, ◌*◌, List, ◌∷◌, ◌++◌, Option}
+use Rattle.std.proofs.Common.{◌≡◌, sym, ap, ◌∙◌, subst, arith, ℕ, ◌-◌, ◌*◌, List, [], ◌∷◌, ◌++◌, Option, get_or}
 use Rattle.ua_base.specs.Journal.{LinkState, Entry}
 use Rattle.pubsub_states.specs.Components.{counts_of}
 use Rattle.pubsub_states.specs.Changes.{TreeValue}
@@ -9,12 +9,16 @@ use Rattle.session_model.specs.Keeping.{AreStepsOf}
 use Rattle.session_model.specs.Sets.{metas_at}
 use Rattle.session_model.specs.Deeds.{deeds}
 use Rattle.session_model.specs.Sends.{journal}
-use Rattle.session_model.specs.Events.{events}
+use Rattle.session_model.specs.Events.{got_all}
+use Rattle.session_model.specs.Lives.{account_of, flags_by}
+use Rattle.session_model.specs.Readings.{Reading, reading_at, setting_in}
+use Rattle.reader_group.specs.Groups.{Stands as ReadingStands}
 use Rattle.session_parts.specs.declared.receiving.Receiving.{Receiving}
 use Rattle.session_parts.specs.declared.subscriber.Subscriber.{Subscriber}
 use Rattle.session_parts.specs.Holding.{HasBuffers, HoldSubscriber, MayAllGoOn}
-use Rattle.session_parts.specs.Standing.{AreSendsIn, HaveOutcomes, HavePast, HaveSent}
+use Rattle.session_parts.specs.Standing.{AreSendsIn, HasFlags, HaveOutcomes, HavePast, HaveSent, IsTallyOf}
 use Rattle.session_parts.specs.Pumping.{HaveGot, Pumps, PumpsTo, TellsReaders}
+use Rattle.session_parts.proofs.Accounts.{flags-as, flags-pumped-as, reading-pumped}
 use Rattle.session_parts.proofs.Entries.{pump_sends}
 use Rattle.gateway_core.specs.declared.gateway.Left.{Left}
 use Rattle.gateway_core.specs.declared.gateway.Gateway.{Gateway}
@@ -71,10 +75,11 @@ pumped-stands before old new taken told after does stands = record {
   outcomes = subst (λ (s : Gateway). HaveOutcomes p before s.publisher.sends.items) (sym does.changed) stands.outcomes;
   sends = subst (λ (s : Gateway). AreSendsIn (journal p before ++ entries) s.publisher.link) (sym does.changed)
       (sends-pumped (journal p before) entries old.publisher.link (pump_sends most_taken entries pumps.pump) stands.sends);
-  readings = got.readings;
-  tallies = got.tallies;
-  receives = receives-pumped p before entries old.receiving new.receiving old.subscriber new.subscriber old.tree old.moment pumps stands.receives;
-  flags = flags-pumped p before entries new.subscriber old.tree new.tree does.kept got.readings does.told_readers stands.flags;
+  readings = λ r low d. subst (λ (x : Reading). ReadingStands (setting_in p.config r x) x.value (get_or new.subscriber.groups.items r d)) (reading-pumped p.config before entries r) (got.readings r low d);
+  tallies = λ r low d. subst (λ (x : Reading). IsTallyOf x.answered (get_or new.subscriber.tallies.items r d)) (reading-pumped p.config before entries r) (got.tallies r low d);
+  receives = receives-pumped p before (account_of p before) entries old.receiving new.receiving old.subscriber new.subscriber old.tree old.moment pumps stands.receives;
+  flags = λ c there.
+      flags-pumped p before (account_of p before) entries new.subscriber old.tree new.tree does.kept got.readings does.told_readers known c there ∙ flags-pumped-as p before entries c;
 }
   where
     p : Plan
@@ -86,8 +91,12 @@ pumped-stands before old new taken told after does stands = record {
     pumps : Pumps old.config.now does.pumps.entries old.receiving new.receiving old.subscriber new.subscriber old.tree old.moment
     pumps = does.pumps.pumps
 
-    got : HaveGot old.config.now (λ r. events old.config.now r (Pump does.pumps.entries ∷ before)) new.subscriber
-    got = pumps.hands_on before (switches (plan_of old) before old.tree does.counts stands.flags) stands.moment (record { readings = stands.readings; tallies = stands.tallies })
+    known : HasFlags (flags_by old.config.now before (account_of (plan_of old) before)) old.tree
+    known = λ c there. stands.flags c there ∙ flags-as (plan_of old) before c
+
+    got : HaveGot old.config.now (reading_at old.config.now before) (λ r. got_all old.config.now before r does.pumps.entries []) new.subscriber
+    got = pumps.hands_on before (reading_at old.config.now before) (λ r. []) (switches (plan_of old) before (account_of (plan_of old) before) old.tree does.counts known) stands.moment
+        (record { readings = stands.readings; tallies = stands.tallies })
 
 pub pumps-lead : (p : Plan) (before : List Step) (old new : Gateway) (taken : ℕ) (told after : Option LinkState) → (does : DoesPump old new taken told after) → StandsAsSession p before old
     → LeadsAsSession p before (Pump does.pumps.entries) told after new
@@ -95,6 +104,6 @@ pumps-lead p before old new taken told after does stands =
     subst (λ (q : Plan). StandsAsSession q before old → LeadsAsSession q before (Pump does.pumps.entries) told after new) stands.plan
     (λ at. record {
       stands = pumped-stands before old new taken told after does at;
-      tells = tells-pumped (plan_of old) before does.pumps.entries told after does.pumps.tells;
+      tells = tells-pumped (journal (plan_of old) before) does.pumps.entries told after does.pumps.tells;
     })
     stands

@@ -1,6 +1,7 @@
 -- A gateway within a tick, whose senders and timers came to the moment.
 use Rattle.std.specs.Prelude.{◌≡◌, ℕ, ◌+◌, List, [], ◌∷◌, Bool}
 use Rattle.session_model.specs.Steps.{Plan, Step, Tick}
+use Rattle.session_model.specs.Lives.{account_of}
 use Rattle.session_parts.specs.Holding.{AreStillLogged, HoldPublisher, HoldSubscriber, MayAllGoOn}
 use Rattle.session_parts.specs.Standing.{HaveRead}
 use Rattle.session_parts.specs.Ticking.{IsAt, KnowsSpent, TickData, begun}
@@ -10,7 +11,8 @@ use Rattle.gateway_core.specs.Standing.{StandsAsSession}
 
 -- a tick of a gateway, as of a session
 abbrev pub tick_of : Plan → List Step → ℕ → Bool → Gateway → TickData
-tick_of p before ms closing s = record { plan = p; before = before; ms = ms; closing = closing; samples = sampled_by s }
+tick_of p before ms closing s =
+    record { plan = p; before = before; account = account_of p before; ms = ms; closing = closing; samples = sampled_by s }
 
 -- time went on, and senders and timers came to the moment; no group had its turn
 pub record HasBegun (ms : ℕ) (closing : Bool) (old new : Gateway) : Type 0 where

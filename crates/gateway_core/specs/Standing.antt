@@ -66,6 +66,10 @@ pub record Stands (second : Config) (lived : List GatewayStep) (s : Gateway) : T
   pub kept : HaveKept (logged_of s) (sources_of s) lived s.collected.versions.items
   pub collects : collects_in lived + s.left.collects ≤ s.left.turns
 
+-- the steps of the session that its life is
+abbrev pub steps_of : Gateway → List GatewayStep → List Step
+steps_of s lived = session_steps (sources_of s) lived
+
 -- where one step more leads, and what the link tells: it is then the journal, if it was before
 pub record Leads (second : Config) (before : List GatewayStep) (step : GatewayStep) (told after : Option LinkState) (s : Gateway) : Type 0 where
   pub stands : Stands second (step ∷ before) s

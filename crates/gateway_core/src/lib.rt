@@ -5,6 +5,7 @@
 mod collected;
 mod gateway;
 mod opening;
+mod showing;
 mod sources;
 
 pub use gateway::Gateway;

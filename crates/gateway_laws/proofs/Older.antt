@@ -32,7 +32,7 @@ use Rattle.gateway_core.specs.Lived.{plan_again, version_in}
 
 -- ---- the stores
 
-seconds-behind : (newer older : List RelayStep) → (later : List Step) × (seconds (newer ++ older) ≡ later ++ seconds older)
+pub seconds-behind : (newer older : List RelayStep) → (later : List Step) × (seconds (newer ++ older) ≡ later ++ seconds older)
 seconds-behind [] older = ([], refl)
 seconds-behind (Enable id ∷ newer) older = seconds-behind newer older
 seconds-behind (Disable id ∷ newer) older = seconds-behind newer older
@@ -54,12 +54,12 @@ stores-rise laws p second sources newer older r i g w one other is matched there
 -- ---- the versions
 
 -- of two beginnings of a list one is a beginning of the other
-record IsLonger (short long : List Step) : Type 0 where
-  step : Step
-  more : List Step
-  is : long ≡ step ∷ more ++ short
+pub record IsLonger (short long : List Step) : Type 0 where
+  pub step : Step
+  pub more : List Step
+  pub is : long ≡ step ∷ more ++ short
 
-beginnings : (a b one other : List Step) → a ++ one ≡ b ++ other → ((more : List Step) × (other ≡ more ++ one)) ⊎ IsLonger other one
+pub beginnings : (a b one other : List Step) → a ++ one ≡ b ++ other → ((more : List Step) × (other ≡ more ++ one)) ⊎ IsLonger other one
 beginnings a [] one other e = inl (a, sym e)
 beginnings [] (step ∷ b) one other e = inr (record { step = step; more = b; is = e })
 beginnings (x ∷ a) (y ∷ b) one other e = beginnings a b one other cc
@@ -68,7 +68,7 @@ stores_at : Plan → Source → List Step → List Store
 stores_at p source now = stores p.config source.read_group source.reader now
 
 -- the later store wasn't made before the earlier one
-no-longer : (p : Plan) (source : Source) (one other : List Step) (store later_store : ℕ) (made new : Store) → store ≤ later_store → IsMadeAt p source one store made → IsMadeAt p source other later_store new → IsLonger other one → Path ℕ 0 1
+pub no-longer : (p : Plan) (source : Source) (one other : List Step) (store later_store : ℕ) (made new : Store) → store ≤ later_store → IsMadeAt p source one store made → IsMadeAt p source other later_store new → IsLonger other one → Path ℕ 0 1
 no-longer p source one other store later_store made new le at at_later longer =
     let same : steps.Pump at.entries ∷ at.before ≡ longer.step ∷ longer.more ++ other = sym at.ends ∙ longer.is in
     let rest : at.before ≡ longer.more ++ other = cc in
@@ -117,7 +117,7 @@ versions-rise laws p second sources relay set store later_store one other is lt 
 
 -- ---- what is printed
 
-firsts-behind : (newer older : List RelayStep) → (later : List Step) × (firsts (newer ++ older) ≡ later ++ firsts older)
+pub firsts-behind : (newer older : List RelayStep) → (later : List Step) × (firsts (newer ++ older) ≡ later ++ firsts older)
 firsts-behind [] older = ([], refl)
 firsts-behind (Enable id ∷ newer) older = let h = firsts-behind newer older in (steps.Enable id ∷ h.0, ap (λ (l : List Step). steps.Enable id ∷ l) h.1)
 firsts-behind (Disable id ∷ newer) older = let h = firsts-behind newer older in (steps.Disable id ∷ h.0, ap (λ (l : List Step). steps.Disable id ∷ l) h.1)
@@ -130,7 +130,7 @@ told-all : (p : Plan) (source : Source) (later before : List Step) (store versio
 told-all p source [] before store version h = h
 told-all p source (step ∷ later) before store version h = told-later p source step (later ++ before) store version (told-all p source later before store version h)
 
-some-store : (p : Plan) (source : Source) (now : List Step) (store : ℕ) (made : Store) → IsMadeAt p source now store made → 1 ≤ store
+pub some-store : (p : Plan) (source : Source) (now : List Step) (store : ℕ) (made : Store) → IsMadeAt p source now store made → 1 ≤ store
 some-store p source now store made at = let a = at.number in omega (arith, a)
 
 came-case : Laws → (p : Plan) (source : Source) (all : List Step) (store later_store version later_version : ℕ) → (seat_at (setting_of p.config source.read_group).seats source.reader).part.numbering ≡ words.Message

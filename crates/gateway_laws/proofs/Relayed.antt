@@ -62,7 +62,7 @@ length-with : (fields : List Field) (words statuses : List ℕ) → length (Ratt
 length-with [] words statuses = refl
 length-with (field ∷ fields) words statuses = ap suc (length-with fields _ _)
 
-length-row : (fields : List Field) (words : List ℕ) → length (row_in fields words) ≡ length fields
+pub length-row : (fields : List Field) (words : List ℕ) → length (row_in fields words) ≡ length fields
 unfolding row_in
 length-row fields words = length-with fields words _
 

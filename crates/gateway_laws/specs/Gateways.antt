@@ -4,16 +4,15 @@ use Rattle.dataset_meta.specs.DataValues.{DataValue}
 use Rattle.dataset_meta.specs.Metas.{MetaData}
 use Rattle.dataset_meta.specs.Rows.{opening_row}
 use Rattle.ps_config.specs.declared.parts.Config.{Config}
-use Rattle.reader_group.specs.Settings.{setting_of}
 use Rattle.writer_group.specs.Payloads.{writer_at}
 use Rattle.session_model.specs.Steps.{Plan, Step}
 use Rattle.session_model.specs.Sets.{meta_in}
 use Rattle.writer_group.specs.Parts.{group_at}
 use Rattle.session_model.specs.Keeping.{AreSteps, IsPlan}
-use Rattle.session_model.specs.Sends.{IsRun, journal}
+use Rattle.session_model.specs.Sends.{IsRun}
 use Rattle.session_model.specs.Stores.{Store}
 use Rattle.session_laws.specs.Headline.{IsPublished}
-use Rattle.session_laws.specs.Sessions.{AreVersions, IsHonestFor, SamplesRise}
+use Rattle.session_laws.specs.Sessions.{AreVersions, SamplesRise, TakesWhatWasSent}
 use Rattle.gateway_laws.specs.Sources.{Source, HaveSources, source_at}
 use Rattle.gateway_laws.specs.Relays.{RelayStep, Collects, firsts, seconds, stored_rows, stores_of}
 use Rattle.gateway_laws.specs.Origins.{WasMade, HoldsVersionAt, origin_at}
@@ -31,13 +30,13 @@ pub record IsRelay (p : Plan) (second : Config) (sources : List Source) (relay :
   pub sources_are : HaveSources p.config second sources
   pub collects : Collects p.config second sources relay
 
--- H or S for the source of a data set, on the first link
+-- the read group of a data set's source takes nothing but what was sent on the first link
 abbrev pub IsHonestSource : Plan → Source → List Step → Type 0
-IsHonestSource p source steps = IsHonestFor (setting_of p.config source.read_group) (journal p steps)
+IsHonestSource p source steps = TakesWhatWasSent p source.read_group steps
 
--- H or S for a reader of the second configuration, on the second link
+-- a read group of the second configuration takes nothing but what was sent on the second link
 abbrev pub IsHonestAgain : Config → ℕ → List RelayStep → Type 0
-IsHonestAgain second r relay = IsHonestFor (setting_of second r) (journal (plan_again second) (seconds relay))
+IsHonestAgain second r relay = TakesWhatWasSent (plan_again second) r (seconds relay)
 
 -- A store's row is one that its reader held at the end of the pump that made the store: the row of the version that the first history has at the message's
 -- place, which the store's origin tells, cut to the reader's fields.
@@ -52,6 +51,12 @@ pub record IsStoreOfVersion (p : Plan) (source : Source) (all : List Step) (rows
 abbrev pub IsOfHistory : Plan → MetaData → Source → List Step → (ℕ → ℕ → List DataValue) → ℕ → List DataValue → Type 0
 IsOfHistory p meta source all rows store row =
     ((store ≡ 0) × (row ≡ opening_row meta.fields)) ⊎ IsStoreOfVersion p source all rows store row
+
+-- the same by the version that is told of it, which is that of the row: 0 of store 0
+abbrev pub IsOfVersion : Plan → MetaData → Source → List Step → (ℕ → ℕ → List DataValue) → ℕ → ℕ → List DataValue → Type 0
+IsOfVersion p meta source all rows store version row =
+    ((store ≡ 0) × (version ≡ 0) × (row ≡ opening_row meta.fields))
+    ⊎ ((of : IsStoreOfVersion p source all rows store row) × (of.published.version ≡ version))
 
 -- the data set of a writer
 abbrev pub set_of : Config → ℕ → ℕ → ℕ

@@ -25,7 +25,8 @@ ghost use Rattle.reader_group.specs.Members.{seat_at};
 ghost use Rattle.reader_group.specs.Settings.{setting_of};
 ghost use Rattle.session_model.specs.Steps.{Step};
 ghost use Rattle.session_laws.specs.Headline.{InSession};
-ghost use Rattle.gateway_laws.specs.Origins.{CameWith, HoldsVersionAt, IsUncutBetween, IsUncutSince};
+ghost use Rattle.gateway_laws.specs.Origins.{CameWith, HoldsVersionAt, IsUncutBetween, WasMade};
+ghost use Rattle.gateway_laws.specs.Telling.{IsKnown, IsNoOlder, IsNumbered, TellsGateway, source_of};
 ghost use Rattle.dataset_meta.specs.Metas.{MetaData};
 ghost use Rattle.version_cell.specs.Cells.{CellData, IsCell};
 ghost use Rattle.version_cell.specs.Known.{Known};
@@ -128,19 +129,11 @@ pub fn a_relayed_version_never_falls()
         → (new : CameWith p source (firsts relay) later_store other)
         → IsUncutBetween p source.read_group source.reader source.group source.writer old.was.now new.was.now
         → one ≤ other }
-    ensures printed { (p : Plan) (second : Config) (sources : List Source) (newer older : List RelayStep) (r i g w : ℕ)
-        (store later_store version later_version : ℕ) → IsRelay p second sources (newer ++ older)
-        → IsMatchedIn second r i g w → g < length second.group → IsHonestAgain second r (newer ++ older)
-        → let source = source_at sources (set_of second g w) in let q = plan_again second in
-        IsHonestSource p source (firsts (newer ++ older))
-        → (seat_at (setting_of second r).seats i).part.numbering ≡ Message
-        → IsUncutBetween q r i g w (seconds older) (seconds (newer ++ older))
-        → IsUncutSince p source (firsts (newer ++ older)) store
-        → HoldsVersionAt q r i g w (seconds older) store
-        → HoldsVersionAt q r i g w (seconds (newer ++ older)) later_store
-        → version_in (versions_kept p source older) store ≡ Some version
-        → version_in (versions_kept p source (newer ++ older)) later_store ≡ Some later_version
-        → version ≤ later_version }
+    ensures printed { (p : Plan) (second : Config) (sources : List Source) (newer older : List RelayStep)
+        (r i g w : ℕ) → IsRelay p second sources (newer ++ older) → IsNumbered second r i g w
+        → IsHonestAgain second r (newer ++ older)
+        → IsHonestSource p (source_of second sources g w) (firsts (newer ++ older))
+        → IsNoOlder p second (source_of second sources g w) newer older r i g w }
 {
     matched_readers_hold_published_versions();
     a_held_row_was_sent();
@@ -177,8 +170,16 @@ pub fn passes_show_what_is_collected()
     histories_are_the_models();
 }
 
+/// A store is made once: of its reader's rows one has this number, held at the end of one pump.
+pub fn a_store_is_made_once()
+    ensures { (p : Plan) (source : Source) (all : List Step) (store : ℕ) (made other : Store)
+        → (old : WasMade p source all store made) → (again : WasMade p source all store other)
+        → (made ≡ other) × (old.now ≡ again.now) }
+{}
+
 /// The version that a gateway keeps of a store is that of the store's origin at the end of the pump that made it; that of store 0
 /// is 0. Of each store of an honest source it keeps one: at each round of the relay it collects what the pump before it stored.
+/// It is the version that the store's row has in the first history.
 pub fn a_kept_version_is_of_its_store()
     ensures of_origin { (p : Plan) (source : Source) (relay : List RelayStep) (store version : ℕ)
         → version_in (versions_kept p source relay) store ≡ Some version
@@ -188,6 +189,12 @@ pub fn a_kept_version_is_of_its_store()
         → IsHonestSource p (source_at sources set) (firsts relay)
         → store ≤ length (stores_of p.config sources set (firsts relay))
         → (version : ℕ) × (version_in (versions_kept p (source_at sources set) relay) store ≡ Some version) }
+    ensures joined { (p : Plan) (second : Config) (sources : List Source) (relay : List RelayStep)
+        (rows : ℕ → ℕ → List DataValue) (set store : ℕ) → IsRelay p second sources relay
+        → AreVersions p (firsts relay) rows → set < length second.dataset
+        → IsHonestSource p (source_at sources set) (firsts relay)
+        → store ≤ length (stores_of p.config sources set (firsts relay))
+        → IsKnown p second sources relay rows set store }
 {
     matched_readers_hold_published_versions();
     a_held_row_was_sent();
@@ -195,6 +202,24 @@ pub fn a_kept_version_is_of_its_store()
     a_ring_makes_senders_of_its_key_group();
     each_turn_of_a_session_holds();
     a_session_has_at_most_4097_ticks();
+}
+
+/// What a gateway tells is of the first history: each data frame has the number of its source's stores at its round, and the row
+/// of that store, whose version is known; what a matched reader holds is the row of the store that its number names; and from one
+/// moment to a later one neither store nor version falls, where nothing was cut.
+pub fn a_gateway_tells_the_first_history()
+    ensures { (p : Plan) (second : Config) (sources : List Source) (relay : List RelayStep)
+        (rows : ℕ → ℕ → List DataValue) → IsRelay p second sources relay → AreVersions p (firsts relay) rows
+        → TellsGateway p second sources relay rows }
+{
+    matched_readers_hold_published_versions();
+    data_messages_stand_for_versions();
+    a_held_row_was_sent();
+    cut_rows_have_words();
+    a_ring_makes_senders_of_its_key_group();
+    each_turn_of_a_session_holds();
+    a_session_has_at_most_4097_ticks();
+    a_matched_reader_reads_its_writer();
 }
 
 /// In a gateway nothing is ever switched: its groups and writers are Operational unless their sender is spent, whatever sends failed,

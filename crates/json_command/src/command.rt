@@ -1,9 +1,10 @@
 //! Writing the messages of a session.
-ghost use Rattle.std.specs.Prelude.{◌≡◌, ◌≢◌, ◌≤◌, Some, Err, IfOk, OnOk, option_copied};
+ghost use Rattle.std.specs.Prelude.{◌≡◌, ◌≢◌, ◌≤◌, Some, Err, IsOk, IfOk, OnOk, option_copied};
 ghost use Rattle.ua_base.specs.Cause.{Rose};
 ghost use Rattle.ps_config.specs.Types.{HasTypes};
 ghost use Rattle.ps_script.specs.Sound.{IsScript};
 ghost use Rattle.writer_group.specs.Standing.{IsGood};
+ghost use Rattle.script_player.specs.Openings.{OpensOnce};
 ghost use Rattle.script_player.specs.Plays.{opening_of};
 ghost use Rattle.commands.specs.Outside.{outside_of, wire_of};
 ghost use Rattle.commands.specs.Statuses.{IsDone, IsUnwritten};
@@ -65,9 +66,11 @@ fn written<R: Wait, A: Link>(
         ≡ Some (opening_of accepted.now.config accepted.now.script)) }
     ensures opens { A.opened_with lab.new ≢ A.opened_with lab.old
         → A.opened_with lab.new ≡ Some (opening_of accepted.now.config accepted.now.script) }
+    ensures once { OpensOnce A.made A.openings (IsOk result) lab.old lab.new }
     ensures unopened { result ≡ Err PlayEnd.Unopened → Rose (A.faults lab.old) (A.faults lab.new) }
     ensures unused { result ≡ Err PlayEnd.Unopened
-        → (A.told lab.new ≡ A.told lab.old) × (A.opened_with lab.new ≡ A.opened_with lab.old) }
+        → (A.told lab.new ≡ A.told lab.old) × (A.opened_with lab.new ≡ A.opened_with lab.old)
+        × (A.openings lab.new ≡ A.openings lab.old) }
     ensures faults { A.faults lab.old ≤ A.faults lab.new }
 {
     readers_keep_records();

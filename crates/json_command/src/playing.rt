@@ -1,9 +1,10 @@
 //! A session played over a tap.
-ghost use Rattle.std.specs.Prelude.{◌≡◌, ◌≢◌, ◌≤◌, IfOk, OnOk, Some, Err};
+ghost use Rattle.std.specs.Prelude.{◌≡◌, ◌≢◌, ◌≤◌, IsOk, IfOk, OnOk, Some, Err};
 ghost use Rattle.ua_base.specs.Cause.{Rose};
 ghost use Rattle.ps_config.specs.Types.{HasTypes};
 ghost use Rattle.ps_script.specs.Sound.{IsScript};
 ghost use Rattle.writer_group.specs.Standing.{IsGood};
+ghost use Rattle.script_player.specs.Openings.{OpensOnce};
 ghost use Rattle.script_player.specs.Plays.{IsPlayOf, opening_of};
 ghost use Rattle.json_tap.specs.Keeping.{IsOfLink};
 ghost use Rattle.json_tap.specs.Reading.{LinkIsReadAs};
@@ -42,9 +43,11 @@ pub(crate) fn written_play<R: Wait, L: Link>(
     ensures opened { OnOk result (L.opened_with link.new ≡ Some (opening_of config.now script.now)) }
     ensures opens { L.opened_with link.new ≢ L.opened_with link.old
         → L.opened_with link.new ≡ Some (opening_of config.now script.now) }
+    ensures once { OpensOnce L.made L.openings (IsOk result) link.old link.new }
     ensures unopened { result ≡ Err PlayEnd.Unopened → Rose (L.faults link.old) (L.faults link.new) }
     ensures unused { result ≡ Err PlayEnd.Unopened
-        → (L.told link.new ≡ L.told link.old) × (L.opened_with link.new ≡ L.opened_with link.old) }
+        → (L.told link.new ≡ L.told link.old) × (L.opened_with link.new ≡ L.opened_with link.old)
+        × (L.openings link.new ≡ L.openings link.old) }
     ensures faults { L.faults link.old ≤ L.faults link.new }
 {
     let Ended {
@@ -100,10 +103,13 @@ fn tapped_play<'a, M: Made, R: Wait, L: Link>(
         (L.opened_with result.link.now ≡ Some (opening_of M.config script.now)) }
     ensures opens { L.opened_with result.link.now ≢ M.opening
         → L.opened_with result.link.now ≡ Some (opening_of M.config script.now) }
+    ensures once { OpensOnce L.made L.openings (IsOk result.end)
+        inner.entry.link.now result.link.now }
     ensures unopened { result.end ≡ Err PlayEnd.Unopened
         → Rose (L.faults inner.entry.link.now) (L.faults result.link.now) }
     ensures unused { result.end ≡ Err PlayEnd.Unopened
-        → (L.told result.link.now ≡ M.told) × (L.opened_with result.link.now ≡ M.opening) }
+        → (L.told result.link.now ≡ M.told) × (L.opened_with result.link.now ≡ M.opening)
+        × (L.openings result.link.now ≡ L.openings inner.entry.link.now) }
     ensures faults { L.faults inner.entry.link.now ≤ L.faults result.link.now }
 {
     let mut tap: Tap<'a, L, M> = Tap::new(alloc, inner, config);

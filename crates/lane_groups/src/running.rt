@@ -26,7 +26,7 @@ pub struct Ran {
 
 /// Runs each lane on a thread of its own for all turns, and sends what their groups make on this one, through a queue with `room`
 /// places. The gate is called before and after each turn of a lane, with the lane's number as thread. An error says that memory
-/// ran out. Where no thread can be made the call may wait forever.
+/// ran out, or that no thread could be made, and nothing was sent.
 pub fn run_lanes<'a, L: Link, G: Gate, R: Threads + Wait + Sync>(
     rt: &R,
     alloc: Global,

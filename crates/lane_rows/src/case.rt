@@ -14,6 +14,7 @@ pub(crate) struct Case {
     pub(crate) config: Option<Vec<u8>>,
     pub(crate) script: Vec<u8>,
     sends: Vec<u64>,
+    unopened: bool,
     room: u32,
 }
 
@@ -24,6 +25,7 @@ impl Case {
             config: None,
             script: Vec::new(alloc),
             sends: Vec::new(alloc),
+            unopened: false,
             room: 64,
         }
     }
@@ -39,6 +41,7 @@ impl Case {
             "config" => self.config = Some(line.text(alloc)?),
             "script" => self.script = line.text(alloc)?,
             "sends" => self.sends = numbers_of(alloc, line)?,
+            "unopened" => self.unopened = true,
             "room" => self.room = line.u32()?,
             "run" => return self.run(rt, alloc),
             _ => return Err(LineFault::Call),
@@ -52,12 +55,13 @@ impl Case {
             config,
             script,
             sends,
+            unopened,
             room,
         } = mem::replace(self, Case::new(alloc));
         if room == 0 || room > 1024 {
             return Err(LineFault::Condition);
         }
-        let mut link = MemoryLink::new(alloc, Vec::new(alloc), sends, Vec::new(alloc), false);
+        let mut link = MemoryLink::new(alloc, Vec::new(alloc), sends, Vec::new(alloc), unopened);
         told(rt, alloc, &config, &script, room, &mut link)
     }
 }

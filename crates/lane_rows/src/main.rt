@@ -1,5 +1,5 @@
 //! Cases of the command `lanes`, in lines. `config` and `script` give the texts, several lines in one; `sends` the numbers of the sends
-//! that fail; `room` the places of the queue; and `run` runs them. Each line is printed again, and behind `run` what the command writes
+//! that fail; `unopened` that the link can't be opened; `room` the places of the queue; and `run` runs them. Each line is printed again, and behind `run` what the command writes
 //! on the output and on the error output, and its status. What isn't given is the built-in configuration, an empty script, a link that
 //! doesn't fail and 64 places.
 #![tactic(auto)]

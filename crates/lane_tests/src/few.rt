@@ -1,5 +1,13 @@
 //! A maker of two datagrams a turn.
+use crate::counts::Counts;
 use group_threads::Maker;
+
+/// The work of all lanes, and how often each lane had each turn.
+#[derive(Drop)]
+pub struct Work {
+    pub turns: u8,
+    pub had: Counts,
+}
 
 /// Turn k of its group makes the datagrams of the bytes group, k, 0 and group, k, 1.
 #[derive(Drop)]
@@ -19,11 +27,11 @@ impl Few {
     }
 }
 
-impl Maker<u8> for Few {
+impl Maker<Work> for Few {
     ghost use Rattle.std.specs.Prelude.{⊤};
     ghost use Rattle.lane_tests.specs.Few.{made_by};
 
-    ghost turn_count = { λ work. work };
+    ghost turn_count = { λ work. work.turns };
 
     ghost made = { made_by };
 
@@ -33,10 +41,11 @@ impl Maker<u8> for Few {
 
     ghost turns = { λ work number old new. ⊤ };
 
-    fn turn(&mut self, work: &u8, number: u32) {
-        let _turns = *work;
+    fn turn(&mut self, work: &Work, number: u32) {
+        let _turns = work.turns;
         let k = number as u8;
         let group = self.group;
+        work.had.add(u32::from(group), number);
         self.first = [group, k, 0];
         self.second = [group, k, 1];
     }

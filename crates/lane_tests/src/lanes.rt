@@ -41,7 +41,7 @@ fn two_groups_turn_at_once(rt: HostRuntime) -> Result<(), Fail> {
     let mut out = MemorySink::new(alloc, Vec::new(alloc))
         .ok()
         .ok_or("memory")?;
-    let gate = Meeting::new();
+    let gate = Meeting::new(alloc, None)?;
     let status = lanes(
         &rt,
         alloc,
@@ -54,6 +54,7 @@ fn two_groups_turn_at_once(rt: HostRuntime) -> Result<(), Fail> {
     );
     assert_eq!(&rt; status.number(), 0);
     assert!(&rt; out.bytes() == TOLD);
-    assert!(&rt; gate.noted() == (0, 20_204, 20_204));
+    assert_eq!(&rt; gate.faults(), (0, 0));
+    assert!(&rt; gate.is_told_of(2, 2));
     Ok(())
 }

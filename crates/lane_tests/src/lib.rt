@@ -1,6 +1,7 @@
 //! Lanes over small makers, at a gate and at queues of one place and of many, and the command `lanes` past the same gate.
 #![tactic(auto)]
 
+mod counts;
 mod few;
 #[cfg(test)]
 mod lanes;
@@ -9,4 +10,5 @@ mod meeting;
 #[cfg(test)]
 mod runs;
 
-pub use few::Few;
+pub use counts::Counts;
+pub use few::{Few, Work};

@@ -1,7 +1,9 @@
-//! Two lanes of three turns: all datagrams are sent, each lane's in order, with any room. The sixth send fails.
+//! Two lanes of three turns: all datagrams are sent, each lane's in order, with any room. The sixth send fails. The gate is called
+//! once before and once after each turn, on both sides of it.
 ghost use Rattle.std.specs.Prelude.{◌<◌};
 
-use crate::few::Few;
+use crate::counts::Counts;
+use crate::few::{Few, Work};
 use crate::meeting::Meeting;
 use group_threads::run_makers;
 use mem_edge::MemoryLink;
@@ -21,18 +23,23 @@ fn all_come<R: Threads + Wait + Sync + Abort>(rt: &R, alloc: Global, room: u32) 
     let fails = Vec::from_array(alloc, [5u64])?;
     let mut link = MemoryLink::new(alloc, Vec::new(alloc), fails, Vec::new(alloc), false);
     assert!(rt; link.open(4840, &[]) == Opened::Done);
-    let gate = Meeting::new();
+    let work = Work {
+        turns: TURNS,
+        had: Counts::new(alloc)?,
+    };
+    let gate = Meeting::new(alloc, Some(&work))?;
     let ran = run_makers(
         rt,
         alloc,
-        &TURNS,
+        &work,
         u32::from(TURNS),
         makers,
         room,
         &mut link,
         &gate,
     )?;
-    assert!(rt; gate.noted() == (0, 60_306, 60_306));
+    assert_eq!(rt; gate.faults(), (0, 0));
+    assert!(rt; gate.is_told_of(2, u32::from(TURNS)));
     assert!(rt; ran.sent[0] <= 6 && ran.sent[1] <= 6);
     assert!(rt; ran.sent[0] + ran.sent[1] == 11);
     assert!(rt; ran.failed == 1);

@@ -1,8 +1,9 @@
 //! A script over lanes, from its turns to the text of what was sent.
-ghost use Rattle.std.specs.Prelude.{◌≡◌, ◌≢◌, ◌≤◌, ◌<◌, None, Some, Err, IfOk, OnOk};
+ghost use Rattle.std.specs.Prelude.{◌≡◌, ◌≢◌, ◌≤◌, ◌<◌, None, Some, Err, IsOk, IfOk, OnOk};
 ghost use Rattle.ua_base.specs.Cause.{Rose};
 ghost use Rattle.ps_script.specs.Sound.{IsScript};
 ghost use Rattle.writer_group.specs.Standing.{IsGood};
+ghost use Rattle.script_player.specs.Openings.{OpensOnce};
 ghost use Rattle.script_player.specs.Plays.{opening_of};
 ghost use Rattle.lanes_command.specs.Runs.{IsLanesOf};
 ghost use Rattle.lanes_command.specs.Scripts.{refusal};
@@ -38,9 +39,11 @@ pub fn play_lanes<R: Threads + Wait + Sync, L: Link, G: Gate>(
     ensures opened { OnOk result (L.opened_with link.new ≡ Some (opening_of config.now script.now)) }
     ensures opens { L.opened_with link.new ≢ L.opened_with link.old
         → L.opened_with link.new ≡ Some (opening_of config.now script.now) }
+    ensures once { OpensOnce L.made L.openings (IsOk result) link.old link.new }
     ensures unopened { result ≡ Err PlayEnd.Unopened → Rose (L.faults link.old) (L.faults link.new) }
     ensures unused { result ≡ Err PlayEnd.Unopened
-        → (L.told link.new ≡ L.told link.old) × (L.opened_with link.new ≡ L.opened_with link.old) }
+        → (L.told link.new ≡ L.told link.old) × (L.opened_with link.new ≡ L.opened_with link.old)
+        × (L.openings link.new ≡ L.openings link.old) }
     ensures faults { L.faults link.old ≤ L.faults link.new }
 {
     turns_are_ticks_of_a_session();

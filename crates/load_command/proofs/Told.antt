@@ -27,18 +27,16 @@ use Rattle.ps_config.specs.declared.parts.Config.{Config}
 use Rattle.ps_script.specs.declared.script.Script.{Script}
 use Rattle.ps_script.specs.Generated.{generated}
 use Rattle.ps_script.specs.Sessions.{ticks_in}
-use Rattle.reader_group.specs.Settings.{setting_of}
-use Rattle.session_model.specs.Sends.{TellsRun, journal}
-use Rattle.session_model.specs.Steps.{Plan, Step}
+use Rattle.session_model.specs.Steps.{Plan}
 use Rattle.session_laws.specs.Printed.{TellsPublished}
 use Rattle.session_laws.specs.Reading.{IsMatchedIn}
-use Rattle.session_laws.specs.Sessions.{IsHonestFor}
+use Rattle.session_laws.specs.Sessions.{TakesWhatWasSent}
 use Rattle.session_laws.specs.Telling.{IsReaderTold}
 use Rattle.script_player.specs.Plays.{opening_of, plan_by}
 use Rattle.script_runner.specs.Legal.{fields_in, history_by, row_made, writes_to}
 use Rattle.script_runner.specs.Runs.{IsRunOf}
 use Rattle.commands.specs.Outside.{Wire}
-use Rattle.load_command.specs.Loads.{HoldsVersion, OpensForWork, Summarizes, TellsHonestly}
+use Rattle.load_command.specs.Loads.{HoldsVersion, OpensForWork, Summarizes}
 use Rattle.load_command.specs.Newest.{newest_row, newest_text}
 use Rattle.load_command.proofs.Last.{law_newest, law_ticks, law_versions}
 
@@ -77,10 +75,6 @@ matched = record {
   within = lit< tt;
   reads = record { within = lit< tt; id = refl; dataset = refl; offset = λ e. refl; size = λ e. refl };
 }
-
-honest_for : (p : Plan) (steps : List Step) (told : Option LinkState) (r : ℕ) → TellsRun p steps told → TellsHonestly told → IsHonestFor (setting_of p.config r) (journal p steps)
-honest_for p steps told r tells honest before after datagram is signed =
-    honest.honest before after datagram (tells honest.link honest.told_is ∙ is)
 
 -- the only reader is the one that is told
 only_reader : (index : ℕ) (end reader : ReaderEnd) (readers : List ReaderEnd) → readers ≡ end ∷ [] → slice_get readers index ≡ Some reader → reader ≡ end
@@ -149,11 +143,11 @@ text_is n closed end held versions readers is row =
 pub newest_told : (n : ℕ) (told : Option LinkState) (closed : Closed)
     → ((threads : List ℕ) → IsLegal threads (writes_to (generated n) 0) → length threads ≡ 32 * n)
     → ((threads : List ℕ) → IsLegal threads (writes_to (generated n) 0) → row_of (fields_in (generated n) 0) (history_by (generated n) 0 threads) (32 * n) ≡ newest_row n)
-    → IsRunOf built_in_config (generated n) told closed → TellsHonestly told → HoldsVersion (32 * n) closed → load_text built_in_config closed n (4 * n) ≡ newest_text n
-newest_told n told closed count newest run honest holds =
+    → (run : IsRunOf built_in_config (generated n) told closed) → TakesWhatWasSent (plan_for n) 0 run.steps → HoldsVersion (32 * n) closed → load_text built_in_config closed n (4 * n) ≡ newest_text n
+newest_told n told closed count newest run taken holds =
     let first : 0 < length built_in_config.dataset = subst (λ (k : ℕ). 0 < k) (sym one_set) (lit< tt) in
     let there : IsReaderTold (plan_for n) 0 0 0 0 run.steps (row_made (generated n) run.logs) closed =
-    run.headline.readers 0 0 0 0 matched (honest_for (plan_for n) run.steps told 0 run.tells honest) in
+    run.headline.readers 0 0 0 0 matched taken in
     let same : there.reader ≡ holds.end = only_reader there.ends.index holds.end there.reader closed.readers holds.reader there.ends.end_is in
     let published = there.tells.holds holds.held (ap (λ (end : ReaderEnd). end.held) same ∙ holds.held_is) in
     let row = row_is n holds.held (row_made (generated n) run.logs) there.writer.log published holds.version_is (newest (threads_of (run.logs 0)) (run.legal 0 first).legal) in
@@ -179,5 +173,5 @@ summarized n config script closed after text ticks config_is script_is least mos
       run = run;
       text_is = text_told;
       versions = versions_told n after.told closed count run;
-      newest = λ honest holds. text_told ∙ newest_told n after.told closed count (λ threads. law_newest n threads least most) run honest holds;
+      newest = λ taken holds. text_told ∙ newest_told n after.told closed count (λ threads. law_newest n threads least most) run taken holds;
     }

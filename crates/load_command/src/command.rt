@@ -1,5 +1,5 @@
 //! Running generated work.
-ghost use Rattle.std.specs.Prelude.{◌≡◌, ◌≤◌, Err, IfOk};
+ghost use Rattle.std.specs.Prelude.{◌≡◌, ◌≤◌, Err, IfOk, IsOk};
 ghost use Rattle.ps_config.specs.BuiltIn.{built_in_config};
 ghost use Rattle.ps_config.specs.Types.{HasTypes};
 ghost use Rattle.ps_script.specs.Generated.{generated};
@@ -57,7 +57,7 @@ fn summary_of<R: Threads + Wait + Sync, A: Link, G: Gate>(
     requires most { n ≤ 1024 }
     ensures summary { IfOk result (λ text.
         Summarizes n (wire_of A.told A.faults A.opened_with A.made A.openings lab.new) text.items) }
-    ensures link { UsesLink (OpensForWork n) (result ≡ Err PlayEnd.Unopened)
+    ensures link { UsesLink (OpensForWork n) (result ≡ Err PlayEnd.Unopened) (IsOk result)
         (wire_of A.told A.faults A.opened_with A.made A.openings lab.old)
         (wire_of A.told A.faults A.opened_with A.made A.openings lab.new) }
 {
@@ -86,7 +86,7 @@ fn work_summary<R: Threads + Wait + Sync, A: Link, G: Gate>(
     requires work { IsScript config.now script.now }
     ensures summary { IfOk result (λ text.
         Summarizes n (wire_of A.told A.faults A.opened_with A.made A.openings lab.new) text.items) }
-    ensures link { UsesLink (OpensForWork n) (result ≡ Err PlayEnd.Unopened)
+    ensures link { UsesLink (OpensForWork n) (result ≡ Err PlayEnd.Unopened) (IsOk result)
         (wire_of A.told A.faults A.opened_with A.made A.openings lab.old)
         (wire_of A.told A.faults A.opened_with A.made A.openings lab.new) }
 {

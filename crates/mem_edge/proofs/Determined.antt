@@ -17,7 +17,8 @@ use Rattle.mem_edge.specs.Calls.{is_named, next_call}
 use Rattle.mem_edge.specs.Transits.{journal_in, waiting_in}
 use Rattle.mem_edge.specs.MemoryLinks.{told_by, journal_of, fates_of, injected_by, named_sends, made_by, receives_made, fails_receiving, SendsInMemory}
 use Rattle.mem_edge.specs.Queueing.{queued_by}
-use Rattle.mem_edge.specs.Runs.{Settings, settings_of, Call, Send, Unsent, Receive, Standing, state_sent, state_received, first_taken, after_call, AnswersSend, AnswersReceive, Answers, AnswersAll}
+use Rattle.mem_edge.specs.Runs.{settings_of, AnswersSend, AnswersReceive, Answers, AnswersAll}
+use Rattle.mem_edge.specs.Standings.{Settings, Call, Send, Unsent, Receive, Standing, state_sent, state_received, first_taken, after_call}
 use Rattle.mem_edge.specs.Sends.{sends_in}
 use Rattle.mem_edge.proofs.Comes.{told_journal}
 

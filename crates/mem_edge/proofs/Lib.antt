@@ -1,7 +1,9 @@
 pub mod Comes
 pub mod Counted
+pub mod Delivered
 pub mod Determined
 pub mod Failings
+pub mod Fated
 pub mod Filters
 pub mod Honesty
 pub mod Kept

@@ -14,3 +14,4 @@ pub mod Plans
 pub mod Queueing
 pub mod Runs
 pub mod Sends
+pub mod Standings

@@ -9,10 +9,11 @@ ghost use Rattle.ua_base.specs.Net.{Opens, is_done, Sends, Queues, Receives, Fit
 ghost use Rattle.mem_edge.specs.Calls.{named_from};
 ghost use Rattle.mem_edge.specs.Contents.{injections};
 ghost use Rattle.mem_edge.specs.Failings.{ahead_in, IsAhead};
-ghost use Rattle.mem_edge.specs.Transits.{room_in, injected_in, journal_in};
+ghost use Rattle.mem_edge.specs.Transits.{room_in, injected_in, journal_in, told_in};
 ghost use Rattle.mem_edge.specs.Marks.{EndsInNothings};
 ghost use Rattle.mem_edge.specs.Plans.{IsPlan, IsOnce};
 ghost use Rattle.mem_edge.specs.Sends.{sends_in};
+ghost use Rattle.mem_edge.specs.Standings.{settings_with, TellsFated, TellsFated-prop};
 
 use crate::failing::Failing;
 use crate::plan::Plan;
@@ -53,6 +54,9 @@ pub struct MemoryLink {
         (length (sends_in (journal_in transit))) (ahead_in failing_sends) },
     ghost receives_ahead: { IsTrue is_open → IsAhead receive_fails.items receives
         (ahead_in failing_receives) },
+    ghost fated: { IsTrue is_open → TellsFated (settings_with (injected_in transit) send_fails.items
+        receive_fails.items open_fails fates.items) receives (told_in transit) } by { TellsFated-prop is_open (settings_with (injected_in transit) send_fails.items
+            receive_fails.items open_fails fates.items) receives (told_in transit) },
 }
 
 impl MemoryLink {

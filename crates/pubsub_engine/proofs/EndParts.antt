@@ -1,6 +1,6 @@
 -- What the parts of a session tell when it is closed.
-use Rattle.std.proofs.Common.{◌≡◌, refl, sym, ap, ◌∙◌, subst, arith, ℕ, zero, suc, ◌<◌, List, [], ◌∷◌, length, take, get_or, Option, Some, None}
-use Rattle.std.specs.Prelude.{IfSome, IsSomeAnd, option_map, option_and_then, slice_index}
+use Rattle.std.proofs.Common.{◌≡◌, refl, sym, ap, ◌∙◌, subst, arith, ℕ, ◌<◌, List, [], ◌∷◌, length, take, get_or, Option, Some, None}
+use Rattle.std.specs.Prelude.{IfSome, IsSomeAnd, option_map, option_and_then}
 use Rattle.std.proofs.lemmas.List.{length-map}
 use Rattle.dataset_meta.specs.DataValues.{DataValue}
 use Rattle.row_words.specs.Belonging.{row_in}
@@ -27,12 +27,10 @@ use Rattle.ps_report.specs.declared.closed.WriterEnd.{WriterEnd}
 use Rattle.ps_report.specs.Told.{TellsNumber}
 use Rattle.pubsub_states.specs.declared.component.Component.{Component}
 use Rattle.pubsub_states.specs.declared.component.Component.TheVariants.{Root, Connection, Group, Writer, ReadGroup, Reader}
-use Rattle.pubsub_states.specs.declared.flags.Flags.{Flags}
 use Rattle.pubsub_states.specs.declared.state.State.{State}
-use Rattle.pubsub_states.specs.declared.state.State.TheVariants.{Operational}
 use Rattle.pubsub_states.specs.Changes.{TreeValue, flags_in}
 use Rattle.pubsub_states.specs.Components.{Counts, IsAmong, counts_of}
-use Rattle.pubsub_states.specs.States.{state_of, state_under}
+use Rattle.pubsub_states.specs.States.{state_of}
 use Rattle.reader_group.specs.declared.group.ReaderGroup.{ReaderGroup}
 use Rattle.reader_group.specs.Groups.{IsKeptAt, IsMadeAt, Stands as ReadingStands}
 use Rattle.reader_group.specs.Members.{MemberValue, seat_at}
@@ -46,6 +44,7 @@ use Rattle.session_model.specs.Steps.{Plan, Step}
 use Rattle.session_model.specs.Sets.{metas_at}
 use Rattle.session_model.specs.Deeds.{deeds, group_past, log_at, logs_cut}
 use Rattle.session_model.specs.Events.{events, reader_at}
+use Rattle.session_model.specs.Readings.{Reading, setting_in}
 use Rattle.session_model.specs.States.{flags_at}
 use Rattle.session_model.specs.Closing.{IsWriterEndWith, Shows, group_end, read_group_end}
 use Rattle.session_parts.specs.declared.publisher.Publisher.{Publisher}
@@ -53,35 +52,15 @@ use Rattle.session_parts.specs.declared.sends.GroupSends.{GroupSends}
 use Rattle.session_parts.specs.declared.subscriber.Subscriber.{Subscriber}
 use Rattle.session_parts.specs.declared.tally.Tally.{Tally}
 use Rattle.session_parts.specs.Holding.{AreAllLogged, HoldSubscriber, MayReceive}
-use Rattle.session_parts.specs.Standing.{HasFlags, HavePast, HaveRead}
+use Rattle.session_parts.specs.Standing.{HasFlags, HavePast, HaveRead, HaveReadings}
 use Rattle.session_parts.proofs.Few.{group-among, writer-among}
 use Rattle.session_parts.proofs.TellingReaders.{low-among}
 use Rattle.pubsub_engine.specs.Ending.{HavePublished, HaveReceived, IsNumbered, IsToldAt, MayTellReaders, MayTellWriters, reader_in}
 use Rattle.pubsub_engine.specs.Logs.{IsLogRead}
-use Rattle.pubsub_engine.specs.Showing.{IsReaderAt}
+use Rattle.session_parts.specs.Showing.{IsReaderAt, IsReaderIn}
+use Rattle.session_parts.proofs.StatesTold.{state-told}
 
 -- ---- states
-
-below : (counts : List ℕ) (k i : ℕ) → i < slice_index counts k → k < length counts
-below [] k i within = absurd (omega (arith, within))
-below (x ∷ counts) zero i within = omega arith
-below (x ∷ counts) (suc k) i within = omega (arith, below counts k i within)
-
--- where the tree has these flags it tells of these states
-pub state-told : (flags : Component → Flags) (tree : TreeValue) (component : Component) → IsAmong tree.counts component → HasFlags flags tree
-    → state_of (flags_in tree) component ≡ state_of flags component
-state-told flags tree Root among has = ap (state_under Operational) (has Root tt)
-state-told flags tree Connection among has = λ i. state_under (state_under Operational (has Root tt i)) (has Connection tt i)
-state-told flags tree (Group g) among has =
-    λ i. state_under (state_under (state_under Operational (has Root tt i)) (has Connection tt i)) (has (Group g) among i)
-state-told flags tree (Writer g w) among has =
-    let above = below tree.counts.writers g w among in
-    λ i. state_under (state_under (state_under (state_under Operational (has Root tt i)) (has Connection tt i)) (has (Group g) above i)) (has (Writer g w) among i)
-state-told flags tree (ReadGroup r) among has =
-    λ i. state_under (state_under (state_under Operational (has Root tt i)) (has Connection tt i)) (has (ReadGroup r) among i)
-state-told flags tree (Reader r k) among has =
-    let above = below tree.counts.readers r k among in
-    λ i. state_under (state_under (state_under (state_under Operational (has Root tt i)) (has Connection tt i)) (has (ReadGroup r) above i)) (has (Reader r k) among i)
 
 pub read-group-among : (config : Config) (counts : Counts) (r : ℕ) → counts ≡ counts_of config → r < length config.readgroup → IsAmong counts (ReadGroup r)
 read-group-among config counts r is low =
@@ -178,6 +157,21 @@ reader-at config p steps subscriber r i group reader holds plan readings low at 
   kept = is_kept (setting_of p.config r) (plain (setting_of p.config r) (events p.config r steps))
       (subst (ReadingStands (setting_of p.config r) (plain (setting_of p.config r) (events p.config r steps))) (sym at)
       (readings r (subst (λ (c : Config). r < length c.readgroup) (sym plan) low) group));
+}
+  where
+    own : MayReceive config r group
+    own = subst (MayReceive config r) (sym at) (holds.groups.each r low group)
+
+-- in a life
+pub reader-in : (config : Config) (p : Plan) (readings : ℕ → Reading) (subscriber : Subscriber) (r i : ℕ) (group : ReaderGroup) (reader : DataSetReader)
+    → HoldSubscriber config subscriber → p.config ≡ config → HaveReadings p.config readings subscriber.groups.items → r < length config.readgroup
+    → group ≡ get_or subscriber.groups.items r group → IsKeptAt group i reader → IsMadeAt group i reader → IsReaderIn p readings (r, i) reader
+reader-in config p readings subscriber r i group reader holds plan stand low at is_kept is_made = record {
+  made = subst (λ (c : Config). IsReaderOf (seat_at (setting_of c r).seats i).meta reader) (sym plan)
+      (subst (λ (q : ℕ). IsReaderOf (seat_at (setting_of config q).seats i).meta reader) own.index (is_made config own.made));
+  kept = is_kept (setting_in p.config r (readings r)) (readings r).value
+      (subst (ReadingStands (setting_in p.config r (readings r)) (readings r).value) (sym at)
+      (stand r (subst (λ (c : Config). r < length c.readgroup) (sym plan) low) group));
 }
   where
     own : MayReceive config r group

@@ -14,20 +14,19 @@ use Rattle.session_model.specs.Steps.{Plan, Step, Append}
 use Rattle.session_model.specs.Counts.{pumps_in, ticks_in}
 use Rattle.session_model.specs.Sets.{MayAppend, GrowTo, metas_at, meta_in}
 use Rattle.session_model.specs.Keeping.{AreStepsOf, MayGrow}
-use Rattle.session_model.specs.Deeds.{RefreshedSet, deeds}
-use Rattle.session_model.specs.Events.{events}
-use Rattle.session_model.specs.Sends.{journal}
-use Rattle.session_model.specs.States.{flags_at}
-use Rattle.session_model.specs.Stores.{stores}
+use Rattle.session_model.specs.Deeds.{RefreshedSet}
+use Rattle.session_model.specs.Lives.{Account, Lived, Stepped, account_in, account_of, flags_by, stepped, steps_in}
 use Rattle.session_parts.specs.declared.publisher.Publisher.{Publisher}
 use Rattle.session_parts.specs.Holding.{AreGroups, AreSameButSet, AreStillLogged, HoldPublisher, MayAllGoOn}
 use Rattle.session_parts.specs.Refreshed.{AllGoOnGrown, HaveRefreshedSet}
-use Rattle.session_parts.specs.Standing.{AreReceivesIn, AreSendsIn, HasFlags, HaveOutcomes, HavePast, HaveReadAll, HaveSent, HaveTallied}
+use Rattle.session_parts.specs.Standing.{AreReceivesIn, AreSendsIn, HasFlags, HaveOutcomesOf, HavePast, HaveReadings, HaveSent, HaveTallies}
 use Rattle.pubsub_engine.specs.declared.session.Session.{Session}
 use Rattle.pubsub_engine.specs.declared.sets.Sets.{Sets}
 use Rattle.pubsub_engine.specs.declared.sets.Growth.{Growth}
 use Rattle.pubsub_engine.specs.Holding.{AreSets, AreToCome, Grows, HoldSamples, HoldSets, IsSession, KeepsPasses, MayAppendNext, appends_left, plan_of, ticks_of}
 use Rattle.pubsub_engine.specs.Standing.{Stands}
+use Rattle.pubsub_engine.specs.Living.{StandsAs, StandsIn}
+use Rattle.pubsub_engine.proofs.Lives.{as-stands, stands-of}
 use Rattle.pubsub_engine.specs.Storing.{HaveStored}
 use Rattle.session_parts.proofs.Passed.{some-of}
 use Rattle.pubsub_engine.proofs.NowSets.{first-of}
@@ -190,49 +189,53 @@ appended-next old new set growth appends =
 
 -- ---- where it stands
 
-flags-appended : (p : Plan) (before : List Step) (set : ℕ) (field : Field) (tree : TreeValue) → HasFlags (flags_at p before) tree → HasFlags (flags_at p (Append set field ∷ before)) tree
-flags-appended p before set field tree flags Root among = flags Root among
-flags-appended p before set field tree flags Connection among = flags Connection among
-flags-appended p before set field tree flags (Group g) among = flags (Group g) among
-flags-appended p before set field tree flags (Writer g w) among = flags (Writer g w) among
-flags-appended p before set field tree flags (ReadGroup r) among = flags (ReadGroup r) among
-flags-appended p before set field tree flags (Reader r i) among = flags (Reader r i) among
+flags-appended : (p : Plan) (before : List Step) (a : Account) (set : ℕ) (field : Field) (tree : TreeValue) → HasFlags (flags_by p.config before a) tree
+    → HasFlags (flags_by p.config (Append set field ∷ before) (stepped p before a (Append set field))) tree
+flags-appended p before a set field tree flags Root among = flags Root among
+flags-appended p before a set field tree flags Connection among = flags Connection among
+flags-appended p before a set field tree flags (Group g) among = flags (Group g) among
+flags-appended p before a set field tree flags (Writer g w) among = flags (Writer g w) among
+flags-appended p before a set field tree flags (ReadGroup r) among = flags (ReadGroup r) among
+flags-appended p before a set field tree flags (Reader r i) among = flags (Reader r i) among
 
-appended-stands : (p : Plan) (before : List Step) (set : ℕ) (field : Field) (old new : Session) → Stands p before old
+-- where an append leads
+pub record HasAppended (p : Plan) (before : List Step) (a : Account) (set : ℕ) (old new : Session) : Type 0 where
+  pub field : Field
+  pub may : MayGrow p before set field
+  pub kept : ticks_of new ≡ ticks_of old
+  pub stands : StandsAs p (Append set field ∷ before) (stepped p before a (Append set field)) new
+
+appended-of : (p : Plan) (before : List Step) (a : Account) (set : ℕ) (field : Field) (old new : Session) → StandsAs p before a old
     → plan_of new ≡ plan_of old
     → new ≡ record old { sets = new.sets; publisher = new.publisher }
     → new.publisher ≡ record old.publisher { groups = new.publisher.groups }
     → new.sets.metas.items ≡ metas_at p.config (Append set field ∷ before)
-    → MayGrow p before set field
-    → HavePast p.config (metas_at p.config (Append set field ∷ before)) (RefreshedSet set ∷ deeds p before) new.publisher.groups.items
-    → Stands p (Append set field ∷ before) new
-appended-stands p before set field old new stands same changed parts metas may past = record {
+    → HavePast p.config (metas_at p.config (Append set field ∷ before)) (RefreshedSet set ∷ a.deeds) new.publisher.groups.items
+    → StandsAs p (Append set field ∷ before) (stepped p before a (Append set field)) new
+appended-of p before a set field old new stands same changed parts metas past = record {
   plan = same ∙ stands.plan;
-  run = stands.run;
-  steps_are = subst (λ (s : Session). AreStepsOf (ticks_of s) p (Append set field ∷ before)) (sym changed) (may, stands.steps_are);
-  turns = stands.turns;
   moment = ap (λ (s : Session). s.moment) changed ∙ stands.moment;
   closed = ap (λ (s : Session). s.left.is_closed) changed ∙ stands.closed;
   ticks = subst (λ (s : Session). ticks_in before + s.left.ticks ≤ ticks_of s + 1) (sym changed) stands.ticks;
   pumps = subst (λ (s : Session). pumps_in before + s.left.pumps ≡ ticks_in before) (sym changed) stands.pumps;
   metas = metas;
   groups = past;
-  senders = subst (λ (q : Publisher). HaveSent p.config (deeds p before) q.senders.items) (sym parts) stands.senders;
-  outcomes = subst (λ (q : Publisher). HaveOutcomes p before q.sends.items) (sym parts) stands.outcomes;
-  sends = subst (λ (q : Publisher). AreSendsIn (journal p before) q.link) (sym parts) stands.sends;
-  readings = subst (λ (s : Session). HaveReadAll p.config (λ r. events p.config r before) s.subscriber.groups.items) (sym changed) stands.readings;
-  tallies = subst (λ (s : Session). HaveTallied p.config before s.subscriber.tallies.items) (sym changed) stands.tallies;
+  senders = subst (λ (q : Publisher). HaveSent p.config a.deeds q.senders.items) (sym parts) stands.senders;
+  outcomes = subst (λ (q : Publisher). HaveOutcomesOf p.config a.sent a.failing q.sends.items) (sym parts) stands.outcomes;
+  sends = subst (λ (q : Publisher). AreSendsIn a.journal q.link) (sym parts) stands.sends;
+  readings = subst (λ (s : Session). HaveReadings p.config a.readings s.subscriber.groups.items) (sym changed) stands.readings;
+  tallies = subst (λ (s : Session). HaveTallies p.config a.readings s.subscriber.tallies.items) (sym changed) stands.tallies;
   receives =
-      let is : AreReceivesIn (journal p before) before new.receiving = subst (λ (s : Session). AreReceivesIn (journal p before) before s.receiving) (sym changed) stands.receives in
+      let is : AreReceivesIn a.journal before new.receiving = subst (λ (s : Session). AreReceivesIn a.journal before s.receiving) (sym changed) stands.receives in
       record { received = is.received; broken = is.broken; long = is.long; limit = is.limit };
-  stores_are = subst (λ (s : Session). HaveStored p.config (λ place. stores p.config place.0 place.1 before) s.stores) (sym changed) stands.stores_are;
-  flags = flags-appended p before set field new.tree (subst (λ (s : Session). HasFlags (flags_at p before) s.tree) (sym changed) stands.flags);
+  stores_are = subst (λ (s : Session). HaveStored p.config (λ place. a.stores place.0 place.1) s.stores) (sym changed) stands.stores_are;
+  flags = flags-appended p before a set field new.tree (subst (λ (s : Session). HasFlags (flags_by p.config before a) s.tree) (sym changed) stands.flags);
 }
 
 -- of the session's own plan
-appended-own : (before : List Step) (old new : Session) (growth : Growth) → MayAppendNext old → AppendsNext old new growth.set growth → Stands (plan_of old) before old
-    → (field : Field) × Stands (plan_of old) (Append growth.set field ∷ before) new
-appended-own before old new growth may appends stands =
+appended-own : (before : List Step) (a : Account) (old new : Session) (growth : Growth) → MayAppendNext old → AppendsNext old new growth.set growth → StandsAs (plan_of old) before a old
+    → HasAppended (plan_of old) before a growth.set old new
+appended-own before a old new growth may appends stands =
     let config : Config = old.config.now in
     let set : ℕ = growth.set in
     let now : List MetaData = old.sets.metas.items in
@@ -244,23 +247,46 @@ appended-own before old new growth may appends stands =
     let grown_are : slice_set now set growth.meta ≡ after
     = ap (λ (m : MetaData). slice_set now set m) grows.meta
     ∙ ap (λ (m : List MetaData). slice_set m set (grown (meta_in m set) field)) stands.metas
-    ∙ grown-is past set field there in (
-      field,
-      appended-stands (plan_of old) before set field old new stands (appended-keeps old new set growth appends).plan appends.changed appends.refreshes.rest
+    ∙ grown-is past set field there in record {
+      field = field;
+      may = record {
+        may = subst (λ (m : List MetaData). MayAppend config past set m) grown_are
+            (subst (λ (m : List MetaData). MayAppend config m set (slice_set now set growth.meta)) stands.metas grows.may);
+        grow = subst (λ (m : List MetaData). GrowTo m old.sets.full.items) grown_are (next-sets config old.sets new.sets set growth may.session.sets appends.next).grow;
+        running = sym stands.closed ∙ may.running;
+      };
+      kept = ap ticks_of appends.changed;
+      stands = appended-of (plan_of old) before a set field old new stands (appended-keeps old new set growth appends).plan appends.changed appends.refreshes.rest
           (appends.next.metas ∙ grown_are)
-          (record {
-            may = subst (λ (m : List MetaData). MayAppend config past set m) grown_are
-                (subst (λ (m : List MetaData). MayAppend config m set (slice_set now set growth.meta)) stands.metas grows.may);
-            grow = subst (λ (m : List MetaData). GrowTo m old.sets.full.items) grown_are (next-sets config old.sets new.sets set growth may.session.sets appends.next).grow;
-            running = sym stands.closed ∙ may.running;
-          })
-          (appends.refreshes.past past after (deeds (plan_of old) before)
-          (subst (λ (m : List MetaData). AreSameButSet set past m) (grown-is past set field there) (same-but past set (grown (meta_in past set) field))) stands.groups),
-    )
+          (appends.refreshes.past past after a.deeds
+          (subst (λ (m : List MetaData). AreSameButSet set past m) (grown-is past set field there) (same-but past set (grown (meta_in past set) field))) stands.groups);
+    }
 
+pub appended-as : (p : Plan) (before : List Step) (a : Account) (old new : Session) (set : ℕ) (growth : Growth) → MayAppendNext old → AppendsNext old new set growth → StandsAs p before a old
+    → HasAppended p before a set old new
+appended-as p before a old new set growth may appends stands =
+    subst (λ (s : ℕ). HasAppended p before a s old new) (sym appends.next.set_is)
+    (subst (λ (q : Plan). StandsAs q before a old → HasAppended q before a growth.set old new) stands.plan
+    (appended-own before a old new growth may (subst (λ (s : ℕ). AppendsNext old new s growth) appends.next.set_is appends)) stands)
+
+-- behind steps alone
 pub appended : (p : Plan) (before : List Step) (old new : Session) (set : ℕ) (growth : Growth) → MayAppendNext old → AppendsNext old new set growth → Stands p before old
     → (field : Field) × Stands p (Append set field ∷ before) new
 appended p before old new set growth may appends stands =
-    subst (λ (s : ℕ). (field : Field) × Stands p (Append s field ∷ before) new) (sym appends.next.set_is)
-    (subst (λ (q : Plan). Stands q before old → (field : Field) × Stands q (Append growth.set field ∷ before) new) stands.plan
-    (appended-own before old new growth may (subst (λ (s : ℕ). AppendsNext old new s growth) appends.next.set_is appends)) stands)
+    let has = appended-as p before (account_of p before) old new set growth may appends (as-stands p before old stands) in (
+      has.field,
+      stands-of p (Append set has.field ∷ before) new stands.run (has.may, subst (λ (m : ℕ). AreStepsOf m p before) (sym has.kept) stands.steps_are) stands.turns has.stands,
+    )
+
+-- in a life
+pub appended-lives : (p : Plan) (life : List Lived) (old new : Session) (set : ℕ) → StandsIn p life old → HasAppended p (steps_in life) (account_in p life) set old new
+    → (field : Field) × StandsIn p (Stepped (Append set field) ∷ life) new
+appended-lives p life old new set stands has = (
+  has.field,
+  record {
+    run = (tt, stands.run);
+    steps_are = (has.may, subst (λ (m : ℕ). AreStepsOf m p (steps_in life)) (sym has.kept) stands.steps_are);
+    turns = (tt, stands.turns);
+    parts = has.stands;
+  },
+)

@@ -1,6 +1,7 @@
 pub mod Cutting
 pub mod NowSets
 pub mod TicksLeft
+pub mod Lives
 pub mod Begun
 pub mod Ending
 pub mod TickEnd
@@ -26,3 +27,5 @@ pub mod EndParts
 pub mod Whole
 pub mod OpenRows
 pub mod SampleLoop
+pub mod Rings
+pub mod Unrenewed

@@ -1,29 +1,35 @@
 -- A pump: where its receives, what the tree is told of readers and the stores leave the session.
-use Rattle.std.proofs.Common.{◌≡◌, sym, ap, ◌∙◌, subst, arith, ℕ, ◌+◌, ◌-◌, ◌*◌, List, ◌∷◌, ◌++◌, Option}
+use Rattle.std.proofs.Common.{◌≡◌, refl, sym, ap, ◌∙◌, subst, arith, ℕ, ◌+◌, ◌-◌, ◌*◌, ◌<◌, List, [], ◌∷◌, ◌++◌, Option}
 use Rattle.ua_base.specs.Journal.{LinkState, Entry}
 use Rattle.pubsub_states.specs.Components.{counts_of}
 use Rattle.pubsub_states.specs.Changes.{TreeValue}
-use Rattle.reader_group.specs.Plain.{Event}
+use Rattle.reader_group.specs.Members.{seat_at}
+use Rattle.reader_group.specs.Plain.{member_at}
+use Rattle.reader_group.specs.Settings.{setting_of}
 use Rattle.session_model.specs.Steps.{Plan, Step, Pump}
-use Rattle.session_model.specs.Counts.{most_ms, most_taken}
+use Rattle.session_model.specs.Counts.{most_ms, most_taken, pumps_in, ticks_in}
 use Rattle.session_model.specs.Sets.{metas_at}
-use Rattle.session_model.specs.Deeds.{deeds}
-use Rattle.session_model.specs.Sends.{journal}
-use Rattle.session_model.specs.Events.{events}
-use Rattle.session_model.specs.Stores.{Store, stores}
+use Rattle.session_model.specs.Events.{got_all}
+use Rattle.session_model.specs.Lives.{Account, IsRunOn, Lived, account_in, account_of, reading_after, stepped, steps_in}
+use Rattle.session_model.specs.Readings.{Reading}
+use Rattle.session_model.specs.Sends.{TellsJournal}
+use Rattle.session_model.specs.Stores.{Store, held_by, stored_on, stores}
 use Rattle.session_model.specs.Closing.{MemberPlace}
 use Rattle.session_parts.specs.declared.receiving.Receiving.{Receiving}
 use Rattle.session_parts.specs.declared.subscriber.Subscriber.{Subscriber}
 use Rattle.session_parts.specs.Holding.{AreAllLogged, HasBuffers, HoldSubscriber, MayAllGoOn}
-use Rattle.session_parts.specs.Standing.{AreSendsIn, HaveOutcomes, HavePast, HaveReadAll, HaveSent}
+use Rattle.session_parts.specs.Standing.{AreSendsIn, HaveOutcomesOf, HavePast, HaveReadings, HaveSent}
 use Rattle.session_parts.specs.Pumping.{HaveGot, Pumps, PumpsTo, TellsReaders}
 use Rattle.session_parts.proofs.Entries.{pump_sends}
 use Rattle.pubsub_engine.specs.declared.session.Left.{Left}
 use Rattle.pubsub_engine.specs.declared.session.Session.{Session}
 use Rattle.pubsub_engine.specs.declared.storing.Stores.{Stores}
 use Rattle.session_model.specs.Keeping.{AreStepsOf}
-use Rattle.pubsub_engine.specs.Holding.{CountsPump, HoldStores, IsSession, plan_of}
+use Rattle.pubsub_engine.specs.Holding.{CountsPump, HoldStores, IsSession, plan_of, ticks_of}
 use Rattle.pubsub_engine.specs.Standing.{Leads, Stands}
+use Rattle.pubsub_engine.specs.Living.{LeadsIn, StandsAs, StandsIn}
+use Rattle.session_parts.proofs.Accounts.{reading-pumped}
+use Rattle.pubsub_engine.proofs.Lives.{as-stands, same-stands, stands-of}
 use Rattle.pubsub_engine.specs.Storing.{HaveStored, stored_at}
 use Rattle.session_parts.proofs.Pumped.{flags-pumped, receives-pumped, sends-pumped, switches, tells-pumped}
 
@@ -37,8 +43,8 @@ pub record DoesPump (old new : Session) (taken : ℕ) (told after : Option LinkS
   pub kept : new.tree.counts ≡ old.tree.counts
   pub pumps : PumpsTo old.config.now old.tree old.moment taken old.receiving new.receiving old.subscriber new.subscriber told after
   pub told_readers : TellsReaders old.config.now new.subscriber old.tree new.tree
-  pub stored : (befell : ℕ → List Event) (list : MemberPlace → List Store) → HaveReadAll old.config.now befell new.subscriber.groups.items
-      → HaveStored old.config.now list old.stores → HaveStored old.config.now (stored_at old.config.now befell list) new.stores
+  pub stored : (readings : ℕ → Reading) (list : MemberPlace → List Store) → HaveReadings old.config.now readings new.subscriber.groups.items
+      → HaveStored old.config.now list old.stores → HaveStored old.config.now (stored_at old.config.now readings list) new.stores
 
 pub pumped-session : (old : Session) (left : Left) (tree : TreeValue) (subscriber : Subscriber) (receiving : Receiving) (stores : Stores) → IsSession old → CountsPump old.left left
     → tree.counts ≡ old.tree.counts → HoldSubscriber old.config.now subscriber → HasBuffers receiving
@@ -66,28 +72,33 @@ pumped-session old left tree subscriber receiving stores session counts kept hol
     more : old.left.ticks + old.left.pumps ≡ left.ticks + left.pumps + 1
     more = omega (arith, ap (λ (l : Left). l.ticks) counts.rest, counts.pumps)
 
-pumped-stands : (before : List Step) (old new : Session) (taken : ℕ) (told after : Option LinkState) → (does : DoesPump old new taken told after) → Stands (plan_of old) before old
-    → Stands (plan_of old) (Pump does.pumps.entries ∷ before) new
-pumped-stands before old new taken told after does stands = record {
+-- where a pump leads
+pub record HasPumped (p : Plan) (before : List Step) (a : Account) (entries : List Entry) (old new : Session) (told after : Option LinkState) : Type 0 where
+  pub run : IsRunOn p before a (Pump entries)
+  pub may : pumps_in before < ticks_in before
+  pub kept : ticks_of new ≡ ticks_of old
+  pub stands : StandsAs p (Pump entries ∷ before) (stepped p before a (Pump entries)) new
+  pub tells : TellsJournal a.journal told → TellsJournal (a.journal ++ entries) after
+
+pumped-of : (before : List Step) (a : Account) (old new : Session) (taken : ℕ) (told after : Option LinkState) → (does : DoesPump old new taken told after) → StandsAs (plan_of old) before a old
+    → StandsAs (plan_of old) (Pump does.pumps.entries ∷ before) (stepped (plan_of old) before a (Pump does.pumps.entries)) new
+pumped-of before a old new taken told after does stands = record {
   plan = ap plan_of does.changed;
-  run = (pumps.pump, stands.run);
-  steps_are = subst (λ (n : ℕ). AreStepsOf (n - 1) (plan_of old) (Pump does.pumps.entries ∷ before)) (sym (ap (λ (l : Left). l.stores) does.left.rest)) (omega (arith, stands.pumps, does.left.pumps), stands.steps_are);
-  turns = stands.turns;
   moment = ap (λ (s : Session). s.moment) does.changed ∙ stands.moment;
   closed = ap (λ (l : Left). l.is_closed) does.left.rest ∙ stands.closed;
   ticks = omega (arith, ap (λ (l : Left). l.ticks) does.left.rest, ap (λ (l : Left). l.stores) does.left.rest, stands.ticks);
   pumps = omega (arith, stands.pumps, does.left.pumps);
   metas = ap (λ (s : Session). s.sets.metas.items) does.changed ∙ stands.metas;
-  groups = subst (λ (s : Session). HavePast p.config (metas_at p.config before) (deeds p before) s.publisher.groups.items) (sym does.changed) stands.groups;
-  senders = subst (λ (s : Session). HaveSent p.config (deeds p before) s.publisher.senders.items) (sym does.changed) stands.senders;
-  outcomes = subst (λ (s : Session). HaveOutcomes p before s.publisher.sends.items) (sym does.changed) stands.outcomes;
-  sends = subst (λ (s : Session). AreSendsIn (journal p before ++ entries) s.publisher.link) (sym does.changed)
-      (sends-pumped (journal p before) entries old.publisher.link (pump_sends most_taken entries pumps.pump) stands.sends);
+  groups = subst (λ (s : Session). HavePast p.config (metas_at p.config before) a.deeds s.publisher.groups.items) (sym does.changed) stands.groups;
+  senders = subst (λ (s : Session). HaveSent p.config a.deeds s.publisher.senders.items) (sym does.changed) stands.senders;
+  outcomes = subst (λ (s : Session). HaveOutcomesOf p.config a.sent a.failing s.publisher.sends.items) (sym does.changed) stands.outcomes;
+  sends = subst (λ (s : Session). AreSendsIn (a.journal ++ entries) s.publisher.link) (sym does.changed)
+      (sends-pumped a.journal entries old.publisher.link (pump_sends most_taken entries pumps.pump) stands.sends);
   readings = got.readings;
   tallies = got.tallies;
-  receives = receives-pumped p before entries old.receiving new.receiving old.subscriber new.subscriber old.tree old.moment pumps stands.receives;
-  stores_are = does.stored (λ r. events p.config r (Pump entries ∷ before)) (λ place. stores p.config place.0 place.1 before) got.readings stands.stores_are;
-  flags = flags-pumped p before entries new.subscriber old.tree new.tree does.kept got.readings does.told_readers stands.flags;
+  receives = receives-pumped p before a entries old.receiving new.receiving old.subscriber new.subscriber old.tree old.moment pumps stands.receives;
+  stores_are = does.stored (reading_after p.config before (Pump entries) a) (λ place. a.stores place.0 place.1) got.readings stands.stores_are;
+  flags = flags-pumped p before a entries new.subscriber old.tree new.tree does.kept got.readings does.told_readers stands.flags;
 }
   where
     p : Plan
@@ -99,15 +110,51 @@ pumped-stands before old new taken told after does stands = record {
     pumps : Pumps old.config.now does.pumps.entries old.receiving new.receiving old.subscriber new.subscriber old.tree old.moment
     pumps = does.pumps.pumps
 
-    got : HaveGot old.config.now (λ r. events old.config.now r (Pump does.pumps.entries ∷ before)) new.subscriber
-    got = pumps.hands_on before (switches (plan_of old) before old.tree does.counts stands.flags) stands.moment (record { readings = stands.readings; tallies = stands.tallies })
+    got : HaveGot old.config.now a.readings (λ r. got_all old.config.now before r does.pumps.entries []) new.subscriber
+    got = pumps.hands_on before a.readings (λ r. []) (switches (plan_of old) before a old.tree does.counts stands.flags) stands.moment (record { readings = stands.readings; tallies = stands.tallies })
 
-pub pumps-lead : (p : Plan) (before : List Step) (old new : Session) (taken : ℕ) (told after : Option LinkState) → (does : DoesPump old new taken told after) → Stands p before old
-    → Leads p before (Pump does.pumps.entries) told after new
-pumps-lead p before old new taken told after does stands =
-    subst (λ (q : Plan). Stands q before old → Leads q before (Pump does.pumps.entries) told after new) stands.plan
+pub pumped-as : (p : Plan) (before : List Step) (a : Account) (old new : Session) (taken : ℕ) (told after : Option LinkState) → (does : DoesPump old new taken told after) → StandsAs p before a old
+    → HasPumped p before a does.pumps.entries old new told after
+pumped-as p before a old new taken told after does stands =
+    subst (λ (q : Plan). StandsAs q before a old → HasPumped q before a does.pumps.entries old new told after) stands.plan
     (λ at. record {
-      stands = pumped-stands before old new taken told after does at;
-      tells = tells-pumped (plan_of old) before does.pumps.entries told after does.pumps.tells;
+      run = does.pumps.pumps.pump;
+      may = omega (arith, at.pumps, does.left.pumps);
+      kept = ap (λ (l : Left). l.stores - 1) does.left.rest;
+      stands = pumped-of before a old new taken told after does at;
+      tells = tells-pumped a.journal does.pumps.entries told after does.pumps.tells;
     })
     stands
+
+-- behind steps alone
+pub pumps-lead : (p : Plan) (before : List Step) (old new : Session) (taken : ℕ) (told after : Option LinkState) → (does : DoesPump old new taken told after) → Stands p before old
+    → Leads p before (Pump does.pumps.entries) told after new
+pumps-lead p before old new taken told after does stands = record {
+  stands = stands-of p (Pump entries ∷ before) new (pumped.run, stands.run) (pumped.may, subst (λ (m : ℕ). AreStepsOf m p before) (sym pumped.kept) stands.steps_are) stands.turns
+      (same-stands p (Pump entries ∷ before) (stepped p before (account_of p before) (Pump entries)) (account_of p (Pump entries ∷ before)) new refl
+      (λ r. reading-pumped p.config before entries r)
+      (λ r i. ap (λ (x : Reading). stored_on (seat_at (setting_of p.config r).seats i).part.numbering (stores p.config r i before) (held_by (member_at x.value.members i))) (reading-pumped p.config before entries r))
+      pumped.stands);
+  tells = pumped.tells;
+}
+  where
+    entries : List Entry
+    entries = does.pumps.entries
+
+    pumped : HasPumped p before (account_of p before) does.pumps.entries old new told after
+    pumped = pumped-as p before (account_of p before) old new taken told after does (as-stands p before old stands)
+
+-- in a life
+pub pumps-live : (p : Plan) (life : List Lived) (old new : Session) (taken : ℕ) (told after : Option LinkState) → (does : DoesPump old new taken told after) → StandsIn p life old
+    → LeadsIn p life (Pump does.pumps.entries) told after new
+pumps-live p life old new taken told after does stands =
+    let pumped = pumped-as p (steps_in life) (account_in p life) old new taken told after does stands.parts in
+    record {
+      stands = record {
+        run = (pumped.run, stands.run);
+        steps_are = (pumped.may, subst (λ (m : ℕ). AreStepsOf m p (steps_in life)) (sym pumped.kept) stands.steps_are);
+        turns = (tt, stands.turns);
+        parts = pumped.stands;
+      };
+      tells = pumped.tells;
+    }

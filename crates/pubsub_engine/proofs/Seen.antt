@@ -18,6 +18,7 @@ use Rattle.pubsub_engine.specs.declared.sampling.Samples.{Samples}
 use Rattle.pubsub_engine.specs.declared.session.Session.{Session}
 use Rattle.pubsub_engine.specs.Holding.{ChangesSamples, HoldSamples, IsBankOf, IsSession}
 use Rattle.pubsub_engine.specs.Standing.{KeepsStands, Stands, sample_of, samples_of}
+use Rattle.pubsub_engine.specs.Living.{KeepsLife, StandsIn}
 use Rattle.pubsub_engine.proofs.Cutting.{allzip-from}
 use Rattle.pubsub_engine.proofs.NowSets.{now-sets}
 
@@ -43,6 +44,31 @@ stands-sampled old new changed p steps stands = subst (Stands p steps) (sym chan
   receives = stands.receives;
   stores_are = stands.stores_are;
   flags = stands.flags;
+})
+
+-- in a life
+pub lives-sampled : (old new : Session) → ChangesSamples old new → KeepsLife old new
+lives-sampled old new changed p life stands = subst (StandsIn p life) (sym changed) (record {
+  run = stands.run;
+  steps_are = stands.steps_are;
+  turns = stands.turns;
+  parts = record {
+    plan = stands.parts.plan;
+    moment = stands.parts.moment;
+    closed = stands.parts.closed;
+    ticks = stands.parts.ticks;
+    pumps = stands.parts.pumps;
+    metas = stands.parts.metas;
+    groups = stands.parts.groups;
+    senders = stands.parts.senders;
+    outcomes = stands.parts.outcomes;
+    sends = stands.parts.sends;
+    readings = stands.parts.readings;
+    tallies = stands.parts.tallies;
+    receives = stands.parts.receives;
+    stores_are = stands.parts.stores_are;
+    flags = stands.parts.flags;
+  };
 })
 
 pub session-sampled : (old new : Session) → IsSession old → ChangesSamples old new → HoldSamples old.sets.full.items new.samples → IsSession new

@@ -18,7 +18,7 @@ use Rattle.ps_config.specs.Sound.{readers}
 use Rattle.reader_group.specs.declared.group.ReaderGroup.{ReaderGroup}
 use Rattle.reader_group.specs.Members.{Seat, no_seat, seat_at}
 use Rattle.reader_group.specs.Groups.{IsKeptAt, IsMadeAt, Stands as ReadingStands}
-use Rattle.reader_group.specs.Plain.{Event, plain}
+use Rattle.session_model.specs.Readings.{Reading, setting_in}
 use Rattle.reader_group.specs.Settings.{group_at, seat_in, setting_of}
 use Rattle.row_words.specs.Belonging.{row_in}
 use Rattle.target_cells.specs.Keeping.{TargetsData, metas_of}
@@ -31,7 +31,7 @@ use Rattle.version_cell.specs.Sets.{ArePassesOf, ChangesAt, cell_at, no_cell, pa
 use Rattle.session_model.specs.Closing.{MemberPlace, reader_places}
 use Rattle.session_model.specs.Stores.{Store, is_same, stored_on}
 use Rattle.session_parts.specs.Holding.{AreReadGroups, MayReceive}
-use Rattle.session_parts.specs.Standing.{HaveReadAll}
+use Rattle.session_parts.specs.Standing.{HaveReadings}
 use Rattle.pubsub_engine.specs.declared.storing.Last.{Last}
 use Rattle.pubsub_engine.specs.declared.storing.Stores.{Stores}
 use Rattle.pubsub_engine.specs.Holding.{AddsOneAtMost, HoldStores}
@@ -147,11 +147,11 @@ joined-on config groups first mid next old half new low high one two = record {
 
     stored-by : (k : ℕ) (place : MemberPlace) → first ≤ k → k < next → slice_get (reader_places config) k ≡ Some place
         → ((nat_le mid k ≡ true) × (mid ≤ k)) ⊎ ((nat_le mid k ≡ false) × (k < mid)) → IsStoredOn config groups place old new k
-    stored-by k place from below at (inl late) = λ befell list read is.
-        two.stored k place late.1 below at befell list read (same-stored (meta_at_place config place) (list place) old half k (one.others k (inr late.1)) is)
-    stored-by k place from below at (inr early) = λ befell list read is.
-        same-stored (meta_at_place config place) (stored_at config befell list place) half new k (two.others k (inl early.1))
-        (one.stored k place from early.1 at befell list read is)
+    stored-by k place from below at (inl late) = λ readings list read is.
+        two.stored k place late.1 below at readings list read (same-stored (meta_at_place config place) (list place) old half k (one.others k (inr late.1)) is)
+    stored-by k place from below at (inr early) = λ readings list read is.
+        same-stored (meta_at_place config place) (stored_at config readings list place) half new k (two.others k (inl early.1))
+        (one.stored k place from early.1 at readings list read is)
 
 -- one reader
 pub one-on : (config : Config) (groups : List ReaderGroup) (k : ℕ) (place : MemberPlace) (old new : Stores) → slice_get (reader_places config) k ≡ Some place
@@ -233,7 +233,7 @@ pub placed-on : (config : Config) (cells : List CellData) (groups : List ReaderG
     → IsStoredAs (cell_at cells (first + i)).meta
     (stored_on part.numbering list (held_in (kept_by (cell_at cells (first + i)).meta.fields reader))) new (first + i))
     → IsStoredOn config groups (r, i) old new (first + i)
-placed-on config cells groups group reader part first r i old new is_first metas there within at_r at_i kept stores befell list read is =
+placed-on config cells groups group reader part first r i old new is_first metas there within at_r at_i kept stores readings list read is =
     subst (λ (after : List Store). IsStoredAs meta after new k) now
     (subst (λ (of : MetaData). IsStoredAs of (stored_on part.numbering (list (r, i)) (held_in (kept_by of.fields reader))) new k) same
     (stores (list (r, i)) (subst (λ (of : MetaData). IsStoredAs of (list (r, i)) old k) (sym same) is)))
@@ -247,17 +247,17 @@ placed-on config cells groups group reader part first r i old new is_first metas
     same : (cell_at cells k).meta ≡ meta
     same = cell-meta config cells first r i is_first metas there within
 
-    stands : ReadingStands (setting_of config r) (plain (setting_of config r) (befell r)) group
-    stands = subst (λ (g : ReaderGroup). ReadingStands (setting_of config r) (plain (setting_of config r) (befell r)) g) (sym at_r) (read r there group)
+    stands : ReadingStands (setting_in config r (readings r)) (readings r).value group
+    stands = subst (λ (g : ReaderGroup). ReadingStands (setting_in config r (readings r)) (readings r).value g) (sym at_r) (read r there group)
 
     numbered : part.numbering ≡ (seat_at (setting_of config r).seats i).part.numbering
     numbered = ap (λ (p : ReaderPart). p.numbering) (get_or_read (group_at config r).reader i part within at_i no_seat.part ∙ sym (seat-part config r i))
 
-    now : stored_on part.numbering (list (r, i)) (held_in (kept_by meta.fields reader)) ≡ stored_at config befell list (r, i)
+    now : stored_on part.numbering (list (r, i)) (held_in (kept_by meta.fields reader)) ≡ stored_at config readings list (r, i)
     now =
         ap (λ (n : NumberingWord). stored_on n (list (r, i)) (held_in (kept_by meta.fields reader))) numbered
         ∙ ap (λ (it : Kept). stored_on (seat_at (setting_of config r).seats i).part.numbering (list (r, i)) (held_in it))
-        (kept (setting_of config r) (plain (setting_of config r) (befell r)) stands)
+        (kept (setting_in config r (readings r)) (readings r).value stands)
 
 -- ---- what may still be stored
 
@@ -295,8 +295,8 @@ holds-left config targets groups limit left old new may done on holds = record {
   room = λ k low. let more = seen-more (pass_at old.keeper k) (pass_at new.keeper k) (on.adds k (omega arith) low) in omega (arith, more, holds.room k low);
 }
 
-pub all-stored : (config : Config) (groups : List ReaderGroup) (old new : Stores) (befell : ℕ → List Event) (list : MemberPlace → List Store)
-    → HaveStoredOn config groups 0 (length (readers config)) old new → HaveReadAll config befell groups
-    → HaveStored config list old → HaveStored config (stored_at config befell list) new
-all-stored config groups old new befell list on read is k place at =
-    on.stored k place (omega arith) (within-all config k place at) at befell list read (is k place at)
+pub all-stored : (config : Config) (groups : List ReaderGroup) (old new : Stores) (readings : ℕ → Reading) (list : MemberPlace → List Store)
+    → HaveStoredOn config groups 0 (length (readers config)) old new → HaveReadings config readings groups
+    → HaveStored config list old → HaveStored config (stored_at config readings list) new
+all-stored config groups old new readings list on read is k place at =
+    on.stored k place (omega arith) (within-all config k place at) at readings list read (is k place at)

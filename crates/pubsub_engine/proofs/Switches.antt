@@ -14,28 +14,28 @@ use Rattle.pubsub_states.specs.Changes as changes
 use Rattle.pubsub_states.specs.Changes.{TreeValue, Changes, flags_in, is_enabled}
 use Rattle.pubsub_states.proofs.Places.{placed}
 use Rattle.reader_group.specs.Plain.{Event, Setting, Stopped}
-use Rattle.reader_group.specs.Settings.{setting_of}
 use Rattle.writer_group.specs.Standing.{IsReserved}
 use Rattle.session_model.specs.Steps.{Plan, Step, Enable, Disable, is_on, switches_in}
 use Rattle.session_model.specs.Sets.{metas_at}
-use Rattle.session_model.specs.Deeds.{RefreshedBelow, component_at, deeds}
-use Rattle.session_model.specs.Events.{events, reader_indexes, stopped_below}
-use Rattle.session_model.specs.States.{flags_at, has_fault, is_ready}
-use Rattle.session_model.specs.Sends.{journal}
-use Rattle.session_model.specs.Stores.{stores}
-use Rattle.session_model.specs.Answers.{answers}
+use Rattle.session_model.specs.Deeds.{RefreshedBelow, component_at}
+use Rattle.session_model.specs.Events.{reader_indexes, stopped_below}
+use Rattle.session_model.specs.Lives.{Account, Lived, Stepped, account_in, account_of, flags_by, has_fault_by, is_ready_by, late_in, reading_after, ready_in, stepped, steps_in}
+use Rattle.session_model.specs.Readings.{Reading, answered_on, setting_in}
 use Rattle.session_parts.specs.declared.publisher.Publisher.{Publisher}
 use Rattle.session_parts.specs.declared.subscriber.Subscriber.{Subscriber}
 use Rattle.session_parts.specs.declared.tally.Tally.{Tally}
-use Rattle.session_parts.specs.Standing.{AreReceivesIn, AreSendsIn, HasFlags, HaveOutcomes, HavePast, HaveRead, HaveReadAll, HaveSent, HaveTallied, HaveTalliedAll, IsTallyOf}
+use Rattle.session_parts.specs.Standing.{AreReceivesIn, AreSendsIn, HasFlags, HaveOutcomesOf, HavePast, HaveReadAll, HaveReadings, HaveSent, HaveTallies, IsTallyOf}
 use Rattle.session_parts.specs.Holding.{AreGroups, AreSenders, AreStillLogged}
 use Rattle.session_parts.specs.Refreshed.{AllGoOn, HaveDone}
 use Rattle.session_parts.specs.Befalling.{HaveStoppedBelow}
-use Rattle.session_parts.specs.Pumping.{TellsReaders, late_at, ready_at}
+use Rattle.session_parts.specs.Pumping.{TellsReaders}
 use Rattle.pubsub_engine.specs.declared.session.Session.{Session}
-use Rattle.session_model.specs.Keeping.{AreStepsOf}
-use Rattle.pubsub_engine.specs.Holding.{IsRunning, IsSession, plan_of}
+use Rattle.session_model.specs.Keeping.{AreStepsOf, MaySwitch}
+use Rattle.pubsub_engine.specs.Holding.{IsRunning, IsSession, plan_of, ticks_of}
 use Rattle.pubsub_engine.specs.Standing.{Stands}
+use Rattle.pubsub_engine.specs.Living.{StandsAs, StandsIn}
+use Rattle.session_parts.proofs.Accounts.{reading-disabled}
+use Rattle.pubsub_engine.proofs.Lives.{as-stands, same-stands, stands-of}
 use Rattle.pubsub_engine.specs.Storing.{HaveStored}
 
 -- ---- the component with an id
@@ -52,18 +52,22 @@ component-is config counts id component same is =
     ap (λ o. unwrap_or o Root) (subst (λ (c : Counts). slice_get (components c) id ≡ Some component) same is)
 
 -- the tree has a component as enabled where switches left it on
-is-on : (p : Plan) (before : List Step) (id : ℕ) (tree : TreeValue) → tree.counts ≡ counts_of p.config → IsId (counts_of p.config) id → HasFlags (flags_at p before) tree
+is-on : (p : Plan) (before : List Step) (a : Account) (id : ℕ) (tree : TreeValue) → tree.counts ≡ counts_of p.config → IsId (counts_of p.config) id → HasFlags (flags_by p.config before a) tree
     → (changes.flags_at tree id).enabled ≡ is_on p.config before (component_at p.config id)
-is-on p before id tree counts there flags =
+is-on p before a id tree counts there flags =
     let found = placed (counts_of p.config) id (component_at p.config id) (component-found p.config id there) in
     ap (λ (n : ℕ). (changes.flags_at tree n).enabled) (sym (ap (λ (c : Counts). id_of c (component_at p.config id)) counts ∙ found.1))
     ∙ ap (λ (f : Flags). f.enabled) (flags (component_at p.config id) (subst (λ (c : Counts). IsAmong c (component_at p.config id)) (sym counts) found.0))
 
+pub was-on-as : (old : Session) (id : ℕ) → IsSession old → IsId (counts_of old.config.now) id → (p : Plan) (before : List Step) (a : Account) → StandsAs p before a old
+    → (changes.flags_at old.tree id).enabled ≡ is_on p.config before (component_at p.config id)
+was-on-as old id session there p before a stands =
+    subst (λ (q : Plan). StandsAs q before a old → (changes.flags_at old.tree id).enabled ≡ is_on q.config before (component_at q.config id)) stands.plan
+    (λ at. is-on (plan_of old) before a id old.tree session.tree there at.flags) stands
+
 pub was-on : (old : Session) (id : ℕ) → IsSession old → IsId (counts_of old.config.now) id → (p : Plan) (before : List Step) → Stands p before old
     → (changes.flags_at old.tree id).enabled ≡ is_on p.config before (component_at p.config id)
-was-on old id session there p before stands =
-    subst (λ (q : Plan). Stands q before old → (changes.flags_at old.tree id).enabled ≡ is_on q.config before (component_at q.config id)) stands.plan
-    (λ at. is-on (plan_of old) before id old.tree session.tree there at.flags) stands
+was-on old id session there p before stands = was-on-as old id session there p before (account_of p before) (as-stands p before old stands)
 
 -- ---- answers
 
@@ -87,23 +91,23 @@ off-if true f = refl
 off-if false f = refl
 
 -- the flags of a component after a switch on, from those before it
-flags-enabled : (p : Plan) (before : List Step) (id : ℕ) (old new : TreeValue) → old.counts ≡ counts_of p.config → Changes (changes.Enable id) old new
-    → HasFlags (flags_at p before) old → HasFlags (flags_at p (Enable id ∷ before)) new
-flags-enabled p before id old new counts switched flags component among =
+flags-enabled : (p : Plan) (before : List Step) (a : Account) (id : ℕ) (old new : TreeValue) → old.counts ≡ counts_of p.config → Changes (changes.Enable id) old new
+    → HasFlags (flags_by p.config before a) old → HasFlags (flags_by p.config (Enable id ∷ before) (stepped p before a (Enable id))) new
+flags-enabled p before a id old new counts switched flags component among =
     ap (λ (n : Counts). changes.flags_at new (id_of n component)) switched.counts
     ∙ switched.flags (id_of old.counts component)
     ∙ on-if (id == id_of old.counts component) (flags_in old component)
     ∙ ap (λ (f : Flags). record { enabled = if id == id_of old.counts component then true else f.enabled; fault = f.fault; ready = f.ready }) (flags component there)
-    ∙ ap (λ (n : Counts). record { enabled = if id == id_of n component then true else is_enabled (switches_in before) (id_of (counts_of p.config) component); fault = has_fault p before component; ready = is_ready p before component }) counts
+    ∙ ap (λ (n : Counts). record { enabled = if id == id_of n component then true else is_enabled (switches_in before) (id_of (counts_of p.config) component); fault = has_fault_by p.config a component; ready = is_ready_by a.readings component }) counts
     ∙ same component
   where
     there : IsAmong old.counts component
     there = subst (λ (c : Counts). IsAmong c component) switched.counts among
 
     flags_of : Component → Flags
-    flags_of c = record { enabled = if id == id_of (counts_of p.config) c then true else is_enabled (switches_in before) (id_of (counts_of p.config) c); fault = has_fault p before c; ready = is_ready p before c }
+    flags_of c = record { enabled = if id == id_of (counts_of p.config) c then true else is_enabled (switches_in before) (id_of (counts_of p.config) c); fault = has_fault_by p.config a c; ready = is_ready_by a.readings c }
 
-    same : (c : Component) → flags_of c ≡ flags_at p (Enable id ∷ before) c
+    same : (c : Component) → flags_of c ≡ flags_by p.config (Enable id ∷ before) (stepped p before a (Enable id)) c
     same Root = refl
     same Connection = refl
     same (Group g) = refl
@@ -112,36 +116,36 @@ flags-enabled p before id old new counts switched flags component among =
     same (Reader r i) = refl
 
 -- those after a switch off
-flags-off : (p : Plan) (before : List Step) (id : ℕ) (old new : TreeValue) → old.counts ≡ counts_of p.config → Changes (changes.Disable id) old new
-    → HasFlags (flags_at p before) old → (component : Component) → IsAmong old.counts component
-    → flags_in new component ≡ record { enabled = is_on p.config (Disable id ∷ before) component; fault = has_fault p before component; ready = is_ready p before component }
-flags-off p before id old new counts switched flags component there =
+flags-off : (p : Plan) (before : List Step) (a : Account) (id : ℕ) (old new : TreeValue) → old.counts ≡ counts_of p.config → Changes (changes.Disable id) old new
+    → HasFlags (flags_by p.config before a) old → (component : Component) → IsAmong old.counts component
+    → flags_in new component ≡ record { enabled = is_on p.config (Disable id ∷ before) component; fault = has_fault_by p.config a component; ready = is_ready_by a.readings component }
+flags-off p before a id old new counts switched flags component there =
     ap (λ (n : Counts). changes.flags_at new (id_of n component)) switched.counts
     ∙ switched.flags (id_of old.counts component)
     ∙ off-if (id == id_of old.counts component) (flags_in old component)
     ∙ ap (λ (f : Flags). record { enabled = if id == id_of old.counts component then false else f.enabled; fault = f.fault; ready = f.ready }) (flags component there)
-    ∙ ap (λ (n : Counts). record { enabled = if id == id_of n component then false else is_enabled (switches_in before) (id_of (counts_of p.config) component); fault = has_fault p before component; ready = is_ready p before component }) counts
+    ∙ ap (λ (n : Counts). record { enabled = if id == id_of n component then false else is_enabled (switches_in before) (id_of (counts_of p.config) component); fault = has_fault_by p.config a component; ready = is_ready_by a.readings component }) counts
 
-flags-disabled : (p : Plan) (before : List Step) (id : ℕ) (subscriber : Subscriber) (old mid new : TreeValue) → old.counts ≡ counts_of p.config → Changes (changes.Disable id) old mid
-    → new.counts ≡ mid.counts → HaveRead p.config (Disable id ∷ before) subscriber.groups.items → TellsReaders p.config subscriber mid new
-    → HasFlags (flags_at p before) old → HasFlags (flags_at p (Disable id ∷ before)) new
-flags-disabled p before id subscriber old mid new counts switched kept read told flags component among = on component (subst (λ (c : Counts). IsAmong c component) kept among)
+flags-disabled : (p : Plan) (before : List Step) (a : Account) (id : ℕ) (subscriber : Subscriber) (old mid new : TreeValue) → old.counts ≡ counts_of p.config → Changes (changes.Disable id) old mid
+    → new.counts ≡ mid.counts → HaveReadings p.config (reading_after p.config before (Disable id) a) subscriber.groups.items → TellsReaders p.config subscriber mid new
+    → HasFlags (flags_by p.config before a) old → HasFlags (flags_by p.config (Disable id ∷ before) (stepped p before a (Disable id))) new
+flags-disabled p before a id subscriber old mid new counts switched kept read told flags component among = on component (subst (λ (c : Counts). IsAmong c component) kept among)
   where
-    off : (c : Component) → IsAmong mid.counts c → flags_in mid c ≡ record { enabled = is_on p.config (Disable id ∷ before) c; fault = has_fault p before c; ready = is_ready p before c }
-    off c there = flags-off p before id old mid counts switched flags c (subst (λ (n : Counts). IsAmong n c) switched.counts there)
+    off : (c : Component) → IsAmong mid.counts c → flags_in mid c ≡ record { enabled = is_on p.config (Disable id ∷ before) c; fault = has_fault_by p.config a c; ready = is_ready_by a.readings c }
+    off c there = flags-off p before a id old mid counts switched flags c (subst (λ (n : Counts). IsAmong n c) switched.counts there)
 
-    on : (c : Component) → IsAmong mid.counts c → flags_in new c ≡ flags_at p (Disable id ∷ before) c
+    on : (c : Component) → IsAmong mid.counts c → flags_in new c ≡ flags_by p.config (Disable id ∷ before) (stepped p before a (Disable id)) c
     on Root there = told.others Root there refl ∙ off Root there
     on Connection there = told.others Connection there refl ∙ off Connection there
     on (Group g) there = told.others (Group g) there refl ∙ off (Group g) there
     on (Writer g w) there = told.others (Writer g w) there refl ∙ off (Writer g w) there
     on (ReadGroup r) there = told.others (ReadGroup r) there refl ∙ off (ReadGroup r) there
     on (Reader r i) there =
-        told.readers (λ q. events p.config q (Disable id ∷ before)) r i read there
+        told.readers (reading_after p.config before (Disable id) a) r i read there
         ∙ ap (λ (e : Bool). record {
           enabled = e;
-          fault = late_at p.config (λ q. events p.config q (Disable id ∷ before)) r i;
-          ready = ready_at p.config (λ q. events p.config q (Disable id ∷ before)) r i;
+          fault = late_in (reading_after p.config before (Disable id) a) r i;
+          ready = ready_in (reading_after p.config before (Disable id) a) r i;
         }) (ap (λ f. f.enabled) (off (Reader r i) there))
 
 -- ---- enable
@@ -180,65 +184,89 @@ enabled-session old tree publisher session kept parts groups goes_on logs = reco
   calls = session.calls;
 }
 
-enabled-of : (before : List Step) (id : ℕ) (component : Component) (old new : Session) → DoesEnable id component old new → Stands (plan_of old) before old
-    → Stands (plan_of old) (Enable id ∷ before) new
-enabled-of before id component old new does stands = record {
+-- where a switch leads
+pub record HasSwitched (p : Plan) (before : List Step) (a : Account) (was_on : Bool) (id : ℕ) (step : Step) (old new : Session) : Type 0 where
+  pub may : MaySwitch p.config before id was_on
+  pub kept : ticks_of new ≡ ticks_of old
+  pub stands : StandsAs p (step ∷ before) (stepped p before a step) new
+
+enabled-of : (before : List Step) (a : Account) (id : ℕ) (component : Component) (old new : Session) → DoesEnable id component old new → StandsAs (plan_of old) before a old
+    → StandsAs (plan_of old) (Enable id ∷ before) (stepped (plan_of old) before a (Enable id)) new
+enabled-of before a id component old new does stands = record {
   plan = ap plan_of does.changed;
-  run = stands.run;
-  steps_are = subst (λ (n : ℕ). AreStepsOf (n - 1) (plan_of old) (Enable id ∷ before)) (sym (ap (λ (s : Session). s.left.stores) does.changed)) (
-    record {
-      there = does.there;
-      was = sym (is-on p before id old.tree does.counts does.there stands.flags) ∙ does.was;
-      running = sym stands.closed ∙ does.running;
-    },
-    stands.steps_are,
-  );
-  turns = stands.turns;
   moment = ap (λ (s : Session). s.moment) does.changed ∙ stands.moment;
   closed = ap (λ (s : Session). s.left.is_closed) does.changed ∙ stands.closed;
   ticks = omega (arith, ap (λ (s : Session). s.left.ticks) does.changed, ap (λ (s : Session). s.left.stores) does.changed, stands.ticks);
   pumps = omega (arith, ap (λ (s : Session). s.left.pumps) does.changed, stands.pumps);
   metas = ap (λ (s : Session). s.sets.metas.items) does.changed ∙ stands.metas;
-  groups = subst (λ (c : Component). HavePast p.config (metas_at p.config before) (RefreshedBelow c ∷ deeds p before) new.publisher.groups.items) (sym does.is_component)
-      (does.past (metas_at p.config before) (deeds p before) stands.groups);
-  senders = subst (λ (q : Publisher). HaveSent p.config (deeds p before) q.senders.items) (sym does.parts) stands.senders;
-  outcomes = subst (λ (q : Publisher). HaveOutcomes p before q.sends.items) (sym does.parts) stands.outcomes;
-  sends = subst (λ (q : Publisher). AreSendsIn (journal p before) q.link) (sym does.parts) stands.sends;
-  readings = subst (λ (s : Session). HaveReadAll p.config (λ r. events p.config r before) s.subscriber.groups.items) (sym does.changed) stands.readings;
-  tallies = subst (λ (s : Session). HaveTallied p.config before s.subscriber.tallies.items) (sym does.changed) stands.tallies;
+  groups = subst (λ (c : Component). HavePast p.config (metas_at p.config before) (RefreshedBelow c ∷ a.deeds) new.publisher.groups.items) (sym does.is_component)
+      (does.past (metas_at p.config before) a.deeds stands.groups);
+  senders = subst (λ (q : Publisher). HaveSent p.config a.deeds q.senders.items) (sym does.parts) stands.senders;
+  outcomes = subst (λ (q : Publisher). HaveOutcomesOf p.config a.sent a.failing q.sends.items) (sym does.parts) stands.outcomes;
+  sends = subst (λ (q : Publisher). AreSendsIn a.journal q.link) (sym does.parts) stands.sends;
+  readings = subst (λ (s : Session). HaveReadings p.config a.readings s.subscriber.groups.items) (sym does.changed) stands.readings;
+  tallies = subst (λ (s : Session). HaveTallies p.config a.readings s.subscriber.tallies.items) (sym does.changed) stands.tallies;
   receives =
-      let same : AreReceivesIn (journal p before) before new.receiving = subst (λ (s : Session). AreReceivesIn (journal p before) before s.receiving) (sym does.changed) stands.receives in
+      let same : AreReceivesIn a.journal before new.receiving = subst (λ (s : Session). AreReceivesIn a.journal before s.receiving) (sym does.changed) stands.receives in
       record { received = same.received; broken = same.broken; long = same.long; limit = same.limit };
-  stores_are = subst (λ (s : Session). HaveStored p.config (λ place. stores p.config place.0 place.1 before) s.stores) (sym does.changed) stands.stores_are;
-  flags = flags-enabled p before id old.tree new.tree does.counts does.switched stands.flags;
+  stores_are = subst (λ (s : Session). HaveStored p.config (λ place. a.stores place.0 place.1) s.stores) (sym does.changed) stands.stores_are;
+  flags = flags-enabled p before a id old.tree new.tree does.counts does.switched stands.flags;
 }
   where
     p : Plan
     p = plan_of old
 
+pub enabled-as : (p : Plan) (before : List Step) (a : Account) (id : ℕ) (component : Component) (old new : Session) → DoesEnable id component old new → StandsAs p before a old
+    → HasSwitched p before a false id (Enable id) old new
+enabled-as p before a id component old new does stands =
+    subst (λ (q : Plan). StandsAs q before a old → HasSwitched q before a false id (Enable id) old new) stands.plan
+    (λ at. record {
+      may = record {
+        there = does.there;
+        was = sym (is-on (plan_of old) before a id old.tree does.counts does.there at.flags) ∙ does.was;
+        running = sym at.closed ∙ does.running;
+      };
+      kept = ap ticks_of does.changed;
+      stands = enabled-of before a id component old new does at;
+    })
+    stands
+
 pub enabled-stands : (p : Plan) (before : List Step) (id : ℕ) (component : Component) (old new : Session) → DoesEnable id component old new → Stands p before old
     → Stands p (Enable id ∷ before) new
 enabled-stands p before id component old new does stands =
-    subst (λ (q : Plan). Stands q before old → Stands q (Enable id ∷ before) new) stands.plan (enabled-of before id component old new does) stands
+    let switched = enabled-as p before (account_of p before) id component old new does (as-stands p before old stands) in
+    stands-of p (Enable id ∷ before) new stands.run (switched.may, subst (λ (m : ℕ). AreStepsOf m p before) (sym switched.kept) stands.steps_are) stands.turns switched.stands
+
+-- in a life
+pub switched-lives : (p : Plan) (life : List Lived) (id : ℕ) (old new : Session) → StandsIn p life old
+    → HasSwitched p (steps_in life) (account_in p life) false id (Enable id) old new → StandsIn p (Stepped (Enable id) ∷ life) new
+switched-lives p life id old new stands switched = record {
+  run = (tt, stands.run);
+  steps_are = (switched.may, subst (λ (m : ℕ). AreStepsOf m p (steps_in life)) (sym switched.kept) stands.steps_are);
+  turns = (tt, stands.turns);
+  parts = switched.stands;
+}
 
 -- ---- disable
 
 -- a cut is no answer
-answers-cut : (setting : Setting) (is_cut : Bool) (reader : ℕ) (befell : List Event) → answers setting (cons_if is_cut (Stopped reader Restarted) befell) ≡ answers setting befell
-answers-cut setting true reader befell = refl
-answers-cut setting false reader befell = refl
+answers-stay : (setting : Setting) (reading : Reading) (is_cut : Bool) (reader : ℕ) (befell : List Event)
+    → answered_on setting reading (cons_if is_cut (Stopped reader Restarted) befell) ≡ answered_on setting reading befell
+answers-stay setting reading true reader befell = refl
+answers-stay setting reading false reader befell = refl
 
-answers-stopped : (setting : Setting) (r : ℕ) (component : Component) (readers : List ℕ) (befell : List Event)
-    → answers setting (fold (λ so_far i. cons_if (is_at_or_above component (Reader r i)) (Stopped i Restarted) so_far) befell readers) ≡ answers setting befell
-answers-stopped setting r component [] befell = refl
-answers-stopped setting r component (i ∷ readers) befell =
-    answers-stopped setting r component readers (cons_if (is_at_or_above component (Reader r i)) (Stopped i Restarted) befell)
-    ∙ answers-cut setting (is_at_or_above component (Reader r i)) i befell
+answers-kept : (setting : Setting) (reading : Reading) (r : ℕ) (component : Component) (readers : List ℕ) (befell : List Event)
+    → answered_on setting reading (fold (λ so_far i. cons_if (is_at_or_above component (Reader r i)) (Stopped i Restarted) so_far) befell readers) ≡ answered_on setting reading befell
+answers-kept setting reading r component [] befell = refl
+answers-kept setting reading r component (i ∷ readers) befell =
+    answers-kept setting reading r component readers (cons_if (is_at_or_above component (Reader r i)) (Stopped i Restarted) befell)
+    ∙ answers-stay setting reading (is_at_or_above component (Reader r i)) i befell
 
-tallies-stopped : (config : Config) (component : Component) (befell : ℕ → List Event) (tallies : List Tally) → HaveTalliedAll config befell tallies
-    → HaveTalliedAll config (λ r. stopped_below config r component (befell r)) tallies
-tallies-stopped config component befell tallies are r low d =
-    subst (λ l. IsTallyOf l (get_or tallies r d)) (sym (answers-stopped (setting_of config r) r component (reader_indexes config r) (befell r))) (are r low d)
+tallies-stopped : (config : Config) (before : List Step) (id : ℕ) (a : Account) (tallies : List Tally) → HaveTallies config a.readings tallies
+    → HaveTallies config (reading_after config before (Disable id) a) tallies
+tallies-stopped config before id a tallies are r low d =
+    subst (λ l. IsTallyOf l (get_or tallies r d))
+    (sym (answers-kept (setting_in config r (a.readings r)) (a.readings r) r (component_at config id) (reader_indexes config r) [])) (are r low d)
 
 pub record DoesDisable (id : ℕ) (component : Component) (old new : Session) (tree : TreeValue) : Type 0 where
   pub changed : new ≡ record old { tree = new.tree; subscriber = new.subscriber }
@@ -253,47 +281,65 @@ pub record DoesDisable (id : ℕ) (component : Component) (old new : Session) (t
   pub stopped : HaveStoppedBelow old.config.now component old.subscriber new.subscriber
   pub told : TellsReaders old.config.now new.subscriber tree new.tree
 
-disabled-of : (before : List Step) (id : ℕ) (component : Component) (old new : Session) (tree : TreeValue) → DoesDisable id component old new tree → Stands (plan_of old) before old
-    → Stands (plan_of old) (Disable id ∷ before) new
-disabled-of before id component old new tree does stands = record {
+disabled-of : (before : List Step) (a : Account) (id : ℕ) (component : Component) (old new : Session) (tree : TreeValue) → DoesDisable id component old new tree → StandsAs (plan_of old) before a old
+    → StandsAs (plan_of old) (Disable id ∷ before) (stepped (plan_of old) before a (Disable id)) new
+disabled-of before a id component old new tree does stands = record {
   plan = ap plan_of does.changed;
-  run = stands.run;
-  steps_are = subst (λ (n : ℕ). AreStepsOf (n - 1) (plan_of old) (Disable id ∷ before)) (sym (ap (λ (s : Session). s.left.stores) does.changed)) (
-    record {
-      there = does.there;
-      was = sym (is-on p before id old.tree does.counts does.there stands.flags) ∙ does.was;
-      running = sym stands.closed ∙ does.running;
-    },
-    stands.steps_are,
-  );
-  turns = stands.turns;
   moment = ap (λ (s : Session). s.moment) does.changed ∙ stands.moment;
   closed = ap (λ (s : Session). s.left.is_closed) does.changed ∙ stands.closed;
   ticks = omega (arith, ap (λ (s : Session). s.left.ticks) does.changed, ap (λ (s : Session). s.left.stores) does.changed, stands.ticks);
   pumps = omega (arith, ap (λ (s : Session). s.left.pumps) does.changed, stands.pumps);
   metas = ap (λ (s : Session). s.sets.metas.items) does.changed ∙ stands.metas;
-  groups = subst (λ (s : Session). HavePast p.config (metas_at p.config before) (deeds p before) s.publisher.groups.items) (sym does.changed) stands.groups;
-  senders = subst (λ (s : Session). HaveSent p.config (deeds p before) s.publisher.senders.items) (sym does.changed) stands.senders;
-  outcomes = subst (λ (s : Session). HaveOutcomes p before s.publisher.sends.items) (sym does.changed) stands.outcomes;
-  sends = subst (λ (s : Session). AreSendsIn (journal p before) s.publisher.link) (sym does.changed) stands.sends;
+  groups = subst (λ (s : Session). HavePast p.config (metas_at p.config before) a.deeds s.publisher.groups.items) (sym does.changed) stands.groups;
+  senders = subst (λ (s : Session). HaveSent p.config a.deeds s.publisher.senders.items) (sym does.changed) stands.senders;
+  outcomes = subst (λ (s : Session). HaveOutcomesOf p.config a.sent a.failing s.publisher.sends.items) (sym does.changed) stands.outcomes;
+  sends = subst (λ (s : Session). AreSendsIn a.journal s.publisher.link) (sym does.changed) stands.sends;
   readings = read;
-  tallies = subst (λ (s : Subscriber). HaveTallied p.config (Disable id ∷ before) s.tallies.items) (sym does.parts)
-      (tallies-stopped p.config (component_at p.config id) (λ r. events p.config r before) old.subscriber.tallies.items stands.tallies);
+  tallies = subst (λ (s : Subscriber). HaveTallies p.config (reading_after p.config before (Disable id) a) s.tallies.items) (sym does.parts)
+      (tallies-stopped p.config before id a old.subscriber.tallies.items stands.tallies);
   receives =
-      let same : AreReceivesIn (journal p before) before new.receiving = subst (λ (s : Session). AreReceivesIn (journal p before) before s.receiving) (sym does.changed) stands.receives in
+      let same : AreReceivesIn a.journal before new.receiving = subst (λ (s : Session). AreReceivesIn a.journal before s.receiving) (sym does.changed) stands.receives in
       record { received = same.received; broken = same.broken; long = same.long; limit = same.limit };
-  stores_are = subst (λ (s : Session). HaveStored p.config (λ place. stores p.config place.0 place.1 before) s.stores) (sym does.changed) stands.stores_are;
-  flags = flags-disabled p before id new.subscriber old.tree tree new.tree does.counts does.switched does.kept read does.told stands.flags;
+  stores_are = subst (λ (s : Session). HaveStored p.config (λ place. a.stores place.0 place.1) s.stores) (sym does.changed) stands.stores_are;
+  flags = flags-disabled p before a id new.subscriber old.tree tree new.tree does.counts does.switched does.kept read does.told stands.flags;
 }
   where
     p : Plan
     p = plan_of old
 
-    read : HaveRead old.config.now (Disable id ∷ before) new.subscriber.groups.items
-    read = subst (λ (c : Component). HaveReadAll old.config.now (λ r. stopped_below old.config.now r c (events old.config.now r before)) new.subscriber.groups.items) (sym does.is_component)
-        (does.stopped (λ r. events old.config.now r before) stands.readings)
+    read : HaveReadings old.config.now (reading_after old.config.now before (Disable id) a) new.subscriber.groups.items
+    read = subst (λ (c : Component). HaveReadAll old.config.now a.readings (λ r. stopped_below old.config.now r c []) new.subscriber.groups.items) (sym does.is_component)
+        (does.stopped a.readings (λ r. []) stands.readings)
+
+pub disabled-as : (p : Plan) (before : List Step) (a : Account) (id : ℕ) (component : Component) (old new : Session) (tree : TreeValue) → DoesDisable id component old new tree → StandsAs p before a old
+    → HasSwitched p before a true id (Disable id) old new
+disabled-as p before a id component old new tree does stands =
+    subst (λ (q : Plan). StandsAs q before a old → HasSwitched q before a true id (Disable id) old new) stands.plan
+    (λ at. record {
+      may = record {
+        there = does.there;
+        was = sym (is-on (plan_of old) before a id old.tree does.counts does.there at.flags) ∙ does.was;
+        running = sym at.closed ∙ does.running;
+      };
+      kept = ap ticks_of does.changed;
+      stands = disabled-of before a id component old new tree does at;
+    })
+    stands
 
 pub disabled-stands : (p : Plan) (before : List Step) (id : ℕ) (component : Component) (old new : Session) (tree : TreeValue) → DoesDisable id component old new tree → Stands p before old
     → Stands p (Disable id ∷ before) new
 disabled-stands p before id component old new tree does stands =
-    subst (λ (q : Plan). Stands q before old → Stands q (Disable id ∷ before) new) stands.plan (disabled-of before id component old new tree does) stands
+    let switched = disabled-as p before (account_of p before) id component old new tree does (as-stands p before old stands) in
+    stands-of p (Disable id ∷ before) new stands.run (switched.may, subst (λ (m : ℕ). AreStepsOf m p before) (sym switched.kept) stands.steps_are) stands.turns
+    (same-stands p (Disable id ∷ before) (stepped p before (account_of p before) (Disable id)) (account_of p (Disable id ∷ before)) new refl
+    (λ r. reading-disabled p.config before id r) (λ r i. refl) switched.stands)
+
+-- in a life
+pub disabled-lives : (p : Plan) (life : List Lived) (id : ℕ) (old new : Session) → StandsIn p life old
+    → HasSwitched p (steps_in life) (account_in p life) true id (Disable id) old new → StandsIn p (Stepped (Disable id) ∷ life) new
+disabled-lives p life id old new stands switched = record {
+  run = (tt, stands.run);
+  steps_are = (switched.may, subst (λ (m : ℕ). AreStepsOf m p (steps_in life)) (sym switched.kept) stands.steps_are);
+  turns = (tt, stands.turns);
+  parts = switched.stands;
+}

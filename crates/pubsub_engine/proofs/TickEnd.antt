@@ -1,5 +1,5 @@
 -- What a tick leaves of the session.
-use Rattle.std.proofs.Common.{◌≡◌, refl, sym, ap, ◌∙◌, subst, arith, ℕ, ◌+◌, ◌<◌, List, length, Bool, Option}
+use Rattle.std.proofs.Common.{◌≡◌, refl, sym, ap, ◌∙◌, subst, arith, ℕ, ◌+◌, ◌<◌, List, ◌∷◌, length, Bool, Option}
 use Rattle.ua_base.specs.Journal.{LinkState}
 use Rattle.pubsub_states.specs.Changes.{TreeValue}
 use Rattle.dataset_meta.specs.Metas.{HasGrown}
@@ -23,12 +23,17 @@ use Rattle.session_parts.specs.declared.publisher.Publisher.{Publisher}
 use Rattle.pubsub_engine.specs.declared.sampling.Samples.{Samples}
 use Rattle.pubsub_engine.specs.declared.session.Session.{Session}
 use Rattle.session_parts.specs.Holding.{AreAllLogged, AreStillLogged, HoldPublisher, MayAllGoOn}
-use Rattle.pubsub_engine.specs.Holding.{HoldSamples, IsSession, KeepsPasses, MayTick}
+use Rattle.pubsub_engine.specs.Holding.{HoldSamples, IsSession, KeepsPasses, MayTick, ticks_of}
 use Rattle.pubsub_engine.specs.Standing.{Leads, Stands}
+use Rattle.pubsub_engine.specs.Living.{LeadsIn, StandsAs, StandsIn}
+use Rattle.pubsub_engine.proofs.Lives.{stands-of}
+use Rattle.session_model.specs.Keeping.{AreStepsOf, MayComeOf}
+use Rattle.session_model.specs.Lives.{Account, IsRunOn, Lived, TurnsHoldOn, account_in, account_of, stepped, steps_in}
+use Rattle.session_model.specs.Sends.{TellsJournal}
 use Rattle.pubsub_engine.specs.Ticking.{HasBegun, tick_of}
 use Rattle.session_parts.specs.Ticking.{HasPassed}
 use Rattle.std.proofs.lemmas.Slice.Zip.{AllZip-long}
-use Rattle.pubsub_engine.proofs.Ending.{ends}
+use Rattle.pubsub_engine.proofs.Ending.{ends, may-come, same-ticks}
 use Rattle.pubsub_engine.proofs.NowSets.{now-sets}
 
 -- the session after turns, written over the one before
@@ -92,21 +97,68 @@ ticked-keeps ms closing old mid s begun rest = subst (KeepsPasses old) (sym (aft
   logged = begun.counts_tick.logged;
 })
 
-pub ticked-leads : (p : Plan) (before : List Step) (ms n : ℕ) (closing : Bool) (old mid s : Session) (told after : Option LinkState) → MayTick ms closing old → HasBegun ms closing old mid
-    → s ≡ record mid { publisher = s.publisher; tree = s.tree } → n ≡ length old.config.now.group → Stands p before old
-    → HasPassed (tick_of p before ms closing old) n s.publisher s.tree told after
-    → (done : List Bool) × Leads p before (Tick ms closing old.samples.taken.items done) told after s
-ticked-leads p before ms n closing old mid s told after may begun rest all stands passed = (
-  whole.done,
-  subst (λ (x : Session). Leads p before (Tick ms closing old.samples.taken.items whole.done) told after x) (sym rest)
-      (ends p before ms closing old mid s.publisher s.tree whole.done told after may stands begun whole.at (λ g low. whole.holds g low) whole.tells),
-)
+-- where the groups' turns lead
+pub record Ticks (p : Plan) (before : List Step) (a : Account) (ms : ℕ) (closing : Bool) (old new : Session) (told after : Option LinkState) : Type 0 where
+  pub done : List Bool
+  pub run : IsRunOn p before a (Tick ms closing old.samples.taken.items done)
+  pub may : MayComeOf (ticks_of new) p before ms closing old.samples.taken.items
+  pub kept : ticks_of new ≡ ticks_of old
+  pub turns : TurnsHoldOn p before a (Tick ms closing old.samples.taken.items done)
+  pub stands : StandsAs p (Tick ms closing old.samples.taken.items done ∷ before) (stepped p before a (Tick ms closing old.samples.taken.items done)) new
+  pub tells : TellsJournal a.journal told → TellsJournal (stepped p before a (Tick ms closing old.samples.taken.items done)).journal after
+
+pub ticked-as : (p : Plan) (before : List Step) (a : Account) (ms n : ℕ) (closing : Bool) (old mid s : Session) (told after : Option LinkState) → MayTick ms closing old → HasBegun ms closing old mid
+    → s ≡ record mid { publisher = s.publisher; tree = s.tree } → n ≡ length old.config.now.group → StandsAs p before a old
+    → HasPassed (tick_of p before a ms closing old) n s.publisher s.tree told after → Ticks p before a ms closing old s told after
+ticked-as p before a ms n closing old mid s told after may begun rest all stands passed = record {
+  done = whole.done;
+  run = whole.at.sent;
+  may = subst (λ (m : ℕ). MayComeOf m p before ms closing old.samples.taken.items) (sym same) (may-come p before a ms closing old may stands);
+  kept = same;
+  turns = λ g low. whole.holds g low;
+  stands = subst (StandsAs p (Tick ms closing old.samples.taken.items whole.done ∷ before) (stepped p before a (Tick ms closing old.samples.taken.items whole.done))) (sym rest)
+      (ends p before a ms closing old mid s.publisher s.tree whole.done may stands begun whole.at);
+  tells = whole.tells;
+}
   where
     count : n ≡ length p.config.group
     count = all ∙ ap (λ (q : Plan). length q.config.group) stands.plan
 
-    whole : HasPassed (tick_of p before ms closing old) (length p.config.group) s.publisher s.tree told after
-    whole = subst (λ (m : ℕ). HasPassed (tick_of p before ms closing old) m s.publisher s.tree told after) count passed
+    whole : HasPassed (tick_of p before a ms closing old) (length p.config.group) s.publisher s.tree told after
+    whole = subst (λ (m : ℕ). HasPassed (tick_of p before a ms closing old) m s.publisher s.tree told after) count passed
+
+    same : ticks_of s ≡ ticks_of old
+    same = ap ticks_of rest ∙ same-ticks ms closing old mid begun
+
+-- behind steps alone
+pub ticked-leads : (p : Plan) (before : List Step) (ms : ℕ) (closing : Bool) (old s : Session) (told after : Option LinkState) → Stands p before old
+    → Ticks p before (account_of p before) ms closing old s told after
+    → (done : List Bool) × Leads p before (Tick ms closing old.samples.taken.items done) told after s
+ticked-leads p before ms closing old s told after stands ticks = (
+  ticks.done,
+  record {
+    stands = stands-of p (Tick ms closing old.samples.taken.items ticks.done ∷ before) s (ticks.run, stands.run)
+        (ticks.may, subst (λ (m : ℕ). AreStepsOf m p before) (sym ticks.kept) stands.steps_are) (ticks.turns, stands.turns) ticks.stands;
+    tells = ticks.tells;
+  },
+)
+
+-- in a life
+pub ticked-lives : (p : Plan) (life : List Lived) (ms : ℕ) (closing : Bool) (old s : Session) (told after : Option LinkState) → StandsIn p life old
+    → Ticks p (steps_in life) (account_in p life) ms closing old s told after
+    → (done : List Bool) × LeadsIn p life (Tick ms closing old.samples.taken.items done) told after s
+ticked-lives p life ms closing old s told after stands ticks = (
+  ticks.done,
+  record {
+    stands = record {
+      run = (ticks.run, stands.run);
+      steps_are = (ticks.may, subst (λ (m : ℕ). AreStepsOf m p (steps_in life)) (sym ticks.kept) stands.steps_are);
+      turns = (ticks.turns, stands.turns);
+      parts = ticks.stands;
+    };
+    tells = ticks.tells;
+  },
+)
 
 -- ---- what the turns are told
 
@@ -155,9 +207,9 @@ may-pass-all ms closing old mid told may begun is = record {
     session : IsSession old
     session = may.session
 
-pub told-of : (ms : ℕ) (closing : Bool) (old mid : Session) (told : Told) → HasBegun ms closing old mid → TellsOf ms closing old mid told → (p : Plan) (before : List Step) → Stands p before old
-    → IsToldOf (tick_of p before ms closing old) told
-told-of ms closing old mid told begun is p before stands = record {
+pub told-of : (ms : ℕ) (closing : Bool) (old mid : Session) (told : Told) → HasBegun ms closing old mid → TellsOf ms closing old mid told → (p : Plan) (before : List Step) (a : Account)
+    → StandsAs p before a old → IsToldOf (tick_of p before a ms closing old) told
+told-of ms closing old mid told begun is p before a stands = record {
   config = is.config ∙ ap (λ (q : Plan). q.config) stands.plan;
   metas = is.metas ∙ stands.metas;
   rows = is.rows ∙ begun.cut

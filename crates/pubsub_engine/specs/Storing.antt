@@ -7,7 +7,7 @@ use Rattle.ps_config.specs.declared.parts.Config.{Config}
 use Rattle.ps_config.specs.Sound.{readers}
 use Rattle.reader_group.specs.declared.group.ReaderGroup.{ReaderGroup}
 use Rattle.reader_group.specs.Members.{seat_at}
-use Rattle.reader_group.specs.Plain.{Event, member_at, plain}
+use Rattle.reader_group.specs.Plain.{member_at}
 use Rattle.reader_group.specs.Settings.{setting_of}
 use Rattle.target_cells.specs.Keeping.{TargetsData, metas_of}
 use Rattle.row_words.specs.Belonging.{Belongs, row_in}
@@ -16,7 +16,8 @@ use Rattle.version_cell.specs.Known.{Known}
 use Rattle.version_cell.specs.Sets.{ArePassesOf, pass_at}
 use Rattle.session_model.specs.Closing.{MemberPlace, reader_places}
 use Rattle.session_model.specs.Stores.{Store, held_by, stored_on}
-use Rattle.session_parts.specs.Standing.{HaveReadAll}
+use Rattle.session_model.specs.Readings.{Reading}
+use Rattle.session_parts.specs.Standing.{HaveReadings}
 use Rattle.pubsub_engine.specs.declared.storing.Last.{Last}
 use Rattle.pubsub_engine.specs.declared.storing.Stores.{Stores}
 use Rattle.pubsub_engine.specs.Holding.{AddsOneAtMost}
@@ -55,11 +56,11 @@ abbrev pub HaveStored : Config → (MemberPlace → List Store) → Stores → T
 HaveStored config list s =
     (k : ℕ) (place : MemberPlace) → slice_get (reader_places config) k ≡ Some place → IsStoredAs (meta_at_place config place) (list place) s k
 
--- the stores of a reader once a pump ends, where this befell the read groups
-abbrev pub stored_at : Config → (ℕ → List Event) → (MemberPlace → List Store) → MemberPlace → List Store
-stored_at config befell list place =
+-- the stores of a reader once a pump ends, where the read groups stand so
+abbrev pub stored_at : Config → (ℕ → Reading) → (MemberPlace → List Store) → MemberPlace → List Store
+stored_at config readings list place =
     stored_on (seat_at (setting_of config place.0).seats place.1).part.numbering (list place)
-    (held_by (member_at (plain (setting_of config place.0) (befell place.0)).members place.1))
+    (held_by (member_at (readings place.0).value.members place.1))
 
 -- ---- the stores of some readers, by their indexes over all read groups
 
@@ -79,12 +80,12 @@ pub record IsSameAt (old new : Stores) (k : ℕ) : Type 0 where
   pub pass : pass_at new.keeper k ≡ pass_at old.keeper k
   pub last : (d : Last) → slice_index_or new.last.items k d ≡ slice_index_or old.last.items k d
 
--- whatever befell the read groups, what the reader holds was stored, if it wasn't its last store
+-- wherever the read groups stand, what the reader holds was stored, if it wasn't its last store
 abbrev pub IsStoredOn : Config → List ReaderGroup → MemberPlace → Stores → Stores → ℕ → Type 0
 IsStoredOn config groups place old new k =
-    (befell : ℕ → List Event) (list : MemberPlace → List Store) → HaveReadAll config befell groups
+    (readings : ℕ → Reading) (list : MemberPlace → List Store) → HaveReadings config readings groups
     → IsStoredAs (meta_at_place config place) (list place) old k
-    → IsStoredAs (meta_at_place config place) (stored_at config befell list place) new k
+    → IsStoredAs (meta_at_place config place) (stored_at config readings list place) new k
 
 -- so it is with each reader from one on and before another, and the stores of the others are as they were
 pub record HaveStoredOn (config : Config) (groups : List ReaderGroup) (first next : ℕ) (old new : Stores) : Type 0 where

@@ -11,12 +11,13 @@ ghost use Rattle.app_threads.specs.Items.{versions_in};
 ghost use Rattle.ps_config.specs.Sound.{readers};
 ghost use Rattle.version_cell.specs.Sets.{pass_at};
 
-use crate::ends::{group_ends, link_end, read_group_ends, reader_ends, writer_ends};
+use crate::ends::{group_ends, read_group_ends, reader_ends, writer_ends};
 use crate::sampling::Samples;
 use crate::session::Session;
 use app_threads::{Done, Looked};
 use ps_config::Parts;
 use ps_report::{Closed, History, WatchEnd};
+use session_parts::link_end;
 use std::alloc::Global;
 use ua_base::NoMemory;
 

@@ -15,10 +15,8 @@ ghost use Rattle.pubsub_states.specs.declared.component.Component.TheVariants.{W
 ghost use Rattle.session_model.specs.Steps.{Plan, Step};
 ghost use Rattle.session_model.specs.Deeds.{group_indexes, logs_cut};
 ghost use Rattle.session_model.specs.Events.{read_group_indexes};
-ghost use Rattle.session_model.specs.Sends.{journal};
-ghost use Rattle.session_model.specs.Closing.{IsWriterEndWith, MemberPlace, Shows, group_end, link_end, read_group_end, reader_places, writer_places};
+ghost use Rattle.session_model.specs.Closing.{IsWriterEndWith, MemberPlace, Shows, group_end, read_group_end, reader_places, writer_places};
 ghost use Rattle.writer_group.specs.Parts.{group_at};
-ghost use Rattle.session_parts.specs.Standing.{AreReceivesIn, AreSendsIn};
 ghost use Rattle.pubsub_engine.specs.Storing.{first_reader};
 ghost use Rattle.pubsub_engine.specs.Ending.{HavePublished, HaveReceived, IsToldAt, MayTellReaders, MayTellWriters, places_of_group, places_of_read_group};
 
@@ -26,11 +24,11 @@ use crate::logs::{log_read, version_at};
 use arrayvec::ArrayVec;
 use dataset_reader::Reader;
 use ps_config::{Config, Parts};
-use ps_report::{GroupEnd, HeldEnd, LinkEnd, ReadGroupEnd, ReaderEnd, WriterEnd};
+use ps_report::{GroupEnd, HeldEnd, ReadGroupEnd, ReaderEnd, WriterEnd};
 use pubsub_model::Break;
 use pubsub_states::{Component, State, Tree};
 use reader_group::each_held_row_has_its_number;
-use session_parts::{Publisher, Receiving, Subscriber, group_part, read_group_part};
+use session_parts::{Publisher, Subscriber, group_part, read_group_part};
 use std::alloc::Global;
 use ua_base::NoMemory;
 
@@ -258,20 +256,5 @@ fn recent_breaks(reader: &Reader) -> ArrayVec<Break, 8>
     match recent.try_extend_from_slice(reader.recent()) {
         Ok(()) => recent,
         Err(_) => unreachable!(),
-    }
-}
-
-/// What came of all sends and receives.
-pub(crate) fn link_end(publisher: &Publisher, receiving: &Receiving) -> LinkEnd
-    ensures { (p : Plan) (steps : List Step) → AreSendsIn (journal p steps) publisher.now.link
-        → AreReceivesIn (journal p steps) steps receiving.now → result ≡ link_end p steps }
-{
-    LinkEnd {
-        sent: publisher.link.done,
-        failed: publisher.link.failed,
-        received: receiving.received,
-        broken: receiving.broken,
-        long: receiving.long,
-        limit: receiving.limit,
     }
 }

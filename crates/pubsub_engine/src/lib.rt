@@ -4,8 +4,10 @@
 
 mod closing;
 mod ends;
+mod laws;
 mod logs;
 mod opening;
+mod renewing;
 mod sampling;
 mod session;
 mod sets;
@@ -14,6 +16,7 @@ mod size;
 mod storing;
 mod switching;
 
+pub use laws::a_session_that_is_not_renewed_stands_behind_its_steps;
 pub use logs::{is_same_publisher, version_at};
 pub use opening::Opening;
 pub use session::Session;

@@ -12,6 +12,8 @@ ghost use Rattle.session_model.specs.Counts.{most_taken};
 ghost use Rattle.session_model.specs.Closing.{MemberPlace, is_datagram, reader_places};
 ghost use Rattle.session_model.specs.Deeds.{logs_cut};
 ghost use Rattle.pubsub_engine.specs.Holding.{AddsOneAtMost, AreTargetsOf, ChangesSamples, ChangesStores, CountsPump, CountsTick, IsBankOf, IsRunning, IsSession, KeepsPasses, KeepsWholeLogs, MayAppendNext, MayPump, MayTick, appends_left, keeper_of, left_of, logged_of, passes_of, plan_of};
+ghost use Rattle.session_model.specs.Lives.{Lived, Stepped};
+ghost use Rattle.pubsub_engine.specs.Living.{HaltsTickIn, KeepsLife, LeadsIn, StandsIn};
 ghost use Rattle.pubsub_engine.specs.Standing.{IsOriginWith, IsOriginOf, KeepsStands, Leads, Stands, sampled_by, samples_of};
 ghost use Rattle.pubsub_engine.specs.Ticking.{HasBegun};
 ghost use Rattle.pubsub_states.specs.Components.{counts_of};
@@ -76,6 +78,7 @@ impl<'c> Session<'c> {
         ensures lawful { EachSeesLawful (passes_of self.new) }
         ensures rest { ChangesSamples self.old self.new }
         ensures stands { KeepsStands self.old self.new }
+        ensures lives { KeepsLife self.old self.new }
     {
         histories_are_the_models();
         self.samples.take(rt, bank);
@@ -93,6 +96,7 @@ impl<'c> Session<'c> {
         ensures sampled { sampled_by self.new ≡ sampled_by self.old }
         ensures rest { ChangesSamples self.old self.new }
         ensures stands { KeepsStands self.old self.new }
+        ensures lives { KeepsLife self.old self.new }
     {
         bank.join(rt, &mut self.samples.passes, passes);
     }
@@ -109,6 +113,7 @@ impl<'c> Session<'c> {
         ensures sampled { sampled_by self.new ≡ sampled_by self.old }
         ensures rest { ChangesSamples self.old self.new }
         ensures stands { KeepsStands self.old self.new }
+        ensures lives { KeepsLife self.old self.new }
     {
         bank.split(alloc, &mut self.samples.passes)
     }
@@ -126,6 +131,7 @@ impl<'c> Session<'c> {
         ensures own { ArePassesOf targets.now.cells looks.new }
         ensures rest { ChangesStores self.old self.new }
         ensures stands { KeepsStands self.old self.new }
+        ensures lives { KeepsLife self.old self.new }
     {
         targets.level(rt, &mut self.stores.keeper, looks);
     }
@@ -144,6 +150,12 @@ impl<'c> Session<'c> {
             (L.told link.old) (L.told link.new) self.new }
         ensures halted { result ≡ Ticked.Memory → (p : Plan) (steps : List Step) → Stands p steps self.old
             → HaltsTick p steps ms closing (sampled_by self.old) (L.told link.old) (L.told link.new) }
+        ensures lives { result ≡ Ticked.Done → (p : Plan) (life : List Lived) → StandsIn p life self.old
+            → (done : List Bool) × LeadsIn p life (Tick ms closing (sampled_by self.old) done)
+            (L.told link.old) (L.told link.new) self.new }
+        ensures halted_lives { result ≡ Ticked.Memory → (p : Plan) (life : List Lived)
+            → StandsIn p life self.old
+            → HaltsTickIn p life ms closing (sampled_by self.old) (L.told link.old) (L.told link.new) }
         ensures passes { KeepsPasses self.old self.new }
         ensures appends { appends_left self.new ≡ appends_left self.old }
         ensures memory { result ≡ Ticked.Memory → IsTrue L.takes_memory }
@@ -202,6 +214,9 @@ impl<'c> Session<'c> {
         ensures leads { (p : Plan) (steps : List Step) → Stands p steps self.old
             → (entries : List Entry) × Leads p steps (Pump entries) (L.told link.old) (L.told link.new) self.new
             × (result.taken ≡ count_by is_datagram entries) }
+        ensures lives { (p : Plan) (life : List Lived) → StandsIn p life self.old
+            → (entries : List Entry) × LeadsIn p life (Pump entries) (L.told link.old) (L.told link.new) self.new
+            × (result.taken ≡ count_by is_datagram entries) }
         ensures limit { IsTrue result.limit ↔ (result.taken ≡ most_taken) }
         ensures stored { (reader : ℕ) → reader < length (keeper_of self.old)
             → AddsOneAtMost (pass_at (keeper_of self.old) reader) (pass_at (keeper_of self.new) reader) }
@@ -232,6 +247,8 @@ impl<'c> Session<'c> {
         ensures session { IsSession self.new }
         ensures appended { (p : Plan) (steps : List Step) → Stands p steps self.old
             → (field : Field) × Stands p (AppendStep result field ∷ steps) self.new }
+        ensures lives { (p : Plan) (life : List Lived) → StandsIn p life self.old
+            → (field : Field) × StandsIn p (Stepped (AppendStep result field) ∷ life) self.new }
         ensures next { appends_left self.old ≡ result ∷ appends_left self.new }
         ensures left { left_of self.new ≡ left_of self.old }
         ensures rest { KeepsPasses self.old self.new }

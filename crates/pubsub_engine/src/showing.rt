@@ -6,23 +6,26 @@ ghost use Rattle.session_model.specs.Steps.{Plan, Step, moment_of};
 ghost use Rattle.session_model.specs.Answers.{answers_at};
 ghost use Rattle.session_model.specs.Closing.{link_end};
 ghost use Rattle.session_model.specs.States.{state_at};
+ghost use Rattle.session_model.specs.Lives.{Lived, account_in, state_in, steps_in};
+ghost use Rattle.session_parts.specs.Showing.{IsReaderAt, IsReaderIn, link_of, standing_at, standing_of};
 ghost use Rattle.session_parts.specs.Standing.{IsTallyOf};
 ghost use Rattle.pubsub_engine.specs.Holding.{IsSession, plan_of};
-ghost use Rattle.pubsub_engine.specs.Showing.{IsReaderAt, standing_at};
 ghost use Rattle.pubsub_engine.specs.Standing.{Stands};
+ghost use Rattle.pubsub_engine.specs.Living.{StandsIn, sender_in};
 
-use crate::ends::link_end;
 use crate::session::Session;
 use dataset_reader::Reader;
 use ps_report::LinkEnd;
 use pubsub_states::{Component, State};
-use session_parts::Tally;
+use session_parts::{Tally, link_end};
 
 impl Session<'_> {
     /// Milliseconds since it was opened: the sum of what its ticks took.
     pub fn moment(&self) -> u64
-        ensures { (p : Plan) (steps : List Step) → Stands p steps self.now
+        ensures stands { (p : Plan) (steps : List Step) → Stands p steps self.now
             → result ≡ moment_of steps }
+        ensures lives { (p : Plan) (life : List Lived) → StandsIn p life self.now
+            → result ≡ moment_of (steps_in life) }
     {
         self.moment
     }
@@ -31,8 +34,10 @@ impl Session<'_> {
     pub fn state(&self, component: Component) -> State
         requires session { IsSession self.now }
         requires there { IsAmong (counts_of (plan_of self.now).config) component }
-        ensures { (p : Plan) (steps : List Step) → Stands p steps self.now
+        ensures stands { (p : Plan) (steps : List Step) → Stands p steps self.now
             → result ≡ state_at p steps component }
+        ensures lives { (p : Plan) (life : List Lived) → StandsIn p life self.now
+            → result ≡ state_in p life component }
     {
         self.tree.state_of(component)
     }
@@ -43,8 +48,10 @@ impl Session<'_> {
         requires session { IsSession self.now }
         requires there { read_group < length (plan_of self.now).config.readgroup }
         requires within { index < length (group_at (plan_of self.now).config read_group).reader }
-        ensures { (p : Plan) (steps : List Step) → Stands p steps self.now
+        ensures stands { (p : Plan) (steps : List Step) → Stands p steps self.now
             → IsReaderAt p steps (read_group, index) result.now }
+        ensures lives { (p : Plan) (life : List Lived) → StandsIn p life self.now
+            → IsReaderIn p (account_in p life).readings (read_group, index) result.now }
     {
         self.subscriber.groups[usize::from(read_group)].reader(index)
     }
@@ -53,16 +60,20 @@ impl Session<'_> {
     pub fn tally(&self, read_group: u8) -> Tally
         requires session { IsSession self.now }
         requires there { read_group < length (plan_of self.now).config.readgroup }
-        ensures { (p : Plan) (steps : List Step) → Stands p steps self.now
+        ensures stands { (p : Plan) (steps : List Step) → Stands p steps self.now
             → IsTallyOf (answers_at p.config read_group steps) result }
+        ensures lives { (p : Plan) (life : List Lived) → StandsIn p life self.now
+            → IsTallyOf ((account_in p life).readings read_group).answered result }
     {
         self.subscriber.tallies[usize::from(read_group)]
     }
 
     /// What came of all sends and receives over the link.
     pub fn link(&self) -> LinkEnd
-        ensures { (p : Plan) (steps : List Step) → Stands p steps self.now
+        ensures stands { (p : Plan) (steps : List Step) → Stands p steps self.now
             → result ≡ link_end p steps }
+        ensures lives { (p : Plan) (life : List Lived) → StandsIn p life self.now
+            → result ≡ link_of (account_in p life).journal (steps_in life) }
     {
         link_end(&self.publisher, &self.receiving)
     }
@@ -72,8 +83,10 @@ impl Session<'_> {
     pub fn standing(&self, key_group: u8) -> (u32, u32)
         requires session { IsSession self.now }
         requires there { key_group < length (plan_of self.now).config.keygroup }
-        ensures { (p : Plan) (steps : List Step) → Stands p steps self.now
+        ensures stands { (p : Plan) (steps : List Step) → Stands p steps self.now
             → result ≡ standing_at p steps key_group }
+        ensures lives { (p : Plan) (life : List Lived) → StandsIn p life self.now
+            → result ≡ standing_of (sender_in p life key_group) }
     {
         self.publisher.senders[usize::from(key_group)].standing()
     }

@@ -2,7 +2,7 @@
 ghost use Rattle.std.specs.Prelude.{◌≡◌, ◌≢◌, ◌<◌, ◌+◌, ◌∷◌, [], ℕ, List, false, IfOk, length, slice_get, slice_index_or, Some};
 ghost use Rattle.dataset_meta.specs.Metas.{MetaData};
 ghost use Rattle.ps_config.specs.Sound.{readers};
-ghost use Rattle.reader_group.specs.Plain.{Event};
+ghost use Rattle.session_model.specs.Readings.{Reading};
 ghost use Rattle.dataset_reader.specs.Reader.{IsReaderOf, kept_by};
 ghost use Rattle.version_cell.specs.Sets.{ArePassesOf, cell_at, pass_at};
 ghost use Rattle.writer_group.specs.Standing.{IsGood};
@@ -15,7 +15,7 @@ ghost use Rattle.session_model.specs.Stores.{Store, is_same, stored_on, stores a
 ghost use Rattle.pubsub_engine.specs.Holding.{AddsOneAtMost, HoldStores};
 ghost use Rattle.pubsub_engine.specs.Standing.{IsOriginWith};
 ghost use Rattle.session_parts.specs.Holding.{AreAllLogged, AreGroups, HoldSubscriber};
-ghost use Rattle.session_parts.specs.Standing.{HavePast, HaveReadAll};
+ghost use Rattle.session_parts.specs.Standing.{HavePast, HaveReadings};
 ghost use Rattle.pubsub_engine.specs.Storing.{HaveStored, HaveStoredOn, IsLast, IsSameAt, IsStoredAs, MayStore, MayStoreFrom, first_reader, held_in, stored_at};
 
 use crate::logs::{log_read, version_at};
@@ -76,10 +76,10 @@ impl Stores {
             → HoldStores config.now limit left self.new }
         ensures adds { (reader : ℕ) → reader < length self.old.keeper
             → AddsOneAtMost (pass_at self.old.keeper reader) (pass_at self.new.keeper reader) }
-        ensures stored { (befell : ℕ → List Event) (list : MemberPlace → List Store)
-            → HaveReadAll config.now befell subscriber.now.groups.items
+        ensures stored { (readings : ℕ → Reading) (list : MemberPlace → List Store)
+            → HaveReadings config.now readings subscriber.now.groups.items
             → HaveStored config.now list self.old
-            → HaveStored config.now (stored_at config.now befell list) self.new }
+            → HaveStored config.now (stored_at config.now readings list) self.new }
     {
         let mut first = 0;
         for r in 0..subscriber.groups.len() {

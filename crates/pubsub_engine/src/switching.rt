@@ -4,7 +4,9 @@ ghost use Rattle.pubsub_states.specs.Components.{IsId, counts_of};
 ghost use Rattle.session_model.specs.Steps.{Plan, Step, Enable, Disable, is_on};
 ghost use Rattle.session_model.specs.Deeds.{component_at};
 ghost use Rattle.pubsub_engine.specs.Holding.{IsRunning, IsSession, KeepsPasses, appends_left, left_of, plan_of};
+ghost use Rattle.session_model.specs.Lives.{Lived, Stepped, steps_in};
 ghost use Rattle.pubsub_engine.specs.Standing.{Stands};
+ghost use Rattle.pubsub_engine.specs.Living.{StandsIn};
 
 use crate::session::Session;
 use pubsub_states::Switched;
@@ -21,6 +23,11 @@ impl Session<'_> {
             then Switched.InvalidState else Switched.Done) }
         ensures stands { result ≡ Switched.Done → (p : Plan) (steps : List Step)
             → Stands p steps self.old → Stands p (Enable id ∷ steps) self.new }
+        ensures answer_lives { (p : Plan) (life : List Lived) → StandsIn p life self.old
+            → result ≡ (if is_on p.config (steps_in life) (component_at p.config id)
+            then Switched.InvalidState else Switched.Done) }
+        ensures lives { result ≡ Switched.Done → (p : Plan) (life : List Lived)
+            → StandsIn p life self.old → StandsIn p (Stepped (Enable id) ∷ life) self.new }
         ensures refused { result ≡ Switched.InvalidState → self.new ≡ self.old }
         ensures passes { KeepsPasses self.old self.new }
         ensures appends { appends_left self.new ≡ appends_left self.old }
@@ -47,6 +54,11 @@ impl Session<'_> {
             then Switched.Done else Switched.InvalidState) }
         ensures stands { result ≡ Switched.Done → (p : Plan) (steps : List Step)
             → Stands p steps self.old → Stands p (Disable id ∷ steps) self.new }
+        ensures answer_lives { (p : Plan) (life : List Lived) → StandsIn p life self.old
+            → result ≡ (if is_on p.config (steps_in life) (component_at p.config id)
+            then Switched.Done else Switched.InvalidState) }
+        ensures lives { result ≡ Switched.Done → (p : Plan) (life : List Lived)
+            → StandsIn p life self.old → StandsIn p (Stepped (Disable id) ∷ life) self.new }
         ensures refused { result ≡ Switched.InvalidState → self.new ≡ self.old }
         ensures passes { KeepsPasses self.old self.new }
         ensures appends { appends_left self.new ≡ appends_left self.old }

@@ -20,15 +20,17 @@ use Rattle.commands.specs.Files.{IsLong, IsTold}
 use Rattle.commands.specs.Outputs.{EndsWriting}
 use Rattle.commands.specs.Outside.{Outside, Wire}
 use Rattle.commands.specs.Scripts.{EndsScript, IsJudgedScript}
-use Rattle.commands.specs.Statuses.{IsDone, IsConfigRefused, IsOutOfMemory, IsScriptRefused, IsTooLong, IsUnopened, IsUnread, IsUnwritten}
+use Rattle.commands.specs.Statuses.{IsDone, IsConfigRefused, IsOutOfMemory, IsScriptRefused, IsTooLong, IsUnopened, IsUnread, IsUnwritten, IsPerformed}
 use Rattle.commands.proofs.Told.{judged_told, script_told, long_is, long_judged, long_short}
 use Rattle.commands.specs.Endings.{status_of}
 use Rattle.commands.specs.Sessions.{NamesLong}
+use Rattle.commands.specs.Links.{IsOpenedOnce, IsQuietOrOpened}
 use Rattle.commands.proofs.Ended.{written_late}
+use Rattle.commands.proofs.Ends.{stays-unopened}
 use Rattle.commands.proofs.ToldSessions.{short}
 use Rattle.relay_command.specs.declared.command.Accepted.{Accepted}
 use Rattle.relay_command.specs.Ends.{Accepts, AreConfigured, AreRefused, AreTold, AreToldConfigs, EndsAccepting, EndsSecond, Names, Reads, RelayEnds, Says, UsesLinks, Writes}
-use Rattle.relay_command.specs.Links.{LeavesUnopened, OpensSo, opening_again}
+use Rattle.relay_command.specs.Links.{LeavesUnopened, OpensSo, StaysClosed, opening_again}
 use Rattle.relay_command.specs.Sources.{AreSourced, IsUnsourced}
 
 -- ---- results
@@ -281,8 +283,12 @@ module _ (names : Names) (old new : Outside) (lab wire : Wire) where
 -- ---- how it ends
 
 -- one of the links failed to open
-rose_one : (lab lab_after wire wire_after : Wire) → LeavesUnopened lab lab_after wire wire_after → (Rose lab.faults lab_after.faults → ⊥) → (Rose wire.faults wire_after.faults → ⊥) → ⊥
-rose_one lab lab_after wire wire_after left a b = elim left [ inl closed ↦ a closed.0.rose | inr closed ↦ b closed.rose ]
+not_closed : (before after : Wire) → StaysClosed before after → IsQuietOrOpened before after → ⊥
+not_closed before after closed (inl quiet) = quiet closed.rose
+not_closed before after closed (inr opened) = opened closed.openings
+
+none_closed : (lab lab_after wire wire_after : Wire) → LeavesUnopened lab lab_after wire wire_after → IsQuietOrOpened lab lab_after → IsQuietOrOpened wire wire_after → ⊥
+none_closed lab lab_after wire wire_after left a b = elim left [ inl closed ↦ not_closed lab lab_after closed.0 a | inr closed ↦ not_closed wire wire_after closed b ]
 
 relay_ends : (status : Status) (names : Names) (old new : Outside) (lab lab_after wire wire_after : Wire) → Says status names old new lab_after wire_after
     → UsesLinks old.file names status lab lab_after wire wire_after → HasCause old.read_faults new.read_faults (IsUnread status) → HasCause old.write_faults new.write_faults (IsUnwritten status)
@@ -295,9 +301,9 @@ relay_ends status names old new lab lab_after wire wire_after h links reads writ
   first_long = λ bytes. first_long names old new lab_after wire_after status bytes h;
   second_long = λ first one bytes. second_long names old new lab_after wire_after status first one bytes h;
   script_long = λ first second bytes. script_long names old new lab_after wire_after status first second bytes h;
-  complete = λ told folder_quiet out_quiet lab_quiet wire_quiet.
+  complete = λ told folder_quiet out_quiet lab_opened wire_opened.
       elim (completes names old new lab_after wire_after {X = ⊥} status h told (λ is. folder_quiet (reads.rose is)) (λ is. out_quiet (writes.rose is))
-      (λ is. rose_one lab lab_after wire wire_after (links.unopened is) lab_quiet wire_quiet)) [
+      (λ is. none_closed lab lab_after wire wire_after (links.unopened is) lab_opened wire_opened)) [
         | inl e ↦ inl e
         | inr rest ↦ elim rest [ inl e ↦ inr e | inr e ↦ absurd e ]
       ];
@@ -317,14 +323,15 @@ KeepsFiles old new = ((name : List ℕ) → new.file name ≡ old.file name) × 
 record IsEarly (status : Status) : Type 0 where
   pub opened : IsUnopened status → ⊥
   pub written : IsUnwritten status → ⊥
+  pub performed : IsPerformed status → ⊥
 
 accepting_early : (status : Status) (tells : List ℕ → ToldFile) (names : Names) → EndsAccepting tells names status → IsEarly status
-accepting_early (ConfigRefused code path) tells names ends = record { opened = λ is. omega arith; written = λ is. omega arith }
-accepting_early (NoSource set) tells names ends = record { opened = λ is. omega arith; written = λ is. omega arith }
-accepting_early (ScriptRefused line fault) tells names ends = record { opened = λ is. omega arith; written = λ is. omega arith }
-accepting_early (Unread file) tells names ends = record { opened = λ is. omega arith; written = λ is. omega arith }
-accepting_early OutOfMemory tells names ends = record { opened = λ is. omega arith; written = λ is. omega arith }
-accepting_early (Long file) tells names ends = record { opened = λ is. omega arith; written = λ is. omega arith }
+accepting_early (ConfigRefused code path) tells names ends = record { opened = λ is. omega arith; written = λ is. omega arith; performed = λ is. elim is [ inl e ↦ omega (arith, e) | inr e ↦ omega (arith, e) ] }
+accepting_early (NoSource set) tells names ends = record { opened = λ is. omega arith; written = λ is. omega arith; performed = λ is. elim is [ inl e ↦ omega (arith, e) | inr e ↦ omega (arith, e) ] }
+accepting_early (ScriptRefused line fault) tells names ends = record { opened = λ is. omega arith; written = λ is. omega arith; performed = λ is. elim is [ inl e ↦ omega (arith, e) | inr e ↦ omega (arith, e) ] }
+accepting_early (Unread file) tells names ends = record { opened = λ is. omega arith; written = λ is. omega arith; performed = λ is. elim is [ inl e ↦ omega (arith, e) | inr e ↦ omega (arith, e) ] }
+accepting_early OutOfMemory tells names ends = record { opened = λ is. omega arith; written = λ is. omega arith; performed = λ is. elim is [ inl e ↦ omega (arith, e) | inr e ↦ omega (arith, e) ] }
+accepting_early (Long file) tells names ends = record { opened = λ is. omega arith; written = λ is. omega arith; performed = λ is. elim is [ inl e ↦ omega (arith, e) | inr e ↦ omega (arith, e) ] }
 accepting_early Done tells names ends = absurd ends
 accepting_early Unwritten tells names ends = absurd ends
 accepting_early Unopened tells names ends = absurd ends
@@ -368,50 +375,62 @@ ends_unaccepted status names old new lab wire ends rose keeps same =
       lab_opens = λ differs. absurd (differs refl);
       wire_opens = λ differs. absurd (differs refl);
       unopened = λ is. absurd (early.opened is);
+      lab_once = stays-unopened lab early.performed;
+      wire_once = stays-unopened wire early.performed;
       lab_counts = omega arith;
       wire_counts = omega arith;
     })
     (record { later = keeps.1; rose = rose }) (record { later = omega (arith, same); rose = λ is. absurd (early.written is) }) keeps.0
 
+-- what wasn't performed says nothing of its openings but that they are none or one
+once-unperformed : (end : PlayEnd) (before after : Wire) → IsOpenedOnce ⊥ before after → IsOpenedOnce (IsPerformed (status_of end)) before after
+once-unperformed ends.Memory before after once = record { making = once.making; at_most_once = once.at_most_once; once = λ is. absurd (elim is [ inl e ↦ omega (arith, e) | inr e ↦ omega (arith, e) ]) }
+once-unperformed ends.Unopened before after once = record { making = once.making; at_most_once = once.at_most_once; once = λ is. absurd (elim is [ inl e ↦ omega (arith, e) | inr e ↦ omega (arith, e) ]) }
+
 module _ (names : Names) (old new : Outside) (lab lab_after wire wire_after : Wire) (accepted : Accepted) (accepts : Accepts old.file names accepted) where
   uses : (status : Status) → OpensSo (Some (opening_of accepted.first accepted.script)) lab lab_after → OpensSo (Some (opening_again accepted.second)) wire wire_after
-      → (IsUnopened status → LeavesUnopened lab lab_after wire wire_after) → lab.faults ≤ lab_after.faults → wire.faults ≤ wire_after.faults
-      → UsesLinks old.file names status lab lab_after wire wire_after
-  uses status lab_opens wire_opens unopened lab_counts wire_counts = record {
+      → (IsUnopened status → LeavesUnopened lab lab_after wire wire_after) → IsOpenedOnce (IsPerformed status) lab lab_after → IsOpenedOnce (IsPerformed status) wire wire_after
+      → lab.faults ≤ lab_after.faults → wire.faults ≤ wire_after.faults → UsesLinks old.file names status lab lab_after wire wire_after
+  uses status lab_opens wire_opens unopened lab_once wire_once lab_counts wire_counts = record {
     lab_opens = λ differs. (accepted, accepts, lab_opens differs);
     wire_opens = λ differs. (accepted, accepts, wire_opens differs);
     unopened = unopened;
+    lab_once = lab_once;
+    wire_once = wire_once;
     lab_counts = lab_counts;
     wire_counts = wire_counts;
   }
 
   -- memory ran out, or a link could not be opened
   ends_unplayed : (end : PlayEnd) → OpensSo (Some (opening_of accepted.first accepted.script)) lab lab_after → OpensSo (Some (opening_again accepted.second)) wire wire_after
-      → (end ≡ ends.Unopened → LeavesUnopened lab lab_after wire wire_after) → lab.faults ≤ lab_after.faults → wire.faults ≤ wire_after.faults → KeepsFiles old new
+      → (end ≡ ends.Unopened → LeavesUnopened lab lab_after wire wire_after) → IsOpenedOnce ⊥ lab lab_after → IsOpenedOnce ⊥ wire wire_after
+      → lab.faults ≤ lab_after.faults → wire.faults ≤ wire_after.faults → KeepsFiles old new
       → old.write_faults ≡ new.write_faults → RelayEnds (status_of end) names old new lab lab_after wire wire_after
-  ends_unplayed ends.Memory lab_opens wire_opens unopened lab_counts wire_counts keeps same =
+  ends_unplayed ends.Memory lab_opens wire_opens unopened lab_once wire_once lab_counts wire_counts keeps same =
       relay_ends (status_of ends.Memory) names old new lab lab_after wire wire_after tt
-      (uses (status_of ends.Memory) lab_opens wire_opens (λ is. absurd (omega (arith, is))) lab_counts wire_counts)
+      (uses (status_of ends.Memory) lab_opens wire_opens (λ is. absurd (omega (arith, is))) (once-unperformed ends.Memory lab lab_after lab_once) (once-unperformed ends.Memory wire wire_after wire_once) lab_counts wire_counts)
       (record { later = keeps.1; rose = λ is. absurd (omega (arith, is)) }) (record { later = omega (arith, same); rose = λ is. absurd (omega (arith, is)) }) keeps.0
-  ends_unplayed ends.Unopened lab_opens wire_opens unopened lab_counts wire_counts keeps same =
+  ends_unplayed ends.Unopened lab_opens wire_opens unopened lab_once wire_once lab_counts wire_counts keeps same =
       relay_ends (status_of ends.Unopened) names old new lab lab_after wire wire_after (accepted, accepts)
-      (uses (status_of ends.Unopened) lab_opens wire_opens (λ is. unopened refl) lab_counts wire_counts)
+      (uses (status_of ends.Unopened) lab_opens wire_opens (λ is. unopened refl) (once-unperformed ends.Unopened lab lab_after lab_once) (once-unperformed ends.Unopened wire wire_after wire_once) lab_counts wire_counts)
       (record { later = keeps.1; rose = λ is. absurd (omega (arith, is)) }) (record { later = omega (arith, same); rose = λ is. absurd (omega (arith, is)) }) keeps.0
 
   pub ends_so : (status : Status) (end : PlayEnd) → status ≡ status_of end → OpensSo (Some (opening_of accepted.first accepted.script)) lab lab_after
-      → OpensSo (Some (opening_again accepted.second)) wire wire_after → (end ≡ ends.Unopened → LeavesUnopened lab lab_after wire wire_after) → lab.faults ≤ lab_after.faults → wire.faults ≤ wire_after.faults
+      → OpensSo (Some (opening_again accepted.second)) wire wire_after → (end ≡ ends.Unopened → LeavesUnopened lab lab_after wire wire_after)
+      → IsOpenedOnce ⊥ lab lab_after → IsOpenedOnce ⊥ wire wire_after → lab.faults ≤ lab_after.faults → wire.faults ≤ wire_after.faults
       → KeepsFiles old new → old.write_faults ≡ new.write_faults → RelayEnds status names old new lab lab_after wire wire_after
-  ends_so status end is lab_opens wire_opens unopened lab_counts wire_counts keeps same =
-      subst (λ (s : Status). RelayEnds s names old new lab lab_after wire wire_after) (sym is) (ends_unplayed end lab_opens wire_opens unopened lab_counts wire_counts keeps same)
+  ends_so status end is lab_opens wire_opens unopened lab_once wire_once lab_counts wire_counts keeps same =
+      subst (λ (s : Status). RelayEnds s names old new lab lab_after wire wire_after) (sym is) (ends_unplayed end lab_opens wire_opens unopened lab_once wire_once lab_counts wire_counts keeps same)
 
   -- the text was made, and the last write ends the command
   pub ends_written : (status : Status) (text : List ℕ) → Writes old.file names lab_after wire_after text → OpensSo (Some (opening_of accepted.first accepted.script)) lab lab_after
-      → OpensSo (Some (opening_again accepted.second)) wire wire_after → lab.faults ≤ lab_after.faults → wire.faults ≤ wire_after.faults → EndsWriting old.written new.written text status
+      → OpensSo (Some (opening_again accepted.second)) wire wire_after → IsOpenedOnce (IsPerformed status) lab lab_after → IsOpenedOnce (IsPerformed status) wire wire_after
+      → lab.faults ≤ lab_after.faults → wire.faults ≤ wire_after.faults → EndsWriting old.written new.written text status
       → HasCause old.write_faults new.write_faults (IsUnwritten status) → KeepsFiles old new → RelayEnds status names old new lab lab_after wire wire_after
-  ends_written status text writes lab_opens wire_opens lab_counts wire_counts written cause keeps =
+  ends_written status text writes lab_opens wire_opens lab_once wire_once lab_counts wire_counts written cause keeps =
       let late = written_late status old.written new.written text written in
       relay_ends status names old new lab lab_after wire wire_after (says_written status names old new lab_after wire_after text writes written)
-      (uses status lab_opens wire_opens (λ is. absurd (late.opened is)) lab_counts wire_counts)
+      (uses status lab_opens wire_opens (λ is. absurd (late.opened is)) lab_once wire_once lab_counts wire_counts)
       (record { later = keeps.1; rose = λ is. absurd (late.read is) }) cause keeps.0
 
 -- ---- what was not accepted

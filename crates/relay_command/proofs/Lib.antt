@@ -12,3 +12,4 @@ pub mod Beginning
 pub mod Whole
 pub mod TextOf
 pub mod Tells
+pub mod Writing

@@ -18,18 +18,19 @@ use Rattle.session_model.specs.Keeping.{AreSteps, IsPlan}
 use Rattle.session_model.specs.Sends.{IsRun, TellsRun}
 use Rattle.session_model.specs.Steps as steps
 use Rattle.session_model.specs.Steps.{Plan, Step}
-use Rattle.session_laws.specs.Sessions.{SamplesRise}
+use Rattle.session_laws.specs.Sessions.{AreVersions, SamplesRise}
 use Rattle.pubsub_engine.specs.Holding.{passes_of}
 use Rattle.pubsub_engine.specs.Standing.{Stands as SessionStands, samples_of}
 use Rattle.gateway_core.specs.declared.collected.StoreVersion.{StoreVersion}
 use Rattle.gateway_core.specs.Lived.{Collect, GatewayStep, Pump, Tick, collected, plan_again, session_steps, version_in}
 use Rattle.gateway_core.specs.Holding.{sources_of}
 use Rattle.gateway_core.specs.Standing.{Stands}
+use Rattle.gateway_laws.specs.Gateways.{IsRelay}
 use Rattle.gateway_laws.specs.Lives.{Lives}
 use Rattle.gateway_laws.specs.Relays.{Collects, RelayStep, Round, firsts, seconds}
 use Rattle.gateway_laws.proofs.Living.{lived-seconds, lived-versions}
 use Rattle.script_player.specs.Player.{Closes, IsClosedBy}
-use Rattle.script_player.specs.Plays.{IsPlayOf, plan_by}
+use Rattle.script_player.specs.Plays.{IsPlayOf, plan_by, row_written}
 use Rattle.script_player.proofs.Finished.{RunsTellTheHeadline, is-closed-of, is-play-by}
 use Rattle.script_player.proofs.Headline.{HistoriesHaveRows}
 use Rattle.script_player.proofs.Levelling.{levelled-closed}
@@ -38,6 +39,7 @@ use Rattle.relay_command.specs.Relaying.{HasRelayed, IsRelayOf, RelaysEnd}
 use Rattle.relay_command.specs.Texts.{IsReaderText, IsTextOf, TextsOf, kept_by_index, relayed_line, store_held, versions_of}
 use Rattle.relay_command.proofs.Showing.{ShowsCollected}
 use Rattle.relay_command.proofs.Stepping.{collected-now, shows-now}
+use Rattle.relay_command.proofs.Tells.{LinesLaw}
 
 -- ---- texts by other words for what was kept
 
@@ -96,7 +98,7 @@ module _ (law : ShowsCollected) (rows : HistoriesHaveRows) (tells-all : RunsTell
       let led = e.ends.by.leads p h.played.steps h.played.stands in
       (is.0, led.0, led.1, is.1, led.2)
 
-  module _ (text : List ℕ) (told : (lived : List GatewayStep) → Stands second lived new.gateway
+  module _ (lines : LinesLaw) (text : List ℕ) (told : (lived : List GatewayStep) → Stands second lived new.gateway
       → IsTextOf first closed second (session_steps (sources_of new.gateway) lived) (kept_by_index (sources_of new.gateway) lived) text) where
     pub relayed : IsRelayOf first second script lab_after wire_after text
     relayed =
@@ -126,24 +128,29 @@ module _ (law : ShowsCollected) (rows : HistoriesHaveRows) (tells-all : RunsTell
         let seconds_are : session_steps places lived ≡ seconds relay = lived-seconds p places h.sources relay lived lives in
         let told_by : IsTextOf first closed second (session_steps places lived) (kept_by_index places lived) text =
         subst (λ (l : List ℕ). IsTextOf first closed second (session_steps l lived) (kept_by_index l lived) text) f.sources (told lived led.2) in
+        let is_relay : IsRelay p second h.sources relay = record {
+          plan = plan;
+          steps_are = subst (AreSteps p) now_is played.0.steps_are;
+          run = subst (IsRun p) now_is played.0.run;
+          rise = subst (SamplesRise p) now_is played.0.lived.rise;
+          again_plan = again;
+          again_run = subst (IsRun (plan_again second)) (ap (λ (l : List ℕ). session_steps l lived) f.sources ∙ seconds_are) led.2.session.run;
+          sources_are = h.sources_are;
+          collects = collects;
+        } in
+        let text_is : IsTextOf first closed second (seconds relay) (versions_of p h.sources relay) text =
+        subst (λ (l : List Step). IsTextOf first closed second l (versions_of p h.sources relay) text) seconds_are
+        (text-kept first closed second (session_steps places lived) (kept_by_index places lived) (versions_of p h.sources relay) text again.good
+        (λ set lt. lived-versions p places h.sources relay lived set (let c = h.indexes.count in omega (arith, lt, c)) lives) told_by) in
         record {
           closed = closed;
           play = played.0;
           sources = h.sources;
           relay = relay;
           firsts_are = sym now_is;
-          is_relay = record {
-            plan = plan;
-            steps_are = subst (AreSteps p) now_is played.0.steps_are;
-            run = subst (IsRun p) now_is played.0.run;
-            rise = subst (SamplesRise p) now_is played.0.lived.rise;
-            again_plan = again;
-            again_run = subst (IsRun (plan_again second)) (ap (λ (l : List ℕ). session_steps l lived) f.sources ∙ seconds_are) led.2.session.run;
-            sources_are = h.sources_are;
-            collects = collects;
-          };
+          is_relay = is_relay;
           tells = subst (λ (l : List Step). TellsRun (plan_again second) l wire_after) seconds_are (led.3 h.tells);
-          text_is = subst (λ (l : List Step). IsTextOf first closed second l (versions_of p h.sources relay) text) seconds_are
-              (text-kept first closed second (session_steps places lived) (kept_by_index places lived) (versions_of p h.sources relay) text again.good
-              (λ set lt. lived-versions p places h.sources relay lived set (let c = h.indexes.count in omega (arith, lt, c)) lives) told_by);
+          text_is = text_is;
+          gateway = lines p first second h.sources relay (row_written script) closed text is_relay
+              (subst (λ (l : List Step). AreVersions p l (row_written script)) now_is played.0.lived.versions) text_is;
         }

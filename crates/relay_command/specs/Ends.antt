@@ -8,19 +8,21 @@ use Rattle.ps_config.specs.Reading.{configuration}
 use Rattle.ps_script.specs.declared.script.Script.{Script}
 use Rattle.ps_script.specs.Scripts.{script as script_in}
 use Rattle.ps_script.specs.Values.{ValueReader}
-use Rattle.script_player.specs.Plays.{opening_of}
+use Rattle.script_player.specs.Plays.{opening_of, plan_by, row_written}
 use Rattle.commands.specs.declared.status.Status.{Status}
 use Rattle.commands.specs.declared.status.Status.TheVariants.{Done, ConfigRefused, NoSource, ScriptRefused, Unread, Unwritten, OutOfMemory, Unopened, Long}
 use Rattle.commands.specs.Configurations.{IsJudged, EndsConfigFile}
 use Rattle.commands.specs.Files.{IsLong, IsTold}
 use Rattle.commands.specs.Outside.{Outside, Wire, IsQuiet}
 use Rattle.commands.specs.Scripts.{IsJudgedScript}
-use Rattle.commands.specs.Statuses.{IsDone, IsConfigRefused, IsScriptRefused, IsUnread, IsUnwritten, IsOutOfMemory, IsUnopened, IsTooLong}
+use Rattle.commands.specs.Links.{IsOpenedOnce, IsQuietOrOpened}
+use Rattle.commands.specs.Statuses.{IsDone, IsConfigRefused, IsScriptRefused, IsUnread, IsUnwritten, IsOutOfMemory, IsUnopened, IsTooLong, IsPerformed}
 use Rattle.commands.specs.Sessions.{NamesLong}
 use Rattle.relay_command.specs.declared.command.Accepted.{Accepted}
 use Rattle.relay_command.specs.Links.{LeavesUnopened, opening_again}
 use Rattle.relay_command.specs.Relaying.{IsRelayOf}
 use Rattle.relay_command.specs.Sources.{AreSourced, IsUnsourced}
+use Rattle.relay_command.specs.Telling.{TellsRelay}
 
 -- the names of the files
 pub record Names : Type 0 where
@@ -55,6 +57,19 @@ pub record Writes (tells : List ℕ → ToldFile) (names : Names) (lab wire : Wi
   pub lab_opened : lab.opened_with ≡ Some (opening_of accepted.first accepted.script)
   pub wire_opened : wire.opened_with ≡ Some (opening_again accepted.second)
   pub relay : IsRelayOf accepted.first accepted.second accepted.script lab.told wire.told text
+
+-- What was written is the text of a play and of a gateway, of what was accepted: of one relay, which both links tell. Each data frame of the gateway has the number of its
+-- source's stores at its round, and publishes the row of that store; each reader that is matched within the second configuration, and goes by numbers, holds the row of the
+-- printed store and version, or has said why it waits; and neither falls from one pump to a later one, where nothing was cut.
+pub record WritesRelay (names : Names) (old new : Outside) (lab wire : Wire) : Type 0 where
+  pub accepted : Accepted
+  pub accepts : Accepts old.file names accepted
+  pub lab_opened : lab.opened_with ≡ Some (opening_of accepted.first accepted.script)
+  pub wire_opened : wire.opened_with ≡ Some (opening_again accepted.second)
+  pub text : List ℕ
+  pub relayed : IsRelayOf accepted.first accepted.second accepted.script lab.told wire.told text
+  pub gateway : TellsRelay (plan_by accepted.first accepted.script) accepted.second relayed.sources relayed.relay (row_written accepted.script) text
+  pub written : new.written ≡ appended old.written text
 
 -- ---- what each status says
 
@@ -104,6 +119,8 @@ pub record UsesLinks (tells : List ℕ → ToldFile) (names : Names) (status : S
   pub wire_opens : wire_after.opened_with ≢ wire.opened_with
       → (accepted : Accepted) × Accepts tells names accepted × (wire_after.opened_with ≡ Some (opening_again accepted.second))
   pub unopened : IsUnopened status → LeavesUnopened lab lab_after wire wire_after
+  pub lab_once : IsOpenedOnce (IsPerformed status) lab lab_after
+  pub wire_once : IsOpenedOnce (IsPerformed status) wire wire_after
   pub lab_counts : lab.faults ≤ lab_after.faults
   pub wire_counts : wire.faults ≤ wire_after.faults
 
@@ -152,9 +169,9 @@ pub record RelayEnds (status : Status) (names : Names) (old new : Outside) (lab 
       → old.file names.second ≡ Some (Some bytes) → ¬ IsUnread status → ¬ IsOutOfMemory status → NamesLong status names.second ↔ IsLong bytes
   pub script_long : (first second : Config) (bytes : List ℕ) → AreToldConfigs old.file names first second → old.file names.script ≡ Some (Some bytes)
       → ¬ IsUnread status → ¬ IsOutOfMemory status → IsTooLong status ↔ IsLong bytes
-  -- what is accepted is relayed, where no call fails
+  -- what is accepted is relayed, where no read, no write and no opening fails: a send or a receive may
   pub complete : AreTold old.file names → IsQuiet old.read_faults new.read_faults → IsQuiet old.write_faults new.write_faults
-      → IsQuiet lab.faults lab_after.faults → IsQuiet wire.faults wire_after.faults → IsDone status ⊎ IsOutOfMemory status
+      → IsQuietOrOpened lab lab_after → IsQuietOrOpened wire wire_after → IsDone status ⊎ IsOutOfMemory status
   pub complete_but_for_opening : AreTold old.file names → IsQuiet old.read_faults new.read_faults
       → IsQuiet old.write_faults new.write_faults → IsDone status ⊎ IsOutOfMemory status ⊎ IsUnopened status
   -- a fault is answered only where the count of faults of its object rose, and no count falls

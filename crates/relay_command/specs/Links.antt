@@ -17,6 +17,7 @@ OpensSo opening before after = after.opened_with ≢ before.opened_with → afte
 pub record StaysClosed (before after : Wire) : Type 0 where
   pub told : after.told ≡ before.told
   pub opened_with : after.opened_with ≡ before.opened_with
+  pub openings : after.openings ≡ before.openings
   pub rose : Rose before.faults after.faults
 
 -- `lab` was opened before `wire`; where it can't be opened, `wire` is left alone

@@ -7,7 +7,7 @@ ghost use Rattle.writer_group.specs.Standing.{IsGood};
 ghost use Rattle.commands.specs.Outside.{KeepsFolder, outside_of, wire_of};
 ghost use Rattle.commands.specs.Statuses.{IsDone, IsUnread, IsUnwritten};
 ghost use Rattle.commands.specs.Links.{IsBeforeLink};
-ghost use Rattle.relay_command.specs.Ends.{Accepts, EndsAccepting, EndsSecond, IsSecond, RelayEnds, names_of};
+ghost use Rattle.relay_command.specs.Ends.{Accepts, EndsAccepting, EndsSecond, IsSecond, RelayEnds, WritesRelay, names_of};
 
 use crate::relaying::relayed_text;
 use crate::sources::unsourced;
@@ -37,6 +37,12 @@ pub fn relay<'w, R: Wait, F: Folder, A: Link, B: Link, K: Sink>(
         (wire_of A.told A.faults A.opened_with A.made A.openings lab.old)
         (wire_of A.told A.faults A.opened_with A.made A.openings lab.new)
         (wire_of B.told B.faults B.opened_with B.made B.openings wire.old)
+        (wire_of B.told B.faults B.opened_with B.made B.openings wire.new) }
+    // What the gateway publishes and holds is of the history that the script writes.
+    ensures relayed { IsDone result → WritesRelay (names_of script.now first.now second.now)
+        (outside_of F.tells F.faults K.written K.faults folder.old out.old)
+        (outside_of F.tells F.faults K.written K.faults folder.new out.new)
+        (wire_of A.told A.faults A.opened_with A.made A.openings lab.new)
         (wire_of B.told B.faults B.opened_with B.made B.openings wire.new) }
     ensures unlinked { IsBeforeLink result → (lab.new ≡ lab.old) × (wire.new ≡ wire.old) }
     ensures silent { ¬ IsDone result → ¬ IsUnwritten result → out.new ≡ out.old }

@@ -1,6 +1,6 @@
 //! A first session and the gateway that follows it.
-ghost use Rattle.std.specs.Prelude.{◌≡◌, ◌≤◌, ◌+◌, [], length, reverse, IsSome, IfOk, OnOk, OnErr, Some, Err, true};
-ghost use Rattle.ua_base.specs.Cause.{Rose};
+ghost use Rattle.std.specs.Prelude.{◌≡◌, ◌≤◌, ◌+◌, [], length, reverse, is_ok, IsOk, IsSome, IfOk, OnOk, OnErr, Some, Err, true};
+ghost use Rattle.ua_base.specs.Cause.{Rose, counted_if};
 ghost use Rattle.ua_base.specs.Fates.{AreFates};
 ghost use Rattle.ua_base.specs.Links.{KeepsLink};
 ghost use Rattle.ps_config.specs.declared.parts.Config.{Config as ConfigValue};
@@ -9,6 +9,7 @@ ghost use Rattle.ps_config.specs.Types.{HasTypes};
 ghost use Rattle.ps_script.specs.Sound.{IsScript};
 ghost use Rattle.writer_group.specs.Standing.{IsGood};
 ghost use Rattle.commands.specs.Outside.{wire_of};
+ghost use Rattle.script_player.specs.Openings.{OpensOnce};
 ghost use Rattle.script_player.specs.Passing.{MayPass};
 ghost use Rattle.script_player.specs.Player.{IsPlayer, MayDo, config_of};
 ghost use Rattle.script_player.specs.Plays.{opening_of};
@@ -17,6 +18,7 @@ ghost use Rattle.relay_command.specs.Relaying.{Follows, HasRelayed, Holds, Holds
 ghost use Rattle.relay_command.specs.Sources.{AreSourced};
 
 use crate::command::Accepted;
+use crate::laws::the_lines_of_a_gateway_tell_stores;
 use crate::text::text_of;
 use gateway_core::{Gateway, Ticked};
 use gateway_laws::passes_show_what_is_collected;
@@ -59,12 +61,15 @@ pub(crate) fn relayed_text<R: Wait, A: Link, B: Link>(
         (wire_of A.told A.faults A.opened_with A.made A.openings lab.new)
         (wire_of B.told B.faults B.opened_with B.made B.openings wire.old)
         (wire_of B.told B.faults B.opened_with B.made B.openings wire.new) }
+    ensures lab_once { OpensOnce A.made A.openings (IsOk result) lab.old lab.new }
+    ensures wire_once { OpensOnce B.made B.openings (IsOk result) wire.old wire.new }
     ensures lab_counts { A.faults lab.old ≤ A.faults lab.new }
     ensures wire_counts { B.faults wire.old ≤ B.faults wire.new }
 {
     histories_are_the_models();
     a_closed_session_tells_the_headline();
     passes_show_what_is_collected();
+    the_lines_of_a_gateway_tell_stores();
     let Accepted {
         first,
         second,
@@ -90,6 +95,8 @@ fn open_again<L: Link>(link: &mut L, second: &Config) -> Result<(), PlayEnd>
     ensures empty { OnOk result (IsUntold (L.told link.new)) }
     ensures refused { OnErr result ((L.told link.new ≡ L.told link.old)
         × (L.opened_with link.new ≡ L.opened_with link.old)) }
+    ensures making { L.made link.new ≡ L.made link.old }
+    ensures counted { L.openings link.new ≡ counted_if (is_ok result) (L.openings link.old) }
     ensures unopened { result ≡ Err PlayEnd.Unopened → Rose (L.faults link.old) (L.faults link.new) }
     ensures faults { L.faults link.old ≤ L.faults link.new }
 {
@@ -104,6 +111,8 @@ fn open_link<L: Link>(link: &mut L, port: u16, fates: &[(u64, Fate)]) -> Result<
     ensures empty { OnOk result (IsUntold (L.told link.new)) }
     ensures refused { OnErr result ((L.told link.new ≡ L.told link.old)
         × (L.opened_with link.new ≡ L.opened_with link.old)) }
+    ensures making { L.made link.new ≡ L.made link.old }
+    ensures counted { L.openings link.new ≡ counted_if (is_ok result) (L.openings link.old) }
     ensures unopened { result ≡ Err PlayEnd.Unopened → Rose (L.faults link.old) (L.faults link.new) }
     ensures faults { L.faults link.old ≤ L.faults link.new }
 {

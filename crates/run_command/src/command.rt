@@ -1,9 +1,10 @@
 //! Running a script.
-ghost use Rattle.std.specs.Prelude.{◌≡◌, ◌≢◌, ◌≤◌, Some, Err, IfOk, OnOk, option_copied};
+ghost use Rattle.std.specs.Prelude.{◌≡◌, ◌≢◌, ◌≤◌, Some, Err, IsOk, IfOk, OnOk, option_copied};
 ghost use Rattle.ua_base.specs.Cause.{Rose};
 ghost use Rattle.ps_config.specs.Types.{HasTypes};
 ghost use Rattle.ps_script.specs.Sound.{IsScript};
 ghost use Rattle.writer_group.specs.Standing.{IsGood};
+ghost use Rattle.script_player.specs.Openings.{OpensOnce};
 ghost use Rattle.script_player.specs.Plays.{opening_of};
 ghost use Rattle.script_runner.specs.Runs.{IsRunOf};
 ghost use Rattle.commands.specs.Outside.{outside_of, wire_of};
@@ -69,10 +70,12 @@ fn ran<R: Threads + Wait + Sync, B: Link, G: Gate>(
         ≡ Some (opening_of accepted.now.config accepted.now.script)) }
     ensures opens { B.opened_with wire.new ≢ B.opened_with wire.old
         → B.opened_with wire.new ≡ Some (opening_of accepted.now.config accepted.now.script) }
+    ensures once { OpensOnce B.made B.openings (IsOk result) wire.old wire.new }
     ensures unopened { result ≡ Err PlayEnd.Unopened
         → Rose (B.faults wire.old) (B.faults wire.new) }
     ensures unused { result ≡ Err PlayEnd.Unopened
-        → (B.told wire.new ≡ B.told wire.old) × (B.opened_with wire.new ≡ B.opened_with wire.old) }
+        → (B.told wire.new ≡ B.told wire.old) × (B.opened_with wire.new ≡ B.opened_with wire.old)
+        × (B.openings wire.new ≡ B.openings wire.old) }
     ensures faults { B.faults wire.old ≤ B.faults wire.new }
 {
     let closed = run_script(rt, alloc, &accepted.config, &accepted.script, wire, gate)?;

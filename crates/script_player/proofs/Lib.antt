@@ -1,4 +1,5 @@
 pub mod Headline
+pub mod Openings
 pub mod Quotas
 pub mod Appended
 pub mod Lines

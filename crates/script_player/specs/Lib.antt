@@ -1,4 +1,5 @@
 pub mod Sizes
+pub mod Openings
 pub mod Playing
 pub mod Plays
 pub mod Passing

@@ -1,10 +1,11 @@
 //! A whole script, from the opening of its session to its close.
-ghost use Rattle.std.specs.Prelude.{◌≡◌, ◌≢◌, ◌≤◌, IfOk, OnOk, Some, Err};
+ghost use Rattle.std.specs.Prelude.{◌≡◌, ◌≢◌, ◌≤◌, IsOk, IfOk, OnOk, Some, Err};
 ghost use Rattle.ua_base.specs.Cause.{Rose};
 ghost use Rattle.ps_config.specs.Types.{HasTypes};
 ghost use Rattle.ps_report.specs.Conditions.{IsClosedOf};
 ghost use Rattle.ps_script.specs.Sound.{IsScript};
 ghost use Rattle.writer_group.specs.Standing.{IsGood};
+ghost use Rattle.script_player.specs.Openings.{OpensOnce};
 ghost use Rattle.script_player.specs.Plays.{IsPlayOf, opening_of};
 
 use crate::player::Player;
@@ -67,9 +68,11 @@ pub fn play_script<R: Wait, L: Link>(
     ensures opened { OnOk result (L.opened_with link.new ≡ Some (opening_of config.now script.now)) }
     ensures opens { L.opened_with link.new ≢ L.opened_with link.old
         → L.opened_with link.new ≡ Some (opening_of config.now script.now) }
+    ensures once { OpensOnce L.made L.openings (IsOk result) link.old link.new }
     ensures unopened { result ≡ Err PlayEnd.Unopened → Rose (L.faults link.old) (L.faults link.new) }
     ensures unused { result ≡ Err PlayEnd.Unopened
-        → (L.told link.new ≡ L.told link.old) × (L.opened_with link.new ≡ L.opened_with link.old) }
+        → (L.told link.new ≡ L.told link.old) × (L.opened_with link.new ≡ L.opened_with link.old)
+        × (L.openings link.new ≡ L.openings link.old) }
     ensures faults { L.faults link.old ≤ L.faults link.new }
 {
     histories_are_the_models();

@@ -1,5 +1,5 @@
 //! A whole script, from the opening of its session to its close.
-ghost use Rattle.std.specs.Prelude.{◌≡◌, ◌≢◌, ◌≤◌, [], IfOk, OnOk, IsSome, Some, Err, reverse};
+ghost use Rattle.std.specs.Prelude.{◌≡◌, ◌≢◌, ◌≤◌, [], IsOk, IfOk, OnOk, IsSome, Some, Err, reverse};
 ghost use Rattle.ua_base.specs.Cause.{Rose};
 ghost use Rattle.ua_base.specs.Links.{KeepsLink};
 ghost use Rattle.ps_config.specs.Types.{HasTypes};
@@ -8,6 +8,7 @@ ghost use Rattle.ps_script.specs.Sound.{IsScript};
 ghost use Rattle.writer_group.specs.Standing.{IsGood};
 ghost use Rattle.app_threads.specs.Crews.{AreDone, AreReady};
 ghost use Rattle.pubsub_engine.specs.Holding.{AreTargetsOf, IsBankOf, IsSession, plan_of};
+ghost use Rattle.script_player.specs.Openings.{OpensOnce};
 ghost use Rattle.script_player.specs.Plays.{opening_of};
 ghost use Rattle.script_runner.specs.Conducting.{HasConducted};
 ghost use Rattle.script_runner.specs.Runs.{IsRunOf};
@@ -50,9 +51,11 @@ pub fn run_script<R: Threads + Wait + Sync, L: Link, G: Gate>(
     ensures opened { OnOk result (L.opened_with link.new ≡ Some (opening_of config.now script.now)) }
     ensures opens { L.opened_with link.new ≢ L.opened_with link.old
         → L.opened_with link.new ≡ Some (opening_of config.now script.now) }
+    ensures once { OpensOnce L.made L.openings (IsOk result) link.old link.new }
     ensures unopened { result ≡ Err PlayEnd.Unopened → Rose (L.faults link.old) (L.faults link.new) }
     ensures unused { result ≡ Err PlayEnd.Unopened
-        → (L.told link.new ≡ L.told link.old) × (L.opened_with link.new ≡ L.opened_with link.old) }
+        → (L.told link.new ≡ L.told link.old) × (L.opened_with link.new ≡ L.opened_with link.old)
+        × (L.openings link.new ≡ L.openings link.old) }
     ensures faults { L.faults link.old ≤ L.faults link.new }
 {
     histories_are_the_models();

@@ -252,19 +252,19 @@ module _ (laws : Laws) (p : Plan) (r i g w : ℕ) (start : List Step) (pumps : L
 
   -- ---- where it is one part
 
-  pub all-of-one : (part : OnePart laws.turns laws.passed play is_play own closing its_le last took) (one : Opened) (has : Contains its_all one) → parts_of one ≢ [] → (list : List (List Entry)) → TakenAt config r start (datagram_of one has) one list → HasAllTaken list
+  pub all-of-one : (part : OnePart laws.turns play is_play own closing its_le last took) (one : Opened) (has : Contains its_all one) → parts_of one ≢ [] → (list : List (List Entry)) → TakenAt config r start (datagram_of one has) one list → HasAllTaken list
   all-of-one part one has some list taken other there more =
       let same = same-at one other has there (flat-alone parts_of its_all one other part.piece part.same has there some more) in
       subst (λ (o : Opened). TakenAt config r start (datagram_of other there) o list) same.1 (subst (λ (d : List ℕ). TakenAt config r start d one list) same.0 taken)
 
   -- ---- where it is cut into chunks
 
-  module _ (opens_first : OpensFirst laws p r i g w start pumps own is closing last took) (chunks : InChunks laws.turns laws.passed play is_play own closing its_le last took) where
+  module _ (opens_first : OpensFirst laws p r i g w start pumps own is closing last took) (chunks : InChunks laws.turns play is_play own closing its_le last took) where
     abbrev place : ℕ
-    place = ClosingGot.place laws.turns laws.passed play is_play own closing its_le last took
+    place = ClosingGot.place laws.turns play is_play own closing its_le last took
 
     abbrev message : List ℕ
-    message = ClosingGot.message laws.turns laws.passed play is_play own closing its_le last took
+    message = ClosingGot.message laws.turns play is_play own closing its_le last took
 
     abbrev total : ℕ
     total = its_total laws p r i g w start pumps own is closing last took opens_first chunks

@@ -19,7 +19,7 @@ use Rattle.writer_group.specs.Parts.{group_at}
 use Rattle.writer_group.specs.Turns.{GroupDeed, GroupTurn, RefreshedWriter, HadGroupTurn, is_refreshed, took_by, writer_past}
 use Rattle.group_laws.proofs.TurnTaken.{advanced-keys}
 use Rattle.session_model.specs.Steps.{Plan, Step, Enable, Disable, Append, Tick, Pump, moment_of}
-use Rattle.session_model.specs.Deeds.{Deed, RefreshedBelow, RefreshedSet, CameTo, TookTurn, advanced_if, answered_at, component_at, deeds, group_indexes, group_past, has_turn, is_rekeyed, is_writer_below, is_writer_of, refreshed_where, rekeyed, sender_after, shares, turn_of, turned_on, writer_indexes}
+use Rattle.session_model.specs.Deeds.{Deed, RefreshedBelow, RefreshedSet, CameTo, TookTurn, RenewedKeys, advanced_if, answered_at, component_at, deeds, group_indexes, group_past, has_turn, is_rekeyed, is_writer_below, is_writer_of, refreshed_where, rekeyed, sender_after, shares, turn_of, turned_on, writer_indexes}
 use Rattle.session_laws.specs.Fresh.{BeginWithKeys, KeyedTurn, keyed_turn, keyed_turns, token_after}
 use Rattle.session_laws.specs.Pasts.{settings_at}
 use Rattle.session_model.proofs.Deeds.{refreshed-keeps}
@@ -210,6 +210,7 @@ answers-of config k g w (RefreshedSet set ∷ before) =
     answers-of config k g w before
     ∙ sym (same-writer (settings_at (group_at config g) w) w (is_writer_of (group_at config g) set) (group_past config g before) (writer_indexes (group_at config g)))
 answers-of config k g w (CameTo now ∷ before) = answers-of config k g w before
+answers-of config k g w (RenewedKeys keygroup sets ∷ before) = answers-of config k g w before
 answers-of config k g w (TookTurn other turn ∷ before) = on (answers-of config k g w before) (other == g) (took_by w turn) refl
   where
     s : Settings

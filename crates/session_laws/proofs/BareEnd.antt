@@ -86,7 +86,7 @@ module _ (laws : Laws) (p : Plan) (r i g w : ℕ) (start : List Step) (pumps : L
   pub whole-last : Uncut → EachPart p r i last.turn.made (CameQuietly p r i g w pumps start (row_cut (meta_of p r i) own.row)) → ClosingCameLast p r i g w (map Pump pumps ++ start) (writer_past w last.before) own
   whole-last whole quietly =
       part-last laws p r i g w start pumps own is closing last took (λ befell. ⊤) takes-all
-      (one-part laws.turns laws.passed (play_of p r i g w (map Pump pumps ++ start)) (is-play laws p r i g w (map Pump pumps ++ start) is) own closing (le laws p r i g w start pumps own is closing last took) last took
+      (one-part laws.turns (play_of p r i g w (map Pump pumps ++ start)) (is-play laws p r i g w (map Pump pumps ++ start) is) own closing (le laws p r i g w start pumps own is closing last took) last took
       (λ one piece has there.
       let some = not-empty (parts_of one) piece there in
       All-contains IsUncut (parts_of one) piece (whole (datagram_of one has) (made-of one has) (record { opened = one; opens = opens laws p r i g w start pumps own is closing last took one has [] (accepts [] one); part = some })) there) (group_at p.config g).layout refl)
@@ -111,7 +111,7 @@ got-last-held laws held p r i g w steps rows before turn own is versions c =
     let here : InSession p r i g w ended = subst (InSession p r i g w) c.ends.split is in
     let past_is : group_past p.config g (deeds p ended) ≡ HadGroupTurn turn ∷ before = subst (λ (l : List Step). group_past p.config g (deeds p l) ≡ HadGroupTurn turn ∷ before) c.ends.split c.last in
     let is_play = is-play laws p r i g w ended here in
-    let last = (last-turn p.config (group_at p.config g) w (pasts_at p ended g) (turns laws.turns laws.passed 16385 (play_of p r i g w ended) (omega arith) is_play) turn before past_is).0 in
+    let last = (last-turn p.config (group_at p.config g) w (pasts_at p ended g) (turns laws.turns 16385 (play_of p r i g w ended) (omega arith) is_play) turn before past_is).0 in
     let same : last.turn ≡ turn = (same-turn last.turn turn last.before before (sym last.past_is ∙ past_is)).0 in
     let own_made : (datagram : List ℕ) → Contains last.turn.made datagram → Contains turn.made datagram = λ datagram made. subst (λ (t : GroupTurn). Contains t.made datagram) same made in
     let past = writer_past w last.before in
@@ -155,7 +155,7 @@ module _ (laws : Laws) (p : Plan) (r i g w : ℕ) (steps : List Step) (own : Wri
   abbrev its_past : List WriterDeed
   its_past = writer_past w (group_past p.config g (closing_deeds p t.start t.ms t.samples g))
 
-  since-last : OnePart laws.turns laws.passed (play_of p r i g w ended) (is-play laws p r i g w ended here) own t.ends.closing its_le last t.ends.took ⊎ InChunks laws.turns laws.passed (play_of p r i g w ended) (is-play laws p r i g w ended here) own t.ends.closing its_le last t.ends.took
+  since-last : OnePart laws.turns (play_of p r i g w ended) (is-play laws p r i g w ended here) own t.ends.closing its_le last t.ends.took ⊎ InChunks laws.turns (play_of p r i g w ended) (is-play laws p r i g w ended here) own t.ends.closing its_le last t.ends.took
       → ClosingCameLast p r i g w ended its_past own
   since-last (inl part) =
       part-last laws p r i g w (ticked t) t.ends.pumps own here t.ends.closing last t.ends.took (λ befell. ⊤) takes part
@@ -165,7 +165,7 @@ module _ (laws : Laws) (p : Plan) (r i g w : ℕ) (steps : List Step) (own : Wri
       (new-first laws p r i g w t.ms t.samples t.done t.start t.ends.pumps own here t.had t.ends.took t.ends.closing takes.first_accepts chunks) once
 
   since-came : ClosingCameLast p r i g w ended its_past own
-  since-came = since-last (part-case laws.turns laws.passed (play_of p r i g w ended) (is-play laws p r i g w ended here) own t.ends.closing its_le last t.ends.took (group_at p.config g).layout refl)
+  since-came = since-last (part-case laws.turns (play_of p r i g w ended) (is-play laws p r i g w ended here) own t.ends.closing its_le last t.ends.took (group_at p.config g).layout refl)
 
 pub unsecured-last-held : Laws → LastHeldLaw → (p : Plan) (r i g w : ℕ) (steps : List Step) (rows : ℕ → ℕ → List DataValue) (own : WriterTurn) → InSession p r i g w steps → AreVersions p steps rows
     → ClosingGotSinceLast p r i g w steps own → is_secured (setting_of p.config r).setup.mode ≡ false → HoldsClosingRow p r i g w steps rows own.version

@@ -108,7 +108,7 @@ module _ (laws : Laws) (p : Plan) (r i g w : ℕ) (start : List Step) (pumps : L
   abbrev pub QuietOnceTaken : Type 0
   QuietOnceTaken = NoOtherOnceAll p r i g w pumps start (HasAllTaken laws p r i g w start pumps own is closing last took) row
 
-  pub quiet-all : QuietOnceTaken → OnePart laws.turns laws.passed play is_play own closing its_le last took → (one : Opened) (has : Contains its_all one) → parts_of one ≢ [] → TakenAt config r start (datagram_of one has) one pumps → TakenQuietly one has
+  pub quiet-all : QuietOnceTaken → OnePart laws.turns play is_play own closing its_le last took → (one : Opened) (has : Contains its_all one) → parts_of one ≢ [] → TakenAt config r start (datagram_of one has) one pumps → TakenQuietly one has
   quiet-all once part one has some at =
       let datagram = datagram_of one has in
       let first_entries = at.earlier ++ entries_of.Got datagram ∷ [] in
@@ -138,12 +138,12 @@ module _ (laws : Laws) (p : Plan) (r i g w : ℕ) (start : List Step) (pumps : L
 
     -- ---- where it is one part
 
-    module _ (part : OnePart laws.turns laws.passed play is_play own closing its_le last took) where
+    module _ (part : OnePart laws.turns play is_play own closing its_le last took) where
       abbrev found : (o : Opened) × Contains its_all o × Contains (parts_of o) part.piece
       found = in-flat parts_of its_all part.piece (subst (λ (l : List Piece). Contains l part.piece) (sym part.same) (0, omega arith, refl))
 
       reads : (now : ℕ) (o : Option ℕ) (list : List Mark) → piece_on way (place_from first) now o list part.piece ≡ item_on way now o list (Some (Whole 0 row))
-      reads now o list = part.reads_as now o list ∙ ap (λ (f : Option PlacedFrame). item_on way now o list f) (gives-bare laws.turns laws.passed play is_play own closing its_le last took t.bare)
+      reads now o list = part.reads_as now o list ∙ ap (λ (f : Option PlacedFrame). item_on way now o list f) (gives-bare laws.turns play is_play own closing its_le last took t.bare)
 
       pub part-last : ((one : Opened) (has : Contains its_all one) → parts_of one ≢ [] → HasPartFor setting i (datagram_of one has) → TakenQuietly one has) → ClosingCameLast p r i g w steps (writer_past w last.before) own
       part-last quietly =
@@ -163,18 +163,18 @@ module _ (laws : Laws) (p : Plan) (r i g w : ℕ) (start : List Step) (pumps : L
 
     -- ---- where it is cut into chunks
 
-    module _ (chunks : InChunks laws.turns laws.passed play is_play own closing its_le last took) where
+    module _ (chunks : InChunks laws.turns play is_play own closing its_le last took) where
       abbrev place : ℕ
-      place = ClosingGot.place laws.turns laws.passed play is_play own closing its_le last took
+      place = ClosingGot.place laws.turns play is_play own closing its_le last took
 
       abbrev total : ℕ
       total = its_total laws p r i g w start pumps own is closing last took t.first_accepts chunks
 
       abbrev frame : Frame
-      frame = ClosingGot.frame laws.turns laws.passed play is_play own closing its_le last took
+      frame = ClosingGot.frame laws.turns play is_play own closing its_le last took
 
       abbrev bytes : ℕ → List ℕ
-      bytes = ClosingGot.bytes laws.turns laws.passed play is_play own closing its_le last took
+      bytes = ClosingGot.bytes laws.turns play is_play own closing its_le last took
 
       abbrev the_cuts : List Chunk
       the_cuts = its_cuts laws p r i g w start pumps own is closing last took t.first_accepts chunks
@@ -253,9 +253,9 @@ module _ (laws : Laws) (p : Plan) (r i g w : ℕ) (start : List Step) (pumps : L
           → Full (brought now s (cut_on raised NewToken (marks setting way befell)) (parts_of opened)) → BringsKey row (arrivals_in (brought now s (cut_on raised NewToken (marks setting way befell)) (parts_of opened)))
       flips-key now on s other befell opened raised b came e one none full =
           let list = cut_on raised NewToken (marks setting way befell) in
-          let of : All of_piece (Chunked b ∷ []) = subst (All of_piece) one (parts-sent laws.turns laws.passed 16385 play its_le is_play now on other befell opened came e) in
+          let of : All of_piece (Chunked b ∷ []) = subst (All of_piece) one (parts-sent laws.turns 16385 play its_le is_play now on other befell opened came e) in
           let next = next_place (settings_at group w) (its_answers play) in
-          let flip = flip-chunk way.seat.part.numbering way (its_answers play) bytes first next place (source laws.turns laws.passed 16385 play its_le is_play) (is-last laws.turns laws.passed play is_play own closing its_le last took) frame
+          let flip = flip-chunk way.seat.part.numbering way (its_answers play) bytes first next place (source laws.turns 16385 play its_le is_play) (is-last laws.turns play is_play own closing its_le last took) frame
           (read-is laws p r i g w start pumps own is closing last took t.first_accepts chunks) now s list (sent-list laws p r i g w start pumps own is closing last took t.first_accepts chunks raised befell came.1) none b (All-head of_piece (Chunked b) [] of)
           (sym (ap (λ (parts : List Piece). cover (chunks_in (brought now s list parts)) place total) one) ∙ full) in
           let item = item_of now s (Whole 0 row) in
@@ -263,7 +263,7 @@ module _ (laws : Laws) (p : Plan) (r i g w : ℕ) (start : List Step) (pumps : L
             item = item;
             earlier = arrivals_in list;
             frame_is = refl;
-            is = ap arrivals_in (ap (brought now s list) one ∙ flip.1 ∙ ap (item_on way now s (Laid flip.0 ∷ list)) (gives-bare laws.turns laws.passed play is_play own closing its_le last took t.bare) ∙ comes-bare way (Laid flip.0 ∷ list) item (ap is_numbered t.bare));
+            is = ap arrivals_in (ap (brought now s list) one ∙ flip.1 ∙ ap (item_on way now s (Laid flip.0 ∷ list)) (gives-bare laws.turns play is_play own closing its_le last took t.bare) ∙ comes-bare way (Laid flip.0 ∷ list) item (ap is_numbered t.bare));
           }
 
       -- no datagram but one of the turn does so, and it has one chunk

@@ -45,7 +45,7 @@ use Rattle.group_laws.specs.TurnItems.{IsUncut}
 use Rattle.session_model.specs.Counts.{most_taken}
 use Rattle.session_model.specs.Deeds.{Deed, group_past, has_turn, turn_input}
 use Rattle.session_model.specs.Keeping.{IsPlan, MayCome}
-use Rattle.session_model.specs.Sends.{IsPump, Send, journal, send_entries, sends_of}
+use Rattle.session_model.specs.Sends.{IsPump, IsRun, Send, journal, send_entries, sends_of}
 use Rattle.session_model.specs.Sets.{AreRowsOf, GrowTo, meta_in}
 use Rattle.session_model.specs.Steps.{Step, Pump, Tick}
 use Rattle.session_laws.specs.Bare.{CameQuietly, ClosingGotLast, ClosingGotSinceLast, NoOtherBehind, NoOtherKeys}
@@ -55,7 +55,7 @@ use Rattle.session_laws.specs.Reading.{IsMatchedIn, arrivals_at, first_number_of
 use Rattle.session_laws.specs.Sessions.{AreVersions, HasSample}
 use Rattle.session_laws.specs.Witness.{GotLast, IsHeldWhere, bare_reader_of, eight, eight_row, first_session, lone_config, lone_plan, lone_readers, lone_text, new, new_again, new_again_session, old, old_first, old_first_session, seven, small_datagram, small_datagram_with, small_frame, small_row, tick_on, turned_on, turned_rows}
 use Rattle.session_laws.proofs.BareMeeting.{HeldLaw, ok-same, only-one, readers-types}
-use Rattle.session_laws.proofs.Meeting.{AreSent, grown, honest-of, seven-belongs}
+use Rattle.session_laws.proofs.Meeting.{AreSent, grown, seven-belongs, taken-of}
 use Rattle.session_laws.proofs.OneTick.{matched-to}
 
 pub lone-is-read : configuration lone_text ≡ Ok lone_config
@@ -163,15 +163,18 @@ journal-is entries =
     ap (λ (l : List Send). ((send_entries l (true ∷ []) ++ old ∷ Empty ∷ []) ++ send_entries (sends_of lone_plan sent) (true ∷ [])) ++ entries) first-sends
     ∙ ap (λ (l : List Send). Sent (small_datagram 0) ∷ old ∷ Empty ∷ (send_entries l (true ∷ []) ++ entries)) second-sends
 
+turned-run : (entries : List Entry) → IsPump most_taken entries → IsRun lone_plan (turned_on entries)
+turned-run entries pump = (pump, (sym (ap (λ (l : List Send). length l) second-sends), ((lit≤ tt, refl), (sym (ap (λ (l : List Send). length l) first-sends), tt))))
+
 in-turned : LoneLaws → (entries : List Entry) → IsPump most_taken entries → AreSent sent_so_far entries → InSession lone_plan 0 0 0 0 (turned_on entries)
 in-turned laws entries pump are = record {
   plan = plan-is laws;
   steps_are = (lit< tt, (may-close, (lit< tt, (may-tick, tt))));
-  run = (pump, (sym (ap (λ (l : List Send). length l) second-sends), ((lit≤ tt, refl), (sym (ap (λ (l : List Send). length l) first-sends), tt))));
+  run = turned-run entries pump;
   rise = (rise, (λ index now sample has. absurd has, tt));
   there = there-is;
   matched = matched-is;
-  honest = honest-of (setting_of lone_plan.config 0) (sent_so_far ++ entries) (journal lone_plan (turned_on entries)) (journal-is entries) ((0, lit< tt, refl), are);
+  honest = taken-of lone_plan 0 (turned_on entries) (sent_so_far ++ entries) (turned-run entries pump) (journal-is entries) ((0, lit< tt, refl), are);
 }
 
 in-old_first : LoneLaws → InSession lone_plan 0 0 0 0 old_first_session

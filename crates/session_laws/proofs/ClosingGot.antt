@@ -36,7 +36,6 @@ use Rattle.reader_group.specs.Opening.{Opened, verdict}
 use Rattle.reader_group.specs.Payloads.{Piece, Message, Chunked, Slotted, pieces}
 use Rattle.reader_group.specs.Plain.{Event}
 use Rattle.reader_group.specs.Settings.{setting_of}
-use Rattle.reader_group.specs.Signed.{TakesSignedAlone}
 use Rattle.reader_group.specs.SlotFrames.{slot_frame_at}
 use Rattle.reader_group.proofs.KeptParts.{OfRead}
 use Rattle.writer_group.specs.Envelopes.{frame_room}
@@ -146,7 +145,7 @@ same-turn one other before past e = (cc, cc)
 
 -- ---- what a datagram of it has
 
-module _ (laws : TurnLaws) (law : TakesSignedAlone) (p : Play) (is : IsPlay 16385 p)
+module _ (laws : TurnLaws) (p : Play) (is : IsPlay 16385 p)
     (own : WriterTurn) (closing : own.closing ≡ true) (le : 16385 ≤ 65536) where
   abbrev group : GroupPart
   group = p.group
@@ -155,7 +154,7 @@ module _ (laws : TurnLaws) (law : TakesSignedAlone) (p : Play) (is : IsPlay 1638
   writer = p.writer
 
   abbrev its_turns : AreTurns p.config group (its_past p)
-  its_turns = turns laws law 16385 p le is
+  its_turns = turns laws 16385 p le is
 
   module _ (last : LastTurn p.config group (its_past p)) (took : took_by writer last.turn ≡ Some own) where
     abbrev pub input : TurnInput
@@ -177,7 +176,7 @@ module _ (laws : TurnLaws) (law : TakesSignedAlone) (p : Play) (is : IsPlay 1638
     first = (writer_at group writer).first_number
 
     abbrev pub bytes : ℕ → List ℕ
-    bytes = its_bytes laws law 16385 p le is
+    bytes = its_bytes laws 16385 p le is
 
     turn-is : turn_by group input writer ≡ Some own
     turn-is = sym (ap (took_by writer) last.of.is) ∙ took
@@ -231,7 +230,7 @@ module _ (laws : TurnLaws) (law : TakesSignedAlone) (p : Play) (is : IsPlay 1638
     Numbered = (its_way p).seat.part.numbering ≡ words.Message
 
     pub gives : Numbered → frame_of (its_way p) (place_from first) frame ≡ Some (placed_cut (its_meta p) closing_frame)
-    gives numbered = frame-gives (its_way p) (its_answers p) first (next_place s (its_answers p)) frame numbered (source laws law 16385 p le is) frame-of-answer
+    gives numbered = frame-gives (its_way p) (its_answers p) first (next_place s (its_answers p)) frame numbered (source laws 16385 p le is) frame-of-answer
 
     -- to a reader with no numbering it comes without its place
     pub gives-bare : (its_way p).seat.part.numbering ≡ words.None → frame_of (its_way p) (place_from first) frame ≡ Some (Whole 0 (row_cut (its_meta p) own.row))
@@ -385,16 +384,16 @@ module _ (laws : TurnLaws) (law : TakesSignedAlone) (p : Play) (is : IsPlay 1638
             brought b.datagram (λ befell. Stands place (marks (its_setting p) (its_way p) befell))
             (record {
               brings = λ now on before enabled came.
-                  brings-frame laws law 16385 p le is unsecured place is-last frame (placed_cut (its_meta p) closing_frame) (gives numbered) refl piece piece_reads now on b.datagram before b.opened enabled
+                  brings-frame laws 16385 p le is unsecured place is-last frame (placed_cut (its_meta p) closing_frame) (gives numbered) refl piece piece_reads now on b.datagram before b.opened enabled
                   (b.opens (Rattle.reader_group.specs.Arrivals.accepted (its_setting p) before)) b.has;
-              keeps = λ now on other before h. stands-got laws law 16385 p le is unsecured place now on other before h;
+              keeps = λ now on other before h. stands-got laws 16385 p le is unsecured place now on other before h;
             }) (came-of piece b)
 
         -- a part that is read as the frame
         reads-now : (now : ℕ) (list : List Mark) (answer : Result Frame FrameFault) → answer ≡ Ok frame → Stands place (read_on (its_way p) (place_from first) now None list answer)
         reads-now now list answer e =
             subst (λ (r : Result Frame FrameFault). Stands place (read_on (its_way p) (place_from first) now None list r)) (sym e)
-            (reads-frame (its_way p).seat.part.numbering (its_way p) (its_answers p) bytes first (next_place s (its_answers p)) place (source laws law 16385 p le is) is-last frame
+            (reads-frame (its_way p).seat.part.numbering (its_way p) (its_answers p) bytes first (next_place s (its_answers p)) place (source laws 16385 p le is) is-last frame
             (placed_cut (its_meta p) closing_frame) (gives numbered) refl now None list)
 
         -- in chunks
@@ -406,7 +405,7 @@ module _ (laws : TurnLaws) (law : TakesSignedAlone) (p : Play) (is : IsPlay 1638
           -- one of the chunks, as it is laid
           laid-of : (chunk : Chunk) → Contains (cuts room (carried closing_frame) message) chunk → IsLaidOf (its_meta p) (its_answers p) bytes (placed (place_from first) chunk)
           laid-of chunk has =
-              chunk-laid (its_way p) (its_answers p) bytes first (next_place s (its_answers p)) chunk (source laws law 16385 p le is) (record {
+              chunk-laid (its_way p) (its_answers p) bytes first (next_place s (its_answers p)) chunk (source laws 16385 p le is) (record {
                 placed = closing_frame;
                 answer = is-answer;
                 loud = refl;
@@ -421,7 +420,7 @@ module _ (laws : TurnLaws) (law : TakesSignedAlone) (p : Play) (is : IsPlay 1638
               let size = cut-size room (carried closing_frame) message chunk cut_up.has_room cut_up.some has in
               let of_number = (cut-of room (carried closing_frame) message chunk has).0 in
               let short : length (bytes place) ≤ longest_message = let long = ap length bytes-are in let most = cut_up.short in omega (arith, long, most) in
-              proper (its_way p).seat.part.numbering (its_way p) (its_answers p) bytes first (next_place s (its_answers p)) place (source laws law 16385 p le is) is-last
+              proper (its_way p).seat.part.numbering (its_way p) (its_answers p) bytes first (next_place s (its_answers p)) place (source laws 16385 p le is) is-last
               list (placed (place_from first) chunk) are (laid-of chunk has) (ap (place_from first) of_number ∙ back) size.some size.within short
 
           lies : (chunk : Chunk) → Contains (cuts room (carried closing_frame) message) chunk → Lies (placed (place_from first) chunk) (its_marks p)
@@ -431,10 +430,10 @@ module _ (laws : TurnLaws) (law : TakesSignedAlone) (p : Play) (is : IsPlay 1638
               brought b.datagram (λ befell. Lies (placed (place_from first) chunk) (marks (its_setting p) (its_way p) befell))
               (record {
                 brings = λ now on before enabled came.
-                    brings-chunk laws law 16385 p le is unsecured place is-last frame (placed_cut (its_meta p) closing_frame) (gives numbered) refl (chunk_bytes chunk) chunk
+                    brings-chunk laws 16385 p le is unsecured place is-last frame (placed_cut (its_meta p) closing_frame) (gives numbered) refl (chunk_bytes chunk) chunk
                     (chunk-read (its_way p).seat room (carried closing_frame) message frame cut_up chunk has) (counts chunk has) now on b.datagram before b.opened enabled
                     (b.opens (Rattle.reader_group.specs.Arrivals.accepted (its_setting p) before)) came b.has;
-                keeps = λ now on other before h. lies-got laws law 16385 p le is unsecured (placed (place_from first) chunk) now on other before h;
+                keeps = λ now on other before h. lies-got laws 16385 p le is unsecured (placed (place_from first) chunk) now on other before h;
               }) (came-of piece b)
 
           -- the cut at the place
@@ -452,7 +451,7 @@ module _ (laws : TurnLaws) (law : TakesSignedAlone) (p : Play) (is : IsPlay 1638
               let covers : cover (chunks_in (its_marks p)) place (length message) ≡ true =
               cuts-cover room place message (chunks_in (its_marks p)) cut_up.has_room (λ k d below. each-lies (get_or (cuts room place message) k d) (k, below, Rattle.std.proofs.lemmas.List.get_or_default (cuts room place message) k (get_or (cuts room place message) k d) d below)) in
               let some : 0 < length (bytes place) = let long = ap length bytes-are in let least = cut_up.some in omega (arith, long, least) in
-              covered-events laws law 16385 p le is unsecured place is-last frame (placed_cut (its_meta p) closing_frame) (gives numbered) refl read_is p.events some restarts is.came
+              covered-events laws 16385 p le is unsecured place is-last frame (placed_cut (its_meta p) closing_frame) (gives numbered) refl read_is p.events some restarts is.came
               (ap (λ (b : List ℕ). cover (chunks_in (its_marks p)) place (length b)) bytes-are ∙ covers)
 
         -- ---- in either layout
@@ -487,7 +486,7 @@ closing-came laws p r i g w steps before turn own is c =
     let is_play = is-play laws p r i g w steps is in
     let le : 16385 ≤ 65536 = omega arith in
     let past = pasts_at p steps g in
-    let had = last-turn p.config (group_at p.config g) w past (turns laws.turns laws.passed 16385 play le is_play) turn before c.last in
+    let had = last-turn p.config (group_at p.config g) w past (turns laws.turns 16385 play le is_play) turn before c.last in
     let last = had.0 in
     let same = same-turn last.turn turn last.before before (sym last.past_is ∙ c.last) in
     let took : took_by w last.turn ≡ Some own = ap (took_by w) same.0 ∙ c.ends.took in
@@ -497,8 +496,8 @@ closing-came laws p r i g w steps before turn own is c =
     (brought-by-pumps (setting_of p.config r) p.config (pasts_at p steps) i datagram K b r c.ends.pumps c.start has c.ends.operational is.matched.within c.ends.enabled
     (subst (λ (l : List Step). CameAsMade (setting_of p.config r) p.config (pasts_at p steps) (events p.config r l)) c.ends.split is_play.came)) in
     let bytes = had.1 (Whole (next_place (settings_at (group_at p.config g) w) (cadence (settings_at (group_at p.config g) w) (writer_past w last.before))) own.row)
-    (answer-is laws.turns laws.passed play is_play own c.ends.closing le last took) refl in
-    let stands = stands-closing laws.turns laws.passed play is_play own c.ends.closing le last took c.numbered c.unsecured bytes c.ends.pumps c.start r
+    (answer-is laws.turns play is_play own c.ends.closing le last took) refl in
+    let stands = stands-closing laws.turns play is_play own c.ends.closing le last took c.numbered c.unsecured bytes c.ends.pumps c.start r
     (λ datagram made. c.came datagram (subst (λ (t : GroupTurn). Contains t.made datagram) same.0 made)) brought (group_at p.config g).layout refl in
     let s = settings_at (group_at p.config g) w in
     let found = item-of (next_place s (cadence s (writer_past w last.before))) (since_cut (arrivals_at p.config r i (first_number_of p.config g w) steps)) stands in

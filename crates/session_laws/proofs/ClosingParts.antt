@@ -133,7 +133,7 @@ module _ (laws : Laws) (p : Plan) (r i g w : ℕ) (start : List Step) (pumps : L
       → WasMade (HadGroupTurn last.turn ∷ last.before) other ⊎ (parts_of opened ≡ [])
   own-or-other now on other befell opened came e =
       at (own-or-none laws.turns config group readers i w is.matched g (pasts_at p steps) is.plan.good.sound is_play.there is_play.pasts (accepted setting befell) other opened
-      (came.0 (λ secured. laws.passed setting.group setting.setup (accepted setting befell) other opened e secured)) e)
+      (came.0 opened e) e)
     where
       at : WasMade (pasts_at p steps g) other ⊎ (parts_of opened ≡ []) → WasMade (HadGroupTurn last.turn ∷ last.before) other ⊎ (parts_of opened ≡ [])
       at (inl was) = inl (subst (λ (past : List GroupDeed). WasMade past other) last.past_is was)
@@ -147,39 +147,39 @@ module _ (laws : Laws) (p : Plan) (r i g w : ℕ) (start : List Step) (pumps : L
 
   -- ---- where it is cut into chunks
 
-  module _ (opens_first : OpensFirst) (chunks : InChunks laws.turns laws.passed play is_play own closing le last took) where
+  module _ (opens_first : OpensFirst) (chunks : InChunks laws.turns play is_play own closing le last took) where
     abbrev place : ℕ
-    place = ClosingGot.place laws.turns laws.passed play is_play own closing le last took
+    place = ClosingGot.place laws.turns play is_play own closing le last took
 
     abbrev message : List ℕ
-    message = ClosingGot.message laws.turns laws.passed play is_play own closing le last took
+    message = ClosingGot.message laws.turns play is_play own closing le last took
 
     abbrev frame : Frame
-    frame = ClosingGot.frame laws.turns laws.passed play is_play own closing le last took
+    frame = ClosingGot.frame laws.turns play is_play own closing le last took
 
     abbrev bytes : ℕ → List ℕ
-    bytes = ClosingGot.bytes laws.turns laws.passed play is_play own closing le last took
+    bytes = ClosingGot.bytes laws.turns play is_play own closing le last took
 
     abbrev pub its_total : ℕ
     its_total = length (bytes place)
 
     is-last : (f : PlacedFrame) → IsAnswer (its_answers play) f → is_silent f ≡ false → place_of f ≤ place
-    is-last = ClosingGot.is-last laws.turns laws.passed play is_play own closing le last took
+    is-last = ClosingGot.is-last laws.turns play is_play own closing le last took
 
     back : place_from first (number_of_place place) ≡ place
-    back = ClosingGot.back laws.turns laws.passed play is_play own closing le last took
+    back = ClosingGot.back laws.turns play is_play own closing le last took
 
     abbrev next : ℕ
     next = next_place (settings_at group w) (its_answers play)
 
     its_source : Source way (its_answers play) first next
-    its_source = source laws.turns laws.passed 16385 play le is_play
+    its_source = source laws.turns 16385 play le is_play
 
     abbrev pub its_cuts : List Chunk
     its_cuts = cuts chunks.room (number_of_place place) message
 
     abbrev its_are : AreTurns config group (pasts_at p steps g)
-    its_are = turns laws.turns laws.passed 16385 play le is_play
+    its_are = turns laws.turns 16385 play le is_play
 
     abbrev of_piece : Piece → Type 0
     of_piece piece = IsPieceOf (IsOfAnswer way.seat.meta (its_answers play)) (IsChunkOf way.seat.meta (its_answers play) bytes) way.seat.meta piece
@@ -252,7 +252,7 @@ module _ (laws : Laws) (p : Plan) (r i g w : ℕ) (start : List Step) (pumps : L
     AreAll list = AreSent way.seat.part.numbering way.seat.meta (its_answers play) bytes list
 
     pub sent-list : (raised : Bool) (befell : List Event) → CameAsMade setting config (pasts_at p steps) befell → AreAll (cut_on raised NewToken (marks setting way befell))
-    sent-list raised befell came = sent-cut way.seat.part.numbering way.seat.meta (its_answers play) bytes raised NewToken (marks setting way befell) (events-sent laws.turns laws.passed 16385 play le is_play befell came)
+    sent-list raised befell came = sent-cut way.seat.part.numbering way.seat.meta (its_answers play) bytes raised NewToken (marks setting way befell) (events-sent laws.turns 16385 play le is_play befell came)
 
     counts : (c : Chunk) → Contains its_cuts c → (list : List Mark) → AreAll list → is_proper (chunks_in list) (placed (place_from first) c) ≡ true
     counts c has list are =
@@ -267,7 +267,7 @@ module _ (laws : Laws) (p : Plan) (r i g w : ℕ) (start : List Step) (pumps : L
     lays c has now on s raised befell came e =
         lies-among way.seat.part.numbering way (its_answers play) bytes first next place its_source is-last now s (chunk_bytes c) c
         (sent-kept way.seat.part.numbering way (its_answers play) bytes first next now s refl its_source) (read-c c has) (λ list are. counts c has list are) (parts_of (found_c c has).0) (cut_on raised NewToken (marks setting way befell))
-        (parts-sent laws.turns laws.passed 16385 play le is_play now on (its_datagram (found_c c has).0 (found_c c has).1) befell (found_c c has).0 came e) (sent-list raised befell came.1) (found_c c has).2
+        (parts-sent laws.turns 16385 play le is_play now on (its_datagram (found_c c has).0 (found_c c has).1) befell (found_c c has).0 came e) (sent-list raised befell came.1) (found_c c has).2
 
     -- where all chunks lie there, they cover it
     pub all-covered : ((c : Chunk) (has : Contains its_cuts c) → Lies (placed_c c has) (marks setting way (events config r steps))) → cover (chunks_in (marks setting way (events config r steps))) place its_total ≡ true
@@ -284,7 +284,7 @@ module _ (laws : Laws) (p : Plan) (r i g w : ℕ) (start : List Step) (pumps : L
     are-before = (subst (AreTurns config group) last.past_is its_are).1
 
     few-places : place ≤ first + 65536
-    few-places = let after = ClosingGot.next-is laws.turns laws.passed play is_play own closing le last took in let few = is_play.few in omega (arith, after, few)
+    few-places = let after = ClosingGot.next-is laws.turns play is_play own closing le last took in let few = is_play.few in omega (arith, after, few)
 
     pub older-source : Source way (answered_by group w last.before) first place
     older-source = record { spans = λ f answer. answers-span (settings_at group w) (writer_past w last.before) f answer; few = few-places }

@@ -1,11 +1,10 @@
 -- A closing frame whose datagrams came to a secured read group that names its group is an item of the reader since its last cut.
-use Rattle.std.proofs.Common.{◌≡◌, ◌≢◌, refl, sym, ap, ◌∙◌, subst, arith, ℕ, zero, suc, ◌+◌, inl, inr, Bool, true, false, List, [], ◌∷◌, ◌++◌, map, Option, Some, None, Contains, Result, Ok, Err, append_assoc}
+use Rattle.std.proofs.Common.{◌≡◌, ◌≢◌, refl, sym, ap, ◌∙◌, subst, arith, ℕ, zero, suc, ◌+◌, inl, inr, Bool, true, false, List, [], ◌∷◌, ◌++◌, map, Option, Some, None, Contains, Result, Ok, Err}
 use Rattle.std.specs.Prelude.{◌==◌, is_some, slice_get, IfSome}
 use Rattle.std.proofs.lemmas.Bool.Decides.{nat_tests}
 use Rattle.std.proofs.lemmas.Option.{slice_get-get_or}
 use Rattle.dataset_meta.specs.Rows.{cons_if}
 use Rattle.ua_base.specs.Journal.{Entry}
-use Rattle.ua_base.specs.Journal as entries_of
 use Rattle.message_guard.specs.Acceptance.{Accepted}
 use Rattle.message_guard.specs.Guards.{Setup}
 use Rattle.message_guard.specs.Modes.{is_secured}
@@ -21,28 +20,22 @@ use Rattle.ps_config.specs.Sound.{IsSound}
 use Rattle.reader_group.specs.declared.refusal.Refusal.{Refusal}
 use Rattle.reader_group.specs.declared.refusal.Refusal.TheVariants as refusals
 use Rattle.reader_group.specs.Opening.{Opened, verdict}
-use Rattle.reader_group.specs.Plain.{Setting}
 use Rattle.reader_group.specs.Settings.{keygroup_at, setting_of, setup_by}
 use Rattle.writer_group.specs.declared.sampled.Sampled.{Sampled}
 use Rattle.writer_group.specs.Turns.{GroupDeed, GroupTurn, HadGroupTurn, RefreshedWriter, turn_datagrams}
 use Rattle.group_laws.specs.Matching.{IsMatchedTo, IsSenderOf, MaySend}
 use Rattle.group_laws.specs.TurnOpened.{is_accepted}
 use Rattle.session_model.specs.Deeds.{Deed, TookTurn, deeds, group_past, has_turn, turn_of}
-use Rattle.session_model.specs.Sends.{journal, send_entries, sends_of}
 use Rattle.session_model.specs.Steps.{Plan, Step, Pump, Tick}
 use Rattle.session_model.specs.Turns.{deeds_before}
 use Rattle.session_laws.specs.Headline.{InSession}
 use Rattle.session_laws.specs.Pasts.{AreTurns, IsMade, WasMade}
-use Rattle.session_laws.specs.Sessions.{IsHonestFor}
 use Rattle.session_model.proofs.Deeds.{next-turned}
 use Rattle.session_laws.proofs.Distinct.{IsAt, ids-differ}
 use Rattle.session_laws.proofs.Pieces.{TurnLaws, opened-at}
+use Rattle.session_laws.proofs.Taking.{taken-before}
 
 -- ---- a session before its last steps
-
-honest-before : (setting : Setting) (list more : List Entry) → IsHonestFor setting (list ++ more) → IsHonestFor setting list
-honest-before setting list more honest = λ before after datagram e signed.
-    honest before (after ++ more) datagram (ap (λ (l : List Entry). l ++ more) e ∙ append_assoc before (entries_of.Got datagram ∷ after) more) signed
 
 before-pump : (p : Plan) (r i g w : ℕ) (entries : List Entry) (before : List Step) → InSession p r i g w (Pump entries ∷ before) → InSession p r i g w before
 before-pump p r i g w entries before is = record {
@@ -52,7 +45,7 @@ before-pump p r i g w entries before is = record {
   rise = is.rise;
   there = is.there;
   matched = is.matched;
-  honest = honest-before (setting_of p.config r) (journal p before) entries is.honest;
+  honest = taken-before p r (Pump entries) before is.honest;
 }
 
 pub before-pumps : (p : Plan) (r i g w : ℕ) (pumps : List (List Entry)) (before : List Step) → InSession p r i g w (map Pump pumps ++ before) → InSession p r i g w before
@@ -67,7 +60,7 @@ before-tick p r i g w ms closing samples done before is = record {
   rise = is.rise.1;
   there = is.there;
   matched = is.matched;
-  honest = honest-before (setting_of p.config r) (journal p before) (send_entries (sends_of p (Tick ms closing samples done ∷ before)) done) is.honest;
+  honest = taken-before p r (Tick ms closing samples done) before is.honest;
 }
 
 pub deeds-behind : (p : Plan) (pumps : List (List Entry)) (before : List Step) → deeds p (map Pump pumps ++ before) ≡ deeds p before

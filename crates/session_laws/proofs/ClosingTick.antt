@@ -142,9 +142,9 @@ module _ (laws : Laws) (p : Plan) (r i g w ms : ℕ) (samples : List Sampled) (d
   -- ---- where the frame is cut into chunks, none of them came before the tick
 
   module _ (opens_first : OpensFirst laws p r i g w ticked_on pumps own is closing its_last took)
-      (chunks : InChunks laws.turns laws.passed (play_of p r i g w steps) (is-play laws p r i g w steps is) own closing (le laws p r i g w ticked_on pumps own is closing its_last took) its_last took) where
+      (chunks : InChunks laws.turns (play_of p r i g w steps) (is-play laws p r i g w steps is) own closing (le laws p r i g w ticked_on pumps own is closing its_last took) its_last took) where
     abbrev place : ℕ
-    place = ClosingGot.place laws.turns laws.passed (play_of p r i g w steps) (is-play laws p r i g w steps is) own closing (le laws p r i g w ticked_on pumps own is closing its_last took) its_last took
+    place = ClosingGot.place laws.turns (play_of p r i g w steps) (is-play laws p r i g w steps is) own closing (le laws p r i g w ticked_on pumps own is closing its_last took) its_last took
 
     abbrev way : Way
     way = its_way (play_of p r i g w steps)
@@ -157,8 +157,8 @@ module _ (laws : Laws) (p : Plan) (r i g w ms : ℕ) (samples : List Sampled) (d
         let was = play_of p r i g w start in
         let is_was = is-play laws p r i g w start in-start in
         let short : 16385 ≤ 65536 = omega arith in
-        let sent = all-sent laws.turns laws.passed 16385 was short is_was in
-        let laid = IsLaidOf (its_meta was) (its_answers was) (its_bytes laws.turns laws.passed 16385 was short is_was) in
+        let sent = all-sent laws.turns 16385 was short is_was in
+        let laid = IsLaidOf (its_meta was) (its_answers was) (its_bytes laws.turns 16385 was short is_was) in
         All-weaker laid (λ (c : Chunk). c.place ≢ place)
         (λ c l same.
         let answer = still-answered p g w start at_tick true samples holds-tick is.there l.placed l.answer in

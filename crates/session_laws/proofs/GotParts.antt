@@ -29,7 +29,6 @@ use Rattle.reader_group.specs.Opening.{Opened, verdict}
 use Rattle.reader_group.specs.Payloads.{Piece, Chunked, pieces}
 use Rattle.reader_group.specs.Plain.{Event, Got, Expired, Setting, Stopped}
 use Rattle.reader_group.specs.Settings.{group_at as read_group_at}
-use Rattle.reader_group.specs.Signed.{TakesSignedAlone}
 use Rattle.reader_group.proofs.KeptParts.{IsPieceOf, Keep}
 use Rattle.writer_group.specs.Payloads.{writer_at}
 use Rattle.writer_group.specs.Turns.{GroupDeed}
@@ -43,7 +42,7 @@ use Rattle.session_laws.proofs.Marks.{all-on, events-sent, its_bytes, parts-sent
 use Rattle.session_laws.proofs.Pieces.{TurnLaws}
 use Rattle.session_laws.proofs.Sources.{AreSent, IsChunkOf, IsOfAnswer, sent-kept}
 
-module _ (laws : TurnLaws) (law : TakesSignedAlone) (most : ℕ) (p : Play) (le : most ≤ 65536) (is : IsPlay most p) (unsecured : is_secured (its_setting p).setup.mode ≡ false) where
+module _ (laws : TurnLaws) (most : ℕ) (p : Play) (le : most ≤ 65536) (is : IsPlay most p) (unsecured : is_secured (its_setting p).setup.mode ≡ false) where
   abbrev way : Way
   way = its_way p
 
@@ -54,7 +53,7 @@ module _ (laws : TurnLaws) (law : TakesSignedAlone) (most : ℕ) (p : Play) (le 
   list_after befell = marks (its_setting p) way befell
 
   abbrev bytes : ℕ → List ℕ
-  bytes = its_bytes laws law most p le is
+  bytes = its_bytes laws most p le is
 
   abbrev on_parts : ℕ → List Piece → List Mark → List Mark
   on_parts now parts list = fold (piece_on way (place_from first) now None) list parts
@@ -104,7 +103,7 @@ module _ (laws : TurnLaws) (law : TakesSignedAlone) (most : ℕ) (p : Play) (le 
     next = next_place (settings_at p.group p.writer) (its_answers p)
 
     keep-now : (now : ℕ) → Keep AreAll (IsOfAnswer (its_meta p) (its_answers p)) (IsChunkOf (its_meta p) (its_answers p) bytes) way (place_from first) now None
-    keep-now now = sent-kept way.seat.part.numbering way (its_answers p) bytes first next now None refl (source laws law most p le is)
+    keep-now now = sent-kept way.seat.part.numbering way (its_answers p) bytes first next now None refl (source laws most p le is)
 
     module _ (read : frame_at (its_meta p) (bytes place) ≡ Ok frame) where
       -- ---- where its chunks cover it, it stands there
@@ -114,7 +113,7 @@ module _ (laws : TurnLaws) (law : TakesSignedAlone) (most : ℕ) (p : Play) (le 
       covered-taken now enabled pairs list (Err refusal) of are h = h
       covered-taken now enabled pairs list (Ok opened) of are h =
           subst Covered (sym (taken-open now enabled pairs list opened))
-          (covered-parts way.seat.part.numbering way (its_answers p) bytes first next place (source laws law most p le is) last frame given gives now None (Stands place) (λ before f stands. stands-behind place way now before f stands)
+          (covered-parts way.seat.part.numbering way (its_answers p) bytes first next place (source laws most p le is) last frame given gives now None (Stands place) (λ before f stands. stands-behind place way now before f stands)
           (λ before c stands. stands) (λ before. stands-new place way now None before given at) read (keep-now now) (if enabled then pieces way.seat.part opened.payload else []) list
           (all-on of_piece enabled (pieces way.seat.part opened.payload) (of opened refl)) are h)
 
@@ -131,8 +130,8 @@ module _ (laws : TurnLaws) (law : TakesSignedAlone) (most : ℕ) (p : Play) (le 
       covered-events (Got now on datagram ∷ before) some restarts came =
           let setting = its_setting p in
           let pairs = accepted setting before in
-          covered-taken now (slice_index_or on way.index false) pairs (list_after before) (verdict setting.group setting.setup pairs datagram) (λ opened e. parts-sent laws law most p le is now on datagram before opened came e)
-          (events-sent laws law most p le is before came.1) (covered-events before some restarts came.1)
+          covered-taken now (slice_index_or on way.index false) pairs (list_after before) (verdict setting.group setting.setup pairs datagram) (λ opened e. parts-sent laws most p le is now on datagram before opened came e)
+          (events-sent laws most p le is before came.1) (covered-events before some restarts came.1)
       covered-events (Expired now ∷ before) some restarts came =
           covered-cut (runs_out way now (arrivals_in (list_after before))) Timeout (list_after before) some (λ list. refl) (covered-events before some restarts came)
       covered-events (Stopped reader why ∷ before) some restarts came =
@@ -156,7 +155,7 @@ module _ (laws : TurnLaws) (law : TakesSignedAlone) (most : ℕ) (p : Play) (le 
         → Stands place (list_after (Got now on datagram ∷ before))
     brings-frame piece reads now on datagram before opened enabled e has =
         subst (Stands place) (sym (taken-now now on datagram before opened enabled e))
-        (reads-among way.seat.part.numbering way (its_answers p) bytes first next place (source laws law most p le is) last now piece (reads now) (pieces way.seat.part opened.payload) (list_after before) has)
+        (reads-among way.seat.part.numbering way (its_answers p) bytes first next place (source laws most p le is) last now piece (reads now) (pieces way.seat.part opened.payload) (list_after before) has)
 
     pub brings-chunk : (b : List ℕ) (chunk : Chunk) → without_rest (chunk_at b) ≡ Ok chunk → ((list : List Mark) → AreAll list → is_proper (chunks_in list) (placed (place_from first) chunk) ≡ true)
         → (now : ℕ) (on : List Bool) (datagram : List ℕ) (before : List Event) (opened : Opened) → slice_index_or on way.index false ≡ true
@@ -164,8 +163,8 @@ module _ (laws : TurnLaws) (law : TakesSignedAlone) (most : ℕ) (p : Play) (le 
         → Lies (placed (place_from first) chunk) (list_after (Got now on datagram ∷ before))
     brings-chunk b chunk is_read counts now on datagram before opened enabled e came has =
         subst (Lies (placed (place_from first) chunk)) (sym (taken-now now on datagram before opened enabled e))
-        (lies-among way.seat.part.numbering way (its_answers p) bytes first next place (source laws law most p le is) last now None b chunk (keep-now now) is_read counts
-        (pieces way.seat.part opened.payload) (list_after before) (parts-sent laws law most p le is now on datagram before opened came e) (events-sent laws law most p le is before came.1) has)
+        (lies-among way.seat.part.numbering way (its_answers p) bytes first next place (source laws most p le is) last now None b chunk (keep-now now) is_read counts
+        (pieces way.seat.part opened.payload) (list_after before) (parts-sent laws most p le is now on datagram before opened came e) (events-sent laws most p le is before came.1) has)
 
 -- ---- the pumps that a session ends with
 

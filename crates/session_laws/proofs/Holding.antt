@@ -21,11 +21,10 @@ use Rattle.pubsub_model.proofs.LoggedTurns.{logged}
 use Rattle.session_laws.proofs.Marks.{all-sent}
 use Rattle.session_laws.proofs.Near.{AgreeLaw, items-since, reads-by-records}
 use Rattle.session_laws.proofs.Pieces.{TurnLaws}
-use Rattle.reader_group.specs.Signed.{TakesSignedAlone}
 
 -- each item that comes is what the writer answered
-pub comes-from-writer : TurnLaws → TakesSignedAlone → (most : ℕ) (p : Play) → most ≤ 65536 → IsPlay most p → ComesFromWriter p
-comes-from-writer laws law most p le is = (all-sent laws law most p le is).items
+pub comes-from-writer : TurnLaws → (most : ℕ) (p : Play) → most ≤ 65536 → IsPlay most p → ComesFromWriter p
+comes-from-writer laws most p le is = (all-sent laws most p le is).items
 
 module _ (most : ℕ) (p : Play) (le : most ≤ 65536) (is : IsPlay most p) where
   few : next_place (settings_at p.group p.writer) (its_answers p) ≤ (settings_at p.group p.writer).first_number + 65536
@@ -61,6 +60,6 @@ module _ (most : ℕ) (p : Play) (le : most ≤ 65536) (is : IsPlay most p) wher
       holds-sent kept.number row sent.place sent.sent (λ n is. (let both : Path (Option ℕ) None (Some n) = sym keeps.number ∙ is in absurd (cc)))
 
 -- held rows
-pub holds-version : TurnLaws → TakesSignedAlone → AgreeLaw → (p : Play) (row : List DataValue) → IsPlay 16385 p → (its_member p).kept.row ≡ Some row → HoldsVersion p (its_member p).kept.number row
-holds-version laws law agrees p row is e =
-    held-by 16385 p (omega arith) is (its_way p).seat.part.numbering (its_member p).kept row (comes-from-writer laws law 16385 p (omega arith) is) (reads-by-records laws law agrees p is).keeps e
+pub holds-version : TurnLaws → AgreeLaw → (p : Play) (row : List DataValue) → IsPlay 16385 p → (its_member p).kept.row ≡ Some row → HoldsVersion p (its_member p).kept.number row
+holds-version laws agrees p row is e =
+    held-by 16385 p (omega arith) is (its_way p).seat.part.numbering (its_member p).kept row (comes-from-writer laws 16385 p (omega arith) is) (reads-by-records laws agrees p is).keeps e

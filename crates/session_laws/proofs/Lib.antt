@@ -6,6 +6,7 @@ pub mod Marks
 pub mod Near
 pub mod Holding
 pub mod Sending
+pub mod Taking
 pub mod Metas
 pub mod Senders
 pub mod Rowing
@@ -13,6 +14,7 @@ pub mod Living
 pub mod Published
 pub mod Ends
 pub mod Telling
+mod Completing
 pub mod Meeting
 pub mod EachTurn
 pub mod Numbers
@@ -36,9 +38,12 @@ mod Delivering
 mod OneTick
 mod Quiet
 mod KnownTokens
+mod SignedReaders
+mod MadeSigned
 mod BareMeeting
 mod BehindAnother
 mod ThreeGroups
+mod Noisy
 mod SinceCut
 mod Growing
 mod Passing

@@ -23,7 +23,6 @@ use Rattle.session_laws.proofs.Answering.{spelled_at}
 use Rattle.reader_group.proofs.KeptParts.{IsPieceOf, keep-parts}
 use Rattle.session_laws.proofs.Pieces.{TurnLaws, made-pieces}
 use Rattle.pubsub_model.proofs.AnswerPlaces.{answers-span}
-use Rattle.reader_group.specs.Signed.{TakesSignedAlone}
 use Rattle.session_laws.proofs.Sources.{IsOfAnswer, IsChunkOf, AreSent, Source, sent-kept}
 
 pub sent-cut : (word : NumberingWord) (meta : MetaData) (answered : List Answered) (bytes : ℕ → List ℕ) (cuts : Bool) (why : Why) (list : List Mark) → AreSent word meta answered bytes list → AreSent word meta answered bytes (cut_on cuts why list)
@@ -34,7 +33,7 @@ pub all-on : (P : Piece → Type 0) (on : Bool) (parts : List Piece) → All P p
 all-on P true parts h = h
 all-on P false parts h = All-nil P
 
-module _ (laws : TurnLaws) (law : TakesSignedAlone) (most : ℕ) (p : Play) (le : most ≤ 65536) (is : IsPlay most p) where
+module _ (laws : TurnLaws) (most : ℕ) (p : Play) (le : most ≤ 65536) (is : IsPlay most p) where
   abbrev way : Way
   way = its_way p
 
@@ -72,7 +71,7 @@ module _ (laws : TurnLaws) (law : TakesSignedAlone) (most : ℕ) (p : Play) (le 
       let setting = its_setting p in
       let pairs = accepted setting before in
       made-pieces laws p.config p.group p.readers p.reader p.writer is.matched p.index p.pasts is.sound is.there is.pasts turns pairs datagram opened
-      (came.0 (λ secured. law setting.group setting.setup pairs datagram opened e secured)) e
+      (came.0 opened e) e
 
   -- whatever befell it so far
   pub events-sent : (events : List Event) → CameAsMade (its_setting p) p.config p.pasts events → AreSent word (its_meta p) (its_answers p) its_bytes (marks (its_setting p) way events)

@@ -20,9 +20,8 @@ use Rattle.ps_config.specs.FixedSound.{IsFixedSound}
 use Rattle.group_laws.specs.Matching.{IsMatchedTo}
 use Rattle.writer_group.specs.declared.sampled.Sampled.{Sampled}
 use Rattle.writer_group.specs.Turns.{no_sample}
-use Rattle.reader_group.specs.Plain.{Setting}
-use Rattle.reader_group.specs.Settings.{no_keys, setting_of}
-use Rattle.session_model.specs.Steps.{Step, Pump}
+use Rattle.reader_group.specs.Settings.{no_keys}
+use Rattle.session_model.specs.Steps.{Plan, Step, Pump}
 use Rattle.session_model.specs.Counts.{most_ticks, ticks_in, is_closed}
 use Rattle.session_model.specs.Sets.{AreRowsOf, GrowTo, meta_in}
 use Rattle.session_model.specs.Keeping.{AreSteps, IsPlan, MayCome}
@@ -36,9 +35,10 @@ use Rattle.session_model.specs.Deeds.{group_indexes}
 use Rattle.session_model.specs.Events.{reader_at, read_group_indexes}
 use Rattle.session_laws.specs.Reading.{IsMatchedIn}
 use Rattle.session_laws.specs.Headline.{InSession}
-use Rattle.session_laws.specs.Sessions.{AreVersions, HasSample, IsHonestFor, SamplesRise}
+use Rattle.session_laws.specs.Sessions.{AreVersions, HasSample, SamplesRise, TakesWhatWasSent}
 use Rattle.session_laws.specs.Telling.{HasRun}
 use Rattle.session_laws.specs.Witness.{small_plan, seven, small_datagram, tick_on, closing_on, first_session, lost_session, lossy_session, whole_session, small_row, small_rows}
+use Rattle.session_laws.proofs.Taking.{honest-takes}
 
 pub record BuiltInLaws : Type 0 where
   pub sound : IsSound built_in_config
@@ -61,7 +61,7 @@ whole-metas : IsSound built_in_config → All (λ (meta : MetaData). IsMeta meta
 unfolding built_in_config small_plan
 whole-metas sound = sound.metas
 
-plan-is : BuiltInLaws → IsPlan small_plan
+pub plan-is : BuiltInLaws → IsPlan small_plan
 unfolding small_plan
 plan-is laws = record {
   good = record { sound = laws.sound; fixed = laws.fixed };
@@ -100,7 +100,7 @@ may-tick before running left = record { rows = seven-rows; short = lit≤ tt; ru
 may-close : (before : List Step) → is_closed before ≡ false → MayCome small_plan before 0 true (seven ∷ [])
 may-close before running = record { rows = seven-rows; short = lit≤ tt; running = running; left = λ is_open. absurd (cc); still = λ closing. refl }
 
-first-are : AreSteps small_plan first_session
+pub first-are : AreSteps small_plan first_session
 first-are = (lit< tt, (may-tick [] refl (lit< tt), tt))
 
 lost-are : AreSteps small_plan lost_session
@@ -111,7 +111,7 @@ lossy-are = (lit< tt, (may-tick lost_session refl (lit< tt), lost-are))
 
 -- ---- what the ticks send
 
-first-sends : sends_of small_plan (tick_on []) ≡ record { group = 0; datagram = small_datagram 0 } ∷ []
+pub first-sends : sends_of small_plan (tick_on []) ≡ record { group = 0; datagram = small_datagram 0 } ∷ []
 unfolding small_plan built_in_config built_in_group built_in_writer built_in_read_group built_in_reader demo seven row_in statuses_in spelled_row spelled_statuses cut_words header_len header_bytes flags_bytes group_bytes security_bytes front_bytes frame_bytes
 first-sends = refl
 
@@ -119,7 +119,7 @@ second-sends : sends_of small_plan (tick_on (Pump (Empty ∷ []) ∷ tick_on [])
 unfolding small_plan built_in_config built_in_group built_in_writer built_in_read_group built_in_reader demo seven row_in statuses_in spelled_row spelled_statuses cut_words header_len header_bytes flags_bytes group_bytes security_bytes front_bytes frame_bytes
 second-sends = refl
 
-first-run : IsRun small_plan first_session
+pub first-run : IsRun small_plan first_session
 first-run = ((lit≤ tt, refl), (sym (ap (λ (l : List Send). length l) first-sends), tt))
 
 lossy-run : IsRun small_plan lossy_session
@@ -172,8 +172,8 @@ all-sent (e ∷ list) so_far (b ∷ before) after d are same =
     subst (λ (l : List Entry). Contains l (Sent d)) (append_assoc so_far (e ∷ []) before ∙ ap (λ (x : Entry). so_far ++ x ∷ before) head)
     (all-sent list (so_far ++ e ∷ []) before after d (later-sent so_far e list are) rest)
 
-pub honest-of : (setting : Setting) (list given : List Entry) → given ≡ list → AreSent [] list → IsHonestFor setting given
-honest-of setting list given same are = λ before after d split signed. all-sent list [] before after d are (sym same ∙ split)
+pub taken-of : (p : Plan) (r : ℕ) (steps : List Step) (list : List Entry) → IsRun p steps → journal p steps ≡ list → AreSent [] list → TakesWhatWasSent p r steps
+taken-of p r steps list run same are = honest-takes p r steps run (λ before after d split. all-sent list [] before after d are (sym same ∙ split))
 
 -- ---- what is held
 
@@ -187,7 +187,7 @@ lossy-held = refl
 
 -- ---- the premises
 
-first-rise : SamplesRise small_plan first_session
+pub first-rise : SamplesRise small_plan first_session
 first-rise = (λ index now sample has. absurd has, tt)
 
 lossy-rise : SamplesRise small_plan lossy_session
@@ -197,11 +197,11 @@ lossy-rise = (again, (λ index now sample has. absurd has, tt))
     again index now sample (inl has) = let same : (slice_index_or (seven ∷ []) index no_sample).version ≡ sample.version = ap (λ (s : Sampled). s.version) has.0 in omega (arith, same)
     again index now sample (inr none) = absurd none
 
-matched-is : BuiltInLaws → IsMatchedIn small_plan.config 0 0 0 0
+pub matched-is : BuiltInLaws → IsMatchedIn small_plan.config 0 0 0 0
 unfolding small_plan built_in_config
 matched-is laws = laws.matched
 
-there-is : 0 < length small_plan.config.group
+pub there-is : 0 < length small_plan.config.group
 unfolding small_plan built_in_config
 there-is = lit< tt
 
@@ -213,7 +213,7 @@ in-first laws = record {
   rise = first-rise;
   there = there-is;
   matched = matched-is laws;
-  honest = honest-of (setting_of small_plan.config 0) (Sent (small_datagram 0) ∷ Got (small_datagram 0) ∷ Empty ∷ []) (journal small_plan first_session) first-journal ((0, lit< tt, refl), tt);
+  honest = taken-of small_plan 0 first_session (Sent (small_datagram 0) ∷ Got (small_datagram 0) ∷ Empty ∷ []) first-run first-journal ((0, lit< tt, refl), tt);
 }
 
 -- ---- the whole one
@@ -248,7 +248,7 @@ in-whole laws = record {
   rise = whole-rise;
   there = there-is;
   matched = matched-is laws;
-  honest = honest-of (setting_of small_plan.config 0) (Sent (small_datagram 0) ∷ Got (small_datagram 0) ∷ Empty ∷ Sent (small_datagram 1) ∷ Got (small_datagram 1) ∷ Empty ∷ []) (journal small_plan whole_session) whole-journal
+  honest = taken-of small_plan 0 whole_session (Sent (small_datagram 0) ∷ Got (small_datagram 0) ∷ Empty ∷ Sent (small_datagram 1) ∷ Got (small_datagram 1) ∷ Empty ∷ []) whole-run whole-journal
       ((0, lit< tt, refl), ((3, lit< tt, refl), tt));
 }
 
@@ -309,7 +309,7 @@ in-lost laws = record {
   rise = lost-rise;
   there = there-is;
   matched = matched-is laws;
-  honest = honest-of (setting_of small_plan.config 0) (Sent (small_datagram 0) ∷ Empty ∷ []) (journal small_plan lost_session) lost-journal tt;
+  honest = taken-of small_plan 0 lost_session (Sent (small_datagram 0) ∷ Empty ∷ []) lost-run lost-journal tt;
 }
 
 pub lost-waits : ((reader_at small_plan.config 0 0 lost_session).kept.row ≡ None) × ((reader_at small_plan.config 0 0 lost_session).kept.why ≡ Start)
@@ -324,5 +324,5 @@ in-lossy laws = record {
   rise = lossy-rise;
   there = there-is;
   matched = matched-is laws;
-  honest = honest-of (setting_of small_plan.config 0) (Sent (small_datagram 0) ∷ Empty ∷ Sent (small_datagram 1) ∷ Got (small_datagram 1) ∷ Empty ∷ []) (journal small_plan lossy_session) lossy-journal ((2, lit< tt, refl), tt);
+  honest = taken-of small_plan 0 lossy_session (Sent (small_datagram 0) ∷ Empty ∷ Sent (small_datagram 1) ∷ Got (small_datagram 1) ∷ Empty ∷ []) lossy-run lossy-journal ((2, lit< tt, refl), tt);
 }

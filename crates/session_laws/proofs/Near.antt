@@ -27,7 +27,6 @@ use Rattle.pubsub_model.proofs.HeldRows.{item-placed}
 use Rattle.session_laws.proofs.Marks.{all-sent}
 use Rattle.session_laws.proofs.Pieces.{TurnLaws}
 use Rattle.pubsub_model.proofs.AnswerPlaces.{answers-span, place-span}
-use Rattle.reader_group.specs.Signed.{TakesSignedAlone}
 use Rattle.session_laws.proofs.Sources.{ChunksAre, IsLaidOf, chunks-are}
 
 -- ---- one span
@@ -111,9 +110,9 @@ way-of most p is = record {
 }
 
 -- what a matched reader keeps is what Arrivals and Records have of it
-pub reads-by-records : TurnLaws → TakesSignedAlone → AgreeLaw → (p : Play) → IsPlay 16385 p → MemberIs (its_way p) (its_marks p) (its_member p)
-reads-by-records laws law agrees p is =
-    let h = all-sent laws law 16385 p (omega arith) is in
+pub reads-by-records : TurnLaws → AgreeLaw → (p : Play) → IsPlay 16385 p → MemberIs (its_way p) (its_marks p) (its_member p)
+reads-by-records laws agrees p is =
+    let h = all-sent laws 16385 p (omega arith) is in
     let s = settings_at p.group p.writer in
     let deeds = writer_past p.writer (its_past p) in
     agrees (its_setting p) (its_way p) p.events (way-of 16385 p is) (near-by (its_way p).seat.part.numbering (its_meta p) s deeds (its_arrivals p) is.few h.items)

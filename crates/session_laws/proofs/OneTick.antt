@@ -217,7 +217,7 @@ module _ (beside : List ReadGroupPart) where
       short-of (made 2) (128 ∷ 52 ∷ []) cut-lengths
       (All-cons (λ size. size ≤ longest_datagram) 128 (52 ∷ []) (lit≤ tt) (All-cons (λ size. size ≤ longest_datagram) 52 [] (lit≤ tt) (All-nil (λ size. size ≤ longest_datagram))))
 
-  all-short : All (λ send. length send.datagram ≤ longest_datagram) (sends_of plan sent)
+  pub all-short : All (λ send. length send.datagram ≤ longest_datagram) (sends_of plan sent)
   all-short =
       subst (All (λ (send : Send). length send.datagram ≤ longest_datagram)) (sym three-sends)
       (All-append (λ (send : Send). length send.datagram ≤ longest_datagram) (sends_by 0 (made 0) ++ sends_by 1 (made 1)) (sends_by 2 (made 2))

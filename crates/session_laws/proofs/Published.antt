@@ -66,18 +66,18 @@ is-play laws p r i g w steps is = record {
   there = slice_get-get_or p.config.group g no_group is.there;
   matched = is.matched;
   pasts = pasts-are laws p steps is.plan is.steps_are (laws.hold p steps is.plan is.steps_are) is.rise;
-  came = came-as-made (setting_of p.config r) p r steps is.run is.honest;
+  came = came-as-made p r steps is.run is.honest;
   restarts = all-restarts p.config r steps;
   few = let few = ticks-few p steps is.steps_are in let ticks = log-few p g w steps in let count = length-log_of (settings_at (group_at p.config g) w) (writer_past w (pasts_at p steps g)) in omega (arith, few, ticks, count);
 }
 
 -- what comes is what the writer answered
 pub comes-from : (laws : Laws) (p : Plan) (r i g w : ℕ) (steps : List Step) → InSession p r i g w steps → ComesFrom p r i g w steps
-comes-from laws p r i g w steps is = comes-from-writer laws.turns laws.passed 16385 (play_of p r i g w steps) (omega arith) (is-play laws p r i g w steps is)
+comes-from laws p r i g w steps is = comes-from-writer laws.turns 16385 (play_of p r i g w steps) (omega arith) (is-play laws p r i g w steps is)
 
 -- and the reader reads by Records
 pub session-records : (laws : Laws) (p : Plan) (r i g w : ℕ) (steps : List Step) → InSession p r i g w steps → ReadsByRecords p.config r i (first_number_of p.config g w) steps
-session-records laws p r i g w steps is = reads-by-records laws.turns laws.passed laws.agrees (play_of p r i g w steps) (is-play laws p r i g w steps is)
+session-records laws p r i g w steps is = reads-by-records laws.turns laws.agrees (play_of p r i g w steps) (is-play laws p r i g w steps is)
 
 -- ---- the row of a version
 
@@ -117,7 +117,7 @@ pub published : (laws : Laws) (p : Plan) (r i g w : ℕ) (steps : List Step) (ro
 published laws p r i g w steps rows row is versions e =
     let group = group_at p.config g in
     let index = (writer_at group w).dataset in
-    let h = holds-version laws.turns laws.passed laws.agrees (play_of p r i g w steps) row (is-play laws p r i g w steps is) e in
+    let h = holds-version laws.turns laws.agrees (play_of p r i g w steps) row (is-play laws p r i g w steps is) e in
     let turn = turn-in (IsVersionTurn p (HasSample p steps) (meta_at group p.config.dataset w) index) (settings_at group w) (writer_past w (pasts_at p steps g)) h.sent.turn (life-of laws p r i g w steps is) h.sent.one_of in
     record {
       place = h.place;

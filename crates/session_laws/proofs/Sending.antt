@@ -1,13 +1,13 @@
--- What a session received was made by its groups, where its journal is honest.
+-- What a read group took was made by the session's groups, where it was sent before.
 use Rattle.std.proofs.Common.{◌≡◌, refl, sym, ap, ◌∙◌, subst, arith, ℕ, zero, suc, ◌+◌, ◌<◌, Bool, true, false, List, [], ◌∷◌, ◌++◌, length, inl, inr, Contains, append_assoc}
-use Rattle.std.specs.Prelude.{◌⊎◌, ◌==◌, fold, if◌then◌else◌}
+use Rattle.std.specs.Prelude.{◌⊎◌, ◌==◌, fold, if◌then◌else◌, Ok}
 use Rattle.std.proofs.lemmas.Bool.Decides.{nat_tests}
 use Rattle.std.proofs.lemmas.List.Elements.{Contains-append_left, Contains-append_cases}
+use Rattle.std.proofs.lemmas.List.Sums.{fold-append}
 use Rattle.std.proofs.lemmas.Option.{slice_get-get_or}
 use Rattle.dataset_meta.specs.Rows.{cons_if}
 use Rattle.pubsub_model.specs.declared.reading.Why.TheVariants.{Restarted}
 use Rattle.ua_base.specs.Journal.{Entry, Sent, SendFailed, Got, Empty, Long, ReceiveFailed}
-use Rattle.message_guard.specs.Modes.{is_secured}
 use Rattle.ps_config.specs.declared.parts.Config.{Config}
 use Rattle.pubsub_states.specs.declared.component.Component.{Component}
 use Rattle.pubsub_states.specs.declared.component.Component.TheVariants.{Group, Reader}
@@ -17,14 +17,16 @@ use Rattle.writer_group.specs.Turns.{GroupDeed, GroupTurn, HadGroupTurn}
 use Rattle.reader_group.specs.Agreeing.{AreRestarts}
 use Rattle.reader_group.specs.Plain as befalls
 use Rattle.reader_group.specs.Plain.{Setting, Event}
+use Rattle.reader_group.specs.Arrivals.{accepted}
+use Rattle.reader_group.specs.Opening.{verdict}
+use Rattle.reader_group.specs.Settings.{setting_of}
 use Rattle.session_model.specs.Steps.{Plan, Step, Enable, Disable, Append, Tick, Pump, moment_of}
-use Rattle.session_model.specs.Deeds.{Deed, RefreshedBelow, RefreshedSet, CameTo, TookTurn, component_at, group_past, is_writer_below, is_writer_of, writer_indexes, turn_of, deeds}
+use Rattle.session_model.specs.Deeds.{Deed, RefreshedBelow, RefreshedSet, CameTo, TookTurn, RenewedKeys, component_at, group_past, is_writer_below, is_writer_of, writer_indexes, turn_of, deeds}
 use Rattle.writer_group.specs.Parts.{group_at, no_group}
 use Rattle.session_model.specs.Sends.{Send, sends_by, last_sends, sends_of, send_entries, journal, IsPump, IsRun}
 use Rattle.session_model.specs.Events.{events, got_on, receives, readers_on, reader_indexes}
-use Rattle.reader_group.specs.Signed.{IsSignedBy}
 use Rattle.session_laws.specs.Pasts.{WasMade, IsMade, CameAsMade}
-use Rattle.session_laws.specs.Sessions.{IsHonestFor, pasts_at}
+use Rattle.session_laws.specs.Sessions.{Takes, TakesWhatWasSent, pasts_at}
 use Rattle.session_model.proofs.Deeds.{TickKeeps, tick-keeps, refreshed-keeps}
 
 -- ---- what deeds made
@@ -50,6 +52,7 @@ made-stays config datagram (RefreshedSet set) earlier is = record {
   made = refreshed-keeps (λ past. WasMade past datagram) (λ writer past made. made) (is_writer_of (group_at config is.group) set) (group_past config is.group earlier) (writer_indexes (group_at config is.group)) is.made;
 }
 made-stays config datagram (CameTo moment) earlier is = record { group = is.group; part = is.part; there = is.there; made = is.made }
+made-stays config datagram (RenewedKeys keygroup sets) earlier is = record { group = is.group; part = is.part; there = is.there; made = is.made }
 made-stays config datagram (TookTurn g turn) earlier is = record {
   group = is.group;
   part = is.part;
@@ -146,7 +149,7 @@ in-entries (send ∷ sends) (d ∷ done) datagram (suc k, below, same) =
     (h.0, (suc has.0, let lt = has.1 in omega (arith, lt), has.2), h.2)
 
 -- a pump sends nothing
-pump-sends : (left : ℕ) (entries : List Entry) (datagram : List ℕ) → IsPump left entries → Contains entries (Sent datagram) → ⊥
+pub pump-sends : (left : ℕ) (entries : List Entry) (datagram : List ℕ) → IsPump left entries → Contains entries (Sent datagram) → ⊥
 pump-sends zero [] datagram pump has = absurd (let below = has.1 in omega (arith, below))
 pump-sends zero (entry ∷ entries) datagram pump has = pump
 pump-sends (suc left) [] datagram pump has = pump
@@ -184,44 +187,78 @@ sent-made p (Tick ms closing samples done ∷ before) datagram run has =
 
 -- ---- what came
 
-AllMade : Setting → Config → (ℕ → List GroupDeed) → List Entry → Type 0
-AllMade setting config pasts journal =
-    (before after : List Entry) (datagram : List ℕ) → journal ≡ before ++ Got datagram ∷ after → (is_secured setting.setup.mode ≡ true → IsSignedBy setting.setup.keys datagram) → IsMade config pasts datagram
+-- what was sent stays in the journal
+stays-sent : (p : Plan) (later before : List Step) (entry : Entry) → Contains (journal p before) entry → Contains (journal p (later ++ before)) entry
+stays-sent p [] before entry has = has
+stays-sent p (Enable id ∷ later) before entry has = stays-sent p later before entry has
+stays-sent p (Disable id ∷ later) before entry has = stays-sent p later before entry has
+stays-sent p (Append set field ∷ later) before entry has = stays-sent p later before entry has
+stays-sent p (Tick ms closing samples done ∷ later) before entry has =
+    Contains-append_left (journal p (later ++ before)) (send_entries (sends_of p (Tick ms closing samples done ∷ later ++ before)) done) entry (stays-sent p later before entry has)
+stays-sent p (Pump entries ∷ later) before entry has = Contains-append_left (journal p (later ++ before)) entries entry (stays-sent p later before entry has)
 
-all-made : (setting : Setting) (p : Plan) (steps : List Step) → IsRun p steps → IsHonestFor setting (journal p steps) → AllMade setting p.config (pasts_at p steps) (journal p steps)
+-- each datagram that the read group took in these steps was made
+AllMade : Plan → ℕ → (ℕ → List GroupDeed) → List Step → Type 0
+AllMade p r pasts steps =
+    (later before : List Step) (first behind : List Entry) (datagram : List ℕ) → steps ≡ later ++ Pump (first ++ Got datagram ∷ behind) ∷ before → Takes p r before first datagram
+    → IsMade p.config pasts datagram
+
+all-made : (p : Plan) (r : ℕ) (steps : List Step) → IsRun p steps → TakesWhatWasSent p r steps → AllMade p r (pasts_at p steps) steps
 unfolding AllMade
-all-made setting p steps run honest = λ before after datagram e test.
-    sent-made p steps datagram run
-    (subst (λ (l : List Entry). Contains l (Sent datagram)) (sym e) (Contains-append_left before (Got datagram ∷ after) (Sent datagram) (honest before after datagram e test)))
+all-made p r steps run taken = λ later before first behind datagram e takes.
+    let pumped = Pump (first ++ Got datagram ∷ behind) ∷ before in
+    let there : Contains (journal p pumped) (Sent datagram) =
+    Contains-append_left (journal p before) (first ++ Got datagram ∷ behind) (Sent datagram) (taken later before first behind datagram e takes) in
+    sent-made p steps datagram run (subst (λ (l : List Step). Contains (journal p l) (Sent datagram)) (sym e) (stays-sent p later pumped (Sent datagram) there))
 
-left-made : (setting : Setting) (config : Config) (pasts : ℕ → List GroupDeed) (journal more : List Entry) → AllMade setting config pasts (journal ++ more) → AllMade setting config pasts journal
+left-made : (p : Plan) (r : ℕ) (pasts : ℕ → List GroupDeed) (step : Step) (before : List Step) → AllMade p r pasts (step ∷ before) → AllMade p r pasts before
 unfolding AllMade
-left-made setting config pasts journal more h = λ before after datagram e test. h before (after ++ more) datagram (ap (λ (l : List Entry). l ++ more) e ∙ append_assoc before (Got datagram ∷ after) more) test
+left-made p r pasts step before h = λ later earlier first behind datagram e takes. h (step ∷ later) earlier first behind datagram (ap (λ (l : List Step). step ∷ l) e) takes
 
-at-entry : (setting : Setting) (config : Config) (pasts : ℕ → List GroupDeed) (journal : List Entry) (entry : Entry) (entries : List Entry) → AllMade setting config pasts (journal ++ entry ∷ entries)
-    → (datagram : List ℕ) → entry ≡ Got datagram → (is_secured setting.setup.mode ≡ true → IsSignedBy setting.setup.keys datagram) → IsMade config pasts datagram
-unfolding AllMade
-at-entry setting config pasts journal entry entries h datagram e test = h journal entries datagram (ap (λ (x : Entry). journal ++ x ∷ entries) e) test
+-- what befell the read group behind the first receives of a pump
+module _ (p : Plan) (r : ℕ) (pasts : ℕ → List GroupDeed) (before : List Step) (operational : receives p.config before r ≡ true) where
+  abbrev setting : Setting
+  setting = setting_of p.config r
 
-got-made : (setting : Setting) (config : Config) (pasts : ℕ → List GroupDeed) (moment : ℕ) (on : List Bool) (journal entries : List Entry) (earlier : List Event) → AllMade setting config pasts (journal ++ entries) → CameAsMade setting config pasts earlier
-    → CameAsMade setting config pasts (fold (got_on moment on) earlier entries)
-got-made setting config pasts moment on journal [] earlier h came = came
-got-made setting config pasts moment on journal (entry ∷ entries) earlier h came =
-    got-made setting config pasts moment on (journal ++ entry ∷ []) entries (got_on moment on earlier entry)
-    (subst (AllMade setting config pasts) (sym (append_assoc journal (entry ∷ []) entries)) h) (one entry (at-entry setting config pasts journal entry entries h))
-  where
-    one : (entry : Entry) → ((datagram : List ℕ) → entry ≡ Got datagram → (is_secured setting.setup.mode ≡ true → IsSignedBy setting.setup.keys datagram) → IsMade config pasts datagram) → CameAsMade setting config pasts (got_on moment on earlier entry)
-    one (Sent datagram) is = came
-    one SendFailed is = came
-    one (Got datagram) is = (is datagram refl, came)
-    one Empty is = came
-    one (Long len) is = came
-    one ReceiveFailed is = came
+  abbrev got : List Event → Entry → List Event
+  got = got_on (moment_of before) (readers_on p.config before r)
 
-got-all-made : (setting : Setting) (config : Config) (pasts : ℕ → List GroupDeed) (b : Bool) (moment : ℕ) (on : List Bool) (journal entries : List Entry) (earlier : List Event) → AllMade setting config pasts (journal ++ entries) → CameAsMade setting config pasts earlier
-    → CameAsMade setting config pasts (if b then fold (got_on moment on) earlier entries else earlier)
-got-all-made setting config pasts true moment on journal entries earlier h came = got-made setting config pasts moment on journal entries earlier h came
-got-all-made setting config pasts false moment on journal entries earlier h came = came
+  abbrev so-far : List Entry → List Event
+  so-far first = fold got (events p.config r before) first
+
+  pumped : (first : List Entry) → so-far first ≡ events p.config r (Pump first ∷ before)
+  pumped first = sym (ap (λ (b : Bool). if b then fold got (events p.config r before) first else events p.config r before) operational)
+
+  one-made : (entries first rest : List Entry) (entry : Entry) → entries ≡ first ++ entry ∷ rest → AllMade p r pasts (Pump entries ∷ before) → CameAsMade setting p.config pasts (so-far first)
+      → CameAsMade setting p.config pasts (got (so-far first) entry)
+  unfolding AllMade
+  one-made entries first rest (Sent datagram) e h came = came
+  one-made entries first rest SendFailed e h came = came
+  one-made entries first rest (Got datagram) e h came = (
+    λ opened opens. h [] before first rest datagram (ap (λ (l : List Entry). Pump l ∷ before) e) (record {
+      operational = operational;
+      opened = opened;
+      opens = subst (λ (befell : List Event). verdict setting.group setting.setup (accepted setting befell) datagram ≡ Ok opened) (pumped first) opens;
+    }),
+    came,
+  )
+  one-made entries first rest Empty e h came = came
+  one-made entries first rest (Long len) e h came = came
+  one-made entries first rest ReceiveFailed e h came = came
+
+  got-made : (entries first rest : List Entry) → entries ≡ first ++ rest → AllMade p r pasts (Pump entries ∷ before) → CameAsMade setting p.config pasts (so-far first) → CameAsMade setting p.config pasts (fold got (so-far first) rest)
+  got-made entries first [] e h came = came
+  got-made entries first (entry ∷ rest) e h came =
+      let more : so-far (first ++ entry ∷ []) ≡ got (so-far first) entry = fold-append got (events p.config r before) first (entry ∷ []) in
+      subst (λ (befell : List Event). CameAsMade setting p.config pasts (fold got befell rest)) more
+      (got-made entries (first ++ entry ∷ []) rest (e ∙ sym (append_assoc first (entry ∷ []) rest)) h
+      (subst (CameAsMade setting p.config pasts) (sym more) (one-made entries first rest entry e h came)))
+
+got-all-made : (p : Plan) (r : ℕ) (pasts : ℕ → List GroupDeed) (before : List Step) (entries : List Entry) (b : Bool) → receives p.config before r ≡ b → AllMade p r pasts (Pump entries ∷ before)
+    → CameAsMade (setting_of p.config r) p.config pasts (events p.config r before)
+    → CameAsMade (setting_of p.config r) p.config pasts (if b then fold (got_on (moment_of before) (readers_on p.config before r)) (events p.config r before) entries else events p.config r before)
+got-all-made p r pasts before entries true operational h came = got-made p r pasts before operational entries [] entries refl h came
+got-all-made p r pasts before entries false off h came = came
 
 -- readers that are cut
 stopped-keeps : (P : List Event → Type 0) → ((i : ℕ) (earlier : List Event) → P earlier → P (befalls.Stopped i Restarted ∷ earlier)) → (component : Component) (r : ℕ) (readers : List ℕ) (earlier : List Event) → P earlier
@@ -233,21 +270,20 @@ stopped-keeps P keeps component r (i ∷ readers) earlier h = stopped-keeps P ke
     on true = keeps i earlier h
     on false = h
 
-came-from : (setting : Setting) (p : Plan) (pasts : ℕ → List GroupDeed) (r : ℕ) (steps : List Step) → AllMade setting p.config pasts (journal p steps) → CameAsMade setting p.config pasts (events p.config r steps)
-came-from setting p pasts r [] h = tt
-came-from setting p pasts r (Enable id ∷ before) h = came-from setting p pasts r before h
-came-from setting p pasts r (Disable id ∷ before) h =
-    stopped-keeps (CameAsMade setting p.config pasts) (λ i earlier came. came) (component_at p.config id) r (reader_indexes p.config r) (events p.config r before) (came-from setting p pasts r before h)
-came-from setting p pasts r (Append set field ∷ before) h = came-from setting p pasts r before h
-came-from setting p pasts r (Tick ms closing samples done ∷ before) h =
-    came-from setting p pasts r before (left-made setting p.config pasts (journal p before) (send_entries (sends_of p (Tick ms closing samples done ∷ before)) done) h)
-came-from setting p pasts r (Pump entries ∷ before) h =
-    got-all-made setting p.config pasts (receives p.config before r) (moment_of before) (readers_on p.config before r) (journal p before) entries (events p.config r before) h
-    (came-from setting p pasts r before (left-made setting p.config pasts (journal p before) entries h))
+came-from : (p : Plan) (r : ℕ) (pasts : ℕ → List GroupDeed) (steps : List Step) → AllMade p r pasts steps → CameAsMade (setting_of p.config r) p.config pasts (events p.config r steps)
+came-from p r pasts [] h = tt
+came-from p r pasts (Enable id ∷ before) h = came-from p r pasts before (left-made p r pasts (Enable id) before h)
+came-from p r pasts (Disable id ∷ before) h =
+    stopped-keeps (CameAsMade (setting_of p.config r) p.config pasts) (λ i earlier came. came) (component_at p.config id) r (reader_indexes p.config r) (events p.config r before)
+    (came-from p r pasts before (left-made p r pasts (Disable id) before h))
+came-from p r pasts (Append set field ∷ before) h = came-from p r pasts before (left-made p r pasts (Append set field) before h)
+came-from p r pasts (Tick ms closing samples done ∷ before) h = came-from p r pasts before (left-made p r pasts (Tick ms closing samples done) before h)
+came-from p r pasts (Pump entries ∷ before) h =
+    got-all-made p r pasts before entries (receives p.config before r) refl h (came-from p r pasts before (left-made p r pasts (Pump entries) before h))
 
 -- what befalls a read group came as it was made
-pub came-as-made : (setting : Setting) (p : Plan) (r : ℕ) (steps : List Step) → IsRun p steps → IsHonestFor setting (journal p steps) → CameAsMade setting p.config (pasts_at p steps) (events p.config r steps)
-came-as-made setting p r steps run honest = came-from setting p (pasts_at p steps) r steps (all-made setting p steps run honest)
+pub came-as-made : (p : Plan) (r : ℕ) (steps : List Step) → IsRun p steps → TakesWhatWasSent p r steps → CameAsMade (setting_of p.config r) p.config (pasts_at p steps) (events p.config r steps)
+came-as-made p r steps run taken = came-from p r (pasts_at p steps) steps (all-made p r steps run taken)
 
 -- and each cut by hand is a restart
 got-restarts : (moment : ℕ) (on : List Bool) (entries : List Entry) (earlier : List Event) → AreRestarts earlier → AreRestarts (fold (got_on moment on) earlier entries)

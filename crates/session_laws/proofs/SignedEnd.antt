@@ -173,7 +173,7 @@ module _ (laws : Laws) (p : Plan) (r i g w ms : ℕ) (samples : List Sampled) (d
         → CameAsMade setting config pasts (Got now on other ∷ befell) → verdict setting.group setting.setup (accepted setting befell) other ≡ Ok opened → WasMade (pasts g) other
     made-of named pasts are now on other befell opened came e =
         named-made laws.turns config readers g group pasts is.plan.good.sound is_play.there are named (named-group named) (accepted setting befell) other opened
-        (came.0 (λ secured. laws.passed setting.group setting.setup (accepted setting befell) other opened e secured)) e
+        (came.0 opened e) e
 
     under-of : (pairs : Accepted) (other : List ℕ) (opened : Opened) → WasMade before other ⊎ WasMade (group_past config g (deeds p start)) other → verdict setting.group setting.setup pairs other ≡ Ok opened → IsUnder s opened.pass
     under-of pairs other opened was e = use-under laws.turns p k g readers i w is.matched keyed (group_past config g (deeds p start)) earlier other pairs opened all-under was e
@@ -235,7 +235,7 @@ module _ (laws : Laws) (p : Plan) (r i g w ms : ℕ) (samples : List Sampled) (d
     its_le = le laws p r i g w ticked pumps own is closing last took
 
     abbrev place : ℕ
-    place = ClosingGot.place laws.turns laws.passed play is_play own closing its_le last took
+    place = ClosingGot.place laws.turns play is_play own closing its_le last took
 
     abbrev first : ℕ
     first = (writer_at group w).first_number
@@ -457,12 +457,12 @@ module _ (laws : Laws) (p : Plan) (r i g w ms : ℕ) (samples : List Sampled) (d
 
     -- ---- to a reader that goes by numbers, in chunks
 
-    module _ (chunks : InChunks laws.turns laws.passed play is_play own closing its_le last took) where
+    module _ (chunks : InChunks laws.turns play is_play own closing its_le last took) where
       abbrev frame : Frame
-      frame = ClosingGot.frame laws.turns laws.passed play is_play own closing its_le last took
+      frame = ClosingGot.frame laws.turns play is_play own closing its_le last took
 
       abbrev bytes : ℕ → List ℕ
-      bytes = ClosingGot.bytes laws.turns laws.passed play is_play own closing its_le last took
+      bytes = ClosingGot.bytes laws.turns play is_play own closing its_le last took
 
       abbrev given : PlacedFrame
       given = placed_cut way.seat.meta (Whole place own.row)
@@ -501,11 +501,11 @@ module _ (laws : Laws) (p : Plan) (r i g w ms : ℕ) (samples : List Sampled) (d
       closing-covers numbered now on other befell opened came raised above near h e =
           let enabled = slice_index_or on i false in
           let of_piece = IsPieceOf (IsOfAnswer way.seat.meta (its_answers play)) (IsChunkOf way.seat.meta (its_answers play) bytes) way.seat.meta in
-          covered-parts way.seat.part.numbering way (its_answers play) bytes first next place (source laws.turns laws.passed 16385 play its_le is_play) (is-last laws.turns laws.passed play is_play own closing its_le last took) frame given (gives laws.turns laws.passed play is_play own closing its_le last took numbered) now (Some opened.pass.number) (StandsFrom (used + 1) place)
+          covered-parts way.seat.part.numbering way (its_answers play) bytes first next place (source laws.turns 16385 play its_le is_play) (is-last laws.turns play is_play own closing its_le last took) frame given (gives laws.turns play is_play own closing its_le last took numbered) now (Some opened.pass.number) (StandsFrom (used + 1) place)
           (λ list f stands. (from-kept (used + 1) place way now opened.pass.number near).item list f stands) (λ list c stands. stands) (λ list. from-new (used + 1) place way now opened.pass.number list given refl above)
           (read-is laws p r i g w ticked pumps own is closing last took first-accepts chunks)
-          (sent-kept way.seat.part.numbering way (its_answers play) bytes first next now (Some opened.pass.number) refl (source laws.turns laws.passed 16385 play its_le is_play)) (if enabled then parts_of opened else []) (cut_on raised NewToken (marks setting way befell))
-          (all-on of_piece enabled (parts_of opened) (parts-sent laws.turns laws.passed 16385 play its_le is_play now on other befell opened came e)) (sent-list laws p r i g w ticked pumps own is closing last took first-accepts chunks raised befell came.1) h
+          (sent-kept way.seat.part.numbering way (its_answers play) bytes first next now (Some opened.pass.number) refl (source laws.turns 16385 play its_le is_play)) (if enabled then parts_of opened else []) (cut_on raised NewToken (marks setting way befell))
+          (all-on of_piece enabled (parts_of opened) (parts-sent laws.turns 16385 play its_le is_play now on other befell opened came e)) (sent-list laws p r i g w ticked pumps own is closing last took first-accepts chunks raised befell came.1) h
 
       older-step : (now : ℕ) (on : List Bool) (other : List ℕ) (befell : List Event) (opened : Opened) → CameAsMade setting config (pasts_at p steps) (Got now on other ∷ befell) → verdict setting.group setting.setup (accepted setting befell) other ≡ Ok opened
           → WasMade before other → IsOlder setting config (pasts_at p steps) way first place total token used secured its_some (λ t n. refl) now on befell opened
@@ -572,7 +572,7 @@ module _ (laws : Laws) (p : Plan) (r i g w ms : ℕ) (samples : List Sampled) (d
 
     -- ---- and in one part
 
-    module _ (part : OnePart laws.turns laws.passed play is_play own closing its_le last took) (numbered : way.seat.part.numbering ≡ words.Message) (operational : receives config start r ≡ true) (enabled : is_on config start (Reader r i) ≡ true)
+    module _ (part : OnePart laws.turns play is_play own closing its_le last took) (numbered : way.seat.part.numbering ≡ words.Message) (operational : receives config start r ≡ true) (enabled : is_on config start (Reader r i) ≡ true)
         (tokens : LowTokens) (came : EachTook) where
       abbrev found_one : (o : Opened) × Contains its_all o × Contains (pieces way.seat.part o.payload) part.piece
       found_one = in-flat (λ (o : Opened). pieces way.seat.part o.payload) its_all part.piece (subst (λ (l : List Piece). Contains l part.piece) (sym part.same) (0, omega arith, refl))
@@ -591,20 +591,20 @@ module _ (laws : Laws) (p : Plan) (r i g w ms : ℕ) (samples : List Sampled) (d
           from-among (used + 1) place way (place_from first) now one.pass.number (omega (arith, number, below, few)) part.piece
           (λ list.
           subst (StandsFrom (used + 1) place)
-          (sym (part.reads_as now (Some one.pass.number) list ∙ ap (item_on way now (Some one.pass.number) list) (gives laws.turns laws.passed play is_play own closing its_le last took numbered)))
+          (sym (part.reads_as now (Some one.pass.number) list ∙ ap (item_on way now (Some one.pass.number) list) (gives laws.turns play is_play own closing its_le last took numbered)))
           (from-new (used + 1) place way now one.pass.number list (placed_cut way.seat.meta (Whole place own.row)) refl (omega (arith, number))))
           (pieces way.seat.part one.payload) (cut_on raised NewToken (marks setting way befell)) found_one.2)
           (λ now n near parts list h. from-parts (used + 1) place way (place_from first) now n near parts list h)
           (came (datagram_of one at) (made-one laws p r i g w ticked pumps own is closing last took one at)
           (has-part laws p r i g w ticked pumps own is closing last took one at (first-accepts one at) (not-empty (pieces way.seat.part one.payload) part.piece found_one.2))))
 
-    abbrev its_case : OnePart laws.turns laws.passed play is_play own closing its_le last took ⊎ InChunks laws.turns laws.passed play is_play own closing its_le last took
-    its_case = part-case laws.turns laws.passed play is_play own closing its_le last took group.layout refl
+    abbrev its_case : OnePart laws.turns play is_play own closing its_le last took ⊎ InChunks laws.turns play is_play own closing its_le last took
+    its_case = part-case laws.turns play is_play own closing its_le last took group.layout refl
 
     pub closing-took : way.seat.part.numbering ≡ words.Message → receives config start r ≡ true → is_on config start (Reader r i) ≡ true → LowTokens → EachTook → ClosingCame p r i g w steps (writer_past w before) own
     closing-took numbered operational enabled tokens came = by its_case
       where
-        by : OnePart laws.turns laws.passed play is_play own closing its_le last took ⊎ InChunks laws.turns laws.passed play is_play own closing its_le last took → ClosingCame p r i g w steps (writer_past w before) own
+        by : OnePart laws.turns play is_play own closing its_le last took ⊎ InChunks laws.turns play is_play own closing its_le last took → ClosingCame p r i g w steps (writer_past w before) own
         by (inl part) = one-took part numbered operational enabled tokens came
         by (inr chunks) = chunks-took chunks operational enabled tokens came numbered
 
@@ -670,7 +670,7 @@ module _ (laws : Laws) (p : Plan) (r i g w ms : ℕ) (samples : List Sampled) (d
         once : QuietOnceTaken laws p r i g w ticked pumps own is closing last took
         once = quiet-taken operational quiet
 
-        by : OnePart laws.turns laws.passed play is_play own closing its_le last took ⊎ InChunks laws.turns laws.passed play is_play own closing its_le last took → ClosingCameLast p r i g w steps (writer_past w before) own
+        by : OnePart laws.turns play is_play own closing its_le last took ⊎ InChunks laws.turns play is_play own closing its_le last took → ClosingCameLast p r i g w steps (writer_past w before) own
         by (inl part) =
             part-last laws p r i g w ticked pumps own is closing last took HasOne takes part
             (λ one has some its. quiet-all laws p r i g w ticked pumps own is closing last took once part one has some (takes.taken one has its))

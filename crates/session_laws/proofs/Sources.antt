@@ -1,7 +1,7 @@
 -- The frames and chunks that come of a writer's answers, and what they add to a reader's list.
 use Rattle.std.proofs.Common.{◌≡◌, refl, sym, ap, ◌∙◌, subst, arith, ℕ, ◌+◌, ◌-◌, ◌≤◌, Bool, true, false, not, ◌&&◌, List, [], ◌∷◌, Option, Some, None, All, Contains}
 use Rattle.std.specs.Prelude.{⊤, ◌%◌, option_map, if◌then◌else◌}
-use Rattle.std.proofs.lemmas.List.Elements.{All-nil, All-cons, All-contains}
+use Rattle.std.proofs.lemmas.List.Elements.{All-nil, All-cons, All-contains, All-weaker}
 use Rattle.seq_number.specs.Numbers.{number_of_place, place_from}
 use Rattle.seq_number.proofs.NumberLaws.{place_from-number, number-before}
 use Rattle.dataset_meta.specs.Metas.{MetaData}
@@ -66,7 +66,7 @@ pub record AreSent (word : NumberingWord) (meta : MetaData) (answered : List Ans
   pub items : ItemsAre (IsAnswerBy word meta answered) (arrivals_in list)
   pub chunks : ChunksAre (IsLaidOf meta answered bytes) list
 
-unless-are : (C : Chunk → Type 0) (b : Bool) (chunks : List Chunk) → All C chunks → All C (chunks_unless b chunks)
+pub unless-are : (C : Chunk → Type 0) (b : Bool) (chunks : List Chunk) → All C chunks → All C (chunks_unless b chunks)
 unless-are C true chunks h = All-nil C
 unless-are C false chunks h = h
 
@@ -180,16 +180,22 @@ whole-cover true true c e = refl
 whole-cover true false c e = absurd (cc)
 whole-cover false b c e = absurd (cc)
 
--- a message that is whole is the answer's
+-- a message whose chunks are cut from the one of its place is that, where it is whole
+pub whole-cut : (bytes : ℕ → List ℕ) (c : Chunk) (chunks : List Chunk) → IsCutOf (bytes c.place) c → All (λ (c : Chunk). IsCutOf (bytes c.place) c) chunks → is_whole_at chunks c ≡ true
+    → message_of (c ∷ chunks) c.place c.total ≡ bytes c.place
+whole-cut bytes c chunks is all whole =
+    let message = bytes c.place in
+    let covered : cover (c ∷ chunks) c.place c.total ≡ true = whole-cover _ (cover (c ∷ chunks) c.place c.total) (cover chunks c.place c.total) whole in
+    let every = All-cons (λ (c : Chunk). IsCutOf (bytes c.place) c) c chunks is all in
+    let cut : (chunk : Chunk) → Contains (c ∷ chunks) chunk → chunk.place ≡ c.place → IsCutOf message chunk =
+    λ chunk has at. subst (λ (p : ℕ). IsCutOf (bytes p) chunk) at (All-contains (λ (c : Chunk). IsCutOf (bytes c.place) c) (c ∷ chunks) chunk every has) in
+    ap (message_of (c ∷ chunks) c.place) is.total ∙ message-back message c.place (c ∷ chunks) cut (subst (λ (n : ℕ). cover (c ∷ chunks) c.place n ≡ true) is.total covered)
+
+-- and so the answer's
 pub whole-is : (meta : MetaData) (answered : List Answered) (bytes : ℕ → List ℕ) (c : Chunk) (chunks : List Chunk) → IsLaidOf meta answered bytes c → All (IsLaidOf meta answered bytes) chunks
     → is_whole_at chunks c ≡ true → message_of (c ∷ chunks) c.place c.total ≡ bytes c.place
 whole-is meta answered bytes c chunks is all whole =
-    let message = bytes c.place in
-    let covered : cover (c ∷ chunks) c.place c.total ≡ true = whole-cover _ (cover (c ∷ chunks) c.place c.total) (cover chunks c.place c.total) whole in
-    let every = All-cons (IsLaidOf meta answered bytes) c chunks is all in
-    let cut : (chunk : Chunk) → Contains (c ∷ chunks) chunk → chunk.place ≡ c.place → IsCutOf message chunk =
-    λ chunk has at. subst (λ (p : ℕ). IsCutOf (bytes p) chunk) at (All-contains (IsLaidOf meta answered bytes) (c ∷ chunks) chunk every has).cut in
-    ap (message_of (c ∷ chunks) c.place) is.cut.total ∙ message-back message c.place (c ∷ chunks) cut (subst (λ (n : ℕ). cover (c ∷ chunks) c.place n ≡ true) is.cut.total covered)
+    whole-cut bytes c chunks is.cut (All-weaker (IsLaidOf meta answered bytes) (λ (c : Chunk). IsCutOf (bytes c.place) c) (λ c laid. laid.cut) chunks all) whole
 
 whole-read : (way : Way) (answered : List Answered) (bytes : ℕ → List ℕ) (first next : ℕ) (word : NumberingWord) (before : List Mark) (chunk : Chunk) → Source way answered first next → IsChunkOf way.seat.meta answered bytes chunk
     → AreSent word way.seat.meta answered bytes before → is_whole_at (chunks_in before) (placed (place_from first) chunk) ≡ true

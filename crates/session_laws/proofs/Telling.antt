@@ -34,11 +34,11 @@ use Rattle.writer_group.specs.Parts.{group_at, no_group}
 use Rattle.session_model.specs.Events.{reader_at}
 use Rattle.session_model.specs.Keeping.{AreSteps, IsPlan}
 use Rattle.session_model.specs.Closing.{IsClosedAfter, IsReaderEnd, IsWriterEnd, reader_places, writer_places}
-use Rattle.session_model.specs.Sends.{journal}
 use Rattle.session_laws.specs.Reading.{IsMatchedIn, ReadsByRecords, arrivals_at, first_number_of}
 use Rattle.session_laws.specs.Headline.{InSession, IsPublished, PublishesVersion, answered_turn, meta_of}
 use Rattle.session_laws.specs.Printed.{EndsReader, EndsWriter, TellsVersion, TellsPublished, TellsReader, TellsWriter, row_by, number_by, why_by, breaks_by}
-use Rattle.session_laws.specs.Sessions.{AreVersions, IsHonestFor, SamplesRise}
+use Rattle.session_laws.specs.Complete.{ClosingComes, IsNewestTold}
+use Rattle.session_laws.specs.Sessions.{AreVersions, ClosesWith, SamplesRise, TakesWhatWasSent}
 use Rattle.session_laws.specs.Pasts.{settings_at}
 use Rattle.session_laws.specs.Telling.{HasRun, IsReaderTold, IsWriterTold, TellsHeadline}
 use Rattle.session_laws.proofs.Ends.{zip-get, zip-there, writer-part, reader-part, writer-place, reader-place, found-log}
@@ -125,7 +125,7 @@ recent-kept words.None arrivals kept keeps = keeps.recent
 
 -- ---- what is told
 
-if-some : {X : Type 0} (P : X → Type 0) (o : Option X) (x : X) → o ≡ Some x → IfSome o P → P x
+pub if-some : {X : Type 0} (P : X → Type 0) (o : Option X) (x : X) → o ≡ Some x → IfSome o P → P x
 if-some P o x e h = subst (λ o. IfSome o P) e h
 
 -- the number that is told is the held one, and the version that the log has at it
@@ -162,7 +162,7 @@ seat-part config r i within =
     ap (λ (s : Rattle.reader_group.specs.Members.Seat). s.part) (Rattle.std.proofs.lemmas.List.get_or-map (seat_in config) (read_group_at config r).reader i no_seat.part no_seat within)
 
 -- the log that a report finds for the reader
-log-found : (p : Plan) (r i g w : ℕ) (steps : List Step) (closed : Closed) (writer : WriterEnd) → InSession p r i g w steps → EndsWriter p.config closed g w writer
+pub log-found : (p : Plan) (r i g w : ℕ) (steps : List Step) (closed : Closed) (writer : WriterEnd) → InSession p r i g w steps → EndsWriter p.config closed g w writer
     → log_of (writers_of p.config.group) closed.writers (part_at (read_group_at p.config r) i).writer ≡ writer.log
 log-found p r i g w steps closed writer is ends =
     ap (log_of (writers_of p.config.group) closed.writers) is.matched.reads.id
@@ -219,6 +219,8 @@ pub record EndLaws : Type 0 where
   pub publish : (p : Plan) (g w : ℕ) (steps : List Step) (rows : ℕ → ℕ → List DataValue) (later before : List WriterDeed) (turn : WriterTurn) → IsPlan p → AreSteps p steps → SamplesRise p steps → AreVersions p steps rows
       → w < length (group_at p.config g).writer → writer_deeds p g w steps ≡ later ++ HadTurn turn ∷ before → is_data (answered_turn (settings_at (group_at p.config g) w) before turn) ≡ true
       → PublishesVersion p steps (settings_at (group_at p.config g) w) (writer_at (group_at p.config g) w).dataset rows before turn
+  pub newest : (p : Plan) (r i g w : ℕ) (steps : List Step) (rows : ℕ → ℕ → List DataValue) (closed : Closed) (version : ℕ) (own : WriterTurn) → InSession p r i g w steps → AreVersions p steps rows
+      → IsClosedAfter p steps closed → ClosesWith steps (writer_at (group_at p.config g) w).dataset version → ClosingComes p r i g w steps own → IsNewestTold p r i g w rows closed version
 
 writer-told : (laws : EndLaws) (p : Plan) (g w : ℕ) (steps : List Step) (rows : ℕ → ℕ → List DataValue) (closed : Closed) → HasRun p steps rows → IsClosedAfter p steps closed → w < length (group_at p.config g).writer
     → IsWriterTold p g w steps closed
@@ -228,18 +230,22 @@ writer-told laws p g w steps rows closed is after within =
     let ends : EndsWriter p.config closed g w at.0 = record { index = place.0; place = place.1; end_is = at.1 } in
     record { end = at.0; ends = ends; tells = laws.writers p g w steps closed at.0 is.plan is.steps_are is.rise after within ends }
 
+-- a matched reader in a session
+session-of : (p : Plan) (r i g w : ℕ) (steps : List Step) (rows : ℕ → ℕ → List DataValue) → HasRun p steps rows → IsMatchedIn p.config r i g w → TakesWhatWasSent p r steps → InSession p r i g w steps
+session-of p r i g w steps rows is matched taken = record {
+  plan = is.plan;
+  steps_are = is.steps_are;
+  run = is.run;
+  rise = is.rise;
+  there = writer-index p.config g w matched.reads.within;
+  matched = matched;
+  honest = taken;
+}
+
 reader-told-so : (laws : EndLaws) (p : Plan) (r i g w : ℕ) (steps : List Step) (rows : ℕ → ℕ → List DataValue) (closed : Closed) → HasRun p steps rows → IsClosedAfter p steps closed → IsMatchedIn p.config r i g w
-    → IsHonestFor (setting_of p.config r) (journal p steps) → IsReaderTold p r i g w steps rows closed
-reader-told-so laws p r i g w steps rows closed is after matched honest =
-    let session : InSession p r i g w steps = record {
-      plan = is.plan;
-      steps_are = is.steps_are;
-      run = is.run;
-      rise = is.rise;
-      there = writer-index p.config g w matched.reads.within;
-      matched = matched;
-      honest = honest;
-    } in
+    → TakesWhatWasSent p r steps → IsReaderTold p r i g w steps rows closed
+reader-told-so laws p r i g w steps rows closed is after matched taken =
+    let session = session-of p r i g w steps rows is matched taken in
     let ends = laws.there p r i g w steps closed session after in
     record {
       reader = ends.0.0;
@@ -253,5 +259,6 @@ pub headline : (laws : EndLaws) (p : Plan) (steps : List Step) (rows : ℕ → �
 headline laws p steps rows closed is after = record {
   whole_versions = λ g w later before turn within split e. laws.publish p g w steps rows later before turn is.plan is.steps_are is.rise is.versions within split e;
   never_older = λ g w within. writer-told laws p g w steps rows closed is after within;
-  readers = λ r i g w matched honest. reader-told-so laws p r i g w steps rows closed is after matched honest;
+  readers = λ r i g w matched taken. reader-told-so laws p r i g w steps rows closed is after matched taken;
+  newest = λ r i g w version own matched taken closes comes. laws.newest p r i g w steps rows closed version own (session-of p r i g w steps rows is matched taken) is.versions after closes comes;
 }

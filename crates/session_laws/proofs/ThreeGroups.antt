@@ -32,11 +32,11 @@ beside = signed_readers ∷ slotted_readers ∷ cut_readers ∷ []
 abbrev its : Plan
 its = plan beside
 
-its-plan : ThreeLaws → IsPlan its
+pub its-plan : ThreeLaws → IsPlan its
 unfolding three_config
 its-plan laws = plan-is beside laws.sound laws.fixed laws.types
 
-signed-matched : IsMatchedIn (config beside) 0 0 0 0
+pub signed-matched : IsMatchedIn (config beside) 0 0 0 0
 unfolding three_config signed_group signed_readers
 signed-matched = matched-to (config beside) (codes "rg1") 1 signed_group (reader_of (codes "r1") 1 0 0) refl (inl refl) (record { within = lit< tt; id = refl; dataset = refl; offset = λ fixed. refl; size = λ fixed. refl })
 

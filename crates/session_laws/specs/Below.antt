@@ -23,7 +23,6 @@ use Rattle.reader_group.specs.Opening.{Opened, verdict}
 use Rattle.reader_group.specs.Payloads.{pieces}
 use Rattle.reader_group.specs.Plain.{Event, Setting}
 use Rattle.reader_group.specs.Settings.{setting_by, setup_by}
-use Rattle.reader_group.specs.Signed.{TakesSignedAlone}
 use Rattle.group_laws.specs.Matching.{IsMatched, IsMatchedTo, IsGroupTurn, IsRingSender, IsSenderOf, ReadsFrames, ReadsWriter}
 use Rattle.group_laws.specs.TurnOpened.{turn_opened, is_accepted, IsTakenAs}
 use Rattle.group_laws.specs.TurnReading.{IsFixedTurn, IsPartBy, IsSampled}
@@ -79,7 +78,6 @@ HoldLaw = (p : Plan) (steps : List Step) → IsPlan p → AreSteps p steps → T
 -- all that a session stands on below
 pub record Laws : Type 0 where
   pub turns : TurnLaws
-  pub passed : TakesSignedAlone
   pub agrees : AgreeLaw
   pub words : WordLaws
   pub ring : RingLaw

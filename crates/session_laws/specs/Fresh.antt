@@ -4,7 +4,7 @@ use Rattle.std.specs.List.{cons_option}
 use Rattle.pubsub_model.specs.Cadence.{Answered, WriterTurn, is_key}
 use Rattle.ps_config.specs.declared.parts.Config.{Config}
 use Rattle.session_model.specs.Steps.{Plan, Step}
-use Rattle.session_model.specs.Deeds.{Deed, RefreshedBelow, RefreshedSet, CameTo, TookTurn, deeds, group_past, sender_after, shares}
+use Rattle.session_model.specs.Deeds.{Deed, RefreshedBelow, RefreshedSet, CameTo, TookTurn, RenewedKeys, deeds, group_past, sender_after, shares}
 use Rattle.writer_group.specs.Parts.{group_at}
 use Rattle.writer_group.specs.Turns.{GroupTurn, took_by, writer_past}
 use Rattle.session_laws.specs.Headline.{answered_turn}
@@ -20,6 +20,7 @@ protected_in config k (RefreshedBelow component ∷ before) = protected_in confi
 protected_in config k (RefreshedSet set ∷ before) = protected_in config k before
 protected_in config k (CameTo moment ∷ before) = protected_in config k before
 protected_in config k (TookTurn g turn ∷ before) = append_if (shares (group_at config g) k) (protected_in config k before) turn.made
+protected_in config k (RenewedKeys keygroup sets ∷ before) = protected_in config k before
 
 abbrev pub protected_by : Plan → ℕ → List Step → List (List ℕ)
 protected_by p k steps = protected_in p.config k (deeds p steps)
@@ -54,6 +55,7 @@ keyed_turns config k g w (RefreshedSet set ∷ before) = keyed_turns config k g 
 keyed_turns config k g w (CameTo moment ∷ before) = keyed_turns config k g w before
 keyed_turns config k g w (TookTurn other turn ∷ before) =
     cons_option (keyed_in config k g w before other turn) (keyed_turns config k g w before)
+keyed_turns config k g w (RenewedKeys keygroup sets ∷ before) = keyed_turns config k g w before
 
 -- a turn under a token that no turn before it had is answered by a key frame
 abbrev pub BeginWithKeys : List KeyedTurn → Type 0

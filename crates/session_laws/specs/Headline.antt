@@ -14,13 +14,13 @@ use Rattle.session_model.specs.Deeds.{answered_at, log_at}
 use Rattle.writer_group.specs.Parts.{group_at}
 use Rattle.session_model.specs.Keeping.{AreSteps, IsPlan}
 use Rattle.session_laws.specs.Reading.{IsMatchedIn, arrivals_at, first_number_of}
-use Rattle.session_model.specs.Sends.{IsRun, journal}
+use Rattle.session_model.specs.Sends.{IsRun}
 use Rattle.pubsub_model.specs.Answers.{IsRowSent, version_of}
 use Rattle.session_laws.specs.Plays.{ItemsAre, IsAnswerBy}
-use Rattle.session_laws.specs.Sessions.{HasSample, IsHonestFor, SamplesRise}
+use Rattle.session_laws.specs.Sessions.{HasSample, SamplesRise, TakesWhatWasSent}
 
--- The reader with index i of the read group r is matched to the writer with index w of the group g, in a session of the plan; each received datagram was sent
--- before (of a secured read group each that is signed under its ring).
+-- The reader with index i of the read group r is matched to the writer with index w of the group g, in a session of the plan; each datagram that the read group
+-- takes was sent before.
 pub record InSession (p : Plan) (r i g w : ℕ) (steps : List Step) : Type 0 where
   pub plan : IsPlan p
   pub steps_are : AreSteps p steps
@@ -28,7 +28,7 @@ pub record InSession (p : Plan) (r i g w : ℕ) (steps : List Step) : Type 0 whe
   pub rise : SamplesRise p steps
   pub there : g < length p.config.group
   pub matched : IsMatchedIn p.config r i g w
-  pub honest : IsHonestFor (setting_of p.config r) (journal p steps)
+  pub honest : TakesWhatWasSent p r steps
 
 -- the fields of a reader
 abbrev pub meta_of : Plan → ℕ → ℕ → MetaData

@@ -1,18 +1,18 @@
 -- A group's past, turn by turn as the definitions of a group make it, and what it sent.
-use Rattle.std.specs.Prelude.{◌≡◌, ◌⊎◌, ⊤, ℕ, ◌<◌, List, [], ◌∷◌, length, Some, slice_get, true, Contains}
+use Rattle.std.specs.Prelude.{◌≡◌, ◌⊎◌, ⊤, ℕ, ◌<◌, List, [], ◌∷◌, length, Some, Ok, slice_get, Contains}
 use Rattle.dataset_meta.specs.Metas.{MetaData}
 use Rattle.pubsub_model.specs.Cadence.{Settings, Answered, HasRowsOf, cadence}
 use Rattle.dataset_writer.specs.Turns.{model_settings}
-use Rattle.message_guard.specs.Modes.{is_secured}
 use Rattle.config_tables.specs.declared.words.Layout.TheVariants as layouts
 use Rattle.ps_config.specs.declared.parts.Config.{Config}
 use Rattle.ps_config.specs.declared.parts.GroupPart.{GroupPart}
 use Rattle.writer_group.specs.Payloads.{meta_at, writer_at}
 use Rattle.writer_group.specs.Turns.{GroupDeed, GroupTurn, RefreshedWriter, HadGroupTurn, TurnInput, settings_of, turned, writer_past}
+use Rattle.reader_group.specs.Arrivals.{accepted}
+use Rattle.reader_group.specs.Opening.{Opened, verdict}
 use Rattle.reader_group.specs.Plain.{Setting, Event, Got, Expired, Stopped}
 use Rattle.group_laws.specs.Matching.{IsGroupTurn, ReadsFrames}
 use Rattle.group_laws.specs.TurnReading.{IsFixedTurn, IsSampled}
-use Rattle.reader_group.specs.Signed.{IsSignedBy}
 
 -- ---- a past
 
@@ -60,12 +60,11 @@ pub record IsMade (config : Config) (pasts : ℕ → List GroupDeed) (datagram :
   pub there : slice_get config.group group ≡ Some part
   pub made : WasMade (pasts group) datagram
 
--- Each datagram that a read group without security gets was made by a group; of a secured one each that is signed under a key of its ring was, whatever else
--- comes.
+-- Each datagram that the read group takes was made by a group, whatever else comes.
 abbrev pub CameAsMade : Setting → Config → (ℕ → List GroupDeed) → List Event → Type 0
 CameAsMade setting config pasts [] = ⊤
 CameAsMade setting config pasts (Got moment on datagram ∷ before) =
-    ((is_secured setting.setup.mode ≡ true → IsSignedBy setting.setup.keys datagram) → IsMade config pasts datagram)
+    ((opened : Opened) → verdict setting.group setting.setup (accepted setting before) datagram ≡ Ok opened → IsMade config pasts datagram)
     × CameAsMade setting config pasts before
 CameAsMade setting config pasts (Expired moment ∷ before) = CameAsMade setting config pasts before
 CameAsMade setting config pasts (Stopped reader why ∷ before) = CameAsMade setting config pasts before

@@ -1,15 +1,20 @@
 -- The premises of a session's headline: what may come, and what holds of its turns.
-use Rattle.std.specs.Prelude.{◌≡◌, ◌⊎◌, ⊤, ℕ, ◌≤◌, slice_index_or, List, [], ◌∷◌, ◌++◌, Contains, true}
+use Rattle.std.specs.Prelude.{◌≡◌, ◌⊎◌, ⊤, ℕ, ◌≤◌, slice_index_or, List, [], ◌∷◌, ◌++◌, Contains, true, Ok}
 use Rattle.ua_base.specs.Journal.{Entry, Sent, Got}
 use Rattle.dataset_meta.specs.DataValues.{DataValue}
 use Rattle.dataset_meta.specs.Metas.{MetaData}
 use Rattle.row_words.specs.Belonging.{row_in}
 use Rattle.message_guard.specs.Modes.{is_secured}
+use Rattle.reader_group.specs.Arrivals.{accepted}
+use Rattle.reader_group.specs.Opening.{Opened, verdict}
 use Rattle.reader_group.specs.Plain.{Setting}
+use Rattle.reader_group.specs.Settings.{setting_of}
 use Rattle.writer_group.specs.declared.sampled.Sampled.{Sampled}
 use Rattle.writer_group.specs.Turns.{GroupDeed, no_sample}
 use Rattle.session_model.specs.Steps.{Plan, Step, Enable, Disable, Append, Tick, Pump}
 use Rattle.session_model.specs.Deeds.{deeds, group_past}
+use Rattle.session_model.specs.Events.{events, receives}
+use Rattle.session_model.specs.Sends.{journal}
 use Rattle.session_model.specs.Sets.{meta_in, metas_at}
 use Rattle.reader_group.specs.Signed.{IsSignedBy}
 
@@ -17,7 +22,23 @@ use Rattle.reader_group.specs.Signed.{IsSignedBy}
 abbrev pub pasts_at : Plan → List Step → ℕ → List GroupDeed
 pasts_at p steps g = group_past p.config g (deeds p steps)
 
--- H and S: each received datagram was sent before; where the read group is secured, each that is signed under a key of its ring
+-- ---- what may come
+
+-- The read group is Operational behind these steps, and takes the datagram behind the first receives of a pump.
+pub record Takes (p : Plan) (r : ℕ) (before : List Step) (first : List Entry) (datagram : List ℕ) : Type 0 where
+  pub operational : receives p.config before r ≡ true
+  pub opened : Opened
+  pub opens : let setting = setting_of p.config r in
+      verdict setting.group setting.setup (accepted setting (events p.config r (Pump first ∷ before))) datagram ≡ Ok opened
+
+-- Each datagram that the read group takes was sent before. Of what it refuses nothing is asked: whatever else comes to the port, the promise stands.
+abbrev pub TakesWhatWasSent : Plan → ℕ → List Step → Type 0
+TakesWhatWasSent p r steps =
+    (later before : List Step) (first behind : List Entry) (datagram : List ℕ)
+    → steps ≡ later ++ Pump (first ++ Got datagram ∷ behind) ∷ before
+    → Takes p r before first datagram → Contains (journal p before) (Sent datagram)
+
+-- H and S, of a link: each received datagram was sent before; where the read group is secured, each that is signed under a key of its ring
 abbrev pub IsHonestFor : Setting → List Entry → Type 0
 IsHonestFor setting journal =
     (before after : List Entry) (datagram : List ℕ) → journal ≡ before ++ Got datagram ∷ after

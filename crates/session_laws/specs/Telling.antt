@@ -5,18 +5,18 @@ use Rattle.pubsub_model.specs.Cadence.{WriterTurn, WriterDeed, HadTurn, is_data}
 use Rattle.ps_report.specs.declared.closed.Closed.{Closed}
 use Rattle.ps_report.specs.declared.closed.ReaderEnd.{ReaderEnd}
 use Rattle.ps_report.specs.declared.closed.WriterEnd.{WriterEnd}
-use Rattle.reader_group.specs.Settings.{setting_of}
 use Rattle.writer_group.specs.Payloads.{writer_at}
 use Rattle.session_model.specs.Steps.{Plan, Step}
 use Rattle.session_model.specs.Deeds.{writer_deeds}
 use Rattle.writer_group.specs.Parts.{group_at}
 use Rattle.session_model.specs.Keeping.{AreSteps, IsPlan}
 use Rattle.session_laws.specs.Reading.{IsMatchedIn}
-use Rattle.session_model.specs.Sends.{IsRun, journal}
+use Rattle.session_model.specs.Sends.{IsRun}
 use Rattle.session_laws.specs.Headline.{PublishesVersion, answered_turn}
 use Rattle.session_laws.specs.Pasts.{settings_at}
 use Rattle.session_laws.specs.Printed.{EndsReader, EndsWriter, TellsReader, TellsWriter}
-use Rattle.session_laws.specs.Sessions.{AreVersions, IsHonestFor, SamplesRise}
+use Rattle.session_laws.specs.Complete.{ClosingComes, IsNewestTold}
+use Rattle.session_laws.specs.Sessions.{AreVersions, ClosesWith, SamplesRise, TakesWhatWasSent}
 
 -- a session of an accepted plan, over any link, whose samples are rows of one history for each data set; `rows` are those of its versions
 pub record HasRun (p : Plan) (steps : List Step) (rows : ℕ → ℕ → List DataValue) : Type 0 where
@@ -42,12 +42,16 @@ pub record IsReaderTold (p : Plan) (r i g w : ℕ) (steps : List Step) (rows : �
 
 -- Every data message of a writer stands for one whole version of its data set's single history, and never an older one than its last; and whatever datagrams are
 -- lost, repeated or reordered, each matched reader holds exactly the published version that the unbroken run of its arrivals from a key frame names, or has said
--- why it waits: where nothing comes but what was sent, or nothing that is signed under a ring of the reader's group.
+-- why it waits: where its read group takes nothing but what was sent, whatever else comes. A reader to which the frame of its writer's closing turn came ends with
+-- the version that the closing tick sampled.
 pub record TellsHeadline (p : Plan) (steps : List Step) (rows : ℕ → ℕ → List DataValue) (closed : Closed) : Type 0 where
   pub whole_versions : (g w : ℕ) (later before : List WriterDeed) (turn : WriterTurn) → w < length (group_at p.config g).writer
       → writer_deeds p g w steps ≡ later ++ HadTurn turn ∷ before
       → is_data (answered_turn (settings_at (group_at p.config g) w) before turn) ≡ true
       → PublishesVersion p steps (settings_at (group_at p.config g) w) (writer_at (group_at p.config g) w).dataset rows before turn
   pub never_older : (g w : ℕ) → w < length (group_at p.config g).writer → IsWriterTold p g w steps closed
-  pub readers : (r i g w : ℕ) → IsMatchedIn p.config r i g w → IsHonestFor (setting_of p.config r) (journal p steps)
+  pub readers : (r i g w : ℕ) → IsMatchedIn p.config r i g w → TakesWhatWasSent p r steps
       → IsReaderTold p r i g w steps rows closed
+  pub newest : (r i g w version : ℕ) (own : WriterTurn) → IsMatchedIn p.config r i g w → TakesWhatWasSent p r steps
+      → ClosesWith steps (writer_at (group_at p.config g) w).dataset version → ClosingComes p r i g w steps own
+      → IsNewestTold p r i g w rows closed version

@@ -2,7 +2,10 @@
 #![tactic(auto)]
 
 mod laws;
+mod noise;
+mod premises;
 mod printed;
+mod readers;
 mod turning;
 mod witness;
 
@@ -13,7 +16,12 @@ pub use laws::{
     matched_readers_hold_published_versions, no_token_and_number_come_twice_in_a_session,
     refused_datagrams_leave_no_trace_in_a_session,
 };
+pub use noise::readers_hold_on_in_noise;
+pub use premises::{
+    a_session_closes_once_with_its_newest_versions, an_honest_link_delivers_what_was_sent,
+};
 pub use printed::{a_closed_session_tells_the_headline, closed_sessions_tell_published_versions};
+pub use readers::{a_sessions_sender_makes_what_is_signed, signed_readers_have_their_records};
 pub use turning::each_turn_of_a_session_holds;
 pub use witness::{
     readers_of_each_kind_get_closing_frames, sessions_of_each_kind_meet_the_premises,

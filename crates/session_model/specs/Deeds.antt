@@ -6,9 +6,10 @@ use Rattle.dataset_meta.specs.Rows.{cons_if}
 use Rattle.pubsub_model.specs.Cadence.{WriterDeed, Answered, cadence, log_of}
 use Rattle.dataset_writer.specs.Turns.{model_settings}
 use Rattle.group_keys.specs.KeySets.{current}
+use Rattle.group_keys.specs.declared.key_set.KeySet.{KeySet}
 use Rattle.message_guard.specs.declared.mode.Mode.{Mode}
 use Rattle.message_guard.specs.Protection.{keys_in}
-use Rattle.message_guard.specs.Senders.{SenderState, turned as turned_to, numbers_left}
+use Rattle.message_guard.specs.Senders.{SenderState, renewed, turned as turned_to, numbers_left}
 use Rattle.ps_config.specs.declared.parts.Config.{Config}
 use Rattle.ps_config.specs.declared.parts.GroupPart.{GroupPart}
 use Rattle.ps_config.specs.declared.parts.KeyGroupPart.{KeyGroupPart}
@@ -38,6 +39,8 @@ pub data Deed : Type 0 where
   CameTo : (moment : ℕ) → Deed
   -- a group has a turn
   TookTurn : (group : ℕ) (turn : GroupTurn) → Deed
+  -- a ring with these sets renews the sender of a key group
+  RenewedKeys : (keygroup : ℕ) (sets : List KeySet) → Deed
 
 -- ---- parts of the configuration
 
@@ -71,6 +74,7 @@ group_past config g (RefreshedSet set ∷ before) =
     refreshed_where (is_writer_of (group_at config g) set) (group_past config g before) (writer_indexes (group_at config g))
 group_past config g (CameTo moment ∷ before) = group_past config g before
 group_past config g (TookTurn other turn ∷ before) = cons_if (other == g) (HadGroupTurn turn) (group_past config g before)
+group_past config g (RenewedKeys keygroup sets ∷ before) = group_past config g before
 
 -- ---- senders: one for each key group
 
@@ -93,6 +97,10 @@ abbrev pub advanced_if : Bool → Mode → ℕ → SenderState → SenderState
 advanced_if true mode count s = advanced_by mode s count
 advanced_if false mode count s = s
 
+abbrev pub renewed_if : Bool → List KeySet → SenderState → SenderState
+renewed_if true sets s = renewed s sets
+renewed_if false sets s = s
+
 -- the sender of a key group, which each datagram of its groups takes a number of
 abbrev pub sender_after : Config → ℕ → List Deed → SenderState
 sender_after config k [] = opening_sender (keygroup_at config k)
@@ -101,6 +109,7 @@ sender_after config k (RefreshedSet set ∷ before) = sender_after config k befo
 sender_after config k (CameTo moment ∷ before) = turned_to (sender_after config k before) moment
 sender_after config k (TookTurn g turn ∷ before) =
     advanced_if (shares (group_at config g) k) (mode_of (group_at config g).security) (length turn.made) (sender_after config k before)
+sender_after config k (RenewedKeys keygroup sets ∷ before) = renewed_if (keygroup == k) sets (sender_after config k before)
 
 -- that of a group, where it is secured
 abbrev pub sender_of : Config → ℕ → List Deed → Option SenderState

@@ -10,3 +10,5 @@ pub mod States
 pub mod Answers
 pub mod Closing
 pub mod Keeping
+pub mod Readings
+pub mod Lives

@@ -24,10 +24,14 @@ HoldsIfTurned p before now closing samples so_far g =
     has_turn p before now closing so_far g ≡ true
     → HoldsTurn p.config (group_at p.config g) (group_past p.config g so_far) (turn_input p before now closing samples so_far g)
 
--- what the publisher did before the turn of this group
+-- what the publisher did before the turn of this group, once it did these deeds before the tick
+abbrev pub deeds_till : Plan → List Step → ℕ → Bool → List Sampled → List Deed → ℕ → List Deed
+deeds_till p before now closing samples earlier g =
+    fold (turned_on p before now closing samples) (rekeyed p.config now earlier) (range_with_len 0 g)
+
+-- once it did those of the steps
 abbrev pub deeds_before : Plan → List Step → ℕ → Bool → List Sampled → ℕ → List Deed
-deeds_before p before now closing samples g =
-    fold (turned_on p before now closing samples) (rekeyed p.config now (deeds p before)) (range_with_len 0 g)
+deeds_before p before now closing samples g = deeds_till p before now closing samples (deeds p before) g
 
 -- all turns of these steps
 abbrev pub TurnsHold : Plan → List Step → Type 0

@@ -12,7 +12,7 @@ use Rattle.writer_group.specs.Turns.{GroupTurn, turn_datagrams}
 use Rattle.session_model.specs.Sets.{metas_at}
 use Rattle.session_model.specs.Deeds.{Deed, TookTurn, group_past, turn_input}
 use Rattle.writer_group.specs.Parts.{group_at}
-use Rattle.session_model.specs.Sends.{last_sends, last_failed, sends_by, is_done_by, journal, sent_by}
+use Rattle.session_model.specs.Sends.{last_sends, last_failed, sends_by, is_done_by}
 use Rattle.session_model.specs.Turns.{HoldsTurn}
 use Rattle.session_parts.specs.declared.publisher.Publisher.{Publisher}
 use Rattle.session_parts.specs.declared.sends.GroupSends.{GroupSends}
@@ -51,13 +51,13 @@ passes-turned t g so_far done more zero one two tree new told after d none so at
     holds = record { written = (ticked d).written; answers = (ticked d).answers; few = subst (λ (l : List (List ℕ)). length l ≤ 1024) made few }
 
     counted_by : (h : ℕ) → h < length t.plan.config.group → (e : GroupSends)
-        → IsOfGroup (sent_by t.plan h t.before + count_by (is_done_by h) (zip (last_sends (TookTurn g (turn_in t so_far g) ∷ so_far)) (done ++ more)))
+        → IsOfGroup (t.account.sent h + count_by (is_done_by h) (zip (last_sends (TookTurn g (turn_in t so_far g) ∷ so_far)) (done ++ more)))
         (last_failed h (zip (last_sends (TookTurn g (turn_in t so_far g) ∷ so_far)) (done ++ more))) (get_or two.sends.items h e)
     counted_by h low e =
         let within : h < length one.sends.items = subst (λ (v : Vec GroupSends Global). h < length v.items) (sym same_sends) (subst (λ (n : ℕ). h < n) (sym count) low) in
         let noted : Noted (zip (sends_by g (turn_in t so_far g).made) more) h (get_or zero.sends.items h e) (get_or two.sends.items h e)
         = subst (λ (v : Vec GroupSends Global). Noted (zip (sends_by g (turn_in t so_far g).made) more) h (get_or v.items h e) (get_or two.sends.items h e)) same_sends (been.groups h within e) in
-        outcomes-turned g h (sent_by t.plan h t.before) (turn_in t so_far g) so_far done more (get_or zero.sends.items h e) (get_or two.sends.items h e) at.sent noted (at.outcomes h low e)
+        outcomes-turned g h (t.account.sent h) (turn_in t so_far g) so_far done more (get_or zero.sends.items h e) (get_or two.sends.items h e) at.sent noted (at.outcomes h low e)
 
     sent_all : HaveSent t.plan.config (TookTurn g (turn_in t so_far g) ∷ so_far) two.senders.items
     sent_all = subst (λ (v : Vec SenderState Global). HaveSent t.plan.config (TookTurn g (turn_in t so_far g) ∷ so_far) v.items) (sym same_senders) senders
@@ -69,7 +69,7 @@ passes-turned t g so_far done more zero one two tree new told after d none so at
           (past-turned t.plan.config (metas_at t.plan.config t.before) so_far g (turn_in t so_far g) zero.groups.items one.groups.items others (λ e. (ticked e).stands) at.groups);
       senders = sent_all;
       outcomes = λ h low e. counted_by h low e;
-      link = link-turned (journal t.plan t.before) g (turn_in t so_far g) so_far done more zero.link two.link at.sent
+      link = link-turned (t.account.journal) g (turn_in t so_far g) so_far done more zero.link two.link at.sent
           (λ entries are. been.link entries (subst (λ (l : LinkSends). AreSendsIn entries l) (sym same_link) are)) at.link;
       flags = flags-told t (TookTurn g (turn_in t so_far g) ∷ so_far) (done ++ more) two tree new counts kept keyed sent_all (λ h low e. (counted_by h low e).failing_is) none
           (but-faults t so_far (TookTurn g (turn_in t so_far g) ∷ so_far) done (done ++ more) tree counts at.flags) faults;

@@ -5,16 +5,15 @@ use Rattle.ua_base.specs.Journal.{Sent, SendFailed}
 use Rattle.pubsub_states.specs.declared.component.Component.TheVariants.{Root, Connection, Group, Writer, ReadGroup, Reader}
 use Rattle.pubsub_states.specs.Changes.{TreeValue}
 use Rattle.session_model.specs.Steps.{Plan, Step, Tick}
-use Rattle.session_model.specs.Deeds.{deeds}
-use Rattle.session_model.specs.Sends.{Send, send_entry, sends_of, journal}
-use Rattle.session_model.specs.States.{flags_at}
+use Rattle.session_model.specs.Sends.{Send, send_entry}
+use Rattle.session_model.specs.Lives.{Account, flags_by, stepped}
 use Rattle.writer_group.specs.declared.sampled.Sampled.{Sampled}
 use Rattle.session_model.specs.Answers.{counted}
 use Rattle.session_model.specs.Closing.{is_got, is_broken, is_long}
 use Rattle.session_model.proofs.Sending.{count-append, count-cons}
 use Rattle.session_parts.specs.declared.receiving.Receiving.{Receiving}
 use Rattle.session_parts.specs.Standing.{HasFlags, AreReceivesIn}
-use Rattle.session_parts.specs.Ticking.{TickData, flags_in_tick}
+use Rattle.session_parts.specs.Ticking.{TickData, account_after, flags_in_tick, tick_sends}
 
 -- ---- sends are no receives
 
@@ -33,21 +32,21 @@ no-long [] = refl
 no-long ((send, true) ∷ sends) = omega (arith, count-cons is_long (Sent send.datagram) (map send_entry sends), no-long sends)
 no-long ((send, false) ∷ sends) = omega (arith, count-cons is_long SendFailed (map send_entry sends), no-long sends)
 
-pub receives-stay : (p : Plan) (before : List Step) (ms : ℕ) (closing : Bool) (samples : List Sampled) (done : List Bool) (receiving : Receiving)
-    → AreReceivesIn (journal p before) before receiving → AreReceivesIn (journal p (Tick ms closing samples done ∷ before)) (Tick ms closing samples done ∷ before) receiving
-receives-stay p before ms closing samples done receiving are =
-    let sends = zip (sends_of p (Tick ms closing samples done ∷ before)) done in record {
-      received = are.received ∙ ap counted (omega (arith, count-append is_got (journal p before) (map send_entry sends), no-got sends));
-      broken = are.broken ∙ ap counted (omega (arith, count-append is_broken (journal p before) (map send_entry sends), no-broken sends));
-      long = are.long ∙ ap counted (omega (arith, count-append is_long (journal p before) (map send_entry sends), no-long sends));
+pub receives-stay : (p : Plan) (before : List Step) (a : Account) (ms : ℕ) (closing : Bool) (samples : List Sampled) (done : List Bool) (receiving : Receiving)
+    → AreReceivesIn a.journal before receiving → AreReceivesIn (stepped p before a (Tick ms closing samples done)).journal (Tick ms closing samples done ∷ before) receiving
+receives-stay p before a ms closing samples done receiving are =
+    let sends = zip (tick_sends p before a ms closing samples) done in record {
+      received = are.received ∙ ap counted (omega (arith, count-append is_got a.journal (map send_entry sends), no-got sends));
+      broken = are.broken ∙ ap counted (omega (arith, count-append is_broken a.journal (map send_entry sends), no-broken sends));
+      long = are.long ∙ ap counted (omega (arith, count-append is_long a.journal (map send_entry sends), no-long sends));
       limit = are.limit;
     }
 
 -- ---- the flags
 
 pub flags-end : (t : TickData) (done : List Bool) (tree : TreeValue)
-    → HasFlags (flags_in_tick t (deeds t.plan (Tick t.ms t.closing t.samples done ∷ t.before)) done) tree
-    → HasFlags (flags_at t.plan (Tick t.ms t.closing t.samples done ∷ t.before)) tree
+    → HasFlags (flags_in_tick t (account_after t done).deeds done) tree
+    → HasFlags (flags_by t.plan.config (Tick t.ms t.closing t.samples done ∷ t.before) (account_after t done)) tree
 flags-end t done tree flags Root among = flags Root among
 flags-end t done tree flags Connection among = flags Connection among
 flags-end t done tree flags (Group g) among = flags (Group g) among

@@ -10,9 +10,10 @@ use Rattle.ua_base.proofs.Told.{Tells-refl, Tells-then}
 use Rattle.ps_config.specs.declared.parts.Config.{Config}
 use Rattle.pubsub_states.specs.Changes.{TreeValue}
 use Rattle.reader_group.specs.Plain.{Event}
-use Rattle.session_model.specs.Steps.{Step, Pump, moment_of}
+use Rattle.session_model.specs.Steps.{Step, moment_of}
 use Rattle.session_model.specs.Sends.{IsPump}
-use Rattle.session_model.specs.Events.{events, got_on, readers_on, receives}
+use Rattle.session_model.specs.Events.{got_all, got_on, readers_on, receives}
+use Rattle.session_model.specs.Readings.{Reading}
 use Rattle.session_model.specs.Answers.{counted}
 use Rattle.session_model.specs.Closing.{is_sent, is_send_failed, is_got, is_broken, is_long, is_datagram}
 use Rattle.session_model.proofs.Sending.{count-append, count-cons}
@@ -95,9 +96,9 @@ brought-if : (on : Bool) (moment : ℕ) (readers : List Bool) (entries : List En
 brought-if true moment readers entries entry befell = sym (fold_push (got_on moment readers) befell entries entry)
 brought-if false moment readers entries entry befell = refl
 
-brought-more : (config : Config) (before : List Step) (r : ℕ) (entries : List Entry) (entry : Entry)
-    → brought config before entry r (events config r (Pump entries ∷ before)) ≡ events config r (Pump (entries ++ entry ∷ []) ∷ before)
-brought-more config before r entries entry = brought-if (receives config before r) (moment_of before) (readers_on config before r) entries entry (events config r before)
+brought-more : (config : Config) (before : List Step) (r : ℕ) (entries : List Entry) (entry : Entry) (befell : List Event)
+    → brought config before entry r (got_all config before r entries befell) ≡ got_all config before r (entries ++ entry ∷ []) befell
+brought-more config before r entries entry befell = brought-if (receives config before r) (moment_of before) (readers_on config before r) entries entry befell
 
 pub none-if : (on : Bool) (befell : List Event) → befell ≡ (if on then befell else befell)
 none-if true befell = refl
@@ -124,8 +125,8 @@ pub record SoFar (config : Config) (tree : TreeValue) (moment count : ℕ) (old 
   pub broken : (n : ℕ) → old.broken ≡ counted n → new.broken ≡ counted (n + count_by is_broken entries)
   pub long : (n : ℕ) → old.long ≡ counted n → new.long ≡ counted (n + count_by is_long entries)
   pub limit : new.limit ≡ old.limit
-  pub hands_on : (before : List Step) → HasSwitches config before tree → moment ≡ moment_of before
-      → HaveGot config (λ r. events config r before) subscriber → HaveGot config (λ r. events config r (Pump entries ∷ before)) after
+  pub hands_on : (before : List Step) (from : ℕ → Reading) (befell : ℕ → List Event) → HasSwitches config before tree → moment ≡ moment_of before
+      → HaveGot config from befell subscriber → HaveGot config from (λ r. got_all config before r entries (befell r)) after
   pub tells : Tells told later (λ x y. y.journal ≡ x.journal ++ entries)
 
 pub so-none : (config : Config) (tree : TreeValue) (moment : ℕ) (receiving : Receiving) (subscriber : Subscriber) (told : Option LinkState)
@@ -138,8 +139,8 @@ so-none config tree moment receiving subscriber told = record {
   broken = λ n is. is ∙ ap counted (omega arith);
   long = λ n is. is ∙ ap counted (omega arith);
   limit = refl;
-  hands_on = λ before switches now got.
-      got-same config (λ r. events config r before) (λ r. events config r (Pump [] ∷ before)) subscriber (λ r low. none-if (receives config before r) (events config r before)) got;
+  hands_on = λ before from befell switches now got.
+      got-same config from befell (λ r. got_all config before r [] (befell r)) subscriber (λ r low. none-if (receives config before r) (befell r)) got;
   tells = Tells-refl told _ (λ w. sym (append-nil w.journal));
 }
 
@@ -149,13 +150,14 @@ told-then a b c xs x p q = Tells-then a b c _ _ _ (λ u v w e f. f ∙ ap (λ (l
 
 hands-more : (config : Config) (tree : TreeValue) (moment : ℕ) (entries : List Entry) (entry : Entry) (old new : Receiving) (subscriber mid after : Subscriber)
     → Receives config entry old new mid after tree moment
-    → ((before : List Step) → HasSwitches config before tree → moment ≡ moment_of before → HaveGot config (λ r. events config r before) subscriber → HaveGot config (λ r. events config r (Pump entries ∷ before)) mid)
-    → (before : List Step) → HasSwitches config before tree → moment ≡ moment_of before → HaveGot config (λ r. events config r before) subscriber
-    → HaveGot config (λ r. events config r (Pump (entries ++ entry ∷ []) ∷ before)) after
-hands-more config tree moment entries entry old new subscriber mid after one so_far before switches now got =
-    got-same config (λ r. brought config before entry r (events config r (Pump entries ∷ before))) (λ r. events config r (Pump (entries ++ entry ∷ []) ∷ before)) after
-    (λ r low. brought-more config before r entries entry)
-    (one.hands_on before (λ r. events config r (Pump entries ∷ before)) switches now (so_far before switches now got))
+    → ((before : List Step) (from : ℕ → Reading) (befell : ℕ → List Event) → HasSwitches config before tree → moment ≡ moment_of before → HaveGot config from befell subscriber
+    → HaveGot config from (λ r. got_all config before r entries (befell r)) mid)
+    → (before : List Step) (from : ℕ → Reading) (befell : ℕ → List Event) → HasSwitches config before tree → moment ≡ moment_of before → HaveGot config from befell subscriber
+    → HaveGot config from (λ r. got_all config before r (entries ++ entry ∷ []) (befell r)) after
+hands-more config tree moment entries entry old new subscriber mid after one so_far before from befell switches now got =
+    got-same config from (λ r. brought config before entry r (got_all config before r entries (befell r))) (λ r. got_all config before r (entries ++ entry ∷ []) (befell r)) after
+    (λ r low. brought-more config before r entries entry (befell r))
+    (one.hands_on before from (λ r. got_all config before r entries (befell r)) switches now (so_far before from befell switches now got))
 
 pub so-more : (config : Config) (tree : TreeValue) (moment count : ℕ) (old mid new : Receiving) (subscriber so_far after : Subscriber) (a b c : Option LinkState)
     → SoFar config tree moment count old mid subscriber so_far a b → ReceivesOne config tree moment true mid new so_far after b c

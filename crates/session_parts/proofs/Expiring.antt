@@ -3,8 +3,8 @@ use Rattle.std.proofs.Common.{◌≡◌, arith, ℕ, ◌<◌, List, ◌∷◌, l
 use Rattle.ps_config.specs.declared.parts.Config.{Config}
 use Rattle.reader_group.specs.declared.group.ReaderGroup.{ReaderGroup}
 use Rattle.reader_group.specs.Groups.{IsMadeOf, Stands, index_of}
-use Rattle.reader_group.specs.Plain.{Event, Expired, PlainGroup, Setting, plain, step}
-use Rattle.reader_group.specs.Settings.{setting_of}
+use Rattle.reader_group.specs.Plain.{Event, Expired, PlainGroup, Setting, step}
+use Rattle.session_model.specs.Readings.{Reading, read_on, setting_in}
 use Rattle.session_parts.specs.declared.subscriber.Subscriber.{Subscriber}
 use Rattle.session_parts.specs.Holding.{HoldSubscriber}
 use Rattle.session_parts.specs.Standing.{HaveReadAll}
@@ -25,7 +25,7 @@ expired-hold moment old new each same config holds =
     still-hold (ExpiresAt moment) (λ r one other does. record { index = does.index; made = does.made }) old new each same config holds
 
 pub expired-read : (moment : ℕ) (old new : Subscriber) → EachTo (ExpiresAt moment) (length old.groups.items) old.groups.items new.groups.items
-    → (config : Config) (befell : ℕ → List Event) → HoldSubscriber config old → HaveReadAll config befell old.groups.items → HaveReadAll config (λ r. Expired moment ∷ befell r) new.groups.items
-expired-read moment old new each config befell holds read r low d =
+    → (config : Config) (from : ℕ → Reading) (befell : ℕ → List Event) → HoldSubscriber config old → HaveReadAll config from befell old.groups.items → HaveReadAll config from (λ r. Expired moment ∷ befell r) new.groups.items
+expired-read moment old new each config from befell holds read r low d =
     let there : r < length old.groups.items = omega (arith, low, holds.groups.count) in
-    (each.done r there there d).steps (setting_of config r) (plain (setting_of config r) (befell r)) (read r low d)
+    (each.done r there there d).steps (setting_in config r (from r)) (read_on (setting_in config r (from r)) (from r).value (befell r)) (read r low d)

@@ -21,7 +21,7 @@ use Rattle.session_parts.specs.declared.receiving.Receiving.{Receiving}
 use Rattle.session_parts.specs.declared.subscriber.Subscriber.{Subscriber}
 use Rattle.session_parts.specs.Holding.{HasBuffers, HoldPublisher, HoldSubscriber, MayAllGoOn}
 use Rattle.session_parts.specs.Pumping.{HasNoCounts}
-use Rattle.session_parts.specs.Standing.{AreSendsIn, HasFlags, HavePast, HaveReadAll, HaveSent, HaveTalliedAll, IsOfGroup}
+use Rattle.session_parts.specs.Standing.{AreSendsIn, HasFlags, HavePast, HaveRead, HaveSent, HaveTallied, IsOfGroup}
 use Rattle.session_parts.specs.Ticking.{TellsFaults, is_faulty, is_spent_by}
 use Rattle.session_parts.proofs.Few.{keyed}
 use Rattle.session_parts.proofs.Passed.{no_sends}
@@ -39,8 +39,8 @@ pub record IsFreshPublisher (config : Config) (turns : ℕ) (publisher : Publish
 -- nothing befell a read group
 pub record IsFreshSubscriber (config : Config) (subscriber : Subscriber) : Type 0 where
   pub holds : HoldSubscriber config subscriber
-  pub read : HaveReadAll config (λ _. []) subscriber.groups.items
-  pub tallied : HaveTalliedAll config (λ _. []) subscriber.tallies.items
+  pub read : HaveRead config [] subscriber.groups.items
+  pub tallied : HaveTallied config [] subscriber.tallies.items
 
 -- nothing was received
 pub record IsFreshReceiving (receiving : Receiving) : Type 0 where

@@ -15,13 +15,13 @@ use Rattle.pubsub_states.specs.States.{state_of, state_under, is_operational}
 use Rattle.reader_group.specs.declared.group.ReaderGroup.{ReaderGroup}
 use Rattle.reader_group.specs.declared.refusal.Refusal.{Refusal}
 use Rattle.reader_group.specs.declared.refusal.Taken.{Taken}
-use Rattle.reader_group.specs.Groups.{IsMadeOf, Stands, index_of}
+use Rattle.reader_group.specs.Groups.{IsAnswer, IsMadeOf, Stands, StepsBy, index_of}
 use Rattle.reader_group.specs.Plain as befalls
-use Rattle.reader_group.specs.Plain.{Event, PlainGroup, answer, plain, step}
-use Rattle.reader_group.specs.Settings.{group_at, setting_of}
+use Rattle.reader_group.specs.Plain.{Event, PlainGroup, Setting, answer, step}
+use Rattle.reader_group.specs.Settings.{group_at}
 use Rattle.session_model.specs.Steps.{Step, moment_of, is_on}
 use Rattle.session_model.specs.Events.{receives, readers_on, switch_flags}
-use Rattle.session_model.specs.Answers.{answers}
+use Rattle.session_model.specs.Readings.{Reading, answered_on, read_on, setting_in}
 use Rattle.session_parts.specs.declared.subscriber.Subscriber.{Subscriber}
 use Rattle.session_parts.specs.declared.tally.Tally.{Tally}
 use Rattle.session_parts.specs.Holding.{HoldSubscriber, MayReceive}
@@ -55,8 +55,8 @@ readers-are config before tree r switches low =
 
 pub gives-none : (config : Config) (tree : TreeValue) (moment r : ℕ) (datagram : List ℕ) (subscriber : Subscriber) → r < length config.readgroup
     → is_operational (state_of (flags_in tree) (ReadGroup r)) ≡ false → Hands config tree moment r datagram subscriber subscriber
-gives-none config tree moment r datagram subscriber low off before befell switches now got =
-    got-same config befell (with_brought config before datagram r befell) subscriber (λ q within. same q (eqb_tells q r)) got
+gives-none config tree moment r datagram subscriber low off before from befell switches now got =
+    got-same config from befell (with_brought config before datagram r befell) subscriber (λ q within. same q (eqb_tells q r)) got
   where
     none : brought config before (Got datagram) r (befell r) ≡ befell r
     none = ap (λ (b : Bool). if b then befalls.Got (moment_of before) (readers_on config before r) datagram ∷ befell r else befell r) (sym (operational-is config before tree r switches low) ∙ off)
@@ -98,14 +98,13 @@ pub gives : (config : Config) (tree : TreeValue) (moment r : ℕ) (datagram : Li
     → x ≡ get_or old.groups.items r x → t ≡ get_or old.tallies.items r t
     → on ≡ map (λ i. (flags_in tree (Reader r i)).enabled) (range_with_len 0 (length (group_at config r).reader))
     → is_operational (state_of (flags_in tree) (ReadGroup r)) ≡ true
-    → ((value : PlainGroup) → Stands (setting_of config (index_of x)) value x → Stands (setting_of config (index_of x)) (step (setting_of config (index_of x)) value (befalls.Got moment on datagram)) y)
-    → ((value : PlainGroup) → Stands (setting_of config (index_of x)) value x → result ≡ answer (setting_of config (index_of x)) value moment on datagram)
+    → StepsBy config (befalls.Got moment on datagram) x y → IsAnswer config x moment on datagram result
     → ((list : List (Result Taken Refusal)) → IsTallyOf list t → IsTallyOf (result ∷ list) u)
     → Hands config tree moment r datagram old new
-gives config tree moment r datagram on old new x y t u result groups tallies low holds counted read noted on_is operational steps answers_so notes before befell switches now got = record {
-  readings = λ q within d. subst (λ (l : List ReaderGroup). Stands (setting_of config q) (plain (setting_of config q) (with_brought config before datagram r befell q)) (get_or l q d)) (sym groups)
+gives config tree moment r datagram on old new x y t u result groups tallies low holds counted read noted on_is operational steps answers_so notes before from befell switches now got = record {
+  readings = λ q within d. subst (λ (l : List ReaderGroup). Stands (setting_in config q (from q)) (read_on (setting_in config q (from q)) (from q).value (with_brought config before datagram r befell q)) (get_or l q d)) (sym groups)
       (reading q within d (eqb_tells q r));
-  tallies = λ q within d. subst (λ (l : List Tally). IsTallyOf (answers (setting_of config q) (with_brought config before datagram r befell q)) (get_or l q d)) (sym tallies)
+  tallies = λ q within d. subst (λ (l : List Tally). IsTallyOf (answered_on (setting_in config q (from q)) (from q) (with_brought config before datagram r befell q)) (get_or l q d)) (sym tallies)
       (tallied q within d (eqb_tells q r));
 }
   where
@@ -127,23 +126,29 @@ gives config tree moment r datagram on old new x y t u result groups tallies low
         ∙ ap (λ (m : ℕ). befalls.Got m (readers_on config before r) datagram ∷ befell r) (sym now)
         ∙ ap (λ (l : List Bool). befalls.Got moment l datagram ∷ befell r) (sym (on_is ∙ readers-are config before tree r switches low))
 
-    stood : Stands (setting_of config r) (plain (setting_of config r) (befell r)) x
-    stood = subst (λ (g : ReaderGroup). Stands (setting_of config r) (plain (setting_of config r) (befell r)) g) (sym read) (got.readings r low x)
+    setting : Setting
+    setting = setting_in config r (from r)
 
-    own : Stands (setting_of config r) (step (setting_of config r) (plain (setting_of config r) (befell r)) event) y
+    value : PlainGroup
+    value = read_on setting (from r).value (befell r)
+
+    stood : Stands setting value x
+    stood = subst (λ (g : ReaderGroup). Stands setting value g) (sym read) (got.readings r low x)
+
+    own : Stands setting (step setting value event) y
     own =
-        subst (λ (k : ℕ). Stands (setting_of config k) (plain (setting_of config k) (befell r)) x → Stands (setting_of config k) (step (setting_of config k) (plain (setting_of config k) (befell r)) event) y) index
-        (steps (plain (setting_of config (index_of x)) (befell r))) stood
+        subst (λ (k : ℕ). Stands (setting_in config k (from r)) value x → Stands (setting_in config k (from r)) (step (setting_in config k (from r)) value event) y) index
+        (steps (from r).keys value) stood
 
-    answered : result ≡ answer (setting_of config r) (plain (setting_of config r) (befell r)) moment on datagram
+    answered : result ≡ answer setting value moment on datagram
     answered =
-        subst (λ (k : ℕ). Stands (setting_of config k) (plain (setting_of config k) (befell r)) x → result ≡ answer (setting_of config k) (plain (setting_of config k) (befell r)) moment on datagram) index
-        (answers_so (plain (setting_of config (index_of x)) (befell r))) stood
+        subst (λ (k : ℕ). Stands (setting_in config k (from r)) value x → result ≡ answer (setting_in config k (from r)) value moment on datagram) index
+        (answers_so (from r).keys value) stood
 
-    own_tally : IsTallyOf (answers (setting_of config r) (event ∷ befell r)) u
+    own_tally : IsTallyOf (answered_on setting (from r) (event ∷ befell r)) u
     own_tally =
-        subst (λ (a : Result Taken Refusal). IsTallyOf (a ∷ answers (setting_of config r) (befell r)) u) answered
-        (notes (answers (setting_of config r) (befell r)) (subst (λ (s : Tally). IsTallyOf (answers (setting_of config r) (befell r)) s) (sym noted) (got.tallies r low t)))
+        subst (λ (a : Result Taken Refusal). IsTallyOf (a ∷ answered_on setting (from r) (befell r)) u) answered
+        (notes (answered_on setting (from r) (befell r)) (subst (λ (s : Tally). IsTallyOf (answered_on setting (from r) (befell r)) s) (sym noted) (got.tallies r low t)))
 
     with_own : (q : ℕ) → (q == r) ≡ true → q ≡ r → with_brought config before datagram r befell q ≡ event ∷ befell r
     with_own q is same =
@@ -154,21 +159,21 @@ gives config tree moment r datagram on old new x y t u result groups tallies low
     with_other q is = ap (λ (b : Bool). if b then brought config before (Got datagram) q (befell q) else befell q) is
 
     reading : (q : ℕ) → q < length config.readgroup → (d : ReaderGroup) → ((q == r) ≡ true) × (q ≡ r) ⊎ ((q == r) ≡ false) × (q ≢ r)
-        → Stands (setting_of config q) (plain (setting_of config q) (with_brought config before datagram r befell q)) (get_or (set old.groups.items r y) q d)
+        → Stands (setting_in config q (from q)) (read_on (setting_in config q (from q)) (from q).value (with_brought config before datagram r befell q)) (get_or (set old.groups.items r y) q d)
     reading q within d (inl is) =
-        subst (λ (l : List Event). Stands (setting_of config q) (plain (setting_of config q) l) (get_or (set old.groups.items r y) q d)) (sym (with_own q is.0 is.1))
-        (subst (λ (k : ℕ). Stands (setting_of config k) (plain (setting_of config k) (event ∷ befell r)) (get_or (set old.groups.items r y) k d)) (sym is.1)
-        (subst (λ (g : ReaderGroup). Stands (setting_of config r) (plain (setting_of config r) (event ∷ befell r)) g) (sym (get_or-set_same old.groups.items r y d there)) own))
+        subst (λ (l : List Event). Stands (setting_in config q (from q)) (read_on (setting_in config q (from q)) (from q).value l) (get_or (set old.groups.items r y) q d)) (sym (with_own q is.0 is.1))
+        (subst (λ (k : ℕ). Stands (setting_in config k (from k)) (read_on (setting_in config k (from k)) (from k).value (event ∷ befell r)) (get_or (set old.groups.items r y) k d)) (sym is.1)
+        (subst (λ (g : ReaderGroup). Stands setting (step setting value event) g) (sym (get_or-set_same old.groups.items r y d there)) own))
     reading q within d (inr other) =
-        subst (λ (l : List Event). Stands (setting_of config q) (plain (setting_of config q) l) (get_or (set old.groups.items r y) q d)) (sym (with_other q other.0))
-        (subst (λ (g : ReaderGroup). Stands (setting_of config q) (plain (setting_of config q) (befell q)) g) (sym (get_or-set_other old.groups.items r q y d other.1)) (got.readings q within d))
+        subst (λ (l : List Event). Stands (setting_in config q (from q)) (read_on (setting_in config q (from q)) (from q).value l) (get_or (set old.groups.items r y) q d)) (sym (with_other q other.0))
+        (subst (λ (g : ReaderGroup). Stands (setting_in config q (from q)) (read_on (setting_in config q (from q)) (from q).value (befell q)) g) (sym (get_or-set_other old.groups.items r q y d other.1)) (got.readings q within d))
 
     tallied : (q : ℕ) → q < length config.readgroup → (d : Tally) → ((q == r) ≡ true) × (q ≡ r) ⊎ ((q == r) ≡ false) × (q ≢ r)
-        → IsTallyOf (answers (setting_of config q) (with_brought config before datagram r befell q)) (get_or (set old.tallies.items r u) q d)
+        → IsTallyOf (answered_on (setting_in config q (from q)) (from q) (with_brought config before datagram r befell q)) (get_or (set old.tallies.items r u) q d)
     tallied q within d (inl is) =
-        subst (λ (l : List Event). IsTallyOf (answers (setting_of config q) l) (get_or (set old.tallies.items r u) q d)) (sym (with_own q is.0 is.1))
-        (subst (λ (k : ℕ). IsTallyOf (answers (setting_of config k) (event ∷ befell r)) (get_or (set old.tallies.items r u) k d)) (sym is.1)
-        (subst (λ (s : Tally). IsTallyOf (answers (setting_of config r) (event ∷ befell r)) s) (sym (get_or-set_same old.tallies.items r u d told)) own_tally))
+        subst (λ (l : List Event). IsTallyOf (answered_on (setting_in config q (from q)) (from q) l) (get_or (set old.tallies.items r u) q d)) (sym (with_own q is.0 is.1))
+        (subst (λ (k : ℕ). IsTallyOf (answered_on (setting_in config k (from k)) (from k) (event ∷ befell r)) (get_or (set old.tallies.items r u) k d)) (sym is.1)
+        (subst (λ (s : Tally). IsTallyOf (answered_on setting (from r) (event ∷ befell r)) s) (sym (get_or-set_same old.tallies.items r u d told)) own_tally))
     tallied q within d (inr other) =
-        subst (λ (l : List Event). IsTallyOf (answers (setting_of config q) l) (get_or (set old.tallies.items r u) q d)) (sym (with_other q other.0))
-        (subst (λ (s : Tally). IsTallyOf (answers (setting_of config q) (befell q)) s) (sym (get_or-set_other old.tallies.items r q u d other.1)) (got.tallies q within d))
+        subst (λ (l : List Event). IsTallyOf (answered_on (setting_in config q (from q)) (from q) l) (get_or (set old.tallies.items r u) q d)) (sym (with_other q other.0))
+        (subst (λ (s : Tally). IsTallyOf (answered_on (setting_in config q (from q)) (from q) (befell q)) s) (sym (get_or-set_other old.tallies.items r q u d other.1)) (got.tallies q within d))

@@ -4,11 +4,11 @@ use Rattle.std.specs.Prelude.{◌-◌, zip}
 use Rattle.std.proofs.lemmas.List.{length-map, length-take-le, map-append, append-nil, take-append-drop}
 use Rattle.dataset_meta.specs.Rows.{cons_if}
 use Rattle.ua_base.specs.Journal.{LinkState, Tells}
-use Rattle.session_model.specs.Deeds.{Deed, TookTurn, deeds, has_turn, rekeyed, turned_on}
-use Rattle.session_model.specs.Sends.{Send, journal, last_sends, send_entry, send_entries, sends_by}
+use Rattle.session_model.specs.Deeds.{Deed, TookTurn, has_turn, rekeyed, turned_on}
+use Rattle.session_model.specs.Sends.{Send, last_sends, send_entry, send_entries, sends_by}
 use Rattle.session_model.proofs.Sending.{entries-append}
 use Rattle.session_parts.specs.declared.publisher.Publisher.{Publisher}
-use Rattle.session_parts.specs.Ticking.{TickData, HaltsTick, SendsHalt, TickHalts, deeds_to, now_of, turn_in}
+use Rattle.session_parts.specs.Ticking.{TickData, HaltsTickBehind, SendsHalt, TickHalts, deeds_to, now_of, turn_in}
 use Rattle.session_parts.proofs.Counting.{fold-more}
 use Rattle.session_parts.proofs.Passing.{has, turned-so}
 
@@ -30,7 +30,7 @@ begin-then a b c first second = record {
 
 -- the next group's turn, if it has one
 more-deeds : (t : TickData) (n : ℕ) → deeds_to t (n + 1) ≡ turned_on t.plan t.before (now_of t) t.closing t.samples (deeds_to t n) n
-more-deeds t n = fold-more (turned_on t.plan t.before (now_of t) t.closing t.samples) (rekeyed t.plan.config (now_of t) (deeds t.plan t.before)) n
+more-deeds t n = fold-more (turned_on t.plan t.before (now_of t) t.closing t.samples) (rekeyed t.plan.config (now_of t) t.account.deeds) n
 
 begin-if : (test : Bool) (g : ℕ) (t : TickData) (so_far : List Deed)
     → BeginWith (last_sends so_far) (last_sends (cons_if test (TookTurn g (turn_in t so_far g)) so_far))
@@ -110,7 +110,7 @@ begin-turn t g within so =
     (begin-all t (g + 1) (length t.plan.config.group - (g + 1)) (length t.plan.config.group) (omega (arith, within)))
 
 pub halts-tick : (t : TickData) (new : Publisher) (told after : Option LinkState) → TickHalts t new told after
-    → HaltsTick t.plan t.before t.ms t.closing t.samples told after
+    → HaltsTickBehind t.plan t.before t.account t.ms t.closing t.samples told after
 halts-tick t new told after h =
     let g : ℕ = h.group in
     let xs : List Send = last_sends (deeds_to t g) in
@@ -126,6 +126,6 @@ halts-tick t new told after h =
           = subst (λ (o : Option LinkState). Tells h.between o (λ x y. y.journal ≡ x.journal ++ send_entries (sends_by g (take halt.count made)) halt.done)) is halt.sent.tells in
           at.2
           ∙ ap (λ l. l ++ send_entries (sends_by g (take halt.count made)) halt.done) (h.passed.tells run at.0 at.1)
-          ∙ append_assoc (journal t.plan t.before) (send_entries xs h.passed.done) (send_entries (sends_by g (take halt.count made)) halt.done)
-          ∙ ap (λ l. journal t.plan t.before ++ l) (sym (cut-entries all xs g halt.count made h.passed.done halt.done begins h.passed.at.sent halt.sent.each));
+          ∙ append_assoc (t.account.journal) (send_entries xs h.passed.done) (send_entries (sends_by g (take halt.count made)) halt.done)
+          ∙ ap (λ l. t.account.journal ++ l) (sym (cut-entries all xs g halt.count made h.passed.done halt.done begins h.passed.at.sent halt.sent.each));
     }

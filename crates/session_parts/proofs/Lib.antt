@@ -32,3 +32,6 @@ pub mod Pumped
 pub mod Ended
 pub mod Begun
 pub mod Fresh
+pub mod StatesTold
+pub mod Rekeying
+pub mod Accounts

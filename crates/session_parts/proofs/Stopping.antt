@@ -10,9 +10,10 @@ use Rattle.pubsub_states.specs.Components.{is_at_or_above}
 use Rattle.ps_config.specs.declared.parts.Config.{Config}
 use Rattle.reader_group.specs.declared.group.ReaderGroup.{ReaderGroup}
 use Rattle.reader_group.specs.Groups.{IsMadeOf, Stands, index_of, reader_count}
-use Rattle.reader_group.specs.Plain.{Event, Setting, Stopped, plain}
+use Rattle.reader_group.specs.Plain.{Event, PlainGroup, Setting, Stopped}
 use Rattle.reader_group.specs.Settings.{setting_of}
 use Rattle.session_model.specs.Events.{stopped_below}
+use Rattle.session_model.specs.Readings.{Reading, read_on, setting_in}
 use Rattle.session_parts.specs.declared.subscriber.Subscriber.{Subscriber}
 use Rattle.session_parts.specs.Holding.{HoldSubscriber}
 use Rattle.session_parts.specs.Standing.{HaveReadAll}
@@ -28,25 +29,25 @@ stopped_of r component befell readers =
 pub record Stops (r : ℕ) (component : Component) (readers : List ℕ) (old new : ReaderGroup) : Type 0 where
   pub index : index_of new ≡ index_of old
   pub made : (config : Config) → IsMadeOf config old → IsMadeOf config new
-  pub stands : (setting : Setting) (befell : List Event) → Stands setting (plain setting befell) old
-      → Stands setting (plain setting (stopped_of r component befell readers)) new
+  pub stands : (setting : Setting) (value : PlainGroup) (befell : List Event) → Stands setting (read_on setting value befell) old
+      → Stands setting (read_on setting value (stopped_of r component befell readers)) new
 
 pub stops-none : (r : ℕ) (component : Component) (group : ReaderGroup) → Stops r component [] group group
-stops-none r component group = record { index = refl; made = λ config h. h; stands = λ setting befell h. h }
+stops-none r component group = record { index = refl; made = λ config h. h; stands = λ setting value befell h. h }
 
 pub stops-more : (r n : ℕ) (component : Component) (is_below : Bool) (old mid new : ReaderGroup) → is_below ≡ is_at_or_above component (Reader r n)
     → index_of new ≡ index_of mid
     → ((config : Config) → IsMadeOf config mid → IsMadeOf config new)
-    → ((setting : Setting) (befell : List Event) → Stands setting (plain setting befell) mid → Stands setting (plain setting (cons_if is_below (Stopped n Restarted) befell)) new)
+    → ((setting : Setting) (value : PlainGroup) (befell : List Event) → Stands setting (read_on setting value befell) mid → Stands setting (read_on setting value (cons_if is_below (Stopped n Restarted) befell)) new)
     → Stops r component (range_with_len 0 n) old mid → Stops r component (range_with_len 0 (n + 1)) old new
 stops-more r n component is_below old mid new is index made stands so_far = record {
   index = index ∙ so_far.index;
   made = λ config h. made config (so_far.made config h);
-  stands = λ setting befell h.
-      subst (λ (l : List Event). Stands setting (plain setting l) new)
+  stands = λ setting value befell h.
+      subst (λ (l : List Event). Stands setting (read_on setting value l) new)
       (ap (λ (b : Bool). cons_if b (Stopped n Restarted) (stopped_of r component befell (range_with_len 0 n))) is
       ∙ sym (fold-more (λ so_far i. cons_if (is_at_or_above component (Reader r i)) (Stopped i Restarted) so_far) befell n))
-      (stands setting (stopped_of r component befell (range_with_len 0 n)) (so_far.stands setting befell h));
+      (stands setting value (stopped_of r component befell (range_with_len 0 n)) (so_far.stands setting value befell h));
 }
 
 -- a cut keeps the number of readers
@@ -59,8 +60,8 @@ count-kept config old new index made after =
 pub record StopsAt (config : Config) (component : Component) (r : ℕ) (old new : ReaderGroup) : Type 0 where
   pub index : index_of new ≡ index_of old
   pub made : (config : Config) → IsMadeOf config old → IsMadeOf config new
-  pub stands : (setting : Setting) (befell : List Event) → Stands setting (plain setting befell) old
-      → Stands setting (plain setting (stopped_below config r component befell)) new
+  pub stands : (setting : Setting) (value : PlainGroup) (befell : List Event) → Stands setting (read_on setting value befell) old
+      → Stands setting (read_on setting value (stopped_below config r component befell)) new
 
 pub stopped-hold : (config : Config) (component : Component) (old new : Subscriber) → EachTo (StopsAt config component) (length old.groups.items) old.groups.items new.groups.items
     → new.tallies ≡ old.tallies → HoldSubscriber config old → HoldSubscriber config new
@@ -68,8 +69,8 @@ stopped-hold config component old new each same holds =
     still-hold (StopsAt config component) (λ r one other does. record { index = does.index; made = does.made }) old new each same config holds
 
 pub stopped-read : (config : Config) (component : Component) (old new : Subscriber) → EachTo (StopsAt config component) (length old.groups.items) old.groups.items new.groups.items
-    → HoldSubscriber config old → (befell : ℕ → List Event) → HaveReadAll config befell old.groups.items
-    → HaveReadAll config (λ r. stopped_below config r component (befell r)) new.groups.items
-stopped-read config component old new each holds befell read r low d =
+    → HoldSubscriber config old → (from : ℕ → Reading) (befell : ℕ → List Event) → HaveReadAll config from befell old.groups.items
+    → HaveReadAll config from (λ r. stopped_below config r component (befell r)) new.groups.items
+stopped-read config component old new each holds from befell read r low d =
     let there : r < length old.groups.items = omega (arith, low, holds.groups.count) in
-    (each.done r there there d).stands (setting_of config r) (befell r) (read r low d)
+    (each.done r there there d).stands (setting_in config r (from r)) (from r).value (befell r) (read r low d)

@@ -13,12 +13,14 @@ use Rattle.pubsub_states.specs.Components.{Counts, IsAmong, counts_of, id_of, is
 use Rattle.pubsub_states.specs.Changes.{TreeValue, Changes, Fault, Ready, flags_at, flags_in}
 use Rattle.reader_group.specs.declared.group.ReaderGroup.{ReaderGroup}
 use Rattle.reader_group.specs.Groups.{Stands, IsMadeOf, reader_count}
-use Rattle.reader_group.specs.Plain.{Event, PlainGroup, Setting, plain, member_at}
-use Rattle.reader_group.specs.Settings.{group_at, no_group, setting_of}
+use Rattle.reader_group.specs.Plain.{PlainGroup, Setting, member_at}
+use Rattle.reader_group.specs.Settings.{group_at, no_group}
+use Rattle.session_model.specs.Lives.{late_in, ready_in}
+use Rattle.session_model.specs.Readings.{Reading, setting_in}
 use Rattle.writer_group.specs.Standing.{IsGood}
 use Rattle.session_parts.specs.declared.subscriber.Subscriber.{Subscriber}
-use Rattle.session_parts.specs.Standing.{HaveReadAll}
-use Rattle.session_parts.specs.Pumping.{TellsGroup, TellsReader, TellsReaders, late_at, ready_at}
+use Rattle.session_parts.specs.Standing.{HaveReadings}
+use Rattle.session_parts.specs.Pumping.{TellsGroup, TellsReader, TellsReaders}
 use Rattle.session_parts.proofs.Telling.{AreInOrder, fault-own, fault-other, same-component}
 
 ready-own : (mid new : TreeValue) (e : Component) (id : ℕ) (on : Bool) → id ≡ id_of mid.counts e → Changes (Ready id on) mid new
@@ -96,12 +98,12 @@ group-more group r n old mid new own_there all_there tells so_far = record {
 
 pub record ToldTo (config : Config) (groups : List ReaderGroup) (n : ℕ) (old new : TreeValue) : Type 0 where
   pub counts : new.counts ≡ old.counts
-  pub readers : (befell : ℕ → List Event) (r i : ℕ) → HaveReadAll config befell groups → r < n → IsAmong old.counts (Reader r i)
-      → flags_in new (Reader r i) ≡ record { enabled = (flags_in old (Reader r i)).enabled; fault = late_at config befell r i; ready = ready_at config befell r i }
+  pub readers : (readings : ℕ → Reading) (r i : ℕ) → HaveReadings config readings groups → r < n → IsAmong old.counts (Reader r i)
+      → flags_in new (Reader r i) ≡ record { enabled = (flags_in old (Reader r i)).enabled; fault = late_in readings r i; ready = ready_in readings r i }
   pub others : (component : Component) → IsAmong old.counts component → ((r i : ℕ) → r < n → component ≢ Reader r i) → flags_in new component ≡ flags_in old component
 
 pub told-none : (config : Config) (groups : List ReaderGroup) (tree : TreeValue) → ToldTo config groups 0 tree tree
-told-none config groups tree = record { counts = refl; readers = λ befell r i read low. absurd (omega (arith, low)); others = λ c among apart. refl }
+told-none config groups tree = record { counts = refl; readers = λ readings r i read low. absurd (omega (arith, low)); others = λ c among apart. refl }
 
 among-low : (config : Config) (counts : Counts) (r i : ℕ) → counts ≡ counts_of config → r < length config.readgroup → IsAmong counts (Reader r i) → i < length (group_at config r).reader
 among-low config counts r i is low among =
@@ -117,32 +119,32 @@ pub told-more : (config : Config) (groups : List ReaderGroup) (n : ℕ) (group :
     → group ≡ get_or groups n group → TellsGroup group n (length (group_at config n).reader) mid new → ToldTo config groups n old mid → ToldTo config groups (n + 1) old new
 told-more config groups n group old mid new is low at tells so_far = record {
   counts = tells.counts ∙ so_far.counts;
-  readers = λ befell r i read below among. by_case befell r i read below among (eqb_tells n r);
+  readers = λ readings r i read below among. by_case readings r i read below among (eqb_tells n r);
   others = λ c among apart. tells.others c (forth c among) (λ i below. apart n i (omega arith)) ∙ so_far.others c among (λ r i below. apart r i (omega (arith, below)));
 }
   where
     forth : (c : Component) → IsAmong old.counts c → IsAmong mid.counts c
     forth c among = subst (λ (n : Counts). IsAmong n c) (sym so_far.counts) among
 
-    own : (befell : ℕ → List Event) (i : ℕ) → HaveReadAll config befell groups → IsAmong old.counts (Reader n i)
-        → flags_in new (Reader n i) ≡ record { enabled = (flags_in old (Reader n i)).enabled; fault = late_at config befell n i; ready = ready_at config befell n i }
-    own befell i read among =
+    own : (readings : ℕ → Reading) (i : ℕ) → HaveReadings config readings groups → IsAmong old.counts (Reader n i)
+        → flags_in new (Reader n i) ≡ record { enabled = (flags_in old (Reader n i)).enabled; fault = late_in readings n i; ready = ready_in readings n i }
+    own readings i read among =
         let within : i < length (group_at config n).reader = among-low config old.counts n i is low among in
-        tells.readers i within (setting_of config n) (plain (setting_of config n) (befell n))
-        (subst (λ (g : ReaderGroup). Stands (setting_of config n) (plain (setting_of config n) (befell n)) g) (sym at) (read n low group))
-        ∙ ap (λ (f : Flags). record { enabled = f.enabled; fault = late_at config befell n i; ready = ready_at config befell n i })
+        tells.readers i within (setting_in config n (readings n)) (readings n).value
+        (subst (λ (g : ReaderGroup). Stands (setting_in config n (readings n)) (readings n).value g) (sym at) (read n low group))
+        ∙ ap (λ (f : Flags). record { enabled = f.enabled; fault = late_in readings n i; ready = ready_in readings n i })
         (so_far.others (Reader n i) among (λ r k below same. let e : n ≡ r = cc in omega (arith, e, below)))
 
-    by_case : (befell : ℕ → List Event) (r i : ℕ) → HaveReadAll config befell groups → r < n + 1 → IsAmong old.counts (Reader r i)
+    by_case : (readings : ℕ → Reading) (r i : ℕ) → HaveReadings config readings groups → r < n + 1 → IsAmong old.counts (Reader r i)
         → ((n == r) ≡ true) × (n ≡ r) ⊎ ((n == r) ≡ false) × (n ≢ r)
-        → flags_in new (Reader r i) ≡ record { enabled = (flags_in old (Reader r i)).enabled; fault = late_at config befell r i; ready = ready_at config befell r i }
-    by_case befell r i read below among (inl same) =
-        subst (λ (k : ℕ). flags_in new (Reader k i) ≡ record { enabled = (flags_in old (Reader k i)).enabled; fault = late_at config befell k i; ready = ready_at config befell k i }) same.1
-        (own befell i read (subst (λ (k : ℕ). IsAmong old.counts (Reader k i)) (sym same.1) among))
-    by_case befell r i read below among (inr other) =
+        → flags_in new (Reader r i) ≡ record { enabled = (flags_in old (Reader r i)).enabled; fault = late_in readings r i; ready = ready_in readings r i }
+    by_case readings r i read below among (inl same) =
+        subst (λ (k : ℕ). flags_in new (Reader k i) ≡ record { enabled = (flags_in old (Reader k i)).enabled; fault = late_in readings k i; ready = ready_in readings k i }) same.1
+        (own readings i read (subst (λ (k : ℕ). IsAmong old.counts (Reader k i)) (sym same.1) among))
+    by_case readings r i read below among (inr other) =
         let before : r < n = omega (arith, below, other.1) in
         tells.others (Reader r i) (forth (Reader r i) among) (λ k within same. let e : n ≡ r = cc in omega (arith, e, before))
-        ∙ so_far.readers befell r i read before among
+        ∙ so_far.readers readings r i read before among
 
 below : (counts : List ℕ) (r i : ℕ) → i < slice_index counts r → r < length counts
 below [] r i within = absurd (omega (arith, within))
@@ -152,7 +154,7 @@ below (x ∷ counts) (suc r) i within = omega (arith, below counts r i within)
 pub told-all : (config : Config) (subscriber : Subscriber) (n : ℕ) (old new : TreeValue) → old.counts ≡ counts_of config → n ≡ length config.readgroup
     → ToldTo config subscriber.groups.items n old new → TellsReaders config subscriber old new
 told-all config subscriber n old new is all told = record {
-  readers = λ befell r i read among. told.readers befell r i read (omega (arith, low r i among, all)) among;
+  readers = λ readings r i read among. told.readers readings r i read (omega (arith, low r i among, all)) among;
   others = λ c among other. told.others c among (λ r i below same. not_reader c r i other same);
 }
   where

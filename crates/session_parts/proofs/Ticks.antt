@@ -13,9 +13,9 @@ use Rattle.pubsub_states.specs.declared.component.Component.TheVariants.{Group a
 use Rattle.pubsub_states.specs.Changes.{TreeValue}
 use Rattle.writer_group.specs.declared.group.Group.{Group}
 use Rattle.writer_group.specs.Standing.{MayGoOn, metas_for}
-use Rattle.session_model.specs.Deeds.{Deed, CameTo, deeds, group_indexes, is_rekeyed, rekeyed, turned_on}
+use Rattle.session_model.specs.Deeds.{Deed, CameTo, group_indexes, is_rekeyed, rekeyed, turned_on}
 use Rattle.writer_group.specs.Parts.{group_at}
-use Rattle.session_model.specs.Sends.{Send, last_sends, last_failed, send_entries, journal}
+use Rattle.session_model.specs.Sends.{Send, last_sends, last_failed, send_entries}
 use Rattle.session_parts.specs.declared.publisher.Publisher.{Publisher}
 use Rattle.session_parts.specs.Ticking.{TickData, GoesOnAt, HasPassed, Holds, deeds_to, IsAt, NoneFailedFrom, OthersStay, TakesPart, TellsSoFar, begun, now_of}
 use Rattle.session_model.proofs.Sending.{silent-all}
@@ -26,7 +26,7 @@ use Rattle.session_parts.proofs.Passed.{fewer}
 pub none-sent : (t : TickData) → last_sends (begun t) ≡ []
 none-sent t =
     let config = t.plan.config in
-    let earlier = deeds t.plan t.before in
+    let earlier = t.account.deeds in
     silent-all (λ g. is_rekeyed config (now_of t) earlier g) (λ g. GroupOf g) (group_indexes config) (CameTo (now_of t) ∷ earlier)
 
 pub passed-none : (t : TickData) (publisher : Publisher) (tree : TreeValue) (told : Option LinkState) → IsAt t (begun t) [] publisher tree
@@ -36,7 +36,7 @@ passed-none t publisher tree told at = record {
   at = at;
   none_failed = λ h low. ap (λ (l : List Send). last_failed h (zip l [])) (none-sent t);
   holds = λ g low. absurd (omega (arith, low));
-  tells = λ run link is. run link is ∙ sym (ap (λ (l : List Send). journal t.plan t.before ++ send_entries l []) (none-sent t) ∙ append-nil (journal t.plan t.before));
+  tells = λ run link is. run link is ∙ sym (ap (λ (l : List Send). t.account.journal ++ send_entries l []) (none-sent t) ∙ append-nil (t.account.journal));
 }
 
 pub passed-more : (t : TickData) (n : ℕ) (old new : Publisher) (tree after : TreeValue) (told mid last : Option LinkState)
@@ -50,7 +50,7 @@ passed-more t n old new tree after told mid last h passes = record {
 }
   where
     more : deeds_to t (n + 1) ≡ turned_on t.plan t.before (now_of t) t.closing t.samples (deeds_to t n) n
-    more = fold-more (turned_on t.plan t.before (now_of t) t.closing t.samples) (rekeyed t.plan.config (now_of t) (deeds t.plan t.before)) n
+    more = fold-more (turned_on t.plan t.before (now_of t) t.closing t.samples) (rekeyed t.plan.config (now_of t) t.account.deeds) n
 
     by_case : (g : ℕ) → g < n + 1 → ((n == g) ≡ true) × (n ≡ g) ⊎ ((n == g) ≡ false) × (n ≢ g) → Holds t (deeds_to t g) g
     by_case g below (inl same) = subst (λ (k : ℕ). Holds t (deeds_to t k) k) same.1 passes.holds

@@ -18,7 +18,7 @@ use Rattle.writer_group.specs.Standing.{IsGroup, metas_for}
 use Rattle.writer_group.specs.Turns.{GroupTurn, GroupDeed, HadGroupTurn}
 use Rattle.session_model.specs.Deeds.{Deed, TookTurn, advanced_if, group_past, is_spent, sender_after}
 use Rattle.writer_group.specs.Parts.{group_at}
-use Rattle.session_model.specs.Sends.{last_sends, sends_by, send_entries, is_done_by, journal, failing_after, last_failed}
+use Rattle.session_model.specs.Sends.{last_sends, sends_by, send_entries, is_done_by, failing_after, last_failed}
 use Rattle.session_model.specs.Answers.{counted}
 use Rattle.session_model.proofs.Sending.{zip-append, entries-append, count-append, count-cons, failed-append}
 use Rattle.session_parts.specs.declared.sends.GroupSends.{GroupSends}
@@ -168,7 +168,7 @@ pub tells-turned : (t : TickData) (g : ℕ) (turn : GroupTurn) (so_far : List De
 tells-turned t g turn so_far done more told after sent tells so link is =
     let at : Tells told (Some link) (λ x y. y.journal ≡ x.journal ++ send_entries (sends_by g turn.made) more)
     = subst (λ (o : Option LinkState). Tells told o (λ x y. y.journal ≡ x.journal ++ send_entries (sends_by g turn.made) more)) is tells in
-    at.2 ∙ ap (λ l. l ++ send_entries (sends_by g turn.made) more) (so at.0 at.1) ∙ entries-turned (journal t.plan t.before) g turn so_far done more sent
+    at.2 ∙ ap (λ l. l ++ send_entries (sends_by g turn.made) more) (so at.0 at.1) ∙ entries-turned t.account.journal g turn so_far done more sent
 
 -- ---- spent senders
 

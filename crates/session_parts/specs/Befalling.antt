@@ -7,9 +7,10 @@ use Rattle.pubsub_model.specs.declared.reading.Why.TheVariants.{Restarted}
 use Rattle.pubsub_states.specs.declared.component.Component.{Component}
 use Rattle.reader_group.specs.declared.group.ReaderGroup.{ReaderGroup}
 use Rattle.reader_group.specs.Groups.{IsMadeOf, Stands as ReadingStands}
-use Rattle.reader_group.specs.Plain.{Event, Expired, Setting, Stopped, plain}
+use Rattle.reader_group.specs.Plain.{Event, Expired, PlainGroup, Setting, Stopped}
 use Rattle.reader_group.specs.Settings.{group_at}
 use Rattle.session_model.specs.Events.{stopped_below}
+use Rattle.session_model.specs.Readings.{Reading, read_on}
 use Rattle.session_parts.specs.declared.subscriber.Subscriber.{Subscriber}
 use Rattle.session_parts.specs.Holding.{HoldSubscriber}
 use Rattle.session_parts.specs.Standing.{HaveReadAll}
@@ -23,14 +24,15 @@ StillHold old new = (config : Config) → HoldSubscriber config old → HoldSubs
 -- a look at the timers at this moment befell each read group besides
 abbrev pub HaveExpired : ℕ → Subscriber → Subscriber → Type 0
 HaveExpired moment old new =
-    (config : Config) (befell : ℕ → List Event) → HoldSubscriber config old → HaveReadAll config befell old.groups.items
-    → HaveReadAll config (λ r. Expired moment ∷ befell r) new.groups.items
+    (config : Config) (from : ℕ → Reading) (befell : ℕ → List Event) → HoldSubscriber config old
+    → HaveReadAll config from befell old.groups.items
+    → HaveReadAll config from (λ r. Expired moment ∷ befell r) new.groups.items
 
 -- cuts of the readers at or below the component befell each read group besides
 abbrev pub HaveStoppedBelow : Config → Component → Subscriber → Subscriber → Type 0
 HaveStoppedBelow config component old new =
-    (befell : ℕ → List Event) → HaveReadAll config befell old.groups.items
-    → HaveReadAll config (λ r. stopped_below config r component (befell r)) new.groups.items
+    (from : ℕ → Reading) (befell : ℕ → List Event) → HaveReadAll config from befell old.groups.items
+    → HaveReadAll config from (λ r. stopped_below config r component (befell r)) new.groups.items
 
 -- ---- one read group
 
@@ -42,12 +44,12 @@ StaysMadeOf old new = (config : Config) → IsMadeOf config old → IsMadeOf con
 -- take its plain reading
 abbrev pub IsStoppedBelow : Component → ℕ → ReadGroupPart → ReaderGroup → ReaderGroup → Type 0
 IsStoppedBelow component r part old new =
-    (config : Config) (setting : Setting) (befell : List Event) → part ≡ group_at config r
-    → ReadingStands setting (plain setting befell) old
-    → ReadingStands setting (plain setting (stopped_below config r component befell)) new
+    (config : Config) (setting : Setting) (value : PlainGroup) (befell : List Event) → part ≡ group_at config r
+    → ReadingStands setting (read_on setting value befell) old
+    → ReadingStands setting (read_on setting value (stopped_below config r component befell)) new
 
 -- the read group is where a cut of this reader takes its plain reading where the truth value tells of one, and else where it was
 abbrev pub IsStoppedIf : Bool → ℕ → ReaderGroup → ReaderGroup → Type 0
 IsStoppedIf is_stopped reader old new =
-    (setting : Setting) (befell : List Event) → ReadingStands setting (plain setting befell) old
-    → ReadingStands setting (plain setting (cons_if is_stopped (Stopped reader Restarted) befell)) new
+    (setting : Setting) (value : PlainGroup) (befell : List Event) → ReadingStands setting (read_on setting value befell) old
+    → ReadingStands setting (read_on setting value (cons_if is_stopped (Stopped reader Restarted) befell)) new

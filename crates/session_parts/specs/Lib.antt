@@ -4,3 +4,5 @@ pub mod Refreshed
 pub mod Ticking
 pub mod Pumping
 pub mod Befalling
+pub mod Showing
+pub mod Renewing

@@ -9,21 +9,22 @@ use Rattle.pubsub_states.specs.declared.component.Component.TheVariants.{Root, C
 use Rattle.pubsub_states.specs.Components.{counts_of, is_reader, IsAmong}
 use Rattle.pubsub_states.specs.Changes.{TreeValue, flags_in}
 use Rattle.pubsub_states.specs.States.{state_of, is_operational}
-use Rattle.reader_group.specs.Plain.{Event, PlainGroup, Setting, plain, member_at}
+use Rattle.reader_group.specs.Plain.{Event, PlainGroup, Setting, member_at}
 use Rattle.reader_group.specs.Groups.{Stands as ReadingStands}
 use Rattle.reader_group.specs.declared.group.ReaderGroup.{ReaderGroup}
-use Rattle.reader_group.specs.Settings.{setting_of}
-use Rattle.session_model.specs.Steps.{Step, Pump, moment_of, is_on}
+use Rattle.session_model.specs.Steps.{Step, moment_of, is_on}
 use Rattle.session_model.specs.Counts.{longest_datagram, most_taken}
 use Rattle.session_model.specs.Sends.{IsPump}
-use Rattle.session_model.specs.Events.{events, got_on, readers_on, receives, switch_flags}
+use Rattle.session_model.specs.Events.{got_all, got_on, readers_on, receives, switch_flags}
+use Rattle.session_model.specs.Lives.{late_in, ready_in}
+use Rattle.session_model.specs.Readings.{Reading}
 use Rattle.session_model.specs.Answers.{counted}
 use Rattle.session_model.specs.Closing.{is_datagram, is_got, is_broken, is_long}
 use Rattle.session_parts.specs.declared.subscriber.Subscriber.{Subscriber}
 use Rattle.session_parts.specs.declared.receiving.Receiving.{Receiving}
 use Rattle.writer_group.specs.Standing.{IsGood}
 use Rattle.session_parts.specs.Holding.{HoldSubscriber}
-use Rattle.session_parts.specs.Standing.{HaveReadAll, HaveTalliedAll}
+use Rattle.session_parts.specs.Standing.{HaveReadAll, HaveReadings, HaveTalliedAll}
 
 -- the entry of a receive into a buffer for the longest datagram
 abbrev pub IsReceive : Entry → Type 0
@@ -40,9 +41,9 @@ brought config before entry r befell =
     if receives config before r then got_on (moment_of before) (readers_on config before r) befell entry else befell
 
 -- each read group and its tally once this befell them
-pub record HaveGot (config : Config) (befell : ℕ → List Event) (subscriber : Subscriber) : Type 0 where
-  pub readings : HaveReadAll config befell subscriber.groups.items
-  pub tallies : HaveTalliedAll config befell subscriber.tallies.items
+pub record HaveGot (config : Config) (from : ℕ → Reading) (befell : ℕ → List Event) (subscriber : Subscriber) : Type 0 where
+  pub readings : HaveReadAll config from befell subscriber.groups.items
+  pub tallies : HaveTalliedAll config from befell subscriber.tallies.items
 
 -- the tree tells which components the script's switches left enabled; root, connection and read groups have no fault and are ready
 pub record HasSwitches (config : Config) (before : List Step) (tree : TreeValue) : Type 0 where
@@ -78,8 +79,8 @@ with_brought config before datagram r befell q =
 -- a datagram was handed to this read group
 abbrev pub Hands : Config → TreeValue → ℕ → ℕ → List ℕ → Subscriber → Subscriber → Type 0
 Hands config tree moment r datagram old new =
-    (before : List Step) (befell : ℕ → List Event) → HasSwitches config before tree → moment ≡ moment_of before
-    → HaveGot config befell old → HaveGot config (with_brought config before datagram r befell) new
+    (before : List Step) (from : ℕ → Reading) (befell : ℕ → List Event) → HasSwitches config before tree → moment ≡ moment_of before
+    → HaveGot config from befell old → HaveGot config from (with_brought config before datagram r befell) new
 
 -- no receive is counted
 abbrev pub HasNoCounts : Receiving → Type 0
@@ -96,8 +97,8 @@ pub record Counts (entry : Entry) (old new : Receiving) : Type 0 where
 -- what a receive brought was handed on to the read groups
 abbrev pub HandsOn : Config → Entry → TreeValue → ℕ → Subscriber → Subscriber → Type 0
 HandsOn config entry tree moment subscriber after =
-    (before : List Step) (befell : ℕ → List Event) → HasSwitches config before tree → moment ≡ moment_of before
-    → HaveGot config befell subscriber → HaveGot config (λ r. brought config before entry r (befell r)) after
+    (before : List Step) (from : ℕ → Reading) (befell : ℕ → List Event) → HasSwitches config before tree → moment ≡ moment_of before
+    → HaveGot config from befell subscriber → HaveGot config from (λ r. brought config before entry r (befell r)) after
 
 -- one receive: its entry is told, and counted, and handed on
 pub record Receives (config : Config) (entry : Entry) (old new : Receiving) (subscriber after : Subscriber) (tree : TreeValue) (moment : ℕ) : Type 0 where
@@ -112,8 +113,8 @@ pub record Pumps (config : Config) (entries : List Entry) (old new : Receiving) 
   pub broken : (n : ℕ) → old.broken ≡ counted n → new.broken ≡ counted (n + count_by is_broken entries)
   pub long : (n : ℕ) → old.long ≡ counted n → new.long ≡ counted (n + count_by is_long entries)
   pub limit : (n : ℕ) → old.limit ≡ counted n → new.limit ≡ counted (n + (if count_by is_datagram entries == most_taken then 1 else 0))
-  pub hands_on : (before : List Step) → HasSwitches config before tree → moment ≡ moment_of before
-      → HaveGot config (λ r. events config r before) subscriber → HaveGot config (λ r. events config r (Pump entries ∷ before)) after
+  pub hands_on : (before : List Step) (from : ℕ → Reading) (befell : ℕ → List Event) → HasSwitches config before tree → moment ≡ moment_of before
+      → HaveGot config from befell subscriber → HaveGot config from (λ r. got_all config before r entries (befell r)) after
 
 -- one receive, and what the link tells of it; the answer is whether a datagram was taken
 abbrev pub ReceivesOne : Config → TreeValue → ℕ → Bool → Receiving → Receiving → Subscriber → Subscriber → Option LinkState → Option LinkState → Type 0
@@ -130,15 +131,9 @@ pub record PumpsTo (config : Config) (tree : TreeValue) (moment taken : ℕ) (ol
 
 -- ---- what the tree is told of readers
 
-abbrev pub late_at : Config → (ℕ → List Event) → ℕ → ℕ → Bool
-late_at config befell r i = (member_at (plain (setting_of config r) (befell r)).members i).late
-
-abbrev pub ready_at : Config → (ℕ → List Event) → ℕ → ℕ → Bool
-ready_at config befell r i = (member_at (plain (setting_of config r) (befell r)).members i).ready
-
 pub record TellsReaders (config : Config) (subscriber : Subscriber) (old new : TreeValue) : Type 0 where
-  pub readers : (befell : ℕ → List Event) (r i : ℕ) → HaveReadAll config befell subscriber.groups.items → IsAmong old.counts (Reader r i)
-      → flags_in new (Reader r i) ≡ record { enabled = (flags_in old (Reader r i)).enabled; fault = late_at config befell r i; ready = ready_at config befell r i }
+  pub readers : (readings : ℕ → Reading) (r i : ℕ) → HaveReadings config readings subscriber.groups.items → IsAmong old.counts (Reader r i)
+      → flags_in new (Reader r i) ≡ record { enabled = (flags_in old (Reader r i)).enabled; fault = late_in readings r i; ready = ready_in readings r i }
   pub others : (component : Component) → IsAmong old.counts component → is_reader component ≡ false → flags_in new component ≡ flags_in old component
 
 -- the tree has whether this reader is late and whether it is ready; else it is as it was

@@ -13,16 +13,15 @@ use Rattle.reader_group.specs.declared.refusal.Taken.{Taken}
 use Rattle.reader_group.specs.declared.refusal.Refusal.{Refusal}
 use Rattle.reader_group.specs.declared.group.ReaderGroup.{ReaderGroup}
 use Rattle.reader_group.specs.Groups.{Stands as ReadingStands}
-use Rattle.reader_group.specs.Plain.{Event, plain}
-use Rattle.reader_group.specs.Settings.{setting_of}
+use Rattle.reader_group.specs.Plain.{Event}
 use Rattle.writer_group.specs.declared.group.Group.{Group}
 use Rattle.writer_group.specs.Standing.{IsGroup, metas_for}
 use Rattle.session_model.specs.Steps.{Plan, Step}
 use Rattle.session_model.specs.Deeds.{Deed, deeds, group_past, sender_after}
 use Rattle.writer_group.specs.Parts.{group_at}
 use Rattle.session_model.specs.Sends.{sent_by, is_failing}
-use Rattle.session_model.specs.Events.{events}
-use Rattle.session_model.specs.Answers.{answers, counted, taken_by, causes_by}
+use Rattle.session_model.specs.Answers.{counted, taken_by, causes_by}
+use Rattle.session_model.specs.Readings.{Reading, goes_on, reading_at, setting_in}
 use Rattle.session_model.specs.Closing.{is_sent, is_send_failed, is_got, is_broken, is_long, limits}
 use Rattle.session_parts.specs.declared.sends.GroupSends.{GroupSends}
 use Rattle.session_parts.specs.declared.sends.LinkSends.{LinkSends}
@@ -46,9 +45,13 @@ pub record IsOfGroup (done : ℕ) (failing : Bool) (sends : GroupSends) : Type 0
   pub done_are : sends.done ≡ counted done
   pub failing_is : sends.is_failing ≡ failing
 
+-- each group's sends ended so
+abbrev pub HaveOutcomesOf : Config → (ℕ → ℕ) → (ℕ → Bool) → List GroupSends → Type 0
+HaveOutcomesOf config sent failing sends =
+    (g : ℕ) → g < length config.group → HoldsAt (IsOfGroup (sent g) (failing g)) sends g
+
 abbrev pub HaveOutcomes : Plan → List Step → List GroupSends → Type 0
-HaveOutcomes p steps sends =
-    (g : ℕ) → g < length p.config.group → HoldsAt (IsOfGroup (sent_by p g steps) (is_failing p g steps)) sends g
+HaveOutcomes p steps sends = HaveOutcomesOf p.config (λ g. sent_by p g steps) (λ g. is_failing p g steps) sends
 
 -- the sends that a journal has
 pub record AreSendsIn (entries : List Entry) (sends : LinkSends) : Type 0 where
@@ -57,24 +60,32 @@ pub record AreSendsIn (entries : List Entry) (sends : LinkSends) : Type 0 where
 
 -- ---- the subscriber
 
--- each read group is where the plain reading of what befell it is
-abbrev pub HaveReadAll : Config → (ℕ → List Event) → List ReaderGroup → Type 0
-HaveReadAll config befell groups =
-    (r : ℕ) → r < length config.readgroup → HoldsAt (ReadingStands (setting_of config r) (plain (setting_of config r) (befell r))) groups r
+-- each read group stands so
+abbrev pub HaveReadings : Config → (ℕ → Reading) → List ReaderGroup → Type 0
+HaveReadings config readings groups =
+    (r : ℕ) → r < length config.readgroup → HoldsAt (ReadingStands (setting_in config r (readings r)) (readings r).value) groups r
 
+-- where it stood so, once these befell it
+abbrev pub HaveReadAll : Config → (ℕ → Reading) → (ℕ → List Event) → List ReaderGroup → Type 0
+HaveReadAll config from befell groups = HaveReadings config (λ r. goes_on config r (from r) (befell r)) groups
+
+-- each read group is where the plain reading of what befell it is
 abbrev pub HaveRead : Config → List Step → List ReaderGroup → Type 0
-HaveRead config steps groups = HaveReadAll config (λ r. events config r steps) groups
+HaveRead config steps groups = HaveReadings config (reading_at config steps) groups
 
 pub record IsTallyOf (answers : List (Result Taken Refusal)) (tally : Tally) : Type 0 where
   pub taken : tally.taken ≡ taken_by answers
   pub causes : tally.causes ≡ causes_by answers
 
-abbrev pub HaveTalliedAll : Config → (ℕ → List Event) → List Tally → Type 0
-HaveTalliedAll config befell tallies =
-    (r : ℕ) → r < length config.readgroup → HoldsAt (IsTallyOf (answers (setting_of config r) (befell r))) tallies r
+-- each tally is that of the answers
+abbrev pub HaveTallies : Config → (ℕ → Reading) → List Tally → Type 0
+HaveTallies config readings tallies = (r : ℕ) → r < length config.readgroup → HoldsAt (IsTallyOf (readings r).answered) tallies r
+
+abbrev pub HaveTalliedAll : Config → (ℕ → Reading) → (ℕ → List Event) → List Tally → Type 0
+HaveTalliedAll config from befell tallies = HaveTallies config (λ r. goes_on config r (from r) (befell r)) tallies
 
 abbrev pub HaveTallied : Config → List Step → List Tally → Type 0
-HaveTallied config steps tallies = HaveTalliedAll config (λ r. events config r steps) tallies
+HaveTallied config steps tallies = HaveTallies config (reading_at config steps) tallies
 
 -- the receives that a journal has, and the pumps that ended at their limit
 pub record AreReceivesIn (entries : List Entry) (steps : List Step) (receiving : Receiving) : Type 0 where

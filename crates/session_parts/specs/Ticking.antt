@@ -24,12 +24,12 @@ use Rattle.writer_group.specs.Turns.{GroupTurn, GroupDeed}
 use Rattle.writer_group.specs.declared.sampled.Sampled.{Sampled}
 use Rattle.session_model.specs.Steps.{Plan, Step, Tick, moment_of, is_on}
 use Rattle.session_model.specs.Sets.{metas_at, rows_at}
-use Rattle.session_model.specs.Deeds.{Deed, TookTurn, deeds, group_past, opening_sender, turn_input, turn_of, rekeyed, turned_on, is_spent, has_turn}
+use Rattle.session_model.specs.Deeds.{Deed, TookTurn, group_past, opening_sender, turn_input, turn_of, rekeyed, tick_deeds, turned_on, is_spent, has_turn}
 use Rattle.writer_group.specs.Parts.{group_at}
-use Rattle.session_model.specs.Turns.{HoldsIfTurned, deeds_before}
-use Rattle.session_model.specs.Sends.{Send, TellsRun, last_sends, sends_by, sends_of, send_entries, is_done_by, failing_after, last_failed, journal, sent_by}
-use Rattle.session_model.specs.Events.{reader_at}
-use Rattle.session_model.specs.States.{is_ready}
+use Rattle.session_model.specs.Turns.{HoldsIfTurned, deeds_till}
+use Rattle.session_model.specs.Sends.{Send, TellsJournal, last_sends, sends_by, send_entries, is_done_by, failing_after, last_failed}
+use Rattle.session_model.specs.Lives.{Account, account_of, is_ready_by, late_in, stepped}
+use Rattle.session_model.specs.Readings.{Reading}
 use Rattle.session_model.specs.Answers.{counted}
 use Rattle.session_parts.specs.declared.publisher.Publisher.{Publisher}
 use Rattle.session_parts.specs.declared.publisher.Told.{Told}
@@ -38,10 +38,11 @@ use Rattle.reader_group.specs.Settings.{no_keygroup}
 use Rattle.session_parts.specs.Holding.{HoldPublisher, MayAllGoOn}
 use Rattle.session_parts.specs.Standing.{HavePast, HaveSent, IsOfGroup, AreSendsIn, HasFlags}
 
--- a tick behind these steps
+-- a tick behind these steps, of which this became
 pub record TickData : Type 0 where
   pub plan : Plan
   pub before : List Step
+  pub account : Account
   pub ms : ℕ
   pub closing : Bool
   pub samples : List Sampled
@@ -51,7 +52,7 @@ now_of t = moment_of t.before + t.ms
 
 -- what the publisher did once its senders came to the moment
 abbrev pub begun : TickData → List Deed
-begun t = rekeyed t.plan.config (now_of t) (deeds t.plan t.before)
+begun t = rekeyed t.plan.config (now_of t) t.account.deeds
 
 -- these deeds, with the turn of one group more, if it has one
 abbrev pub turned : TickData → List Deed → ℕ → List Deed
@@ -111,19 +112,27 @@ pub record ClearsSends (old new : List GroupSends) : Type 0 where
 
 -- ---- a moment within the tick
 
+-- what became of the session with the tick
+abbrev pub account_after : TickData → List Bool → Account
+account_after t done = stepped t.plan t.before t.account (Tick t.ms t.closing t.samples done)
+
+-- where it leaves the read groups
+abbrev pub readings_in : TickData → List Bool → ℕ → Reading
+readings_in t done = (account_after t done).readings
+
 abbrev pub faults_in : TickData → List Deed → List Bool → Component → Bool
 faults_in t so_far done Root = false
 faults_in t so_far done Connection = false
 faults_in t so_far done (Group g) = last_failed g (zip (last_sends so_far) done) || is_spent t.plan.config g so_far
 faults_in t so_far done (Writer g w) = false
 faults_in t so_far done (ReadGroup r) = false
-faults_in t so_far done (Reader r i) = (reader_at t.plan.config r i (Tick t.ms t.closing t.samples done ∷ t.before)).late
+faults_in t so_far done (Reader r i) = late_in (readings_in t done) r i
 
 abbrev pub flags_in_tick : TickData → List Deed → List Bool → Component → Flags
 flags_in_tick t so_far done component = record {
   enabled = is_on t.plan.config t.before component;
   fault = faults_in t so_far done component;
-  ready = is_ready t.plan (Tick t.ms t.closing t.samples done ∷ t.before) component;
+  ready = is_ready_by (readings_in t done) component;
 }
 
 -- the publisher and the tree once it did these deeds, whose sends ended so
@@ -132,9 +141,9 @@ pub record IsAt (t : TickData) (so_far : List Deed) (done : List Bool) (publishe
   pub groups : HavePast t.plan.config (metas_at t.plan.config t.before) so_far publisher.groups.items
   pub senders : HaveSent t.plan.config so_far publisher.senders.items
   pub outcomes : (g : ℕ) → g < length t.plan.config.group → HoldsAt (IsOfGroup
-      (sent_by t.plan g t.before + count_by (is_done_by g) (zip (last_sends so_far) done)) (last_failed g (zip (last_sends so_far) done)))
+      (t.account.sent g + count_by (is_done_by g) (zip (last_sends so_far) done)) (last_failed g (zip (last_sends so_far) done)))
       publisher.sends.items g
-  pub link : AreSendsIn (journal t.plan t.before ++ send_entries (last_sends so_far) done) publisher.link
+  pub link : AreSendsIn (t.account.journal ++ send_entries (last_sends so_far) done) publisher.link
   pub flags : HasFlags (flags_in_tick t so_far done) tree
 
 -- the groups from this one on had no send yet that failed
@@ -144,7 +153,7 @@ NoneFailedFrom g so_far done = (h : ℕ) → g ≤ h → last_failed h (zip (las
 -- what the link tells within the tick
 abbrev pub TellsSoFar : TickData → List Deed → List Bool → Option LinkState → Type 0
 TellsSoFar t so_far done told =
-    (link : LinkState) → told ≡ Some link → link.journal ≡ journal t.plan t.before ++ send_entries (last_sends so_far) done
+    (link : LinkState) → told ≡ Some link → link.journal ≡ t.account.journal ++ send_entries (last_sends so_far) done
 
 -- what all turns are told is that of the tick
 pub record IsToldOf (t : TickData) (told : Told) : Type 0 where
@@ -296,7 +305,7 @@ AreWritersOn tree g count on =
 
 -- what the first n groups did
 abbrev pub deeds_to : TickData → ℕ → List Deed
-deeds_to t n = deeds_before t.plan t.before (now_of t) t.closing t.samples n
+deeds_to t n = deeds_till t.plan t.before (now_of t) t.closing t.samples t.account.deeds n
 
 -- the groups before this one had their turns
 pub record HasPassed (t : TickData) (n : ℕ) (publisher : Publisher) (tree : TreeValue) (told after : Option LinkState) : Type 0 where
@@ -304,7 +313,7 @@ pub record HasPassed (t : TickData) (n : ℕ) (publisher : Publisher) (tree : Tr
   pub at : IsAt t (deeds_to t n) done publisher tree
   pub none_failed : NoneFailedFrom n (deeds_to t n) done
   pub holds : (g : ℕ) → g < n → Holds t (deeds_to t g) g
-  pub tells : TellsRun t.plan t.before told → TellsSoFar t (deeds_to t n) done after
+  pub tells : TellsJournal t.account.journal told → TellsSoFar t (deeds_to t n) done after
 
 -- what the turns of all groups ask for
 pub record MayPassAll (told : Told) (publisher : Publisher) (tree : TreeValue) : Type 0 where
@@ -352,9 +361,17 @@ abbrev pub HaveHalted : Told → Publisher → Publisher → TreeValue → Optio
 HaveHalted told old new tree link after =
     (t : TickData) → IsToldOf t told → IsAt t (begun t) [] old tree → TickHalts t new link after
 
+-- the datagrams of the tick
+abbrev pub tick_sends : Plan → List Step → Account → ℕ → Bool → List Sampled → List Send
+tick_sends p before a ms closing samples = last_sends (tick_deeds p before (moment_of before + ms) closing samples a.deeds)
+
 -- memory ran out at a send of the tick: the first datagrams of the tick were sent, each once, in order, and no further one
-pub record HaltsTick (p : Plan) (before : List Step) (ms : ℕ) (closing : Bool) (samples : List Sampled) (told after : Option LinkState) : Type 0 where
+pub record HaltsTickBehind (p : Plan) (before : List Step) (a : Account) (ms : ℕ) (closing : Bool) (samples : List Sampled) (told after : Option LinkState) : Type 0 where
   pub done : List Bool
-  pub fewer : length done < length (sends_of p (Tick ms closing samples done ∷ before))
-  pub tells : TellsRun p before told → (link : LinkState) → after ≡ Some link
-      → link.journal ≡ journal p before ++ send_entries (sends_of p (Tick ms closing samples done ∷ before)) done
+  pub fewer : length done < length (tick_sends p before a ms closing samples)
+  pub tells : TellsJournal a.journal told → (link : LinkState) → after ≡ Some link
+      → link.journal ≡ a.journal ++ send_entries (tick_sends p before a ms closing samples) done
+
+-- behind steps alone
+abbrev pub HaltsTick : Plan → List Step → ℕ → Bool → List Sampled → Option LinkState → Option LinkState → Type 0
+HaltsTick p before ms closing samples told after = HaltsTickBehind p before (account_of p before) ms closing samples told after

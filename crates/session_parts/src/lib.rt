@@ -5,7 +5,9 @@
 mod making;
 mod publisher;
 mod receiving;
+mod renewing;
 mod sends;
+mod showing;
 mod subscriber;
 mod tally;
 
@@ -13,5 +15,6 @@ pub use making::{publisher_of, sender_of, subscriber_of};
 pub use publisher::{Publisher, Told, group_part, turn_open, turn_secured};
 pub use receiving::Receiving;
 pub use sends::{GroupSends, LinkSends};
+pub use showing::link_end;
 pub use subscriber::{Subscriber, read_group_part};
 pub use tally::Tally;

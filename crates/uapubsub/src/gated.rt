@@ -17,6 +17,14 @@ const TEN_WRITES: &str =
 const FIVE_WRITES: &str =
     "write 0 demo a=1/write 0 demo a=2/write 0 demo a=3/write 0 demo a=4/write 0 demo a=5/tick 100/tick 100/tick 100/tick 100/tick 100/";
 
+/// The same, and three watches of thread 1.
+const WATCHED: &str =
+    "write 0 demo a=1/write 0 demo a=2/write 0 demo a=3/write 0 demo a=4/write 0 demo a=5/tick 100/tick 100/tick 100/tick 100/tick 100/watch 1 r1 3/watch 1 r1 3/watch 1 r1 3/";
+
+/// Twenty ticks, and two threads that look a thousand times each and then once.
+const LOOKED_AT: &str =
+    "watch 1 r1 1000/watch 1 r1 1/watch 2 r1 1000/watch 2 r1 1/tick 100/tick 100/tick 100/tick 100/tick 100/tick 100/tick 100/tick 100/tick 100/tick 100/tick 100/tick 100/tick 100/tick 100/tick 100/tick 100/tick 100/tick 100/tick 100/tick 100/";
+
 fn item(thread: u32, k: u32) -> Item {
     Item { thread, k }
 }
@@ -58,6 +66,30 @@ fn line_of<'t>(report: &'t str, front: &str) -> Option<&'t str> {
         }
     }
     None
+}
+
+/// Whether a report has a line with this text.
+fn has_line(report: &str, line: &str) -> bool {
+    for told in report.split('\n') {
+        if told == line {
+            return true;
+        }
+    }
+    false
+}
+
+/// How many counts of looks there are, if they never fall and none is past this one.
+fn looks_in(counts: &str, most: u64) -> Option<u32> {
+    let (mut looks, mut last) = (0u32, 0u64);
+    for word in counts.split(' ') {
+        let count = word.parse::<u64>().ok()?;
+        if count < last || count > most {
+            return None;
+        }
+        last = count;
+        looks = looks.saturating_add(1);
+    }
+    Some(looks)
 }
 
 /// How often a thread stands in a history.
@@ -132,6 +164,60 @@ fn each_tick_samples_what_is_written_by_then(rt: HostRuntime) -> Result<(), Fail
         line_of(text, "writer w1 "),
         Some("operational 6: 0=1 1=2 2=3 3=4 4=5 5=5")
     );
+    Ok(())
+}
+
+/// The same, and the first watch is made between the first tick and the second, the next between the fourth and the last, and the
+/// third behind that.
+fn holds_with_watches(alloc: Global) -> Result<Vec<(Item, Until)>, Fail> {
+    let mut holds = holds_in_step(alloc)?;
+    for (watch, tick) in [(0u32, 0u32), (1, 3), (2, 4)] {
+        holds.push((item(1, watch), Until::Answered(item(PUBLISHER, tick))))?;
+        holds.push((item(PUBLISHER, tick + 1), Until::Answered(item(1, watch))))?;
+    }
+    Ok(holds)
+}
+
+/// A tick is sampled, sent and received before the gate is called behind it, and each look counts what was received by then.
+#[test]
+fn each_look_counts_the_ticks_before_it(rt: HostRuntime) -> Result<(), Fail> {
+    let order = Order::new(rt.alloc(), holds_with_watches(rt.alloc())?)?;
+    let report = report_of(&rt, rt.alloc(), "run s", WATCHED, &order)?;
+    let text = str::from_utf8(&report).ok().ok_or("no text")?;
+    assert!(&rt;
+        are_once(&order, 0, 5) && are_once(&order, 1, 3) && are_once(&order, PUBLISHER, 5)
+    );
+    assert!(&rt; has_line(text, "watch 1 r1: 1 1 1"));
+    assert!(&rt; has_line(text, "watch 1 r1: 4 4 4"));
+    assert!(&rt; has_line(text, "watch 1 r1: 5 5 5"));
+    Ok(())
+}
+
+/// Two threads and the publisher meet, and each thread's last look is behind the last tick.
+fn holds_of_looks(alloc: Global) -> Result<Vec<(Item, Until)>, Fail> {
+    let mut holds = Vec::new(alloc);
+    holds.push((item(1, 0), Until::Came(item(2, 0))))?;
+    holds.push((item(2, 0), Until::Came(item(1, 0))))?;
+    holds.push((item(PUBLISHER, 0), Until::Came(item(1, 0))))?;
+    holds.push((item(PUBLISHER, 0), Until::Came(item(2, 0))))?;
+    holds.push((item(1, 1), Until::Answered(item(PUBLISHER, 19))))?;
+    holds.push((item(2, 1), Until::Answered(item(PUBLISHER, 19))))?;
+    Ok(holds)
+}
+
+#[test]
+fn two_threads_look_while_ticks_come(rt: HostRuntime) -> Result<(), Fail> {
+    let order = Order::new(rt.alloc(), holds_of_looks(rt.alloc())?)?;
+    let report = report_of(&rt, rt.alloc(), "run s", LOOKED_AT, &order)?;
+    let text = str::from_utf8(&report).ok().ok_or("no text")?;
+    assert_eq!(&rt; order.all_calls(), (24, 24));
+    let first = line_of(text, "watch 1 r1: ").ok_or("no watch")?;
+    let second = line_of(text, "watch 2 r1: ").ok_or("no watch")?;
+    assert_eq!(&rt;
+        (looks_in(first, 20), looks_in(second, 20)),
+        (Some(1000), Some(1000))
+    );
+    assert!(&rt; has_line(text, "watch 1 r1: 20") && has_line(text, "watch 2 r1: 20"));
     Ok(())
 }
 

@@ -7,7 +7,7 @@ use std::thread::yield_now;
 use ua_base::Gate;
 
 /// A thread has so many items at most. The publisher is thread 8.
-const ITEMS: u32 = 8;
+const ITEMS: u32 = 32;
 
 /// An item of a thread, from 0; a tick is an item of thread 8.
 #[derive(Clone, Copy, PartialEq, Eq)]

@@ -74,7 +74,8 @@ fn with_lines(alloc: Global, text: &str) -> Result<Vec<u8>, AllocError> {
 fn link_with(alloc: Global, fails: &str) -> Result<MemoryLink, Fail> {
     let sends = failing(alloc, fails, "send")?;
     let receives = failing(alloc, fails, "receive")?;
-    Ok(MemoryLink::new(alloc, Vec::new(alloc), sends, receives, fails == "open0"))
+    let unopened = fails.split(' ').any(|call| call == "open0");
+    Ok(MemoryLink::new(alloc, Vec::new(alloc), sends, receives, unopened))
 }
 
 fn sink_with(alloc: Global, fails: &str, call: &str) -> Result<MemorySink, Fail> {

@@ -180,6 +180,48 @@ status 5, error output [cannot read s
 $ play s --config c; write 0 demo a=7/ | [publisher]/id = \"u8:5\"/; read1; the script is not read
 status 5, error output [cannot read s
 ]
+$ play s --config c; write 0 demo a=7/tick 100/ | [publisher]/id = \"u8:5\"/[[dataset]]/name = \"demo\"/[[dataset.field]]/name = \"a\"/kind = \"UInt32\"/; out0; the report over a configuration is not written
+status 6, error output []
+$ play s --config c; write 0 demo a=7/tick 100/ | [publisher]/id = \"u8:5\"/[[dataset]]/name = \"demo\"/[[dataset.field]]/name = \"a\"/kind = \"UInt32\"/; read1 err0; the second read fails, and of what is told part 0
+status 5, error output []
+$ play s --config c; write 0 demo a=7/tick 100/ | [publisher]/id = \"u8:5\"/[[dataset]]/name = \"demo\"/[[dataset.field]]/name = \"a\"/kind = \"UInt32\"/; read1 err1; the second read fails, and of what is told part 1
+status 5, error output [cannot read ]
+$ play s --config c; write 0 demo a=7/tick 100/ | [publisher]/id = \"u8:5\"/[[dataset]]/name = \"demo\"/[[dataset.field]]/name = \"a\"/kind = \"UInt32\"/; read1 err2; the second read fails, and of what is told part 2
+status 5, error output [cannot read s]
+$ play s --config c; write 0 demo a=7/tick 100/ | [publisher]/id = \"u8:5\"/[[dataset]]/name = \"demo\"/[[dataset.field]]/name = \"a\"/kind = \"UInt32\"/; read1 err3; the text is told by then
+status 5, error output [cannot read s
+]
+$ play s --config c; write 0 demo a=7/tick 100/ | [publisher]/id = \"u8:5\"/[[dataset]]/name = \"demo\"/[[dataset.field]]/name = \"a\"/kind = \"UInt32\"/; read0 err0; the first read fails, and of what is told part 0
+status 5, error output []
+$ play s --config c; write 0 demo a=7/tick 100/ | [publisher]/id = \"u8:5\"/[[dataset]]/name = \"demo\"/[[dataset.field]]/name = \"a\"/kind = \"UInt32\"/; read0 err1; the first read fails, and of what is told part 1
+status 5, error output [cannot read ]
+$ play s --config c; write 0 demo a=7/tick 100/ | [publisher]/id = \"u8:5\"/[[dataset]]/name = \"demo\"/[[dataset.field]]/name = \"a\"/kind = \"UInt32\"/; read0 err2; the first read fails, and of what is told part 2
+status 5, error output [cannot read c]
+$ play s --config c; write 0 demo a=7/tick 100/ | [publisher]/id = \"u8:5\"/[[dataset]]/name = \"demo\"/[[dataset.field]]/name = \"a\"/kind = \"UInt32\"/; read0 read1; the second read is not made
+status 5, error output [cannot read c
+]
+$ play s --config c; no file | [publisher]/id = \"u8:5\"/[[dataset]]/name = \"demo\"/[[dataset.field]]/name = \"a\"/kind = \"UInt32\"/; read1; a file that is not there, and whose read fails
+status 5, error output [cannot read s
+]
+$ play s --config c; write 0 demo a=7/write 0 demo e=1/ | [publisher]/id = \"u8:5\"/[[dataset]]/name = \"demo\"/[[dataset.field]]/name = \"a\"/kind = \"UInt32\"/; err0; of the refusal part 0 is not told
+status 4, error output []
+$ play s --config c; write 0 demo a=7/write 0 demo e=1/ | [publisher]/id = \"u8:5\"/[[dataset]]/name = \"demo\"/[[dataset.field]]/name = \"a\"/kind = \"UInt32\"/; err1; of the refusal part 1 is not told
+status 4, error output [script: line ]
+$ play s --config c; write 0 demo a=7/write 0 demo e=1/ | [publisher]/id = \"u8:5\"/[[dataset]]/name = \"demo\"/[[dataset.field]]/name = \"a\"/kind = \"UInt32\"/; err2; of the refusal part 2 is not told
+status 4, error output [script: line 2]
+$ play s --config c; write 0 demo a=7/write 0 demo e=1/ | [publisher]/id = \"u8:5\"/[[dataset]]/name = \"demo\"/[[dataset.field]]/name = \"a\"/kind = \"UInt32\"/; err3; of the refusal part 3 is not told
+status 4, error output [script: line 2 S]
+$ play s --config c; write 0 demo a=7/write 0 demo e=1/ | [publisher]/id = \"u8:5\"/[[dataset]]/name = \"demo\"/[[dataset.field]]/name = \"a\"/kind = \"UInt32\"/; err4; of the refusal part 4 is not told
+status 4, error output [script: line 2 S7]
+$ play s --config c; write 0 demo a=7/write 0 demo e=1/ | [publisher]/id = \"u8:5\"/[[dataset]]/name = \"demo\"/[[dataset.field]]/name = \"a\"/kind = \"UInt32\"/; err5; of the refusal part 5 is not told
+status 4, error output [script: line 2 S7 ]
+$ play s --config c; write 0 demo a=7/write 0 demo e=1/ | [publisher]/id = \"u8:5\"/[[dataset]]/name = \"demo\"/[[dataset.field]]/name = \"a\"/kind = \"UInt32\"/; err6; of the refusal part 6 is not told
+status 4, error output [script: line 2 S7 BadField]
+$ play s --config c; write 0 demo a=7/write 0 demo e=1/ | [publisher]/id = \"u8:5\"/[[dataset]]/name = \"demo\"/[[dataset.field]]/name = \"a\"/kind = \"UInt32\"/; out0; a refusal writes no report
+status 4, error output [script: line 2 S7 BadField
+]
+$ play s --config c; write 0 demo a=7/tick 100/ | [publisher]/id = \"u8:5\"/[[dataset]]/name = \"demo\"/[[dataset.field]]/name = \"a\"/kind = \"UInt32\"/; open0 err0; a link that is not opened, of which nothing is told
+status 8, error output []
 $ play s --configs c; write 0 demo a=7/; none; another option
 status 2, error output [usage: uapubsub check --config FILE | play SCRIPT [--config FILE] | run SCRIPT [--config FILE] | load N | json SCRIPT [--config FILE] | keys FILE GROUP START COUNT MS | relay SCRIPT FILE SECOND | lanes SCRIPT [--config FILE]
 ]

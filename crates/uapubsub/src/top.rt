@@ -4,7 +4,8 @@ ghost use Rattle.commands.specs.Outside.{outside_of, wire_of};
 ghost use Rattle.commands.specs.Statuses.{IsDone, IsUnwritten, number_of, text_of};
 ghost use Rattle.commands.specs.Telling.{WritesText};
 ghost use Rattle.commands.specs.Links.{IsBeforeLink as IsStatusBeforeLink};
-ghost use Rattle.uapubsub.specs.Words.{IsBounded, Shape, Play, Run, shape_by, shape_of};
+ghost use Rattle.relay_command.specs.Ends.{WritesRelay, names_of};
+ghost use Rattle.uapubsub.specs.Words.{IsBounded, Shape, Play, Relay, Run, shape_by, shape_of};
 ghost use Rattle.uapubsub.specs.Ends.{Does, EndsAs, IsBeforeLink, uses_folder, uses_lab, uses_wire, world_of};
 ghost use Rattle.uapubsub.specs.Headline.{WritesPlay, WritesRun};
 
@@ -64,6 +65,16 @@ pub fn top<R: Threads + Wait + Sync, F: Folder, A: Link, B: Link, G: Gate, K: Si
         → WritesRun script config
         (outside_of F.tells F.faults K.written K.faults folder.old out.old)
         (outside_of F.tells F.faults K.written K.faults folder.new out.new)
+        (wire_of B.told B.faults B.opened_with B.made B.openings wire.new) }
+
+    // Each data frame of a gateway has the number of its source's stores, and the row of that store, whose version is told; and
+    // each reader holds the row of the store and version that are printed, which don't fall.
+    ensures relayed { (script first second : List ℕ)
+        → shape_of words.now ≡ Some (Relay script first second) → result ≡ 0
+        → WritesRelay (names_of script first second)
+        (outside_of F.tells F.faults K.written K.faults folder.old out.old)
+        (outside_of F.tells F.faults K.written K.faults folder.new out.new)
+        (wire_of A.told A.faults A.opened_with A.made A.openings lab.new)
         (wire_of B.told B.faults B.opened_with B.made B.openings wire.new) }
 
     // Other words.

@@ -5,7 +5,7 @@ use crate::random::{line_of, name_of};
 use crate::row_calls::RowCalls;
 use crate::timers::TimerRows;
 use crate::windows::WindowRows;
-use crate::{frames, headers, metas, payloads, security, slots, values};
+use crate::{frames, headers, metas, numbers, payloads, security, slots, values};
 use case_lines::{Answer, Line, LineFault, Numbers, Tally, told};
 use std::alloc::Global;
 
@@ -123,6 +123,7 @@ impl Bench {
             "slots" => slots::slots(alloc, line),
             "take" => slots::take(alloc, line),
             "place" => slots::place(alloc, line),
+            "newer" => numbers::is_newer(alloc, line),
             "block128" => security::block128(alloc, line),
             "block256" => security::block256(alloc, line),
             "stream128" => security::stream128(alloc, line),

@@ -11,6 +11,7 @@ mod header_parts;
 mod headers;
 mod joiners;
 mod metas;
+mod numbers;
 mod payloads;
 mod random;
 mod readers;

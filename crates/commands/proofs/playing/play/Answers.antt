@@ -8,6 +8,7 @@ pub returns-in-Ok-played-clause-ends : goal.returns-in-Ok-played-clause-ends
 returns-in-Ok-played-clause-ends g c =
     let written = subst (λ (text : List ℕ). EndsWriting (g.K.Sink.written c.args.out.now) (g.K.Sink.written c.write_text.new.out) text c.write_text.result) c.deref.ensures.value c.write_text.ensures.written in
     ends_written _ _ _ _ _ _ _ _ _ _ _ _ c.in-Ok-played.text.items c.in-Ok.ensures.accepts refl c.in-Ok-played.ensures.report c.in-Ok-played.ensures.opened c.in-Ok-played.ensures.faults
+    c.in-Ok-played.ensures.once.making (c.in-Ok-played.ensures.once.once refl)
     written c.write_text.ensures.cause (c.in-Ok.ensures.folder.files, c.in-Ok.ensures.folder.counted)
 
 pub returns-in-Ok-played-clause-unlinked : goal.returns-in-Ok-played-clause-unlinked

@@ -1,5 +1,6 @@
-use Rattle.gateway_laws.proofs.Older.{printed-rise, stores-rise, versions-rise}
+use Rattle.gateway_laws.proofs.Older.{stores-rise, versions-rise}
 use Rattle.gateway_laws.proofs.Rising.{Laws}
+use Rattle.gateway_laws.proofs.Telling.{no-older}
 use Rattle.gateway_laws.proofs.laws.a_relayed_version_never_falls.Goals as goal
 
 pub returns : goal.returns
@@ -13,4 +14,4 @@ returns c =
       turns = c.each_turn_of_a_session_holds.ensures;
       few = c.a_session_has_at_most_4097_ticks.ensures;
     } in
-    record { stores = stores-rise laws; versions = versions-rise laws; printed = printed-rise laws }
+    record { stores = stores-rise laws; versions = versions-rise laws; printed = no-older laws }

@@ -3,6 +3,7 @@ use Rattle.lane_groups.specs.declared.turn.TurnIn.{TurnIn}
 use Rattle.lane_groups.specs.Deeds.{turns_deeds}
 use Rattle.lanes_command.specs.Courses.{AreTurnsOf}
 use Rattle.lanes_command.proofs.Played.{have-groups, is-lanes, opened-new, stand-all}
+use Rattle.script_player.proofs.Openings.{opens-once}
 use Rattle.lanes_command.proofs.playing.play_lanes.Goals as goal
 
 pub lanes_text-requires-clause-lanes : goal.lanes_text-requires-clause-lanes
@@ -20,3 +21,16 @@ returns-clause-text g c =
     c.in_ok-ran.ensures.lanes
     (c.in_ok-lanes_text.ensures (turns_deeds config turns)
     (stand-all config turns c.len.result c.in_ok-lanes.lanes.items c.in_ok-ran.ran.lanes.items c.in_ok-lanes.ensures c.in_ok-ran.ensures.behind))
+
+-- the link was opened once, and no call behind that opened it again
+pub returns-in_err-ran-clause-once : goal.returns-in_err-ran-clause-once
+returns-in_err-ran-clause-once g c = opens-once g.L.Link.opened_with g.L.Link.faults g.L.Link.made g.L.Link.openings _ _ _ _ c.in-Done.ensures.making c.in-Done.ensures.counted
+    c.run_lanes.ensures.link
+
+pub returns-in_err-lanes_text-clause-once : goal.returns-in_err-lanes_text-clause-once
+returns-in_err-lanes_text-clause-once g c = opens-once g.L.Link.opened_with g.L.Link.faults g.L.Link.made g.L.Link.openings _ _ _ _ c.in-Done.ensures.making c.in-Done.ensures.counted
+    c.run_lanes.ensures.link
+
+pub returns-clause-once : goal.returns-clause-once
+returns-clause-once g c = opens-once g.L.Link.opened_with g.L.Link.faults g.L.Link.made g.L.Link.openings _ _ _ _ c.in-Done.ensures.making c.in-Done.ensures.counted
+    c.run_lanes.ensures.link

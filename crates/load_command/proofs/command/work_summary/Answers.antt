@@ -9,6 +9,7 @@ pub returns-in-Ok-clause-link : goal.returns-in-Ok-clause-link
 returns-in-Ok-clause-link g c = record {
   opens = λ other. opens_for _ _ _ _ c.requires.config c.requires.script (c.in_ok-closed.ensures.opens other);
   unused = λ is. absurd cc;
+  once = record { making = c.in_ok-closed.ensures.once.making; at_most_once = c.in_ok-closed.ensures.once.at_most_once; once = λ is. c.in_ok-closed.ensures.once.once refl };
   cause = record { later = c.in_ok-closed.ensures.faults; rose = λ is. absurd cc };
 }
 
@@ -16,5 +17,6 @@ pub returns-clause-link : goal.returns-clause-link
 returns-clause-link g c = record {
   opens = λ other. opens_for _ _ _ _ c.requires.config c.requires.script (c.in_ok-closed.ensures.opens other);
   unused = λ is. absurd cc;
+  once = record { making = c.in_ok-closed.ensures.once.making; at_most_once = c.in_ok-closed.ensures.once.at_most_once; once = λ is. c.in_ok-closed.ensures.once.once refl };
   cause = record { later = c.in_ok-closed.ensures.faults; rose = λ is. absurd cc };
 }

@@ -1,4 +1,4 @@
-use Rattle.mem_edge.specs.Runs.{at_opening}
+use Rattle.mem_edge.specs.Standings.{at_opening}
 use Rattle.mem_edge.proofs.Determined.{run_is}
 use Rattle.mem_edge.proofs.laws.a_journal_is_determined_by_its_calls.Goals as goal
 

@@ -2,6 +2,7 @@ use Rattle.std.proofs.Common.{List, ℕ, Err, refl, ap, subst}
 use Rattle.commands.specs.Outputs.{EndsWriting}
 use Rattle.commands.proofs.Ended.{written_late}
 use Rattle.relay_command.proofs.Ending.{ends_unaccepted, ends_so, ends_written}
+use Rattle.relay_command.proofs.Writing.{writes-relay}
 use Rattle.relay_command.proofs.command.relay.Goals as goal
 
 pub returns-in-Ok-relayed_text-clause-ends : goal.returns-in-Ok-relayed_text-clause-ends
@@ -10,7 +11,10 @@ returns-in-Ok-relayed_text-clause-ends g c =
     let e = c.in-Ok-relayed_text.ensures in
     ends_written _ _ _ _ _ _ _ c.in-Ok.accepted c.in-Ok.ensures.accepts c.write_text.result c.in-Ok-relayed_text.text.items
     (record { accepted = c.in-Ok.accepted; accepts = c.in-Ok.ensures.accepts; lab_opened = e.lab_opened; wire_opened = e.wire_opened; relay = e.text })
-    e.lab_opens e.wire_opens e.lab_counts e.wire_counts written c.write_text.ensures.cause (c.in-Ok.ensures.folder.files, c.in-Ok.ensures.folder.counted)
+    e.lab_opens e.wire_opens
+    (record { making = e.lab_once.making; at_most_once = e.lab_once.at_most_once; once = λ is. e.lab_once.once refl })
+    (record { making = e.wire_once.making; at_most_once = e.wire_once.at_most_once; once = λ is. e.wire_once.once refl })
+    e.lab_counts e.wire_counts written c.write_text.ensures.cause (c.in-Ok.ensures.folder.files, c.in-Ok.ensures.folder.counted)
 
 pub returns-in-Ok-relayed_text-clause-unlinked : goal.returns-in-Ok-relayed_text-clause-unlinked
 returns-in-Ok-relayed_text-clause-unlinked g c = λ is. absurd ((written_late _ _ _ _ c.write_text.ensures.written).behind_link is)
@@ -27,4 +31,15 @@ pub returns-clause-ends : goal.returns-clause-ends
 returns-clause-ends g c =
     let e = c.in-Err-relayed_text.ensures in
     ends_so _ _ _ _ _ _ _ c.in-Ok.accepted c.in-Ok.ensures.accepts c.status_of.result c.in-Err-relayed_text.end c.status_of.ensures e.lab_opens e.wire_opens (λ is. e.unopened (ap Err is))
+    (record { making = e.lab_once.making; at_most_once = e.lab_once.at_most_once; once = λ is. absurd is })
+    (record { making = e.wire_once.making; at_most_once = e.wire_once.at_most_once; once = λ is. absurd is })
     e.lab_counts e.wire_counts (c.in-Ok.ensures.folder.files, c.in-Ok.ensures.folder.counted) refl
+
+pub returns-in-Ok-relayed_text-clause-relayed : goal.returns-in-Ok-relayed_text-clause-relayed
+returns-in-Ok-relayed_text-clause-relayed g c = λ done. writes-relay c.write_text.result _ _ _ _ _ (returns-in-Ok-relayed_text-clause-ends g c).says done
+
+pub returns-in-Err-clause-relayed : goal.returns-in-Err-clause-relayed
+returns-in-Err-clause-relayed g c = λ done. writes-relay c.in-Err.status _ _ _ _ _ (returns-in-Err-clause-ends g c).says done
+
+pub returns-clause-relayed : goal.returns-clause-relayed
+returns-clause-relayed g c = λ done. writes-relay c.status_of.result _ _ _ _ _ (returns-clause-ends g c).says done

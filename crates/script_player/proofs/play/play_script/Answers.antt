@@ -16,6 +16,8 @@ use Rattle.script_player.specs.Player.{HasPlayed, config_of}
 use Rattle.script_player.proofs.Closing.{closes}
 use Rattle.script_player.proofs.Finished.{is-closed-of, is-play}
 use Rattle.script_player.proofs.Newly.{begins, may-close, opened-empty}
+use Rattle.ua_base.proofs.Links.{KeepsLink-then}
+use Rattle.script_player.proofs.Openings.{opens-once}
 use Rattle.script_player.proofs.play.play_script.Goals as goal
 
 pub open-requires-clause-sets : goal.open-requires-clause-sets
@@ -75,3 +77,20 @@ returns-clause-opens g c =
     λ other.
     c.end.ensures.link.opening ∙ c.play.ensures.link.opening ∙ c.in-Done.ensures.opening refl
     ∙ ap (λ (fates : List (ℕ × Fate)). Some (record { port = c.args.config.now.publisher.port; fates = fates })) (c.deref.ensures.value ∙ c.in_ok-fates.ensures)
+
+-- the link was opened once, and no call behind that opened it again
+pub returns-in_err-play-clause-once : goal.returns-in_err-play-clause-once
+returns-in_err-play-clause-once g c = opens-once g.L.Link.opened_with g.L.Link.faults g.L.Link.made g.L.Link.openings _ _ _ _ c.in-Done.ensures.making c.in-Done.ensures.counted
+    c.play.ensures.link
+
+pub returns-in_err-end-clause-once : goal.returns-in_err-end-clause-once
+returns-in_err-end-clause-once g c = opens-once g.L.Link.opened_with g.L.Link.faults g.L.Link.made g.L.Link.openings _ _ _ _ c.in-Done.ensures.making c.in-Done.ensures.counted
+    (KeepsLink-then g.L.Link.opened_with g.L.Link.faults g.L.Link.made g.L.Link.openings _ _ _ c.play.ensures.link c.end.ensures.link)
+
+pub returns-in_err-close-clause-once : goal.returns-in_err-close-clause-once
+returns-in_err-close-clause-once g c = opens-once g.L.Link.opened_with g.L.Link.faults g.L.Link.made g.L.Link.openings _ _ _ _ c.in-Done.ensures.making c.in-Done.ensures.counted
+    (KeepsLink-then g.L.Link.opened_with g.L.Link.faults g.L.Link.made g.L.Link.openings _ _ _ c.play.ensures.link c.end.ensures.link)
+
+pub returns-clause-once : goal.returns-clause-once
+returns-clause-once g c = opens-once g.L.Link.opened_with g.L.Link.faults g.L.Link.made g.L.Link.openings _ _ _ _ c.in-Done.ensures.making c.in-Done.ensures.counted
+    (KeepsLink-then g.L.Link.opened_with g.L.Link.faults g.L.Link.made g.L.Link.openings _ _ _ c.play.ensures.link c.end.ensures.link)

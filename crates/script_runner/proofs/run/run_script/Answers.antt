@@ -21,6 +21,8 @@ use Rattle.script_runner.proofs.Completed.{Completes, completes, opened-by}
 use Rattle.script_runner.proofs.Handing.{lists-short}
 use Rattle.script_runner.proofs.Opened.{IsOpened, are-cells, are-duties, are-own}
 use Rattle.script_runner.proofs.run.run_script.Given.{Over}
+use Rattle.ua_base.proofs.Links.{KeepsLink-then}
+use Rattle.script_player.proofs.Openings.{opens-once}
 use Rattle.script_runner.proofs.run.run_script.Goals as goal
 
 pub open-requires-clause-sets : goal.open-requires-clause-sets
@@ -120,3 +122,16 @@ returns-clause-opens g c =
     λ other.
     c.finish.ensures.link.opening ∙ c.run_beside.ensures.link.opening ∙ c.in-Done.ensures.opening refl
     ∙ ap (λ (fates : List (ℕ × Fate)). Some (record { port = c.args.config.now.publisher.port; fates = fates })) (c.deref.ensures.value ∙ c.in_ok-fates.ensures)
+
+-- the link was opened once, and no call behind that opened it again
+pub returns-in_err-dones-clause-once : goal.returns-in_err-dones-clause-once
+returns-in_err-dones-clause-once g c = opens-once g.L.Link.opened_with g.L.Link.faults g.L.Link.made g.L.Link.openings _ _ _ _ c.in-Done.ensures.making c.in-Done.ensures.counted
+    c.run_beside.ensures.link
+
+pub returns-in_err-finish-clause-once : goal.returns-in_err-finish-clause-once
+returns-in_err-finish-clause-once g c = opens-once g.L.Link.opened_with g.L.Link.faults g.L.Link.made g.L.Link.openings _ _ _ _ c.in-Done.ensures.making c.in-Done.ensures.counted
+    (KeepsLink-then g.L.Link.opened_with g.L.Link.faults g.L.Link.made g.L.Link.openings _ _ _ c.run_beside.ensures.link c.finish.ensures.link)
+
+pub returns-clause-once : goal.returns-clause-once
+returns-clause-once g c = opens-once g.L.Link.opened_with g.L.Link.faults g.L.Link.made g.L.Link.openings _ _ _ _ c.in-Done.ensures.making c.in-Done.ensures.counted
+    (KeepsLink-then g.L.Link.opened_with g.L.Link.faults g.L.Link.made g.L.Link.openings _ _ _ c.run_beside.ensures.link c.finish.ensures.link)

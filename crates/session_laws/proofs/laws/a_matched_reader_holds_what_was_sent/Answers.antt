@@ -6,7 +6,7 @@ pub returns : goal.returns
 returns c =
     let laws = c.what_the_laws_below_say.ensures in
     record {
-      comes = comes-from-writer laws.turns laws.passed;
-      keeps = reads-by-records laws.turns laws.passed laws.agrees;
-      holds = holds-version laws.turns laws.passed laws.agrees;
+      comes = comes-from-writer laws.turns;
+      keeps = reads-by-records laws.turns laws.agrees;
+      holds = holds-version laws.turns laws.agrees;
     }

@@ -2,7 +2,7 @@ use Rattle.std.proofs.Common.{◌≡◌, ℕ, length, ap, ◌∙◌, subst, arit
 use Rattle.std.specs.List.{range_with_len}
 use Rattle.ps_config.specs.declared.parts.ReadGroupPart.{ReadGroupPart}
 use Rattle.reader_group.specs.Groups.{Stands}
-use Rattle.reader_group.specs.Plain.{plain}
+use Rattle.session_model.specs.Readings.{read_on}
 use Rattle.session_parts.proofs.Stopping.{count-kept, stopped_of, stops-more, stops-none}
 use Rattle.session_parts.proofs.subscriber.stop_below.Goals as goal
 
@@ -26,7 +26,7 @@ loop-i-preserved c =
 
 pub returns-clause-stands : goal.returns-clause-stands
 returns-clause-stands c =
-    λ config setting befell is h.
+    λ config setting value befell is h.
     let all : c.loop-i.i ≡ length c.args.part.now.reader = omega (arith, ap length c.as_slice-i-end.ensures, c.loop-i-test.false, c.loop-i.auto.i-end) in
-    subst (λ (n : ℕ). Stands setting (plain setting (stopped_of c.args.r c.args.component befell (range_with_len 0 n))) c.loop-i.group)
-    (all ∙ ap (λ (p : ReadGroupPart). length p.reader) is) (c.loop-i.invariant.stands setting befell h)
+    subst (λ (n : ℕ). Stands setting (read_on setting value (stopped_of c.args.r c.args.component befell (range_with_len 0 n))) c.loop-i.group)
+    (all ∙ ap (λ (p : ReadGroupPart). length p.reader) is) (c.loop-i.invariant.stands setting value befell h)

@@ -1,6 +1,9 @@
 use Rattle.std.proofs.Common.{◌≡◌, ◌∙◌, sym, refl, arith}
 use Rattle.ua_base.specs.Journal.{ReceiveFailed}
 use Rattle.mem_edge.specs.Calls.{next_call}
+use Rattle.mem_edge.specs.Standings.{settings_with}
+use Rattle.mem_edge.specs.Transits.{injected_in, told_in}
+use Rattle.mem_edge.proofs.Fated.{fated-injected, fated-receive-failed, fated-received}
 use Rattle.mem_edge.proofs.Named.{named_from-later, named_from-named}
 use Rattle.mem_edge.proofs.Opened.{is_open_from, sends_kept}
 use Rattle.mem_edge.proofs.memory_link.MemoryLinkLink.receive.Goals as goal
@@ -30,6 +33,15 @@ invariant_of-self-clause-receives_ahead c = λ is_open.
     let number : c.saturating_add-self.result ≡ next_call s.receives = omega arith in
     rw number (c.pass.ensures s.receive_fails.items (s.receives_ahead is_open))
 
+pub invariant_of-self-clause-fated : goal.invariant_of-self-clause-fated
+invariant_of-self-clause-fated c = λ is_open.
+    let s = c.args.self.now in
+    let named = sym (c.names-named.ensures.value s.receive_fails.items (s.receives_ahead is_open)) ∙ c.if-named.true in
+    let number : c.saturating_add-self.result ≡ next_call s.receives = omega arith in
+    fated-injected (injected_in c.fail_receive.new.self) (injected_in s.transit) s.send_fails.items s.receive_fails.items s.open_fails s.fates.items c.saturating_add-self.result (told_in c.fail_receive.new.self) c.fail_receive.ensures.injected
+    (fated-receive-failed (settings_with (injected_in s.transit) s.send_fails.items s.receive_fails.items s.open_fails s.fates.items) s.receives c.saturating_add-self.result (told_in s.transit) (told_in c.fail_receive.new.self)
+    (s.fated is_open) named number c.fail_receive.ensures.told)
+
 pub returns-then-named-clause-sends : goal.returns-then-named-clause-sends
 returns-then-named-clause-sends c = sends_kept _ _ ReceiveFailed c.fail_receive.ensures.journal refl
 
@@ -46,3 +58,12 @@ invariant_of-self-2-clause-receives_ahead c = λ is_open.
     let s = c.args.self.now in
     let number : c.saturating_add-self.result ≡ next_call s.receives = omega arith in
     rw number (c.pass.ensures s.receive_fails.items (s.receives_ahead is_open))
+
+pub invariant_of-self-2-clause-fated : goal.invariant_of-self-2-clause-fated
+invariant_of-self-2-clause-fated c = λ is_open.
+    let s = c.args.self.now in
+    let not_named = sym (c.names-named.ensures.value s.receive_fails.items (s.receives_ahead is_open)) ∙ c.if-named.false in
+    let number : c.saturating_add-self.result ≡ next_call s.receives = omega arith in
+    fated-injected (injected_in c.receive.new.self) (injected_in s.transit) s.send_fails.items s.receive_fails.items s.open_fails s.fates.items c.saturating_add-self.result (told_in c.receive.new.self) c.receive.ensures.injected
+    (fated-received (settings_with (injected_in s.transit) s.send_fails.items s.receive_fails.items s.open_fails s.fates.items) s.receives c.saturating_add-self.result (told_in s.transit) (told_in c.receive.new.self) c.receive.result c.receive.new.into
+    (s.fated is_open) c.receive.ensures.told c.receive.ensures.sizes c.receive.ensures.works not_named number)

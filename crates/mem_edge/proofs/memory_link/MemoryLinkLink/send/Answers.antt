@@ -1,10 +1,14 @@
 use Rattle.std.proofs.Common.{[], ◌∷◌, List, ℕ, ap, sym, ◌∙◌, refl, arith}
 use Rattle.ua_base.specs.Journal.{Sent, SendFailed, told_more}
 use Rattle.mem_edge.specs.Calls.{is_named}
-use Rattle.mem_edge.specs.Transits.{injected_in, journal_in}
+use Rattle.mem_edge.specs.Queueing.{queued_by}
+use Rattle.mem_edge.specs.Standings.{settings_with}
+use Rattle.mem_edge.specs.Transits.{injected_in, journal_in, told_in, waiting_in}
 use Rattle.mem_edge.specs.MemoryLinks.{told_by}
 use Rattle.mem_edge.specs.Sends.{sends_in}
+use Rattle.mem_edge.proofs.Comes.{told_journal}
 use Rattle.mem_edge.proofs.Failings.{next_is}
+use Rattle.mem_edge.proofs.Fated.{fated-injected, fated-sent, fated-send-failed}
 use Rattle.mem_edge.proofs.Opened.{is_open_from, sends_counted}
 use Rattle.mem_edge.proofs.Waiting.{injected_low, queued_is}
 use Rattle.mem_edge.proofs.Makings.{same_making}
@@ -47,3 +51,26 @@ returns-in-Ok-send-clause-answers c =
       making = same_making _ _ s.send_fails.items s.receive_fails.items s.open_fails c.in-Ok-send.ensures.injected;
       fates = refl;
     }
+
+-- what is told is the list of its own calls
+pub invariant_of-self-then-names-clause-fated : goal.invariant_of-self-then-names-clause-fated
+invariant_of-self-then-names-clause-fated c = λ is_open.
+    let s = c.args.self.now in
+    let new = c.fail_send.new.self in
+    let named = ap (λ (n : ℕ). is_named s.send_fails.items n) (sym c.sends-number.ensures) ∙ sym (c.names.ensures.value s.send_fails.items (rw c.sends-number.ensures (s.sends_ahead is_open))) ∙ c.if-names.true in
+    fated-injected (injected_in new) (injected_in s.transit) s.send_fails.items s.receive_fails.items s.open_fails s.fates.items s.receives (told_in new) c.in-Ok.ensures.injected
+    (fated-send-failed (settings_with (injected_in s.transit) s.send_fails.items s.receive_fails.items s.open_fails s.fates.items) s.receives (told_in s.transit) (told_in new) (journal_in s.transit)
+    (s.fated is_open) (told_journal s.transit.tells (journal_in s.transit) (waiting_in s.transit)) named c.in-Ok.ensures.told)
+
+pub invariant_of-self-in-Ok-send-clause-fated : goal.invariant_of-self-in-Ok-send-clause-fated
+invariant_of-self-in-Ok-send-clause-fated c = λ is_open.
+    let s = c.args.self.now in
+    let new = c.send.new.self in
+    let not_named = ap (λ (n : ℕ). is_named s.send_fails.items n) (sym c.sends-number.ensures) ∙ sym (c.names.ensures.value s.send_fails.items (rw c.sends-number.ensures (s.sends_ahead is_open))) ∙ c.if-names.false in
+    let plan = s.planned is_open in
+    let queued : List (List ℕ) = queued_by s.fates.items (injected_in s.transit) (sends_in (journal_in s.transit)) c.args.datagram.now in
+    fated-injected (injected_in new) (injected_in s.transit) s.send_fails.items s.receive_fails.items s.open_fails s.fates.items s.receives (told_in new) c.in-Ok-send.ensures.injected
+    (fated-sent (settings_with (injected_in s.transit) s.send_fails.items s.receive_fails.items s.open_fails s.fates.items) s.receives (told_in s.transit) (told_in new) (journal_in s.transit) c.args.datagram.now queued
+    (s.fated is_open) (told_journal s.transit.tells (journal_in s.transit) (waiting_in s.transit)) not_named refl
+    (c.in-Ok-send.ensures.told ∙ ap (λ (more : List (List ℕ)). told_more (told_in s.transit) (Sent c.args.datagram.now ∷ []) more)
+    (queued_is c.sends-number.result c.copies-copies.result s.fates.items (injected_in s.transit) s.plan (sends_in (journal_in s.transit)) c.args.datagram.now c.at-held.result.now c.at-injected.result.now c.sends-number.ensures plan s.once c.copies-copies.ensures c.at-held.ensures c.at-injected.ensures)))

@@ -6,6 +6,7 @@ use Rattle.ps_report.specs.declared.closed.ReaderEnd.{ReaderEnd}
 use Rattle.ps_report.specs.declared.closed.WriterEnd.{WriterEnd}
 use Rattle.session_model.specs.Closing.{IsWriterEndWith, reader_places, writer_places}
 use Rattle.session_model.specs.Deeds.{logs_cut}
+use Rattle.session_model.specs.Sends.{journal}
 use Rattle.pubsub_engine.specs.Authored.{AreHistories}
 use Rattle.pubsub_engine.specs.Ending.{IsToldAt}
 use Rattle.pubsub_engine.proofs.Watched.{same-watches}
@@ -42,7 +43,7 @@ returns c =
       readers = λ most p steps published have.
           subst (λ (l : List ReaderEnd). AllZip (IsToldAt (logs_cut most p steps) p steps) (reader_places p.config) l) (sym c.new-5.ensures) (c.in_ok-readers.ensures most p steps published have);
       watches = c.new-6.ensures ∙ c.in_ok-watches.ensures;
-      link = c.link_end.ensures;
+      link = λ p steps. c.link_end.ensures (journal p steps) steps;
     } in
     record {
       closed = λ p steps stands order. is-closed p steps s dones sets closed tells c.requires.session stands order;

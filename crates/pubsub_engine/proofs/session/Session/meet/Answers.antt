@@ -1,6 +1,6 @@
 use Rattle.std.proofs.Common.{refl}
 use Rattle.pubsub_engine.specs.declared.session.Session.{Session}
-use Rattle.pubsub_engine.proofs.Seen.{bank-sampled, samples-met, session-sampled, stands-sampled}
+use Rattle.pubsub_engine.proofs.Seen.{bank-sampled, lives-sampled, samples-met, session-sampled, stands-sampled}
 use Rattle.pubsub_engine.proofs.session.Session.meet.Goals as goal
 
 pub returns-clause-session : goal.returns-clause-session
@@ -20,3 +20,9 @@ returns-clause-stands g c =
     let old = c.args.self.now in
     let new : Session = record old { samples = record old.samples { passes = c.join.new.passes } } in
     stands-sampled old new refl
+
+pub returns-clause-lives : goal.returns-clause-lives
+returns-clause-lives g c =
+    let old = c.args.self.now in
+    let new : Session = record old { samples = record old.samples { passes = c.join.new.passes } } in
+    lives-sampled old new refl

@@ -2,7 +2,7 @@ use Rattle.std.proofs.Common.{◌-◌, refl, arith}
 use Rattle.pubsub_engine.specs.declared.session.Left.{Left}
 use Rattle.pubsub_engine.specs.declared.session.Session.{Session}
 use Rattle.pubsub_engine.specs.Holding.{CountsPump}
-use Rattle.pubsub_engine.proofs.Receipts.{DoesPump, pumped-session, pumps-lead}
+use Rattle.pubsub_engine.proofs.Receipts.{DoesPump, pumped-session, pumps-lead, pumps-live}
 use Rattle.pubsub_engine.proofs.session.Session.pump.Goals as goal
 
 pub returns-clause-session : goal.returns-clause-session
@@ -36,3 +36,27 @@ returns-clause-leads g c =
       stored = c.store_all.ensures.stored;
     } in
     (c.pump-pumped.ensures.pumps.entries, pumps-lead p before old new c.pump-pumped.result.taken told after does stands, c.pump-pumped.ensures.pumps.taken_are)
+
+pub returns-clause-lives : goal.returns-clause-lives
+returns-clause-lives g c =
+    λ p life stands.
+    let old = c.args.self.now in
+    let new : Session = record old {
+      left = record old.left { pumps = old.left.pumps - 1 };
+      tree = c.tell.new.tree;
+      subscriber = c.pump-pumped.new.subscriber;
+      receiving = c.pump-pumped.new.self;
+      stores = c.store_all.new.self;
+    } in
+    let told = g.L.Link.told c.args.link.now in
+    let after = g.L.Link.told c.pump-pumped.new.link in
+    let does : DoesPump old new c.pump-pumped.result.taken told after = record {
+      changed = refl;
+      left = record { pumps = omega (arith, c.requires.may.left); rest = refl };
+      counts = c.requires.may.session.tree;
+      kept = c.tell.ensures.counts;
+      pumps = c.pump-pumped.ensures.pumps;
+      told_readers = c.tell.ensures.told;
+      stored = c.store_all.ensures.stored;
+    } in
+    (c.pump-pumped.ensures.pumps.entries, pumps-live p life old new c.pump-pumped.result.taken told after does stands, c.pump-pumped.ensures.pumps.taken_are)

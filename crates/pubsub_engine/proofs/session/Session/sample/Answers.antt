@@ -1,7 +1,7 @@
 use Rattle.std.proofs.Common.{refl, arith}
 use Rattle.std.proofs.lemmas.Slice.Zip.{AllZip-long}
 use Rattle.pubsub_engine.specs.declared.session.Session.{Session}
-use Rattle.pubsub_engine.proofs.Seen.{bank-sampled, few-full, passes-count, samples-seen, session-sampled, stands-sampled}
+use Rattle.pubsub_engine.proofs.Seen.{bank-sampled, few-full, lives-sampled, passes-count, samples-seen, session-sampled, stands-sampled}
 use Rattle.pubsub_engine.proofs.session.Session.sample.Goals as goal
 
 pub take-requires-clause-few : goal.take-requires-clause-few
@@ -40,3 +40,9 @@ returns-clause-stands g c =
     let old = c.args.self.now in
     let new : Session = record old { samples = c.take.new.self } in
     stands-sampled old new refl
+
+pub returns-clause-lives : goal.returns-clause-lives
+returns-clause-lives g c =
+    let old = c.args.self.now in
+    let new : Session = record old { samples = c.take.new.self } in
+    lives-sampled old new refl

@@ -2,7 +2,7 @@ use Rattle.std.proofs.Common.{List, refl, sym, subst}
 use Rattle.version_cell.specs.Known.{Known}
 use Rattle.version_cell.specs.Sets.{ArePassesOf}
 use Rattle.pubsub_engine.specs.declared.session.Session.{Session}
-use Rattle.pubsub_engine.proofs.Seen.{bank-sampled, samples-met, session-sampled, stands-sampled}
+use Rattle.pubsub_engine.proofs.Seen.{bank-sampled, lives-sampled, samples-met, session-sampled, stands-sampled}
 use Rattle.pubsub_engine.proofs.session.Session.share.Goals as goal
 
 pub returns-clause-session : goal.returns-clause-session
@@ -23,3 +23,9 @@ returns-clause-stands c =
     let old = c.args.self.now in
     let new : Session = record old { samples = record old.samples { passes = c.split.new.passes } } in
     stands-sampled old new refl
+
+pub returns-clause-lives : goal.returns-clause-lives
+returns-clause-lives c =
+    let old = c.args.self.now in
+    let new : Session = record old { samples = record old.samples { passes = c.split.new.passes } } in
+    lives-sampled old new refl

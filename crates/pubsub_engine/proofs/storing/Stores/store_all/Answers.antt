@@ -48,5 +48,5 @@ returns g c =
       own = done.own;
       left = λ limit left holds. holds-left config c.args.targets.now groups limit left c.args.self.now c.loop-r.self c.requires.may done on holds;
       adds = λ reader low. on.adds reader (omega arith) (omega (arith, low, done.own.count, c.requires.may.own.count, cells-count config c.args.targets.now.cells c.requires.may.metas));
-      stored = λ befell list read is. all-stored config groups c.args.self.now c.loop-r.self befell list on read is;
+      stored = λ readings list read is. all-stored config groups c.args.self.now c.loop-r.self readings list on read is;
     }

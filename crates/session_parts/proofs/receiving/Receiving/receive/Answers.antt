@@ -32,8 +32,8 @@ returns-in-Long-clause-receives g c = (
       long = ap (λ (r : Receiving). r.long) c.note_long.ensures.counts;
       limit = ap (λ (r : Receiving). r.limit) c.note_long.ensures.counts;
     });
-    hands_on = λ before befell switches now got.
-        got-same c.args.config.now befell (λ r. brought c.args.config.now before (Long c.in-Long.field-0) r (befell r)) c.args.subscriber.now (λ r low. none-if (receives c.args.config.now before r) (befell r)) got;
+    hands_on = λ before from befell switches now got.
+        got-same c.args.config.now from befell (λ r. brought c.args.config.now before (Long c.in-Long.field-0) r (befell r)) c.args.subscriber.now (λ r low. none-if (receives c.args.config.now before r) (befell r)) got;
   },
   c.note_long.ensures.taken,
   Tells-weaker _ _ _ _ (λ x y p. p.0) c.in-Long.ensures.entry,

@@ -7,8 +7,6 @@ use Rattle.ps_config.specs.declared.parts.ReaderPart.{ReaderPart}
 use Rattle.pubsub_states.specs.declared.component.Component.TheVariants.{Reader}
 use Rattle.pubsub_states.specs.Changes.{flags_in}
 use Rattle.reader_group.specs.declared.group.ReaderGroup.{ReaderGroup}
-use Rattle.reader_group.specs.Groups.{index_of}
-use Rattle.reader_group.specs.Settings.{setting_of}
 use Rattle.session_parts.specs.Holding.{MayReceive}
 use Rattle.session_parts.proofs.Giving.{given-holds, gives}
 use Rattle.session_parts.proofs.TellingReaders.{few-readers, made-count}
@@ -45,9 +43,8 @@ returns-clause-holds c =
 
 pub returns-clause-hands : goal.returns-clause-hands
 returns-clause-hands c =
-    let keys = (setting_of c.args.config.now (index_of c.index_mut.result.now)).setup.keys in
     gives c.args.config.now c.args.tree.now c.args.moment c.args.r c.args.datagram.now _ c.args.self.now _ c.index_mut.result.now c.datagram-answer.new.self c.index_mut-2.result.now c.note.new.self
     c.datagram-answer.result refl refl c.requires.may.within c.requires.may.holds (omega (arith, c.args.self.now.tallies.ok.0)) c.index_mut.ensures.value c.index_mut-2.ensures.value
     (c.readers_on-on.ensures ∙ ap (λ (l : List ReaderPart). map (λ i. (flags_in c.args.tree.now (Reader c.args.r i)).enabled) (range_with_len 0 (length l)))
     (c.as_slice-count.ensures ∙ ap (λ (p : ReadGroupPart). p.reader) c.read_group_part.ensures))
-    c.requires.receives (c.datagram-answer.ensures.step keys) (c.datagram-answer.ensures.answer keys) c.note.ensures
+    c.requires.receives c.datagram-answer.ensures.step c.datagram-answer.ensures.answer c.note.ensures

@@ -44,7 +44,7 @@ loop-r-preserved c =
     let low : c.loop-r.r < length mid = omega (arith, c.loop-r-test.true, c.len-r-end.ensures, c.args.self.now.groups.ok.0, c.loop-r.invariant.each.count) in
     record {
       each = each-more (StopsAt c.args.config.now c.args.component) c.loop-r.r c.args.self.now.groups.items mid c.index_mut.result.now c.stop_below.new.group low c.index_mut.ensures.value
-          (record { index = e.index; made = e.made; stands = λ setting befell h. e.stands c.args.config.now setting befell c.read_group_part.ensures h }) c.loop-r.invariant.each;
+          (record { index = e.index; made = e.made; stands = λ setting value befell h. e.stands c.args.config.now setting value befell c.read_group_part.ensures h }) c.loop-r.invariant.each;
       rest = ap (λ (s : Subscriber). record s { groups = with_item c.loop-r.self.groups c.loop-r.r c.stop_below.new.group }) c.loop-r.invariant.rest;
     }
 

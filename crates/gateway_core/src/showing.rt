@@ -1,0 +1,67 @@
+//! What a gateway shows while it runs.
+ghost use Rattle.std.specs.Prelude.{◌≡◌, ◌<◌, List, length};
+ghost use Rattle.ps_config.specs.declared.parts.Config.{Config as ConfigValue};
+ghost use Rattle.pubsub_states.specs.Components.{IsAmong, counts_of};
+ghost use Rattle.session_model.specs.Answers.{answers_at};
+ghost use Rattle.session_model.specs.Closing.{link_end};
+ghost use Rattle.session_model.specs.States.{state_at};
+ghost use Rattle.session_model.specs.Steps.{moment_of};
+ghost use Rattle.session_parts.specs.Showing.{standing_at};
+ghost use Rattle.session_parts.specs.Standing.{IsTallyOf};
+ghost use Rattle.gateway_core.specs.Holding.{IsGateway};
+ghost use Rattle.gateway_core.specs.Lived.{GatewayStep, plan_again};
+ghost use Rattle.gateway_core.specs.Standing.{Stands, steps_of};
+
+use crate::gateway::Gateway;
+use ps_report::LinkEnd;
+use pubsub_states::{Component, State};
+use session_parts::{Tally, link_end};
+
+impl Gateway<'_> {
+    /// Milliseconds since it was opened: the sum of what its ticks took.
+    pub fn moment(&self) -> u64
+        ensures { (second : ConfigValue) (lived : List GatewayStep) → Stands second lived self.now
+            → result ≡ moment_of (steps_of self.now lived) }
+    {
+        self.moment
+    }
+
+    /// The state of a component (OPC 10000-14 6.2.1, PubSubState).
+    pub fn state(&self, component: Component) -> State
+        requires gateway { IsGateway self.now }
+        requires there { IsAmong (counts_of self.now.config.now) component }
+        ensures { (second : ConfigValue) (lived : List GatewayStep) → Stands second lived self.now
+            → result ≡ state_at (plan_again second) (steps_of self.now lived) component }
+    {
+        self.tree.state_of(component)
+    }
+
+    /// How many datagrams a read group took, how many it refused for each cause, and how many parts it couldn't read.
+    pub fn tally(&self, read_group: u8) -> Tally
+        requires gateway { IsGateway self.now }
+        requires there { read_group < length self.now.config.now.readgroup }
+        ensures { (second : ConfigValue) (lived : List GatewayStep) → Stands second lived self.now
+            → IsTallyOf (answers_at second read_group (steps_of self.now lived)) result }
+    {
+        self.subscriber.tallies[usize::from(read_group)]
+    }
+
+    /// What came of all sends and receives over the link.
+    pub fn link(&self) -> LinkEnd
+        ensures { (second : ConfigValue) (lived : List GatewayStep) → Stands second lived self.now
+            → result ≡ link_end (plan_again second) (steps_of self.now lived) }
+    {
+        link_end(&self.publisher, &self.receiving)
+    }
+
+    /// The token that a key group's sender uses, and the last number that it used under this token: what a device stores, so that
+    /// its next gateway goes on behind it.
+    pub fn standing(&self, key_group: u8) -> (u32, u32)
+        requires gateway { IsGateway self.now }
+        requires there { key_group < length self.now.config.now.keygroup }
+        ensures { (second : ConfigValue) (lived : List GatewayStep) → Stands second lived self.now
+            → result ≡ standing_at (plan_again second) (steps_of self.now lived) key_group }
+    {
+        self.publisher.senders[usize::from(key_group)].standing()
+    }
+}

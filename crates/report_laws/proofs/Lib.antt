@@ -1,0 +1,15 @@
+pub mod Causes
+pub mod Cutting
+pub mod Entries
+pub mod Groups
+pub mod Held
+pub mod Lines
+pub mod Naming
+pub mod Parts
+pub mod Printing
+pub mod Seeing
+pub mod Telling
+pub mod Values
+pub mod Watches
+pub mod Witness
+pub mod Words
