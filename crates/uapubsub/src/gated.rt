@@ -171,9 +171,9 @@ fn each_tick_samples_what_is_written_by_then(rt: HostRuntime) -> Result<(), Fail
 /// third behind that.
 fn holds_with_watches(alloc: Global) -> Result<Vec<(Item, Until)>, Fail> {
     let mut holds = holds_in_step(alloc)?;
-    for (watch, tick) in [(0u32, 0u32), (1, 3), (2, 4)] {
+    for (watch, tick, next) in [(0u32, 0u32, 1u32), (1, 3, 4), (2, 4, 5)] {
         holds.push((item(1, watch), Until::Answered(item(PUBLISHER, tick))))?;
-        holds.push((item(PUBLISHER, tick + 1), Until::Answered(item(1, watch))))?;
+        holds.push((item(PUBLISHER, next), Until::Answered(item(1, watch))))?;
     }
     Ok(holds)
 }

@@ -316,6 +316,82 @@ status 0, error output []
 $ lanes s; disable w1/; none; a line that lanes don't take
 status 4, error output [script: line 1 S13 NotInLanes
 ]
+$ run s; no file; none; no script for run
+status 5, error output [cannot read s
+]
+$ run s; write 0 demo a=7/tick 100/; read0; the script for run is not read
+status 5, error output [cannot read s
+]
+$ run s --config c; write 0 demo a=7/tick 100/ | x = 1; none; a configuration that run refuses
+status 3, error output [config: C2 UnknownKey .
+]
+$ run s; write 0 demo e=1/; none; a script that run refuses
+status 4, error output [script: line 1 S7 BadField
+]
+$ run s; too long; none; a script that is too long for run
+status 9, error output [file too long: s
+]
+$ json s; no file; none; no script for json
+status 5, error output [cannot read s
+]
+$ json s; write 0 demo a=7/tick 100/; read0; the script for json is not read
+status 5, error output [cannot read s
+]
+$ json s --config c; write 0 demo a=7/tick 100/ | x = 1; none; a configuration that json refuses
+status 3, error output [config: C2 UnknownKey .
+]
+$ json s; write 0 demo e=1/; none; a script that json refuses
+status 4, error output [script: line 1 S7 BadField
+]
+$ json s; too long; none; a script that is too long for json
+status 9, error output [file too long: s
+]
+$ json s; write 0 demo a=7/tick 100/; open0; the link of json is not opened
+status 8, error output [cannot open link
+]
+$ lanes s; no file; none; no script for lanes
+status 5, error output [cannot read s
+]
+$ lanes s; write 0 demo a=7/tick 100/; read0; the script for lanes is not read
+status 5, error output [cannot read s
+]
+$ lanes s --config c; write 0 demo a=7/tick 100/ | x = 1; none; a configuration that lanes refuses
+status 3, error output [config: C2 UnknownKey .
+]
+$ lanes s; write 0 demo e=1/; none; a script that lanes refuses
+status 4, error output [script: line 1 S7 BadField
+]
+$ lanes s; too long; none; a script that is too long for lanes
+status 9, error output [file too long: s
+]
+$ lanes s; write 0 demo a=7/tick 100/; open0; the link of lanes is not opened
+status 8, error output [cannot open link
+]
+$ lanes s; write 0 demo a=7/tick 100/; out0; what lanes sent is not written
+status 6, error output []
+$ lanes s; write 0 demo a=7/tick 100/; send0; the first send of lanes fails
+lane g1 sent 1
+writer w1 2: 0=1 1=1
+lanes sent 1 failed 1
+end
+status 0, error output []
+$ load 1; no file; out0; the summary is not written
+status 6, error output []
+$ keys c k1 0 2 500; no file | x = 1; none; a configuration that keys refuses
+status 3, error output [config: C2 UnknownKey .
+]
+$ keys c k1 0 2 500; no file | x = 1; read0; the configuration to ask is not read
+status 5, error output [cannot read c
+]
+$ check --config s; too long; none; a configuration that is too long
+status 9, error output [file too long: s
+]
+$ relay s c d; write 0 demo a=7/tick 100/ | [publisher]/id = \"u8:5\"/[[dataset]]/name = \"demo\"/[[dataset.field]]/name = \"a\"/kind = \"UInt32\"/[[dataset.field]]/name = \"b\"/kind = \"UInt32\"/[[dataset.field]]/name = \"c\"/kind = \"UInt32\"/[[dataset.field]]/name = \"d\"/kind = \"UInt32\"/[[group]]/name = \"g1\"/id = 1/interval = 100/[[group.writer]]/name = \"w1\"/id = 1/dataset = \"demo\"/[[readgroup]]/name = \"rg1\"/publisher = \"u8:5\"/group = 1/[[readgroup.reader]]/name = \"r1\"/writer = 1/dataset = \"demo\"/ | [publisher]/id = \"u8:6\"/[[dataset]]/name = \"r1\"/[[dataset.field]]/name = \"a\"/kind = \"UInt32\"/[[dataset.field]]/name = \"b\"/kind = \"UInt32\"/[[dataset.field]]/name = \"c\"/kind = \"UInt32\"/[[dataset.field]]/name = \"d\"/kind = \"UInt32\"/[[group]]/name = \"g2\"/id = 2/interval = 100/[[group.writer]]/name = \"w2\"/id = 2/dataset = \"r1\"/[[readgroup]]/name = \"rg2\"/publisher = \"u8:6\"/group = 2/[[readgroup.reader]]/name = \"r2\"/writer = 2/dataset = \"r1\"/; open0; the links of relay are not opened
+status 8, error output [cannot open link
+]
+$ relay s c d; write 0 demo a=7/tick 100/ | [publisher]/id = \"u8:5\"/[[dataset]]/name = \"demo\"/[[dataset.field]]/name = \"a\"/kind = \"UInt32\"/[[dataset.field]]/name = \"b\"/kind = \"UInt32\"/[[dataset.field]]/name = \"c\"/kind = \"UInt32\"/[[dataset.field]]/name = \"d\"/kind = \"UInt32\"/[[group]]/name = \"g1\"/id = 1/interval = 100/[[group.writer]]/name = \"w1\"/id = 1/dataset = \"demo\"/[[readgroup]]/name = \"rg1\"/publisher = \"u8:5\"/group = 1/[[readgroup.reader]]/name = \"r1\"/writer = 1/dataset = \"demo\"/ | [publisher]/id = \"u8:6\"/[[dataset]]/name = \"r1\"/[[dataset.field]]/name = \"a\"/kind = \"UInt32\"/[[dataset.field]]/name = \"b\"/kind = \"UInt32\"/[[dataset.field]]/name = \"c\"/kind = \"UInt32\"/[[dataset.field]]/name = \"d\"/kind = \"UInt32\"/[[group]]/name = \"g2\"/id = 2/interval = 100/[[group.writer]]/name = \"w2\"/id = 2/dataset = \"r1\"/[[readgroup]]/name = \"rg2\"/publisher = \"u8:6\"/group = 2/[[readgroup.reader]]/name = \"r2\"/writer = 2/dataset = \"r1\"/; read2; the script of relay is not read
+status 5, error output [cannot read s
+]
 $ run s; write 0 demo a=1/write 0 demo a=2/watch 1 r1 2/; none; a run with writes and a watch
 history demo 2: 0 0
 group g1 operational sent 1
