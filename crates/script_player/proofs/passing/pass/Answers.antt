@@ -50,5 +50,7 @@ returns g c =
       link = record {
         opening = u.link.opening ∙ t.link.opening;
         counted = omega (arith, u.link.counted, t.link.counted);
+        making = u.link.making ∙ t.link.making;
+        opened = u.link.opened ∙ t.link.opened;
       };
     }
