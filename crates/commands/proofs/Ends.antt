@@ -107,6 +107,13 @@ module _ (IsText : Text) (refusal : Refusal) (fates : Bool) where
       })
       (record { later = keeps.1; rose = λ is. absurd (omega (arith, is)) }) (record { later = omega (arith, same); rose = λ is. absurd (omega (arith, is)) }) keeps.0
 
+  -- a status that is this one ends so too
+  pub ends_as : (status other : Status) (script_name : List ℕ) (config_name : Option (List ℕ)) (old new : Outside) (before after : Wire) → other ≡ status
+      → SessionEnds IsText refusal fates status script_name config_name old new before after
+      → SessionEnds IsText refusal fates other script_name config_name old new before after
+  ends_as status other script_name config_name old new before after is h =
+      subst (λ (s : Status). SessionEnds IsText refusal fates s script_name config_name old new before after) (sym is) h
+
   -- the text was made, and the last write ends the command
   pub ends_written : (status : Status) (script_name : List ℕ) (config_name : Option (List ℕ)) (old new : Outside) (before after : Wire) (config : Config) (script : Script) (text : List ℕ)
       → Accepts fates old.file script_name config_name config script → refusal script ≡ None → IsText config script after.told text
