@@ -1,7 +1,7 @@
-use Rattle.std.proofs.Common.{List, ℕ, refl, subst}
+use Rattle.std.proofs.Common.{List, ℕ, Err, refl, ap, subst}
 use Rattle.commands.specs.Outputs.{EndsWriting}
 use Rattle.commands.proofs.Ended.{written_late}
-use Rattle.commands.proofs.Ends.{ends_written}
+use Rattle.commands.proofs.Ends.{ends_as, ends_unplayed, ends_written}
 use Rattle.json_command.proofs.command.json.Goals as goal
 
 pub returns-in-Ok-written-clause-ends : goal.returns-in-Ok-written-clause-ends
@@ -16,3 +16,10 @@ returns-in-Ok-written-clause-unlinked g c = λ is. absurd ((written_late _ _ _ _
 
 pub returns-in-Ok-written-clause-silent : goal.returns-in-Ok-written-clause-silent
 returns-in-Ok-written-clause-silent g c = λ done unwritten. absurd ((written_late _ _ _ _ c.write_text.ensures.written).written done unwritten)
+
+pub returns-clause-ends : goal.returns-clause-ends
+returns-clause-ends g c =
+    let failed = c.in-Err-written.ensures in
+    ends_as _ _ _ _ _ _ _ _ _ _ _ c.status_of.ensures
+    (ends_unplayed _ _ _ c.in-Err-written.end _ _ _ _ _ _ _ _ c.in-Ok.ensures.accepts refl failed.opens (λ is. failed.unused (ap Err is)) (λ is. failed.unopened (ap Err is)) failed.faults
+    failed.once.making failed.once.at_most_once (c.in-Ok.ensures.folder.files, c.in-Ok.ensures.folder.counted) refl)

@@ -1,3 +1,4 @@
+use Rattle.std.proofs.Common.{refl}
 use Rattle.json_command.proofs.Jsoned.{is-json}
 use Rattle.json_command.proofs.command.written.Goals as goal
 
@@ -9,3 +10,8 @@ returns-clause-text g c =
       messages = c.lines_are_read_as_their_messages.ensures;
       own = c.lines_have_their_writers_frames.ensures;
     })
+
+pub returns-in_err-text_of_lines-clause-once : goal.returns-in_err-text_of_lines-clause-once
+returns-in_err-text_of_lines-clause-once g c =
+    let once = c.in_ok-written.ensures.once in
+    record { making = once.making; at_most_once = once.at_most_once; once = λ is. once.once refl }

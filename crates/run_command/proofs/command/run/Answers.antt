@@ -1,7 +1,7 @@
-use Rattle.std.proofs.Common.{List, ℕ, refl, subst}
+use Rattle.std.proofs.Common.{List, ℕ, Err, refl, ap, subst}
 use Rattle.commands.specs.Outputs.{EndsWriting}
 use Rattle.commands.proofs.Ended.{written_late}
-use Rattle.commands.proofs.Ends.{ends_unaccepted, ends_unplayed, ends_written}
+use Rattle.commands.proofs.Ends.{ends_as, ends_unaccepted, ends_unplayed, ends_written}
 use Rattle.run_command.proofs.command.run.Goals as goal
 
 pub returns-in-Ok-ran-clause-ends : goal.returns-in-Ok-ran-clause-ends
@@ -16,3 +16,10 @@ returns-in-Ok-ran-clause-unlinked g c = λ is. absurd ((written_late _ _ _ _ c.w
 
 pub returns-in-Ok-ran-clause-silent : goal.returns-in-Ok-ran-clause-silent
 returns-in-Ok-ran-clause-silent g c = λ done unwritten. absurd ((written_late _ _ _ _ c.write_text.ensures.written).written done unwritten)
+
+pub returns-clause-ends : goal.returns-clause-ends
+returns-clause-ends g c =
+    let failed = c.in-Err-ran.ensures in
+    ends_as _ _ _ _ _ _ _ _ _ _ _ c.status_of.ensures
+    (ends_unplayed _ _ _ c.in-Err-ran.end _ _ _ _ _ _ _ _ c.in-Ok.ensures.accepts refl failed.opens (λ is. failed.unused (ap Err is)) (λ is. failed.unopened (ap Err is)) failed.faults
+    failed.once.making failed.once.at_most_once (c.in-Ok.ensures.folder.files, c.in-Ok.ensures.folder.counted) refl)
