@@ -49,8 +49,8 @@ is-json config script told lines read skipped text sound same tapped tells below
     let played = tapped.played in
     let kept : (reader : ReaderPart) → HasRecords config so.parts reader = λ reader. below.records config lines so.parts reader so.read in
     let sent : ReadsSent config told so.parts = λ state e.
-        below.messages config (messages_of config (sent_list state.journal)) so.parts (tapped.read_as state e sound)
-        (subst (λ (l : List (List ℕ)). ReadsLines config l so.parts) (tapped.of_sent state e).lines_are so.read) in
+    below.messages config (messages_of config (sent_list state.journal)) so.parts (tapped.read_as state e sound)
+    (subst (λ (l : List (List ℕ)). ReadsLines config l so.parts) (tapped.of_sent state e).lines_are so.read) in
     record {
       closed = tapped.closed;
       lines = lines;
