@@ -7,7 +7,9 @@ use Rattle.std.proofs.lemmas.Bool.Decides.{nat_tests}
 use Rattle.std.proofs.lemmas.List.{reverse-append}
 use Rattle.std.proofs.lemmas.List.Elements.{All-cons, All-head, All-nil, All-tail, All-weaker}
 use Rattle.seq_number.specs.Numbers.{IsNear, number_of_place}
+use Rattle.dataset_meta.specs.DataValues.{DataValue}
 use Rattle.dataset_meta.specs.Metas.{MetaData, no_meta}
+use Rattle.dataset_meta.specs.Rows.{patch_cut, row_cut}
 use Rattle.pubsub_model.specs.Answers.{InSpan, IsAnswer, IsAnswerCut, IsBareAnswer, without_place}
 use Rattle.pubsub_model.specs.Cadence.{Answered, Settings, WriterDeed, cadence, next_place}
 use Rattle.pubsub_model.specs.Frames.{PlacedFrame, Whole, Change, Alive, IsPlacedFrame, carried, placed_cut}
@@ -111,17 +113,17 @@ module _ (meta : MetaData) (major : ℕ) (s : Settings) (deeds : List WriterDeed
   without-number : (frame : Frame) (placed : PlacedFrame) (events : List Event) → IsAnswer answered placed → IsOfMajor major frame.major → frame.content ≡ content_of (placed_cut meta placed)
       → HasArrivals words.None events → HasArrivals words.None (Framed frame None ∷ events)
   without-number frame (Whole place row) events answer own content earlier =
-      bare-item frame (Whole place row) _ events answer refl own content (λ change. absurd (whole-change frame.content _ change.0 content change.1)) earlier
+      bare-item frame (Whole place row) (Whole 0 (row_cut meta row)) events answer refl own content (λ change. whole-change frame.content (row_cut meta row) change.0 content change.1) earlier
     where
-      whole-change : (c : frames.Content) (r : _) (patch : _) → c ≡ frames.Whole r → c ≡ frames.Change patch → ⊥
+      whole-change : (c : frames.Content) (r : List DataValue) (patch : List (ℕ × DataValue)) → c ≡ frames.Whole r → c ≡ frames.Change patch → ⊥
       whole-change c r patch e f = cc
   without-number frame (Alive next) events answer own content earlier =
-      bare-item frame (Alive next) _ events answer refl own content (λ change. absurd (alive-change frame.content change.0 content change.1)) earlier
+      bare-item frame (Alive next) (Alive 1) events answer refl own content (λ change. alive-change frame.content change.0 content change.1) earlier
     where
-      alive-change : (c : frames.Content) (patch : _) → c ≡ frames.Alive → c ≡ frames.Change patch → ⊥
+      alive-change : (c : frames.Content) (patch : List (ℕ × DataValue)) → c ≡ frames.Alive → c ≡ frames.Change patch → ⊥
       alive-change c patch e f = cc
   without-number frame (Change place patch) events answer own content earlier =
-      record { arrivals = earlier.arrivals; are = inl (inr (_, content), earlier.are); own = earlier.own }
+      record { arrivals = earlier.arrivals; are = inl (inr (patch_cut meta patch, content), earlier.are); own = earlier.own }
 
   comes : (word : NumberingWord) (frame : Frame) (events : List Event) → IsIts frame → HasArrivals word events → HasArrivals word (Framed frame None ∷ events)
   comes words.Message frame events is earlier = by-number frame events is earlier

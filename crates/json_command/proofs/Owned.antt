@@ -20,6 +20,7 @@ use Rattle.uadp_header.specs.Layout.{header_at as header_read}
 use Rattle.uadp_header.specs.Spelling.{IsWritten, header_bytes}
 use Rattle.uadp_header.proofs.Again.{header_again}
 use Rattle.payload_layout.specs.Payloads.{parts_of as listed_parts}
+use Rattle.chunker.specs.Chunks.{Chunk}
 use Rattle.message_guard.specs.Opening.{judged, open_pass}
 use Rattle.message_guard.specs.Senders.{SenderState}
 use Rattle.config_tables.specs.declared.words.Layout.{Layout}
@@ -38,8 +39,9 @@ use Rattle.writer_group.specs.Payloads.{meta_at as meta_of_writer, payloads_of, 
 use Rattle.writer_group.specs.Sealing.{AreWritten, Payload, advanced_by, datagram_at, datagrams_from, envelope_with, header_at}
 use Rattle.writer_group.specs.Turns.{GroupDeed, GroupTurn, HadGroupTurn, RefreshedWriter, TurnInput, frames_in, made_in, turn_datagrams}
 use Rattle.reader_group.specs.declared.refusal.Refusal.TheVariants as refusals
-use Rattle.reader_group.specs.Filter.{is_ours, is_same_publisher}
+use Rattle.reader_group.specs.Filter.{is_ours, is_publisher}
 use Rattle.reader_group.specs.Opening.{Opened, payload_refusals, verdict}
+use Rattle.reader_group.specs.Payloads as readers
 use Rattle.reader_group.specs.Payloads.{Messages, Message as Whole, Piece, dynamic_payload, payload_of, pieces}
 use Rattle.reader_group.specs.Settings.{setup_by}
 use Rattle.reader_group.proofs.KeptParts.{IsPieceOf, OfRead}
@@ -58,7 +60,8 @@ use Rattle.session_laws.proofs.Distinct.{IsAt}
 use Rattle.session_laws.proofs.Living.{past-of}
 use Rattle.session_laws.proofs.Pieces.{made-pieces}
 use Rattle.session_laws.proofs.Sending.{sent-made}
-use Rattle.session_laws.proofs.Sources.{IsOfAnswer}
+use Rattle.session_laws.proofs.Answering.{spelled_at}
+use Rattle.session_laws.proofs.Sources.{IsChunkOf, IsOfAnswer}
 use Rattle.json_frames.specs.Parts.{Part}
 use Rattle.json_frames.specs.Reading.{set_of}
 use Rattle.json_tap.specs.Transcoding.{Message, all_of, are_past, frame_if, is_spelled, message_in, message_of, message_read, messages_of, part_for, part_of, parts_for, publisher_of, sets_of, transcoded}
@@ -72,6 +75,12 @@ none-some x e = absurd cc
 
 some-same : {X : Type 0} (x y : X) → Path (Option X) (Some x) (Some y) → x ≡ y
 some-same x y e = cc
+
+ok-same : (x y : Frame) → Path (Result Frame FrameFault) (Ok x) (Ok y) → x ≡ y
+ok-same x y e = cc
+
+err-ok : {Y : Type 0} (fault : FrameFault) (x : Frame) → Path (Result Frame FrameFault) (Err fault) (Ok x) → Y
+err-ok fault x e = absurd cc
 
 -- ---- a datagram that a group made begins with a header that names the publisher
 
@@ -112,7 +121,7 @@ past-named config group (HadGroupTurn turn ∷ before) datagram are (inr made) =
 
 -- an unsecured datagram with a list of ids, whose parts are read as these
 record IsListed (config : Config) (header : HeaderValue) (payload : List ℕ) (message : Message) : Type 0 where
-  pub open : header.security ≡ None
+  pub unsecured : header.security ≡ None
   pub ids : List ℕ
   pub has : header.ids ≡ ListOf ids
   pub fits : are_past (length (ids_of ids)) payload ≡ false
@@ -135,7 +144,7 @@ by-ids config header NoIds payload message open e is = none-some message.parts i
 by-ids config header (ChunkOf id) payload message open e is = none-some message.parts is
 by-ids config header (ListOf ids) payload message open e is =
     let so = fitting config (are_past (length (ids_of ids)) payload) ids payload message.parts refl is in
-    record { open = open; ids = ids; has = e; fits = so.0; parts = so.1 }
+    record { unsecured = open; ids = ids; has = e; fits = so.0; parts = so.1 }
 
 by-security : (config : Config) (header : HeaderValue) (security : Option SecurityValue) (payload : List ℕ) (message : Message) → header.security ≡ security
     → cond (is_some security) None (message_of (publisher_of header.publisher) (parts_for config header.ids payload)) ≡ Some message → IsListed config header payload message
@@ -153,7 +162,7 @@ is-listed config datagram message named is =
 
 -- ---- a read group with one reader, which asks for the publisher and for any group
 
-reader_for : GroupPart → ℕ → ReaderPart
+abbrev reader_for : GroupPart → ℕ → ReaderPart
 reader_for group w = record {
   name = [];
   writer = (writer_at group w).id;
@@ -164,7 +173,7 @@ reader_for group w = record {
   size = (writer_at group w).size;
 }
 
-readers_for : Config → GroupPart → ℕ → ReadGroupPart
+abbrev readers_for : Config → GroupPart → ℕ → ReadGroupPart
 readers_for config group w = record {
   name = [];
   publisher = config.publisher.id;
@@ -229,19 +238,15 @@ is-opened config group w datagram message named listed =
     let setup = setup_by config readers None in
     let front = header_bytes named.header in
     let ours : is_ours readers named.header ≡ true =
-    ap (λ (o : Option PublisherValue). is_publisher_of config o && true && true && true) named.publisher
+    ap (λ (o : Option PublisherValue). is_publisher config.publisher.id o && true && true && true) named.publisher
     ∙ ap (λ (b : Bool). b && true && true && true) (own-publisher config.publisher.id) in
-    let taken = taken-open readers setup [] named.header named.rest refl listed.open named.written ours (good-list named.header listed.ids named.rest named.written listed.has listed.fits) in
+    let judged_so = taken-open readers setup [] named.header named.rest refl listed.unsecured named.written ours (good-list named.header listed.ids named.rest named.written listed.has listed.fits) in
     record {
       opened = record { pass = open_pass (front ++ named.rest); payload = payload_of layouts.Dynamic named.header.ids (length front) (front ++ named.rest) };
-      taken = ap (verdict readers setup []) named.bytes ∙ taken;
+      taken = ap (verdict readers setup []) named.bytes ∙ judged_so;
       payload_is = ap (λ (i : IdsValue). dynamic_payload i (drop (length front) (front ++ named.rest))) listed.has
           ∙ ap (λ (l : List ℕ). Messages (listed_parts (ids_of listed.ids) l)) (drop_at front named.rest (length front) refl);
     }
-  where
-    is_publisher_of : Config → Option PublisherValue → Bool
-    is_publisher_of config None = false
-    is_publisher_of config (Some id) = is_same_publisher config.publisher.id id
 
 -- ---- the parts that are read of it
 
@@ -308,13 +313,10 @@ module _ (config : Config) (g w : ℕ) (answered : List Answered) where
   answered-frame frame is = record { placed = is.placed; answer = is.answer; number = is.number; content = is.content; major = own-major frame.major is.own }
 
   of-read : (read : Result Frame FrameFault) (frame : Frame) → OfRead (IsOfAnswer its_meta answered) read → read ≡ Ok frame → IsOfAnswer its_meta answered frame
-  of-read (Ok found) frame is e = subst (IsOfAnswer its_meta answered) (let same : found ≡ frame = cc in same) is
-  of-read (Err fault) frame is e = absurd cc
+  of-read (Ok found) frame is e = subst (IsOfAnswer its_meta answered) (ok-same found frame e) is
+  of-read (Err fault) frame is e = err-ok fault frame e
 
-  abbrev C : Rattle.chunker.specs.Chunks.Chunk → Type 0
-  C chunk = ⊤
-
-  module _ (IsChunk : Rattle.chunker.specs.Chunks.Chunk → Type 0) where
+  module _ (IsChunk : Chunk → Type 0) where
     abbrev IsItsPiece : Piece → Type 0
     IsItsPiece piece = IsPieceOf (IsOfAnswer its_meta answered) IsChunk its_meta piece
 
@@ -382,6 +384,12 @@ module _ (laws : Laws) (p : Plan) (steps : List Step) (plan : IsPlan p) (are : A
     its_matched : IsMatchedTo p.config (readers_for p.config its_group w) 0 its_group w
     its_matched = matched-for p.config its_group w writer.within its_plain.0 its_plain.1 its_key
 
+    abbrev meta_here : MetaData
+    meta_here = meta_of_writer its_group p.config.dataset w
+
+    abbrev its-chunk : AreTurns p.config its_group (pasts_at p steps g) → Chunk → Type 0
+    its-chunk turns chunk = IsChunkOf meta_here (answered_at p g w steps) (spelled_at p.config its_group w (pasts_at p steps g) turns) chunk
+
     -- the parts of what is transcoded of a datagram that was made
     datagram-answered : (datagram : List ℕ) (message : Message) → IsMade p.config (pasts_at p steps) datagram → transcoded p.config datagram ≡ Some message
         → AreAnswered p.config g w (answered_at p g w steps) message.parts
@@ -391,8 +399,9 @@ module _ (laws : Laws) (p : Plan) (steps : List Step) (plan : IsPlan p) (are : A
         let opened = is-opened p.config its_group w datagram message named listed in
         let turns = (is-past g).turns in
         let all = made-pieces laws.turns p.config its_group (readers_for p.config its_group w) 0 w its_matched g (pasts_at p steps) plan.good.sound at-group are-pasts turns [] datagram opened.opened made opened.taken in
-        each-answered p.config g w (answered_at p g w steps) _ (listed_parts (ids_of listed.ids) named.rest) message.parts
-        (subst (λ (payload : Rattle.reader_group.specs.Payloads.Payload). All _ (pieces (reader_for its_group w) payload)) opened.payload_is all) listed.parts
+        each-answered p.config g w (answered_at p g w steps) (its-chunk turns) (listed_parts (ids_of listed.ids) named.rest) message.parts
+        (subst (λ (payload : readers.Payload). All (IsPieceOf (IsOfAnswer meta_here (answered_at p g w steps)) (its-chunk turns) meta_here) (pieces (reader_for its_group w) payload)) opened.payload_is all)
+        listed.parts
 
   -- ---- parts, one after another
 
