@@ -140,11 +140,11 @@ has-both (Some publisher) (Some parts) message is = ap (λ (m : Message). Some m
 
 by-ids : (config : Config) (header : HeaderValue) (ids : IdsValue) (payload : List ℕ) (message : Message) → header.security ≡ None → header.ids ≡ ids → parts_for config ids payload ≡ Some message.parts
     → IsListed config header payload message
-by-ids config header NoIds payload message open e is = none-some message.parts is
-by-ids config header (ChunkOf id) payload message open e is = none-some message.parts is
-by-ids config header (ListOf ids) payload message open e is =
+by-ids config header NoIds payload message plain e is = none-some message.parts is
+by-ids config header (ChunkOf id) payload message plain e is = none-some message.parts is
+by-ids config header (ListOf ids) payload message plain e is =
     let so = fitting config (are_past (length (ids_of ids)) payload) ids payload message.parts refl is in
-    record { unsecured = open; ids = ids; has = e; fits = so.0; parts = so.1 }
+    record { unsecured = plain; ids = ids; has = e; fits = so.0; parts = so.1 }
 
 by-security : (config : Config) (header : HeaderValue) (security : Option SecurityValue) (payload : List ℕ) (message : Message) → header.security ≡ security
     → cond (is_some security) None (message_of (publisher_of header.publisher) (parts_for config header.ids payload)) ≡ Some message → IsListed config header payload message

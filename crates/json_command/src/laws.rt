@@ -19,7 +19,7 @@ use group_laws::{
     a_ring_makes_senders_of_its_key_group, each_datagram_is_taken_as_it_was_sent,
     each_part_is_of_what_was_answered,
 };
-use reader_group::{near_readers_have_their_records, what_a_secured_group_takes_is_signed};
+use reader_group::near_readers_have_their_records;
 use row_words::cut_rows_have_words;
 use session_laws::each_turn_of_a_session_holds;
 
@@ -49,7 +49,6 @@ fn what_the_laws_below_say()
     each_part_is_of_what_was_answered();
     a_datagram_has_nothing_for_readers_of_other_groups();
     a_matched_reader_reads_its_writer();
-    what_a_secured_group_takes_is_signed();
     near_readers_have_their_records();
     cut_rows_have_words();
     a_ring_makes_senders_of_its_key_group();

@@ -13,7 +13,6 @@ returns c = record {
     reads = c.a_matched_reader_reads_its_writer.ensures.reads;
     meta = c.a_matched_reader_reads_its_writer.ensures.meta;
   };
-  passed = c.what_a_secured_group_takes_is_signed.ensures;
   agrees = c.near_readers_have_their_records.ensures;
   words = record { belongs = c.cut_rows_have_words.ensures.belongs; row = c.cut_rows_have_words.ensures.row };
   ring = c.a_ring_makes_senders_of_its_key_group.ensures;
