@@ -1,3 +1,4 @@
+use Rattle.std.proofs.Common.{refl}
 use Rattle.load_command.proofs.Told.{opens_for, summarized}
 use Rattle.load_command.proofs.command.work_summary.Goals as goal
 
