@@ -1,5 +1,5 @@
 //! Publishers.
-ghost use Rattle.std.specs.Prelude.{◌≡◌, ◌↔◌, ◌<◌, ◌≤◌, [], IsTrue, IfOk, IfErr, IfSome, IfNone, Ok, length, slice_index_or};
+ghost use Rattle.std.specs.Prelude.{◌≡◌, ◌↔◌, ◌<◌, ◌≤◌, ◌+◌, [], IsTrue, IfOk, IfErr, IfSome, IfNone, Ok, length, slice_index_or};
 ghost use Rattle.std.specs.Bool.{OnTrue, OnFalse};
 ghost use Rattle.group_keys.specs.Ring.{key_sets};
 ghost use Rattle.message_guard.specs.Senders.{IsSender};
@@ -113,7 +113,7 @@ impl Publisher {
         requires publisher { IsPublisher self.old }
         requires waits { self.old.handed < self.old.made }
         ensures publisher { IsPublisher self.new }
-        ensures handed { self.new ≡ record self.old { handed = self.new.handed } }
+        ensures handed { self.new ≡ record self.old { handed = self.old.handed + 1 } }
     {
         self.handed += 1;
     }
