@@ -1,4 +1,4 @@
-use Rattle.std.proofs.Common.{◌≡◌, ◌+◌, ◌∷◌, [], List, length, length-append, sym, subst, ap, ◌∙◌, arith}
+use Rattle.std.proofs.Common.{◌+◌, ◌∷◌, [], List, length, length-append, sym, subst, ap, ◌∙◌, arith}
 use Rattle.writer_group.specs.declared.sampled.Sampled.{Sampled}
 use Rattle.writer_group.specs.Standing.{AreRowsOf}
 use Rattle.device_sides.proofs.RowLists.{IsRowAt, of-meta, rows-more}

@@ -1,4 +1,4 @@
-use Rattle.std.proofs.Common.{◌≡◌, [], subst, refl}
+use Rattle.std.proofs.Common.{◌≡◌, [], subst}
 use Rattle.ua_values.specs.declared.kind.Kind.{Kind}
 use Rattle.ua_values.specs.declared.kind.Kind.TheVariants.{Boolean}
 use Rattle.dataset_meta.specs.declared.field.Field.{Field}

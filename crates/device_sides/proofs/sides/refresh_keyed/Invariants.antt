@@ -1,4 +1,3 @@
-use Rattle.std.proofs.Common.{◌≡◌, length}
 use Rattle.std.specs.Prelude.{All}
 use Rattle.device_sides.specs.Sides.{IsSide}
 use Rattle.device_sides.proofs.sides.refresh_keyed.Given as goal

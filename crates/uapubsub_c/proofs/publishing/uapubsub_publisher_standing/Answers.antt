@@ -1,4 +1,4 @@
-use Rattle.std.proofs.Common.{◌≡◌, subst}
+use Rattle.std.proofs.Common.{subst}
 use Rattle.uapubsub_c.specs.declared.kept.Kept.{Kept}
 use Rattle.uapubsub_c.specs.Handles.{StandsIn}
 use Rattle.uapubsub_c.proofs.publishing.uapubsub_publisher_standing.Goals as goal

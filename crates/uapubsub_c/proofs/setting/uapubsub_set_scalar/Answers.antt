@@ -1,4 +1,4 @@
-use Rattle.std.proofs.Common.{◌≡◌, subst}
+use Rattle.std.proofs.Common.{subst}
 use Rattle.uapubsub_c.specs.declared.kept.Kept.{Kept}
 use Rattle.uapubsub_c.specs.Handles.{HasScalarIn}
 use Rattle.uapubsub_c.proofs.setting.uapubsub_set_scalar.Goals as goal

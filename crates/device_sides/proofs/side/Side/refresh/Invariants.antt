@@ -1,5 +1,4 @@
 use Rattle.std.proofs.Common.{◌≡◌}
-use Rattle.writer_group.specs.Standing.{writer_count}
 use Rattle.device_sides.specs.Sides.{IsSide}
 use Rattle.device_sides.proofs.side.Side.refresh.Given as goal
 

@@ -1,4 +1,4 @@
-use Rattle.std.proofs.Common.{◌≡◌, List, subst}
+use Rattle.std.proofs.Common.{List, subst}
 use Rattle.std.specs.Prelude.{Bool, false, None}
 use Rattle.dataset_meta.specs.Metas.{MetaData}
 use Rattle.writer_group.specs.Standing.{HasTickedAt, input_of}

@@ -3,10 +3,9 @@ use Rattle.std.proofs.Common.{◌≡◌, List, [], ◌∷◌, ◌++◌, refl, sy
 use mir.Raw.{raw as bare}
 use mir.Val.{Val, vptr}
 use base.Logic.{SProp, ent, emp, never, id⊢, fst∗}
-use base.Fml.{Fml}
 use prog.Wp.{WpFn}
 use types.Logic.{sem}
-use types.Kit.{‵, raw, ◌⊛◌, ◌$◌, ◌∵◌, !, qed, by, move, drop, keep, use0, use1, split, fsplit, fjoin, rewrite, suffices}
+use types.Kit.{‵, raw, ◌⊛◌, ◌$◌, ◌∵◌, !, qed, by, move, drop, keep, use0, split, fsplit, fjoin, rewrite, suffices}
 use types.Part.{agg, whole, sub}
 use types.Run.{stop, fld, of_opd, no_more, and_then, returns, enter}
 use types.ByLocal.{alloc_all, pass_all, free_all, look_at, get, get_in, sets}
@@ -37,7 +36,7 @@ use Rattle.uapubsub_c.specs.contracts.kept.Kept.{the_row as R}
 use Rattle.uapubsub_c.specs.contracts.slot.Slot.{the_row as Slot}
 use Rattle.uapubsub_c.specs.Holding.{held_by}
 use Rattle.uapubsub_c.proofs.SlotValues.{alone, slot_out, value_in}
-use Rattle.uapubsub_c.proofs.LooseValues.{both, Loose, loose_good, loose_in}
+use Rattle.uapubsub_c.proofs.LooseValues.{both, loose_good, loose_in}
 use Rattle.uapubsub_c.specs.contracts.slot.Slot.into_loose.{ended, clauses}
 use Rattle.uapubsub_c.specs.contracts.slot.Slot.into_loose.Key.{name as #self}
 use Rattle.uapubsub_c.proofs.slot.Slot.into_loose.Statement.{statement}

@@ -1,12 +1,11 @@
 -- `none` makes the struct of a null pointer, which owns nothing.
-use Rattle.std.proofs.Common.{List, [], ◌∷◌, refl, ◌≡◌, lit<}
+use Rattle.std.proofs.Common.{[], ◌∷◌, refl, ◌≡◌}
 use mir.Val.{Val}
-use base.Logic.{SProp, ent, emp, id⊢}
+use base.Logic.{SProp, emp, id⊢}
 use base.Fml.{ftrue}
-use prog.Wp.{WpFn}
 use types.Kit.{‵, raw, ◌⊛◌, ◌$◌, ◌∵◌, !, qed, by, move, drop, keep, use0, use1, split}
 use types.Part.{agg}
-use types.Run.{of_opd, lit, no_more, and_then, returns, enter}
+use types.Run.{lit, no_more, and_then, returns, enter}
 use types.ByLocal.{alloc_all, pass_all, free_all, look_at, sets}
 use contract.Monad.{fact, fact_i}
 use contract.Running.{tables}
