@@ -1,0 +1,7 @@
+use Rattle.std.proofs.Common.{◌≡◌, length}
+use Rattle.std.specs.Prelude.{All}
+use Rattle.message_guard.specs.Senders.{IsSender}
+use Rattle.device_sides.proofs.making.senders_of.Given as goal
+
+abbrev pub invariant-loop-keygroup : goal.invariant-loop-keygroup
+invariant-loop-keygroup l = record { senders : All IsSender l.senders.items; count : length l.senders.items ≡ l.keygroup-index }

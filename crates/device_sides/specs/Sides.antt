@@ -1,0 +1,137 @@
+-- The sides of a device, between two calls.
+use Rattle.std.specs.Prelude.{◌≡◌, ℕ, ◌<◌, ◌≤◌, true, false, List, length, slice_set, slice_index_or, [], ◌∷◌, ◌⊎◌, All, Option, Some, None, Result}
+use Rattle.std.specs.List.{HoldsAt}
+use Rattle.ua_values.specs.declared.value.Value.{Value}
+use Rattle.dataset_meta.specs.Metas.{MetaData}
+use Rattle.ua_values.specs.declared.kind.Kind.{Kind}
+use Rattle.row_words.specs.Belonging.{row_in}
+use Rattle.row_words.specs.Setting.{with_value}
+use Rattle.row_words.specs.Words.{is_scalar, scalar_in}
+use Rattle.group_keys.specs.declared.key_set.KeySet.{KeySet}
+use Rattle.message_guard.specs.Senders.{SenderState, IsSender, renewed}
+use Rattle.ps_config.specs.declared.parts.Config.{Config}
+use Rattle.reader_group.specs.Groups as reads
+use Rattle.reader_group.specs.Plain.{Got}
+use Rattle.reader_group.specs.declared.refusal.Refusal.{Refusal}
+use Rattle.reader_group.specs.declared.refusal.Taken.{Taken}
+use Rattle.writer_group.specs.declared.datagrams.Datagrams.{Datagrams}
+use Rattle.writer_group.specs.declared.sampled.Sampled.{Sampled}
+use Rattle.writer_group.specs.Parts.{group_at}
+use Rattle.writer_group.specs.Standing.{AreRowsOf, HasTickedAt, IsGood, IsReserved, KeepsTo, datagrams_in, index_of, input_of}
+use Rattle.device_sides.specs.declared.listening.Listening.{Listening}
+use Rattle.device_sides.specs.declared.publisher.Publisher.{Publisher}
+use Rattle.device_sides.specs.declared.side.Side.{Side}
+use Rattle.device_sides.specs.declared.subscriber.Subscriber.{Subscriber}
+
+-- ---- a group of writers
+
+-- its group is of this configuration, at this place, and may have a turn as soon as what the turn is given is in order
+pub record IsSide (config : Config) (side : Side) : Type 0 where
+  pub index : index_of side.group ≡ side.index
+  pub keeps_to : KeepsTo config side.group
+
+-- the sender at the place, if there is one
+abbrev pub nth_sender : List SenderState → Option ℕ → Option SenderState
+nth_sender senders None = None
+nth_sender [] (Some k) = None
+nth_sender (sender ∷ senders) (Some k) = Some (slice_index_or (sender ∷ senders) k sender)
+
+-- the sender of the group's key group, if it is secured
+abbrev pub sender_for : Config → List SenderState → ℕ → Option SenderState
+sender_for config senders index = nth_sender senders (group_at config index).keygroup
+
+-- it had a turn at this moment with these rows, and so many datagrams came of it
+pub record HasTurned (config : Config) (moment : ℕ) (rows : List Sampled) (sender : Option SenderState) (old new : Side) (out : Datagrams)
+    (made : ℕ) : Type 0 where
+  pub stands : HasTickedAt config (input_of moment false config.dataset rows old.on.items sender) old.group new.group out
+  pub made_is : made ≡ length (datagrams_in out)
+
+-- ---- a publisher
+
+pub record IsPublisher (publisher : Publisher) : Type 0 where
+  pub good : IsGood publisher.config
+  pub rows_are : AreRowsOf publisher.config.dataset publisher.rows.items
+  pub rows_count : length publisher.rows.items ≡ length publisher.config.dataset
+  pub senders_are : All IsSender publisher.senders.items
+  pub sides_are : All (IsSide publisher.config) publisher.sides.items
+  pub reserved : IsReserved publisher.out
+  pub made_is : publisher.made ≡ length (datagrams_in publisher.out)
+  pub handed_is : publisher.handed ≤ publisher.made
+
+-- the row of the data set has this value and this status at the field, and the other data sets' rows stay
+pub record HasRowSet (metas : List MetaData) (set field : ℕ) (value : Value) (status : ℕ) (old new : List Sampled) : Type 0 where
+  pub within : set < length metas
+  pub row : HoldsAt (λ meta. HoldsAt (λ was. HoldsAt (λ is. row_in meta.fields is.row.words
+      ≡ slice_set (row_in meta.fields was.row.words) field (record { value = value; status = status }))
+      new set) old set) metas set
+  pub others : HoldsAt (λ is. new ≡ slice_set old set is) new set
+
+-- the same, and nothing else changed
+pub record HasSet (set field : ℕ) (value : Value) (status : ℕ) (old new : Publisher) : Type 0 where
+  pub rows : HasRowSet old.config.dataset set field value status old.rows.items new.rows.items
+  pub rest : new ≡ record old { rows = new.rows }
+
+-- the field is there, and of this kind, which is a scalar's
+pub record IsScalarAt (meta : MetaData) (field : ℕ) (kind : Kind) : Type 0 where
+  pub within : field < length meta.fields
+  pub kind_is : HoldsAt (λ f. f.kind ≡ kind) meta.fields field
+  pub scalar : is_scalar kind ≡ true
+
+-- the row of the data set has at the field the scalar of this kind with this word, and the other data sets' rows stay
+pub record HasWordSet (metas : List MetaData) (set field : ℕ) (kind : Kind) (word : ℕ) (old new : List Sampled) : Type 0 where
+  pub within : set < length metas
+  pub row : HoldsAt (λ meta. HoldsAt (λ was. HoldsAt (λ is. row_in meta.fields is.row.words
+      ≡ with_value (row_in meta.fields was.row.words) field (scalar_in kind word))
+      new set) old set) metas set
+  pub others : HoldsAt (λ is. new ≡ slice_set old set is) new set
+
+-- the same, and nothing else changed
+pub record HasSetWord (set field : ℕ) (kind : Kind) (word : ℕ) (old new : Publisher) : Type 0 where
+  pub rows : HasWordSet old.config.dataset set field kind word old.rows.items new.rows.items
+  pub rest : new ≡ record old { rows = new.rows }
+
+-- the sender of the key group is at this token, with this number used last
+pub record StandsAt (keygroup : ℕ) (publisher : Publisher) (standing : ℕ × ℕ) : Type 0 where
+  pub within : keygroup < length publisher.senders.items
+  pub is : HoldsAt (λ sender. standing ≡ (sender.keys.token, sender.used)) publisher.senders.items keygroup
+
+-- the sender of the key group goes on with these key sets, and nothing else changed
+pub record HasRenewed (keygroup : ℕ) (sets : List KeySet) (old new : Publisher) : Type 0 where
+  pub within : keygroup < length old.senders.items
+  pub is : HoldsAt (λ sender. new.senders.items ≡ slice_set old.senders.items keygroup (renewed sender sets)) old.senders.items keygroup
+  pub rest : new ≡ record old { senders = new.senders }
+
+-- of two tokens with the number used last under each, the second is that of a later token, or of the same one with no lower number
+abbrev pub IsNoLower : ℕ × ℕ → ℕ × ℕ → Type 0
+IsNoLower old new = (old.0 < new.0) ⊎ ((old.0 ≡ new.0) × (old.1 ≤ new.1))
+
+-- the sender of the key group goes on behind so many numbers, of which none comes twice, and nothing else changed
+pub record IsBehind (keygroup used : ℕ) (old new : Publisher) : Type 0 where
+  pub within : keygroup < length old.senders.items
+  pub used_is : HoldsAt (λ sender. sender.used ≡ used) new.senders.items keygroup
+  pub no_lower : HoldsAt (λ was. HoldsAt (λ is. IsNoLower (was.keys.token, was.used) (is.keys.token, is.used))
+      new.senders.items keygroup) old.senders.items keygroup
+  pub others : HoldsAt (λ is. new.senders.items ≡ slice_set old.senders.items keygroup is) new.senders.items keygroup
+  pub rest : new ≡ record old { senders = new.senders }
+
+-- ---- a subscriber
+
+-- its group is of this configuration, at this place, with a truth value for each reader
+pub record IsListening (config : Config) (listening : Listening) : Type 0 where
+  pub made : reads.IsMadeOf config listening.group
+  pub index : reads.index_of listening.group ≡ listening.index
+  pub on : length listening.on.items ≡ reads.reader_count listening.group
+
+pub record IsSubscriber (subscriber : Subscriber) : Type 0 where
+  pub good : IsGood subscriber.config
+  pub groups_are : All (IsListening subscriber.config) subscriber.groups.items
+
+-- a datagram came to the read group at this moment: its group stepped as by the plain reading, and so was what is left of the bytes; the others stayed
+pub record HasListened (group now : ℕ) (datagram left : List ℕ) (old new : Subscriber) (answer : Result Taken Refusal) : Type 0 where
+  pub within : group < length old.groups.items
+  pub step : HoldsAt (λ was. HoldsAt (λ is. reads.StepsBy old.config (Got now was.on.items datagram) was.group is.group) new.groups.items group)
+      old.groups.items group
+  pub answer_is : HoldsAt (λ was. reads.IsAnswer old.config was.group now was.on.items datagram answer) old.groups.items group
+  pub bytes : HoldsAt (λ was. reads.AreLeft old.config was.group datagram left) old.groups.items group
+  pub others : HoldsAt (λ is. new.groups.items ≡ slice_set old.groups.items group is) new.groups.items group
+  pub config : new.config ≡ old.config

@@ -1,0 +1,19 @@
+//! The two sides of a device, each with the configuration that it was opened with: a publisher that holds a row of each data set,
+//! and a subscriber. They are what a program has that owns its sockets, its clock and its threads itself, and needs no session.
+#![tactic(auto)]
+
+mod asked;
+mod listening;
+mod making;
+mod publisher;
+mod rows;
+mod side;
+mod sides;
+mod subscriber;
+mod words;
+
+pub use asked::{Next, NoValue};
+pub use listening::Listening;
+pub use publisher::Publisher;
+pub use side::Side;
+pub use subscriber::Subscriber;

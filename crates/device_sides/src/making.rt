@@ -1,0 +1,92 @@
+//! The parts of a new publisher, and of a new subscriber.
+ghost use Rattle.std.specs.Prelude.{◌≡◌, IfOk, All, length};
+ghost use Rattle.message_guard.specs.Senders.{IsSender};
+ghost use Rattle.ps_config.specs.Sound.{IsKeyGroup};
+ghost use Rattle.writer_group.specs.Standing.{AreRowsOf, IsGood};
+ghost use Rattle.device_sides.specs.Sides.{IsListening, IsSide};
+
+use crate::listening::Listening;
+use crate::side::Side;
+use dataset_meta::Meta;
+use message_guard::Sender;
+use ps_config::{Config, KeyGroupPart, Policy, ring_of};
+use row_words::Row;
+use std::alloc::Global;
+use ua_base::NoMemory;
+use writer_group::Sampled;
+
+/// An opening row of each data set.
+pub fn rows_of(alloc: Global, metas: &[Meta]) -> Result<Vec<Sampled>, NoMemory>
+    ensures rows { IfOk result (λ rows. AreRowsOf metas.now rows.items) }
+    ensures count { IfOk result (λ rows. length rows.items ≡ length metas.now) }
+{
+    let mut rows = Vec::new(alloc);
+    for meta in metas {
+        let row = Row::opening_of(meta);
+        rows.push(Sampled { row, version: 0 })?;
+    }
+    Ok(rows)
+}
+
+/// A sender of each key group, which goes on behind the numbers that the configuration tells of.
+pub fn senders_of(alloc: Global, keygroups: &[KeyGroupPart]) -> Result<Vec<Sender>, NoMemory>
+    requires { All IsKeyGroup keygroups.now }
+    ensures senders { IfOk result (λ senders. All IsSender senders.items) }
+    ensures count { IfOk result (λ senders. length senders.items ≡ length keygroups.now) }
+{
+    let mut senders = Vec::new(alloc);
+    for keygroup in keygroups {
+        senders.push(sender_of(keygroup))?;
+    }
+    Ok(senders)
+}
+
+fn sender_of(keygroup: &KeyGroupPart) -> Sender
+    requires { IsKeyGroup keygroup.now }
+    ensures { IsSender result }
+{
+    Sender::new(
+        ring_of(keygroup),
+        keygroup.random,
+        keygroup.first_block,
+        keygroup.used,
+    )
+}
+
+/// The groups, in the configuration's order.
+pub fn sides_of(alloc: Global, config: &Config) -> Result<Vec<Side>, NoMemory>
+    requires { IsGood config.now }
+    ensures sides { IfOk result (λ sides. All (IsSide config.now) sides.items) }
+    ensures count { IfOk result (λ sides. length sides.items ≡ length config.now.group) }
+{
+    let mut sides = Vec::new(alloc);
+    for g in 0..config.group.as_slice().len() {
+        let side = Side::new(alloc, config, g as u8)?;
+        sides.push(side)?;
+    }
+    Ok(sides)
+}
+
+/// The read groups, in the configuration's order.
+pub fn listenings_of(alloc: Global, config: &Config) -> Result<Vec<Listening>, NoMemory>
+    requires { IsGood config.now }
+    ensures groups { IfOk result (λ groups. All (IsListening config.now) groups.items) }
+    ensures count { IfOk result (λ groups. length groups.items ≡ length config.now.readgroup) }
+{
+    let mut groups = Vec::new(alloc);
+    for g in 0..config.readgroup.as_slice().len() {
+        let listening = Listening::new(alloc, config, g as u8)?;
+        groups.push(listening)?;
+    }
+    Ok(groups)
+}
+
+/// Whether the key group with this index has keys of AES-256. None where there is no such key group.
+pub fn has_long_keys(config: &Config, keygroup: u8) -> Option<bool> {
+    let keygroups = config.keygroup.as_slice();
+    let index = usize::from(keygroup);
+    if index >= keygroups.len() {
+        return None;
+    }
+    Some(keygroups[index].policy == Policy::Aes256)
+}

@@ -1,0 +1,268 @@
+//! Publishers.
+ghost use Rattle.std.specs.Prelude.{◌≡◌, ◌↔◌, ◌<◌, ◌≤◌, ◌+◌, [], IsTrue, IfOk, IfErr, IfSome, IfNone, Ok, length, slice_index_or};
+ghost use Rattle.std.specs.Bool.{OnTrue, OnFalse};
+ghost use Rattle.group_keys.specs.Ring.{key_sets};
+ghost use Rattle.message_guard.specs.Senders.{IsSender};
+ghost use Rattle.ps_config.specs.Sound.{IsKeyGroup};
+ghost use Rattle.ps_config.specs.Reading.{configuration, IsEnd};
+ghost use Rattle.writer_group.specs.Standing.{IsGood, IsReserved, datagrams_in};
+ghost use Rattle.device_sides.specs.Sides.{HasRenewed, HasSet, HasSetWord, IsBehind, IsNoLower, IsPublisher, StandsAt};
+
+use crate::asked::Next;
+use crate::making::{has_long_keys, rows_of, senders_of, sides_of};
+use crate::rows::{set_in, set_word_in};
+use crate::side::Side;
+use crate::sides::{turn_at, turn_senders};
+use group_keys::Ring;
+use message_guard::Sender;
+use ps_config::{Config, ConfigEnd, KeyGroupPart, read_config, ring_of};
+use std::alloc::Global;
+use ua_base::NoMemory;
+use ua_values::{Kind, Value};
+use writer_group::{Datagrams, Sampled};
+
+/// The groups of a configuration (OPC 10000-14 6.2.6, WriterGroup) with a row of each of its data sets. All writers are on.
+#[derive(Drop)]
+pub struct Publisher {
+    pub config: Config,
+    /// A row of each data set, with how often it was set.
+    pub rows: Vec<Sampled>,
+    /// A sender of each key group.
+    pub senders: Vec<Sender>,
+    pub sides: Vec<Side>,
+    /// The datagrams of the last turn, of whichever group.
+    pub out: Datagrams,
+    /// How many there are, and how many of them were handed over.
+    pub made: u32,
+    pub handed: u32,
+}
+
+impl Publisher {
+    /// The publisher of the configuration that the text is, with opening rows. It takes all memory that it ever needs.
+    pub fn open(alloc: Global, text: &[u8]) -> Result<Publisher, ConfigEnd>
+        ensures publisher { IfOk result IsPublisher }
+        ensures ok { IfOk result (λ publisher. configuration text.now ≡ Ok publisher.config) }
+        ensures refused { IfErr result (IsEnd (configuration text.now)) }
+    {
+        let config = read_config(alloc, text)?;
+        match publisher_of(alloc, config) {
+            Ok(publisher) => Ok(publisher),
+            Err(NoMemory) => Err(ConfigEnd::Memory),
+        }
+    }
+
+    /// Sets the value and the status of a field, by the indexes of its data set and of the field in it, where the field is there and
+    /// may have them. False, and nothing is set, where it isn't.
+    pub fn set(&mut self, set: u8, field: u8, value: &Value, status: u32) -> bool
+        requires { IsPublisher self.old }
+        ensures publisher { IsPublisher self.new }
+        ensures set { OnTrue result (HasSet set field value.now status self.old self.new) }
+        ensures unset { OnFalse result (self.new.rows.items ≡ self.old.rows.items) }
+        ensures rest { self.new ≡ record self.old { rows = self.new.rows } }
+    {
+        let metas = self.config.dataset.as_slice();
+        set_in(metas, &mut self.rows, set, field, value, status)
+    }
+
+    /// Sets a field of this kind, which is a scalar's, to the value with this word (`Row::set_word`). False, and nothing is set, where
+    /// there is no such field, or no such value.
+    pub fn set_word(&mut self, set: u8, field: u8, kind: Kind, word: u64) -> bool
+        requires { IsPublisher self.old }
+        ensures publisher { IsPublisher self.new }
+        ensures set { OnTrue result (HasSetWord set field kind word self.old self.new) }
+        ensures unset { OnFalse result (self.new.rows.items ≡ self.old.rows.items) }
+        ensures rest { self.new ≡ record self.old { rows = self.new.rows } }
+    {
+        let metas = self.config.dataset.as_slice();
+        set_word_in(metas, &mut self.rows, set, field, kind, word)
+    }
+
+    /// Whether there is a data set with this index, and a field with this index in it.
+    pub fn has_field(&self, set: u8, field: u8) -> bool {
+        let metas = self.config.dataset.as_slice();
+        usize::from(set) < metas.len()
+            && usize::from(field) < metas[usize::from(set)].fields().len()
+    }
+
+    /// What the publisher has at `now`, in milliseconds, which must not fall. Where no datagram waits, the senders turn to `now`, and
+    /// groups that are due have their turns, in order, until one makes a datagram. A group's turn counts as that of the last multiple
+    /// of its interval, so that it doesn't drift.
+    pub fn come_to(&mut self, now: u64) -> Next
+        requires { IsPublisher self.old }
+        ensures publisher { IsPublisher self.new }
+        ensures waits { result ≡ Next.Datagram → self.new.handed < self.new.made }
+    {
+        if self.handed < self.made {
+            return Next::Datagram;
+        }
+        turn_senders(&self.config, &mut self.sides, &mut self.senders, now);
+        self.turn_due(now)
+    }
+
+    /// The datagram that waits.
+    pub fn datagram(&self) -> &[u8]
+        requires publisher { IsPublisher self.now }
+        requires waits { self.now.handed < self.now.made }
+        ensures { result.now ≡ slice_index_or (datagrams_in self.now.out) self.now.handed [] }
+    {
+        self.out.get(self.handed)
+    }
+
+    /// The datagram that waits was sent, or dropped: the one behind it waits.
+    pub fn hand_over(&mut self)
+        requires publisher { IsPublisher self.old }
+        requires waits { self.old.handed < self.old.made }
+        ensures publisher { IsPublisher self.new }
+        ensures handed { self.new ≡ record self.old { handed = self.old.handed + 1 } }
+    {
+        self.handed += 1;
+    }
+
+    /// The token in use of the key group with this index, and the last number used under it (`Sender::standing`).
+    pub fn standing(&self, keygroup: u8) -> Option<(u32, u32)>
+        ensures stands { IfSome result (StandsAt keygroup self.now) }
+        ensures none { IfNone result (length self.now.senders.items ≤ keygroup) }
+    {
+        let index = usize::from(keygroup);
+        if index >= self.senders.len() {
+            return None;
+        }
+        Some(self.senders[index].standing())
+    }
+
+    /// The key group with this index goes on with another ring of the same key length (`Sender::renew`). False, and nothing changes,
+    /// where there is no such key group.
+    pub fn renew(&mut self, keygroup: u8, ring: Ring) -> bool
+        requires { IsPublisher self.old }
+        ensures publisher { IsPublisher self.new }
+        ensures renewed { OnTrue result (HasRenewed keygroup (key_sets ring) self.old self.new) }
+        ensures not { OnFalse result (self.new ≡ self.old) }
+    {
+        let index = usize::from(keygroup);
+        if index >= self.senders.len() {
+            return false;
+        }
+        self.senders[index].renew(ring);
+        true
+    }
+
+    /// Whether the key group with this index has keys of AES-256. None where there is no such key group.
+    pub fn has_long_keys(&self, keygroup: u8) -> Option<bool> {
+        has_long_keys(&self.config, keygroup)
+    }
+
+    /// The key group with this index goes on behind `used` numbers of the last key set whose moment has come at `now`, in milliseconds
+    /// (`Sender::resume`). False, and nothing changes, where there is no such key group, or where a number would come twice: the key
+    /// set's token is lower than the one in use, or is that one with a greater number used.
+    pub fn resume(&mut self, keygroup: u8, now: u64, used: u32) -> bool
+        requires { IsPublisher self.old }
+        ensures publisher { IsPublisher self.new }
+        ensures behind { OnTrue result (IsBehind keygroup used self.old self.new) }
+        ensures not { OnFalse result (self.new ≡ self.old) }
+    {
+        let index = usize::from(keygroup);
+        let keygroups = self.config.keygroup.as_slice();
+        if index >= self.senders.len() || index >= keygroups.len() {
+            return false;
+        }
+        let sender = sender_at(&keygroups[index], now, used);
+        if !is_behind(sender.standing(), self.senders[index].standing()) {
+            return false;
+        }
+        self.senders[index] = sender;
+        true
+    }
+
+    /// The turns of the groups that are due, until one makes a datagram.
+    fn turn_due(&mut self, now: u64) -> Next
+        requires { IsPublisher self.old }
+        ensures publisher { IsPublisher self.new }
+        ensures waits { result ≡ Next.Datagram → self.new.handed < self.new.made }
+    {
+        let mut spent = false;
+        for g in 0..self.sides.len() {
+            let is_spent = self.turn_if_due(g, now);
+            if self.handed < self.made {
+                return Next::Datagram;
+            }
+            spent = spent || is_spent;
+        }
+        if spent { Next::Spent } else { Next::Nothing }
+    }
+
+    /// The turn of the group at this index, if it is due. Whether it can have none.
+    fn turn_if_due(&mut self, index: usize, now: u64) -> bool
+        requires publisher { IsPublisher self.old }
+        requires index { index < length self.old.sides.items }
+        ensures publisher { IsPublisher self.new }
+        ensures sides { length self.new.sides.items ≡ length self.old.sides.items }
+    {
+        if !self.sides[index].is_due(now) {
+            return false;
+        }
+        let out = &mut self.out;
+        let senders = &mut self.senders;
+        let rows = &self.rows;
+        match turn_at(
+            &self.config,
+            &mut self.sides,
+            index,
+            now,
+            rows,
+            senders,
+            out,
+        ) {
+            None => true,
+            Some(made) => {
+                self.made = made;
+                self.handed = 0;
+                false
+            }
+        }
+    }
+}
+
+/// The publisher of a configuration, with opening rows.
+fn publisher_of(alloc: Global, config: Config) -> Result<Publisher, NoMemory>
+    requires { IsGood config }
+    ensures publisher { IfOk result IsPublisher }
+    ensures config { IfOk result (λ publisher. publisher.config ≡ config) }
+{
+    let rows = rows_of(alloc, config.dataset.as_slice())?;
+    let senders = senders_of(alloc, config.keygroup.as_slice())?;
+    let sides = sides_of(alloc, &config)?;
+    let out = Datagrams::new(alloc)?;
+    Ok(Publisher {
+        config,
+        rows,
+        senders,
+        sides,
+        out,
+        made: 0,
+        handed: 0,
+    })
+}
+
+/// The sender of a key group behind so many numbers.
+fn sender_at(keygroup: &KeyGroupPart, now: u64, used: u32) -> Sender
+    requires { IsKeyGroup keygroup.now }
+    ensures sender { IsSender result }
+    ensures used { result.used ≡ used }
+{
+    Sender::resume(
+        ring_of(keygroup),
+        keygroup.random,
+        keygroup.first_block,
+        now,
+        used,
+    )
+}
+
+/// Whether no number of the second standing comes again behind the first one, each a token and the number used last under it.
+fn is_behind(new: (u32, u32), old: (u32, u32)) -> bool
+    ensures { IsTrue result ↔ IsNoLower old new }
+{
+    let (token, used) = new;
+    let (old_token, old_used) = old;
+    old_token < token || (old_token == token && old_used <= used)
+}

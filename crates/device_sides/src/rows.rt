@@ -1,0 +1,89 @@
+//! The rows of data sets, set field by field.
+ghost use Rattle.std.specs.Prelude.{◌≡◌, length, slice_set};
+ghost use Rattle.std.specs.Bool.{OnTrue, OnFalse};
+ghost use Rattle.row_words.specs.Belonging.{Belongs, row_in};
+ghost use Rattle.row_words.specs.Setting.{with_value};
+ghost use Rattle.row_words.specs.Words.{scalar_in};
+ghost use Rattle.writer_group.specs.Standing.{AreRowsOf};
+ghost use Rattle.device_sides.specs.Sides.{HasRowSet, HasWordSet};
+
+use crate::words::{is_scalar_at, is_word_of};
+use dataset_meta::Meta;
+use ua_values::{Kind, Value};
+use writer_group::Sampled;
+
+/// Sets a field of the row of the data set with this index, and counts it.
+pub fn set_in(
+    metas: &[Meta],
+    rows: &mut [Sampled],
+    set: u8,
+    field: u8,
+    value: &Value,
+    status: u32,
+) -> bool
+    requires rows { AreRowsOf metas.now rows.old }
+    requires count { length rows.old ≡ length metas.now }
+    ensures rows { AreRowsOf metas.now rows.new }
+    ensures set { OnTrue result (HasRowSet metas.now set field value.now status rows.old rows.new) }
+    ensures unset { OnFalse result (rows.new ≡ rows.old) }
+{
+    let index = usize::from(set);
+    if index >= metas.len() {
+        return false;
+    }
+    set_row(&metas[index], &mut rows[index], field, value, status)
+}
+
+/// Sets a scalar field of the row of the data set with this index, and counts it.
+pub fn set_word_in(
+    metas: &[Meta],
+    rows: &mut [Sampled],
+    set: u8,
+    field: u8,
+    kind: Kind,
+    word: u64,
+) -> bool
+    requires rows { AreRowsOf metas.now rows.old }
+    requires count { length rows.old ≡ length metas.now }
+    ensures rows { AreRowsOf metas.now rows.new }
+    ensures set { OnTrue result (HasWordSet metas.now set field kind word rows.old rows.new) }
+    ensures unset { OnFalse result (rows.new ≡ rows.old) }
+{
+    let index = usize::from(set);
+    if index >= metas.len() {
+        return false;
+    }
+    set_word_row(&metas[index], &mut rows[index], field, kind, word)
+}
+
+/// Sets a field of the row, and counts it.
+fn set_row(meta: &Meta, sampled: &mut Sampled, field: u8, value: &Value, status: u32) -> bool
+    requires { Belongs meta.now sampled.old.row.words }
+    ensures belongs { Belongs meta.now sampled.new.row.words }
+    ensures set { OnTrue result (row_in meta.now.fields sampled.new.row.words
+        ≡ slice_set (row_in meta.now.fields sampled.old.row.words) field
+        (record { value = value.now; status = status })) }
+    ensures unset { OnFalse result (sampled.new ≡ sampled.old) }
+{
+    let is_set = sampled.row.try_set(meta, field, value, status);
+    if is_set {
+        sampled.version = sampled.version.wrapping_add(1);
+    }
+    is_set
+}
+
+/// Sets a scalar field of the row, and counts it.
+fn set_word_row(meta: &Meta, sampled: &mut Sampled, field: u8, kind: Kind, word: u64) -> bool
+    requires { Belongs meta.now sampled.old.row.words }
+    ensures belongs { Belongs meta.now sampled.new.row.words }
+    ensures set { OnTrue result (row_in meta.now.fields sampled.new.row.words
+        ≡ with_value (row_in meta.now.fields sampled.old.row.words) field (scalar_in kind word)) }
+    ensures unset { OnFalse result (sampled.new ≡ sampled.old) }
+{
+    if !is_scalar_at(meta, field, kind) || !is_word_of(kind, word) {
+        return false;
+    }
+    sampled.row.set_word(meta, field, word);
+    sampled.version = sampled.version.wrapping_add(1);
+    true
+}

@@ -1,0 +1,174 @@
+//! A group of writers, of a configuration that its publisher keeps.
+ghost use Rattle.std.specs.Prelude.{◌≡◌, ◌<◌, IfOk, IfSome, IfNone, Some, None, All, length, slice_index_or};
+ghost use Rattle.message_guard.specs.Senders.{IsSender};
+ghost use Rattle.writer_group.specs.Standing.{AreRowsOf, IsFreshAt, IsGood, IsReserved, TellsDue, TellsMoment, index_of};
+ghost use Rattle.device_sides.specs.Sides.{IsSide, HasTurned, sender_for};
+
+use message_guard::Sender;
+use ps_config::{Config, GroupPart};
+use std::alloc::Global;
+use ua_base::NoMemory;
+use writer_group::{Datagrams, Group, Sampled};
+
+/// How many turns a group may have in its life: at one a millisecond, 146 million years.
+const TURNS: u64 = 4_611_686_018_427_387_904;
+
+/// A group of writers, which are all on, with its place in the configuration.
+#[derive(Drop)]
+pub struct Side {
+    pub index: u8,
+    pub group: Group,
+    pub on: Vec<bool>,
+}
+
+impl Side {
+    /// The group with this index, before its first turn. No turn takes memory.
+    pub fn new(alloc: Global, config: &Config, index: u8) -> Result<Side, NoMemory>
+        requires good { IsGood config.now }
+        requires index { index < length config.now.group }
+        ensures side { IfOk result (IsSide config.now) }
+        ensures fresh { IfOk result (λ side. IsFreshAt config.now index side.group) }
+    {
+        let count = part_of(config, index).writer.as_slice().len();
+        Ok(Side {
+            index,
+            group: Group::lasting(alloc, config, index, TURNS, 0)?,
+            on: vec![in alloc; true; count]?,
+        })
+    }
+
+    /// Whether the group is due at `now`, in milliseconds (`Group::due`).
+    pub fn is_due(&self, now: u64) -> bool
+        ensures { TellsDue self.now.group now result }
+    {
+        self.group.due(now)
+    }
+
+    /// The moment for a turn that comes at `now` (`Group::moment_of`).
+    pub fn moment_of(&self, now: u64) -> u64
+        ensures { TellsMoment self.now.group now result }
+    {
+        self.group.moment_of(now)
+    }
+
+    /// The next turn sends key frames.
+    pub fn refresh(&mut self, config: &Config)
+        requires { IsSide config.now self.old }
+        ensures { IsSide config.now self.new }
+    {
+        let count = part_of(config, self.index).writer.as_slice().len();
+        for writer in 0..count.min(256) {
+            self.group.refresh(writer as u8);
+        }
+    }
+
+    /// Whether the group's datagrams are secured with the keys of this key group.
+    pub fn is_keyed(&self, config: &Config, keygroup: u8) -> bool
+        requires { IsSide config.now self.now }
+    {
+        part_of(config, self.index).keygroup == Some(keygroup)
+    }
+
+    /// A turn at this moment with these rows of the configuration's data sets, if the group may have one (`Group::may_tick`): its
+    /// datagrams are in `out`, in place of those of the turn before. The answer is how many there are; none where it may not, and
+    /// then nothing changes. The senders are those of the configuration's key groups.
+    pub fn turn(
+        &mut self,
+        config: &Config,
+        moment: u64,
+        rows: &[Sampled],
+        senders: &mut [Sender],
+        out: &mut Datagrams,
+    ) -> Option<u32>
+        requires good { IsGood config.now }
+        requires side { IsSide config.now self.old }
+        requires rows { AreRowsOf config.now.dataset rows.now }
+        requires senders { All IsSender senders.old }
+        requires reserved { IsReserved out.old }
+        ensures side { IsSide config.now self.new }
+        ensures senders { All IsSender senders.new }
+        ensures reserved { IsReserved out.new }
+        ensures turned { IfSome result (HasTurned config.now moment rows.now
+            (sender_for config.now senders.old self.old.index) self.old self.new out.new) }
+        ensures not { IfNone result (self.new ≡ self.old) }
+        ensures out_stays { IfNone result (out.new ≡ out.old) }
+    {
+        match part_of(config, self.index).keygroup {
+            None => self.turn_plain(config, moment, rows, out),
+            Some(k) if usize::from(k) < senders.len() => {
+                self.turn_secured(config, moment, rows, &mut senders[usize::from(k)], out)
+            }
+            Some(_) => None,
+        }
+    }
+
+    /// The turn of a group that isn't secured.
+    fn turn_plain(
+        &mut self,
+        config: &Config,
+        moment: u64,
+        rows: &[Sampled],
+        out: &mut Datagrams,
+    ) -> Option<u32>
+        requires good { IsGood config.now }
+        requires side { IsSide config.now self.old }
+        requires rows { AreRowsOf config.now.dataset rows.now }
+        requires reserved { IsReserved out.old }
+        ensures side { IsSide config.now self.new }
+        ensures reserved { IsReserved out.new }
+        ensures turned { IfSome result (HasTurned config.now moment rows.now None
+            self.old self.new out.new) }
+        ensures not { IfNone result (self.new ≡ self.old) }
+        ensures out_stays { IfNone result (out.new ≡ out.old) }
+    {
+        if !self.group.may_tick(config, rows, &self.on, None) {
+            return None;
+        }
+        let metas = config.dataset.as_slice();
+        Some(
+            self.group
+                .tick(config, metas, moment, rows, &self.on, None, false, out),
+        )
+    }
+
+    /// The turn of a secured group.
+    fn turn_secured(
+        &mut self,
+        config: &Config,
+        moment: u64,
+        rows: &[Sampled],
+        sender: &mut Sender,
+        out: &mut Datagrams,
+    ) -> Option<u32>
+        requires good { IsGood config.now }
+        requires side { IsSide config.now self.old }
+        requires rows { AreRowsOf config.now.dataset rows.now }
+        requires sender { IsSender sender.old }
+        requires reserved { IsReserved out.old }
+        ensures side { IsSide config.now self.new }
+        ensures sender { IsSender sender.new }
+        ensures reserved { IsReserved out.new }
+        ensures turned { IfSome result (HasTurned config.now moment rows.now (Some sender.old)
+            self.old self.new out.new) }
+        ensures not { IfNone result (self.new ≡ self.old) }
+        ensures out_stays { IfNone result (out.new ≡ out.old) }
+    {
+        if !self.group.may_tick(config, rows, &self.on, Some(sender)) {
+            return None;
+        }
+        let metas = config.dataset.as_slice();
+        let sender = Some(sender);
+        Some(
+            self.group
+                .tick(config, metas, moment, rows, &self.on, sender, false, out),
+        )
+    }
+}
+
+/// The group of the configuration with this index.
+fn part_of(config: &Config, index: u8) -> &GroupPart
+    requires { index < length config.now.group }
+    ensures { result.now ≡ slice_index_or config.now.group index result.now }
+{
+    &config.group.as_slice()[usize::from(index)]
+}

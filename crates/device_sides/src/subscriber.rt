@@ -1,0 +1,205 @@
+//! Subscribers.
+ghost use Rattle.std.specs.Prelude.{◌≡◌, ◌<◌, Ok, IfOk, IfErr, IfSome, IfNone, length};
+ghost use Rattle.std.specs.Bool.{OnFalse};
+ghost use Rattle.group_keys.specs.Ring.{key_sets};
+ghost use Rattle.reader_group.specs.Members.{seat_at};
+ghost use Rattle.reader_group.specs.Groups as reads;
+ghost use Rattle.reader_group.specs.Settings.{seat_in, setting_of};
+ghost use Rattle.ps_config.specs.Reading.{configuration, IsEnd};
+ghost use Rattle.ps_config.specs.Sound.{IsSound};
+ghost use Rattle.writer_group.specs.Standing.{IsGood};
+ghost use Rattle.device_sides.specs.Sides.{HasListened, IsListening, IsSubscriber};
+
+use crate::asked::NoValue;
+use crate::listening::Listening;
+use crate::making::{has_long_keys, listenings_of};
+use crate::words::is_scalar_at;
+use dataset_meta::Meta;
+use dataset_reader::Reader;
+use group_keys::Ring;
+use ps_config::{Config, ConfigEnd, read_config};
+use reader_group::{Refusal, Taken};
+use std::alloc::Global;
+use ua_values::{Kind, Value};
+
+/// The read groups of a configuration (OPC 10000-14 6.2.8, ReaderGroup). All readers are on.
+#[derive(Drop)]
+pub struct Subscriber {
+    pub config: Config,
+    pub groups: Vec<Listening>,
+}
+
+impl Subscriber {
+    /// The subscriber of the configuration that the text is, before any datagram. It takes all memory that it ever needs.
+    pub fn open(alloc: Global, text: &[u8]) -> Result<Subscriber, ConfigEnd>
+        ensures subscriber { IfOk result IsSubscriber }
+        ensures ok { IfOk result (λ subscriber. configuration text.now ≡ Ok subscriber.config) }
+        ensures refused { IfErr result (IsEnd (configuration text.now)) }
+    {
+        let config = read_config(alloc, text)?;
+        match listenings_of(alloc, &config) {
+            Ok(groups) => Ok(Subscriber { config, groups }),
+            Err(_) => Err(ConfigEnd::Memory),
+        }
+    }
+
+    /// A datagram comes to the read group with this index at `now`, in milliseconds, which must not fall (`ReaderGroup::datagram`).
+    /// It may be decrypted in place, so give each read group a copy of its own where there are several. None where there is no such
+    /// read group, and then nothing changes.
+    pub fn datagram(
+        &mut self,
+        group: u8,
+        now: u64,
+        bytes: &mut [u8],
+    ) -> Option<Result<Taken, Refusal>>
+        requires { IsSubscriber self.old }
+        ensures subscriber { IsSubscriber self.new }
+        ensures listened { IfSome result (HasListened group now bytes.old bytes.new
+            self.old self.new) }
+        ensures none { IfNone result (self.new ≡ self.old) }
+        ensures bytes { IfNone result (bytes.new ≡ bytes.old) }
+    {
+        let index = usize::from(group);
+        if index >= self.groups.len() {
+            return None;
+        }
+        Some(self.groups[index].datagram(&self.config, now, bytes))
+    }
+
+    /// Time goes on to `now`, in milliseconds, for all readers (`ReaderGroup::expire`).
+    pub fn expire(&mut self, now: u64)
+        requires { IsSubscriber self.old }
+        ensures { IsSubscriber self.new }
+    {
+        for g in 0..self.groups.len() {
+            self.groups[g].expire(&self.config, now);
+        }
+    }
+
+    /// The reader with this index in the read group with this index.
+    pub fn reader(&self, group: u8, reader: u8) -> Option<&Reader>
+        requires { IsSubscriber self.now }
+    {
+        let index = usize::from(group);
+        if index >= self.groups.len() {
+            return None;
+        }
+        let listening = &self.groups[index];
+        if reader >= listening.group.count() {
+            return None;
+        }
+        Some(listening.group.reader(reader))
+    }
+
+    /// The value and the status of a field of the row that a reader holds.
+    pub fn field(&self, group: u8, reader: u8, field: u8) -> Result<(Value, u32), NoValue>
+        requires { IsSubscriber self.now }
+    {
+        let index = usize::from(group);
+        if index >= self.groups.len() {
+            return Err(NoValue::NoField);
+        }
+        field_in(&self.config, &self.groups[index], reader, field)
+    }
+
+    /// The word of a field of this kind, which is a scalar's, of the row that a reader holds (`Row::word`).
+    pub fn word(&self, group: u8, reader: u8, field: u8, kind: Kind) -> Result<u64, NoValue>
+        requires { IsSubscriber self.now }
+    {
+        let index = usize::from(group);
+        if index >= self.groups.len() {
+            return Err(NoValue::NoField);
+        }
+        word_in(&self.config, &self.groups[index], reader, field, kind)
+    }
+
+    /// Whether the key group of the read group with this index has keys of AES-256. None where there is no such read group, or where it
+    /// isn't secured.
+    pub fn has_long_keys(&self, group: u8) -> Option<bool> {
+        let groups = self.config.readgroup.as_slice();
+        let index = usize::from(group);
+        if index >= groups.len() {
+            return None;
+        }
+        let keygroup = groups[index].keygroup?;
+        has_long_keys(&self.config, keygroup)
+    }
+
+    /// The read group with this index goes on with another ring of the same key length (`ReaderGroup::renew`). False, and nothing
+    /// changes, where there is no such read group.
+    pub fn renew(&mut self, group: u8, ring: Ring) -> bool
+        requires { IsSubscriber self.old }
+        ensures subscriber { IsSubscriber self.new }
+        ensures not { OnFalse result (self.new ≡ self.old) }
+    {
+        let index = usize::from(group);
+        if index >= self.groups.len() {
+            return false;
+        }
+        self.groups[index].renew(&self.config, ring);
+        true
+    }
+}
+
+/// The value and the status of a field of the row that a reader of the group holds.
+fn field_in(
+    config: &Config,
+    listening: &Listening,
+    reader: u8,
+    field: u8,
+) -> Result<(Value, u32), NoValue>
+    requires sound { IsSound config.now }
+    requires listening { IsListening config.now listening.now }
+{
+    if reader >= listening.group.count() {
+        return Err(NoValue::NoField);
+    }
+    let meta = meta_of(config, listening, reader);
+    if usize::from(field) >= meta.fields().len() {
+        return Err(NoValue::NoField);
+    }
+    let Some(row) = listening.group.reader(reader).row() else {
+        return Err(NoValue::NoRow);
+    };
+    Ok((row.field(meta, field), row.status(meta, field)))
+}
+
+/// The word of a scalar field of the row that a reader of the group holds.
+fn word_in(
+    config: &Config,
+    listening: &Listening,
+    reader: u8,
+    field: u8,
+    kind: Kind,
+) -> Result<u64, NoValue>
+    requires sound { IsSound config.now }
+    requires listening { IsListening config.now listening.now }
+{
+    if reader >= listening.group.count() {
+        return Err(NoValue::NoField);
+    }
+    let meta = meta_of(config, listening, reader);
+    if usize::from(field) >= meta.fields().len() {
+        return Err(NoValue::NoField);
+    }
+    if !is_scalar_at(meta, field, kind) {
+        return Err(NoValue::Misfit);
+    }
+    let Some(row) = listening.group.reader(reader).row() else {
+        return Err(NoValue::NoRow);
+    };
+    Ok(row.word(meta, field))
+}
+
+/// The meta of the data set of the reader with this index.
+fn meta_of<'c>(config: &'c Config, listening: &Listening, reader: u8) -> &'c Meta
+    requires sound { IsSound config.now }
+    requires listening { IsListening config.now listening.now }
+    requires reader { reader < reads.reader_count listening.now.group }
+    ensures { result.now ≡ (seat_at
+        (setting_of config.now (reads.index_of listening.now.group)).seats reader).meta }
+{
+    let part = &config.readgroup.as_slice()[usize::from(listening.index)];
+    let reader = &part.reader.as_slice()[usize::from(reader)];
+    &config.dataset.as_slice()[usize::from(reader.dataset)]
+}

@@ -1,0 +1,12 @@
+use Rattle.std.proofs.Common.{subst}
+use Rattle.uapubsub_c.specs.declared.kept.Kept.{Kept}
+use Rattle.uapubsub_c.specs.Handles.{StandsIn}
+use Rattle.uapubsub_c.proofs.publishing.uapubsub_publisher_standing.Goals as goal
+
+pub returns-clause-stands : goal.returns-clause-stands
+returns-clause-stands c = λ ok. record {
+  kept = c.in-Some.kept.value;
+  holds = c.in-Some.ensures.held;
+  is = subst (λ (kept : Kept). StandsIn c.args.keygroup c.standing_of-status.new.token c.standing_of-status.new.used kept)
+      c.deref.ensures (c.standing_of-status.ensures ok);
+}

@@ -1,0 +1,13 @@
+use Rattle.std.proofs.Common.{subst}
+use Rattle.uapubsub_c.specs.declared.kept.Kept.{Kept}
+use Rattle.uapubsub_c.specs.Handles.{HasSetIn}
+use Rattle.uapubsub_c.proofs.setting.set_field.Goals as goal
+
+pub returns-clause-set : goal.returns-clause-set
+returns-clause-set c = λ ok. record {
+  was = c.in-Some.kept.value;
+  is = c.set_in-answer.new.kept;
+  held = c.in-Some.ensures.held;
+  holds = c.put.ensures.held;
+  moved = subst (λ (kept : Kept). HasSetIn c.args.set c.args.field c.args.value.now 0 kept c.set_in-answer.new.kept) c.deref_mut.ensures.value (c.set_in-answer.ensures.set ok);
+}

@@ -1,0 +1,115 @@
+-- What a handle holds, and how a call leaves it.
+use Rattle.std.specs.Prelude.{◌≡◌, ◌≢◌, ℕ, ◌-◌, [], ◌++◌, List, drop, length, slice_index_or, Ok, IsErr, Some, IfSome, IsSome}
+use Rattle.ua_values.specs.declared.kind.Kind.{Kind}
+use Rattle.ua_values.specs.declared.value.Value.{Value}
+use Rattle.ua_values.specs.declared.value.Value.TheVariants.{ByteString, String}
+use Rattle.ua_values.specs.Blobs.{blob_of}
+use Rattle.ua_values.specs.Texts.{text_of}
+use Rattle.ps_config.specs.declared.parts.Config.{Config}
+use Rattle.ps_config.specs.declared.read.ConfigEnd.{ConfigEnd}
+use Rattle.ps_config.specs.declared.read.ConfigEnd.TheVariants.{Memory, Refused}
+use Rattle.ps_config.specs.Reading.{configuration}
+use Rattle.writer_group.specs.Standing.{datagrams_in}
+use Rattle.device_sides.specs.declared.publisher.Publisher.{Publisher as PublisherValue}
+use Rattle.device_sides.specs.Sides.{HasSet, HasSetWord, IsPublisher, IsSubscriber, StandsAt}
+use Rattle.uapubsub_c.specs.declared.handle.Handle.{Handle}
+use Rattle.uapubsub_c.specs.declared.kept.Kept.{Kept}
+use Rattle.uapubsub_c.specs.declared.kept.Kept.TheVariants.{Publisher, Subscriber}
+
+-- it may be called
+abbrev pub IsSound : Kept → Type 0
+IsSound (Publisher publisher) = IsPublisher publisher
+IsSound (Subscriber subscriber) = IsSubscriber subscriber
+
+-- the configuration that it was opened with
+abbrev pub config_in : Kept → Config
+config_in (Publisher publisher) = publisher.config
+config_in (Subscriber subscriber) = subscriber.config
+
+-- the handle is open, and this is behind its pointer
+pub record Holds (kept : Kept) (handle : Handle) : Type 0 where
+  pub is_open : handle.is_open ≢ 0
+  pub held : handle.slot.held ≡ Some kept
+
+-- where the handle is open, something is behind its pointer, and what is there may be called: so zeros are, and so each call leaves it
+pub record IsReady (handle : Handle) : Type 0 where
+  pub holds : handle.is_open ≢ 0 → IsSome handle.slot.held
+  pub sound : IfSome handle.slot.held IsSound
+
+-- what the handle holds is so
+pub record Tells (handle : Handle) (says : Kept → Type 0) : Type 0 where
+  pub kept : Kept
+  pub holds : Holds kept handle
+  pub is : says kept
+
+-- what the handle holds moved so
+pub record Leaves (old new : Handle) (moves : Kept → Kept → Type 0) : Type 0 where
+  pub was : Kept
+  pub is : Kept
+  pub held : Holds was old
+  pub holds : Holds is new
+  pub moved : moves was is
+
+-- what the handle holds, if anything, it still holds
+abbrev pub Stays : Handle → Handle → Type 0
+Stays old new = (kept : Kept) → Holds kept old → Holds kept new
+
+-- the text is no configuration
+abbrev pub IsRefused : List ℕ → Type 0
+IsRefused text = IsErr (configuration text)
+
+-- the end is a refusal
+abbrev pub IsRefusal : ConfigEnd → Type 0
+IsRefusal Memory = ⊥
+IsRefusal (Refused code path) = Unit {0}
+
+-- the text is the configuration of what the handle holds
+abbrev pub HasOpened : List ℕ → Handle → Type 0
+HasOpened text handle = Tells handle (λ kept. configuration text ≡ Ok (config_in kept))
+
+-- a kind is there with which the publisher had the field set to this word
+pub record SetsWord (set field word : ℕ) (old new : PublisherValue) : Type 0 where
+  pub kind : Kind
+  pub is : HasSetWord set field kind word old new
+
+-- the field of a publisher's data set has this value and this status from now on (HasSet)
+abbrev pub HasSetIn : ℕ → ℕ → Value → ℕ → Kept → Kept → Type 0
+HasSetIn set field value status (Publisher old) (Publisher new) = HasSet set field value status old new
+HasSetIn set field value status (Publisher old) (Subscriber new) = ⊥
+HasSetIn set field value status (Subscriber old) new = ⊥
+
+-- the same with the text that these bytes are
+pub record HasTextIn (set field : ℕ) (bytes : List ℕ) (old new : Kept) : Type 0 where
+  pub text : List ℕ
+  pub read : Ok text ≡ text_of bytes
+  pub is : HasSetIn set field (String text) 0 old new
+
+-- the same with the ByteString that these bytes are
+pub record HasBytesIn (set field : ℕ) (bytes : List ℕ) (old new : Kept) : Type 0 where
+  pub blob : List ℕ
+  pub read : Ok blob ≡ blob_of bytes
+  pub is : HasSetIn set field (ByteString blob) 0 old new
+
+-- the same for a scalar field, by its word: its kind is the field's own
+abbrev pub HasScalarIn : ℕ → ℕ → ℕ → Kept → Kept → Type 0
+HasScalarIn set field word (Publisher old) (Publisher new) = SetsWord set field word old new
+HasScalarIn set field word (Publisher old) (Subscriber new) = ⊥
+HasScalarIn set field word (Subscriber old) new = ⊥
+
+-- the sender of a publisher's key group is at this token, with this number used last
+abbrev pub StandsIn : ℕ → ℕ → ℕ → Kept → Type 0
+StandsIn keygroup token used (Publisher publisher) = StandsAt keygroup publisher (token, used)
+StandsIn keygroup token used (Subscriber subscriber) = ⊥
+
+-- the datagram that was handed over last
+abbrev pub last_handed : PublisherValue → List ℕ
+last_handed publisher = slice_index_or (datagrams_in publisher.out) (publisher.handed - 1) []
+
+-- the datagram that was handed over last stands at the front of the buffer, and has this length
+pub record IsLaid (old new : List ℕ) (count : ℕ) (publisher : PublisherValue) : Type 0 where
+  pub count_is : count ≡ length (last_handed publisher)
+  pub laid : new ≡ last_handed publisher ++ drop count old
+
+abbrev pub HandsOver : List ℕ → List ℕ → ℕ → Kept → Type 0
+HandsOver old new count (Publisher publisher) = IsLaid old new count publisher
+HandsOver old new count (Subscriber subscriber) = ⊥

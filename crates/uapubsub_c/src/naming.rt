@@ -1,0 +1,76 @@
+//! Indexes by names.
+ghost use Rattle.std.specs.Prelude.{◌≡◌};
+ghost use Rattle.uapubsub_c.specs.Handles.{IsReady, Stays};
+
+use crate::handle::Handle;
+use crate::status::{BAD_TEXT, CLOSED, INDEX, OK};
+use ps_config::Config;
+use std::alloc::Global;
+use std::str;
+
+/// The index of the data set of this name.
+#[unsafe(no_mangle)]
+pub extern "C" fn uapubsub_set_index(
+    alloc: Global,
+    handle: &mut Handle,
+    name: &[u8],
+    index: &mut u8,
+) -> u32
+    requires { IsReady handle.old }
+    ensures ready { IsReady handle.new }
+    ensures stays { Stays handle.old handle.new }
+{
+    let Some(kept) = handle.take(alloc) else {
+        return CLOSED;
+    };
+    let status = set_of(kept.config(), name, index);
+    handle.put(kept);
+    status
+}
+
+fn set_of(config: &Config, name: &[u8], index: &mut u8) -> u32 {
+    let metas = config.dataset.as_slice();
+    for set in 0..metas.len().min(256) {
+        if metas[set].name().as_bytes() == name {
+            *index = set as u8;
+            return OK;
+        }
+    }
+    INDEX
+}
+
+/// The index of the field of this name in the data set with this index.
+#[unsafe(no_mangle)]
+pub extern "C" fn uapubsub_field_index(
+    alloc: Global,
+    handle: &mut Handle,
+    set: u8,
+    name: &[u8],
+    index: &mut u8,
+) -> u32
+    requires { IsReady handle.old }
+    ensures ready { IsReady handle.new }
+    ensures stays { Stays handle.old handle.new }
+{
+    let Some(kept) = handle.take(alloc) else {
+        return CLOSED;
+    };
+    let status = field_of(kept.config(), set, name, index);
+    handle.put(kept);
+    status
+}
+
+fn field_of(config: &Config, set: u8, name: &[u8], index: &mut u8) -> u32 {
+    let metas = config.dataset.as_slice();
+    if usize::from(set) >= metas.len() {
+        return INDEX;
+    }
+    let Ok(name) = str::from_utf8(name) else {
+        return BAD_TEXT;
+    };
+    let Some(field) = metas[usize::from(set)].field_index(name) else {
+        return INDEX;
+    };
+    *index = field;
+    OK
+}

@@ -1,0 +1,201 @@
+//! The publisher's calls, but those that set fields.
+ghost use Rattle.std.specs.Prelude.{◌≡◌, ◌≢◌};
+ghost use Rattle.uapubsub_c.specs.Handles.{HandsOver, HasOpened, IsReady, IsRefused, IsSound, Stays, StandsIn, Tells};
+
+use crate::handle::Handle;
+use crate::kept::Kept;
+use crate::keys::{KeySetWords, ring_of_words};
+use crate::laying::lay;
+use crate::status::{
+    BAD_KEYS, CLOSED, INDEX, MEMORY, NONE, OK, OPENED, OTHER_SIDE, REFUSED, ROOM, SPENT,
+};
+use device_sides::{Next, Publisher};
+use ps_config::ConfigEnd;
+use std::alloc::Global;
+
+/// Opens the handle with a publisher of the configuration that the text is. It takes all memory that the publisher ever needs.
+#[unsafe(no_mangle)]
+pub extern "C" fn uapubsub_publisher_open(alloc: Global, handle: &mut Handle, text: &[u8]) -> u32
+    requires { IsReady handle.old }
+    ensures ready { IsReady handle.new }
+    ensures opened { result ≡ OK → HasOpened text.now handle.new }
+    ensures refused { result ≡ REFUSED → IsRefused text.now }
+{
+    if handle.is_open != 0 {
+        return OPENED;
+    }
+    match Publisher::open(alloc, text) {
+        Ok(publisher) => handle.keep(alloc, Kept::Publisher(publisher)),
+        Err(ConfigEnd::Refused { .. }) => REFUSED,
+        Err(ConfigEnd::Memory) => MEMORY,
+    }
+}
+
+/// The next datagram that is due at `now`, in milliseconds, which must not fall: it is laid at the front of the buffer, and `count`
+/// is how many bytes it has. NONE where no other is due. With ROOM the buffer is shorter than `count`, and the datagram waits for the
+/// next call.
+#[unsafe(no_mangle)]
+pub extern "C" fn uapubsub_publisher_next(
+    alloc: Global,
+    handle: &mut Handle,
+    now: u64,
+    buffer: &mut [u8],
+    count: &mut usize,
+) -> u32
+    requires { IsReady handle.old }
+    ensures ready { IsReady handle.new }
+    ensures laid { result ≡ OK → Tells handle.new (HandsOver buffer.old buffer.new count.new) }
+    ensures rest { result ≢ OK → buffer.new ≡ buffer.old }
+{
+    *count = 0;
+    let Some(mut kept) = handle.take(alloc) else {
+        return CLOSED;
+    };
+    let status = next_of(&mut kept, now, buffer, count);
+    handle.put(kept);
+    status
+}
+
+fn next_of(kept: &mut Kept, now: u64, buffer: &mut [u8], count: &mut usize) -> u32
+    requires { IsSound kept.old }
+    ensures sound { IsSound kept.new }
+    ensures laid { result ≡ OK → HandsOver buffer.old buffer.new count.new kept.new }
+    ensures rest { result ≢ OK → buffer.new ≡ buffer.old }
+{
+    let Kept::Publisher(publisher) = kept else {
+        return OTHER_SIDE;
+    };
+    match publisher.come_to(now) {
+        Next::Nothing => NONE,
+        Next::Spent => SPENT,
+        Next::Datagram => {
+            let datagram = publisher.datagram();
+            *count = datagram.len();
+            if datagram.len() > buffer.len() {
+                return ROOM;
+            }
+            *count = lay(datagram, buffer);
+            publisher.hand_over();
+            OK
+        }
+    }
+}
+
+/// The token in use of the key group with this index, and the last number used under it: what a device stores so that it goes on
+/// behind it.
+#[unsafe(no_mangle)]
+pub extern "C" fn uapubsub_publisher_standing(
+    alloc: Global,
+    handle: &mut Handle,
+    keygroup: u8,
+    token: &mut u32,
+    used: &mut u32,
+) -> u32
+    requires { IsReady handle.old }
+    ensures ready { IsReady handle.new }
+    ensures stays { Stays handle.old handle.new }
+    ensures stands { result ≡ OK → Tells handle.old (StandsIn keygroup token.new used.new) }
+{
+    let Some(kept) = handle.take(alloc) else {
+        return CLOSED;
+    };
+    let status = standing_of(&kept, keygroup, token, used);
+    handle.put(kept);
+    status
+}
+
+fn standing_of(kept: &Kept, keygroup: u8, token: &mut u32, used: &mut u32) -> u32
+    ensures { result ≡ OK → StandsIn keygroup token.new used.new kept.now }
+{
+    let Kept::Publisher(publisher) = kept else {
+        return OTHER_SIDE;
+    };
+    let Some(standing) = publisher.standing(keygroup) else {
+        return INDEX;
+    };
+    (*token, *used) = standing;
+    OK
+}
+
+/// The key group with this index goes on behind `used` numbers of the last key set whose moment has come at `now`, in milliseconds.
+/// BAD_KEYS, and nothing changes, where a number would come twice: its token is lower than the one in use, or is that one with a
+/// greater number used.
+#[unsafe(no_mangle)]
+pub extern "C" fn uapubsub_publisher_resume(
+    alloc: Global,
+    handle: &mut Handle,
+    keygroup: u8,
+    now: u64,
+    used: u32,
+) -> u32
+    requires { IsReady handle.old }
+    ensures ready { IsReady handle.new }
+    ensures not { result ≢ OK → Stays handle.old handle.new }
+{
+    let Some(mut kept) = handle.take(alloc) else {
+        return CLOSED;
+    };
+    let status = resume_in(&mut kept, keygroup, now, used);
+    handle.put(kept);
+    status
+}
+
+fn resume_in(kept: &mut Kept, keygroup: u8, now: u64, used: u32) -> u32
+    requires { IsSound kept.old }
+    ensures sound { IsSound kept.new }
+    ensures not { result ≢ OK → kept.new ≡ kept.old }
+{
+    let Kept::Publisher(publisher) = kept else {
+        return OTHER_SIDE;
+    };
+    if publisher.standing(keygroup).is_none() {
+        return INDEX;
+    }
+    if publisher.resume(keygroup, now, used) {
+        OK
+    } else {
+        BAD_KEYS
+    }
+}
+
+/// The key group with this index goes on with other key sets, in the order of their tokens and moments, at most 16. The keys in use
+/// stay until one with a higher token comes to its moment.
+#[unsafe(no_mangle)]
+pub extern "C" fn uapubsub_publisher_renew(
+    alloc: Global,
+    handle: &mut Handle,
+    keygroup: u8,
+    sets: &[KeySetWords],
+) -> u32
+    requires { IsReady handle.old }
+    ensures ready { IsReady handle.new }
+    ensures not { result ≢ OK → Stays handle.old handle.new }
+{
+    let Some(mut kept) = handle.take(alloc) else {
+        return CLOSED;
+    };
+    let status = renew_in(&mut kept, keygroup, sets);
+    handle.put(kept);
+    status
+}
+
+fn renew_in(kept: &mut Kept, keygroup: u8, sets: &[KeySetWords]) -> u32
+    requires { IsSound kept.old }
+    ensures sound { IsSound kept.new }
+    ensures not { result ≢ OK → kept.new ≡ kept.old }
+{
+    let Kept::Publisher(publisher) = kept else {
+        return OTHER_SIDE;
+    };
+    let Some(long) = publisher.has_long_keys(keygroup) else {
+        return INDEX;
+    };
+    let Some(ring) = ring_of_words(long, sets) else {
+        return BAD_KEYS;
+    };
+    if publisher.renew(keygroup, ring) {
+        OK
+    } else {
+        INDEX
+    }
+}

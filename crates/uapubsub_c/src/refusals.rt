@@ -1,0 +1,41 @@
+//! Numbers of refusals.
+use message_guard::OpenFault;
+use reader_group::Refusal;
+use uadp_header::HeaderFault;
+
+/// The number by which C sees why a datagram is refused.
+pub fn number_of(refusal: &Refusal) -> u32 {
+    match refusal {
+        Refusal::Header(fault) => header_number(fault),
+        Refusal::NotOurs => 110,
+        Refusal::NoIds => 111,
+        Refusal::BadSizes => 112,
+        Refusal::Guard(fault) => guard_number(fault),
+    }
+}
+
+fn header_number(fault: &HeaderFault) -> u32 {
+    match fault {
+        HeaderFault::Short => 101,
+        HeaderFault::Version { .. } => 102,
+        HeaderFault::DiscoveryOut => 103,
+        HeaderFault::BadPublisherType => 104,
+        HeaderFault::ReservedBits => 105,
+        HeaderFault::BadId => 106,
+    }
+}
+
+fn guard_number(fault: &OpenFault) -> u32 {
+    match fault {
+        OpenFault::ModeDiffers => 121,
+        OpenFault::FooterOut => 122,
+        OpenFault::KeyResetOut => 123,
+        OpenFault::BadNonceLength { .. } => 124,
+        OpenFault::Short => 125,
+        OpenFault::UnknownToken { .. } => 126,
+        OpenFault::OldToken { .. } => 127,
+        OpenFault::BadSignature => 128,
+        OpenFault::Repeated => 129,
+        OpenFault::TooOld { .. } => 130,
+    }
+}

@@ -1,0 +1,127 @@
+//! Setting fields.
+ghost use Rattle.std.specs.Prelude.{◌≡◌};
+ghost use Rattle.uapubsub_c.specs.Handles.{HasBytesIn, HasScalarIn, HasSetIn, HasTextIn, IsReady, IsSound, Leaves};
+
+use crate::handle::Handle;
+use crate::kept::Kept;
+use crate::kinds::kind_numbered;
+use crate::status::{BAD_TEXT, CLOSED, INDEX, MISFIT, OK, OTHER_SIDE};
+use std::alloc::Global;
+use ua_values::{Blob, Text, Value};
+
+/// The status of a value that is Good.
+const GOOD: u32 = 0;
+
+/// Sets a scalar field to the value with this word: a Boolean is 0 or 1, a signed number the two's complement of its own width, a Float
+/// or a Double its bits. The kind is the number of the built-in type (OPC 10000-6 section 5.1.2).
+#[unsafe(no_mangle)]
+pub extern "C" fn uapubsub_set_scalar(
+    alloc: Global,
+    handle: &mut Handle,
+    set: u8,
+    field: u8,
+    kind: u32,
+    word: u64,
+) -> u32
+    requires { IsReady handle.old }
+    ensures ready { IsReady handle.new }
+    ensures set { result ≡ OK → Leaves handle.old handle.new (HasScalarIn set field word) }
+{
+    let Some(mut kept) = handle.take(alloc) else {
+        return CLOSED;
+    };
+    let answer = set_scalar_in(&mut kept, set, field, kind, word);
+    handle.put(kept);
+    answer
+}
+
+fn set_scalar_in(kept: &mut Kept, set: u8, field: u8, kind: u32, word: u64) -> u32
+    requires { IsSound kept.old }
+    ensures sound { IsSound kept.new }
+    ensures set { result ≡ OK → HasScalarIn set field word kept.old kept.new }
+{
+    let Kept::Publisher(publisher) = kept else {
+        return OTHER_SIDE;
+    };
+    let Some(kind) = kind_numbered(kind) else {
+        return MISFIT;
+    };
+    if publisher.set_word(set, field, kind, word) {
+        return OK;
+    }
+    if publisher.has_field(set, field) {
+        MISFIT
+    } else {
+        INDEX
+    }
+}
+
+/// Sets a String, Good.
+#[unsafe(no_mangle)]
+pub extern "C" fn uapubsub_set_text(
+    alloc: Global,
+    handle: &mut Handle,
+    set: u8,
+    field: u8,
+    text: &[u8],
+) -> u32
+    requires { IsReady handle.old }
+    ensures ready { IsReady handle.new }
+    ensures set { result ≡ OK → Leaves handle.old handle.new (HasTextIn set field text.now) }
+{
+    match Text::from_bytes(text) {
+        Ok(text) => set_field(alloc, handle, set, field, &Value::String(text)),
+        Err(_) => BAD_TEXT,
+    }
+}
+
+/// Sets a ByteString, Good.
+#[unsafe(no_mangle)]
+pub extern "C" fn uapubsub_set_bytes(
+    alloc: Global,
+    handle: &mut Handle,
+    set: u8,
+    field: u8,
+    bytes: &[u8],
+) -> u32
+    requires { IsReady handle.old }
+    ensures ready { IsReady handle.new }
+    ensures set { result ≡ OK → Leaves handle.old handle.new (HasBytesIn set field bytes.now) }
+{
+    match Blob::from_bytes(bytes) {
+        Ok(blob) => set_field(alloc, handle, set, field, &Value::ByteString(blob)),
+        Err(_) => BAD_TEXT,
+    }
+}
+
+/// Sets a field of the handle's publisher, Good.
+fn set_field(alloc: Global, handle: &mut Handle, set: u8, field: u8, value: &Value) -> u32
+    requires { IsReady handle.old }
+    ensures ready { IsReady handle.new }
+    ensures set { result ≡ OK → Leaves handle.old handle.new (HasSetIn set field value.now 0) }
+{
+    let Some(mut kept) = handle.take(alloc) else {
+        return CLOSED;
+    };
+    let answer = set_in(&mut kept, set, field, value);
+    handle.put(kept);
+    answer
+}
+
+fn set_in(kept: &mut Kept, set: u8, field: u8, value: &Value) -> u32
+    requires { IsSound kept.old }
+    ensures sound { IsSound kept.new }
+    ensures set { result ≡ OK → HasSetIn set field value.now 0 kept.old kept.new }
+{
+    let Kept::Publisher(publisher) = kept else {
+        return OTHER_SIDE;
+    };
+    if publisher.set(set, field, value, GOOD) {
+        return OK;
+    }
+    if publisher.has_field(set, field) {
+        MISFIT
+    } else {
+        INDEX
+    }
+}
