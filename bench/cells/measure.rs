@@ -1,4 +1,4 @@
-// What `cell_bench` times, by hand in Rust: a sequence lock around 151 words, and a Mutex around the same row. It reads the same
+// What `bench_cells` times, by hand in Rust: a sequence lock around 151 words, and a Mutex around the same row. It reads the same
 // measures, and writes the same lines.
 use std::io::{self, BufRead};
 use std::sync::Mutex;

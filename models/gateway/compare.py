@@ -1,7 +1,7 @@
 #!/usr/bin/env python3
-"""Compares the program relay_rows with model.py over the cases that random_cases.py makes of seeds.
+"""Compares the program rows_relay with model.py over the cases that random_cases.py makes of seeds.
 
-usage: compare.py PROGRAM FROM TO     (the seeds FROM to TO - 1; PROGRAM is crates/relay_rows/out/relay_rows, which `rt run` builds there,
+usage: compare.py PROGRAM FROM TO     (the seeds FROM to TO - 1; PROGRAM is crates/rows_relay/out/rows_relay, which `rt run` builds there,
                                       or - for the model alone)
 
 It names each seed whose answers differ, with the first line that does, and prints how many cases have each of some traits, and last how many it

@@ -1,7 +1,7 @@
 #!/usr/bin/env python3
-"""The cases of crates/json_command_rows.
+"""The cases of crates/rows_json_command.
 
-usage: command_cases.py            (prints what crates/json_command_rows/stdin has to be)
+usage: command_cases.py            (prints what crates/rows_json_command/stdin has to be)
        command_cases.py check OUT  (whether the answers in the file OUT have the lines that are known from outside the model)"""
 import re, sys
 

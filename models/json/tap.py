@@ -2,7 +2,7 @@
 """An independent model of a tap: which datagrams are spelled in the JSON mapping, and how, made from OPC 10000-14 and docs/JSON.md over
 the headers and frames of models/groups, without a look at the crates.
 
-usage: tap.py < crates/tap_rows/stdin     (prints what crates/tap_rows/stdout has to be)"""
+usage: tap.py < crates/rows_tap/stdin     (prints what crates/rows_tap/stdout has to be)"""
 import base64, importlib.util, json, os, struct, sys, tomllib, uuid
 
 

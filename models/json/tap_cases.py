@@ -1,7 +1,7 @@
 #!/usr/bin/env python3
-"""The cases of crates/tap_rows.
+"""The cases of crates/rows_tap.
 
-usage: tap_cases.py     (prints what crates/tap_rows/stdin has to be)"""
+usage: tap_cases.py     (prints what crates/rows_tap/stdin has to be)"""
 import random, struct
 from tap import groups, Tap, CONFIGURATIONS
 

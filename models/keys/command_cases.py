@@ -1,5 +1,5 @@
 #!/usr/bin/env python3
-"""Prints the cases of crates/keys_rows/stdin."""
+"""Prints the cases of crates/rows_keys/stdin."""
 
 
 def config(*groups, begin='[publisher]\\nid = "u8:5"\\n'):

@@ -1,21 +1,28 @@
 //! Lines of cases for the programs that run them: the words of a line and its answer, bytes, kinds, values and texts of several
-//! lines as words, both ways, and many cases in one line.
+//! lines as words, both ways, many cases in one line, and what lines tell of sessions: their configuration, the values of fields,
+//! and why a reader waits.
 #![tactic(auto)]
 
 mod answered;
+mod config;
 mod escapes;
 mod fault;
+mod field;
 mod line;
 mod numbers;
 mod parsed;
 mod shown;
 mod tally;
+mod why;
 
 pub use answered::{Answer, AnsweredLine, is_note, refused, said, told, told_bytes, yes_or_no};
+pub use config::config_of;
 pub use escapes::unescaped;
 pub use fault::LineFault;
+pub use field::set_field;
 pub use line::{Line, bytes_of};
 pub use numbers::Numbers;
 pub use parsed::{kind_of, number, parted, string_of, value_in, value_of};
 pub use shown::{Digits, Hex, Shown};
 pub use tally::Tally;
+pub use why::why_of;

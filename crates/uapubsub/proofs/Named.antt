@@ -33,12 +33,12 @@ use Rattle.commands.specs.Statuses.{number_of}
 use Rattle.commands.specs.Checks.{Checks}
 use Rattle.commands.specs.Links.{IsBeforeLink as IsStatusBeforeLink}
 use Rattle.commands.specs.Sessions.{IsReportOf, Performance, Refusal, Says, Text, takes_all}
-use Rattle.load_command.specs.Loads.{Loads, Output}
-use Rattle.json_command.specs.Jsons.{IsJsonOf}
-use Rattle.keys_command.proofs.Told.{no_usage as keys_is_no_usage}
-use Rattle.relay_command.specs.Ends.{Names, Says as RelaySays, names_of}
-use Rattle.lanes_command.specs.Runs.{IsLanesOf}
-use Rattle.lanes_command.specs.Scripts.{refusal as lanes_refusal}
+use Rattle.cmd_load.specs.Loads.{Loads, Output}
+use Rattle.cmd_json.specs.Jsons.{IsJsonOf}
+use Rattle.cmd_keys.proofs.Told.{no_usage as keys_is_no_usage}
+use Rattle.cmd_relay.specs.Ends.{Names, Says as RelaySays, names_of}
+use Rattle.cmd_lanes.specs.Runs.{IsLanesOf}
+use Rattle.cmd_lanes.specs.Scripts.{refusal as lanes_refusal}
 use Rattle.uapubsub.specs.Ends.{Does, IsBeforeLink, World, output_in}
 use Rattle.uapubsub.specs.Words.{Shape, Check, Play, Run, Load, Json, Keys, Relay, Lanes}
 use Rattle.uapubsub.specs.Headline.{Performance as Performed, PlayedIn, RanIn, Rows, Threads, WritesHeadline, WritesPlay, WritesRun}

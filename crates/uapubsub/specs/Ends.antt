@@ -6,12 +6,12 @@ use Rattle.commands.specs.Statuses.{number_of, text_of}
 use Rattle.commands.specs.Telling.{WritesText}
 use Rattle.commands.specs.Checks.{CheckEnds}
 use Rattle.commands.specs.Plays.{PlayEnds}
-use Rattle.run_command.specs.Runs.{RunEnds}
-use Rattle.load_command.specs.Loads.{LoadEnds, Output}
-use Rattle.json_command.specs.Jsons.{JsonEnds}
-use Rattle.keys_command.specs.Ends.{KeysEnds}
-use Rattle.relay_command.specs.Ends.{RelayEnds, names_of}
-use Rattle.lanes_command.specs.Runs.{LanesEnds}
+use Rattle.cmd_run.specs.Runs.{RunEnds}
+use Rattle.cmd_load.specs.Loads.{LoadEnds, Output}
+use Rattle.cmd_json.specs.Jsons.{JsonEnds}
+use Rattle.cmd_keys.specs.Ends.{KeysEnds}
+use Rattle.cmd_relay.specs.Ends.{RelayEnds, names_of}
+use Rattle.cmd_lanes.specs.Runs.{LanesEnds}
 use Rattle.uapubsub.specs.Words.{Shape, Check, Play, Run, Load, Json, Keys, Relay, Lanes}
 
 -- folder and output, and the two links

@@ -2,9 +2,9 @@
 use Rattle.std.specs.Prelude.{◌≤◌, ⊤, ℕ, List, [], ◌∷◌, Option, Some, None, codes, ◌&&◌, if◌then◌else◌, option_copied, option_map}
 use Rattle.std.specs.Str.{bytes_eq}
 use Rattle.commands.specs.Words.{is_file_name}
-use Rattle.keys_command.specs.declared.words.Asked.{Asked}
-use Rattle.keys_command.specs.Words.{keys_of}
-use Rattle.load_command.specs.Numbers.{load_number}
+use Rattle.cmd_keys.specs.declared.words.Asked.{Asked}
+use Rattle.cmd_keys.specs.Words.{keys_of}
+use Rattle.cmd_load.specs.Numbers.{load_number}
 use Rattle.uapubsub.specs.declared.words.Command.{Command}
 use Rattle.uapubsub.specs.declared.words.Command.TheVariants as commands
 

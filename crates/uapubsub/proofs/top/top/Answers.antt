@@ -1,9 +1,9 @@
 use Rattle.std.proofs.Common.{sym, ◌∙◌, subst}
 use Rattle.commands.specs.Outside.{outside_of, wire_of}
 use Rattle.commands.specs.Plays.{PlayEnds}
-use Rattle.run_command.specs.Runs.{RunEnds}
-use Rattle.relay_command.specs.Ends.{RelayEnds, names_of}
-use Rattle.relay_command.proofs.Writing.{writes-relay}
+use Rattle.cmd_run.specs.Runs.{RunEnds}
+use Rattle.cmd_relay.specs.Ends.{RelayEnds, names_of}
+use Rattle.cmd_relay.proofs.Writing.{writes-relay}
 use Rattle.uapubsub.specs.Words.{Shape, Play, Relay, Run}
 use Rattle.uapubsub.specs.Ends.{Does, world_of}
 use Rattle.uapubsub.proofs.Named.{played_headline, run_headline}

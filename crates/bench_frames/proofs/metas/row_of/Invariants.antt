@@ -1,0 +1,5 @@
+use Rattle.row_words.specs.Belonging.{Belongs}
+use Rattle.bench_frames.proofs.metas.row_of.Given as goal
+
+abbrev pub invariant-loop-index : goal.invariant-loop-index
+invariant-loop-index l = Belongs l.meta l.row.words

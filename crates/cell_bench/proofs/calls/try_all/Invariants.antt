@@ -1,9 +1,0 @@
-use Rattle.std.specs.Prelude.{IsSome}
-use Rattle.version_cell.specs.Passes.{IsPassOf}
-use Rattle.cell_bench.proofs.calls.try_all.Given as goal
-
-abbrev pub invariant-loop : goal.invariant-loop
-invariant-loop g l = record {
-  own : IsPassOf l.cell l.pass;
-  numbered : IsSome l.pass.author;
-}

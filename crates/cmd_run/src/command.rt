@@ -1,0 +1,83 @@
+//! Running a script.
+ghost use Rattle.std.specs.Prelude.{◌≡◌, ◌≢◌, ◌≤◌, Some, Err, IsOk, IfOk, OnOk, option_copied};
+ghost use Rattle.ua_base.specs.Cause.{Rose};
+ghost use Rattle.ps_config.specs.Types.{HasTypes};
+ghost use Rattle.ps_script.specs.Sound.{IsScript};
+ghost use Rattle.writer_group.specs.Standing.{IsGood};
+ghost use Rattle.script_player.specs.Openings.{OpensOnce};
+ghost use Rattle.script_player.specs.Plays.{opening_of};
+ghost use Rattle.script_runner.specs.Runs.{IsRunOf};
+ghost use Rattle.commands.specs.Outside.{outside_of, wire_of};
+ghost use Rattle.commands.specs.Statuses.{IsDone, IsUnwritten};
+ghost use Rattle.commands.specs.Links.{IsBeforeLink};
+ghost use Rattle.commands.specs.Sessions.{IsReportOf};
+ghost use Rattle.cmd_run.specs.Runs.{RunEnds};
+
+use commands::{Accepted, Status, accept, status_of, write_text};
+use ps_report::report;
+use script_player::PlayEnd;
+use script_runner::run_script;
+use std::alloc::Global;
+use std::sync::Wait;
+use std::thread::Threads;
+use ua_base::{Folder, Gate, Link, Sink};
+
+/// Runs the script of this name over the link, each thread's writes and watches on a thread of its own, for a session with the
+/// configuration of this name or the built-in one, and writes its report. The gate is called before and after each write and watch
+/// and each tick. A script that gives datagrams fates is refused.
+pub fn run<'w, R: Threads + Wait + Sync, F: Folder, B: Link, G: Gate, K: Sink>(
+    rt: &R,
+    alloc: Global,
+    script: &'w str,
+    config: Option<&'w str>,
+    folder: &mut F,
+    wire: &mut B,
+    gate: &G,
+    out: &mut K,
+) -> Status<'w>
+    ensures ends { RunEnds result script.now (option_copied config.entry)
+        (outside_of F.tells F.faults K.written K.faults folder.old out.old)
+        (outside_of F.tells F.faults K.written K.faults folder.new out.new)
+        (wire_of B.told B.faults B.opened_with B.made B.openings wire.old)
+        (wire_of B.told B.faults B.opened_with B.made B.openings wire.new) }
+    ensures unlinked { IsBeforeLink result → wire.new ≡ wire.old }
+    ensures silent { ¬ IsDone result → ¬ IsUnwritten result → out.new ≡ out.old }
+{
+    let accepted = match accept(alloc, script, config, false, folder) {
+        Ok(accepted) => accepted,
+        Err(status) => return status,
+    };
+    match ran(rt, alloc, &accepted, wire, gate) {
+        Ok(text) => write_text(out, &text),
+        Err(end) => status_of(end),
+    }
+}
+
+/// The report of the session of a script that is run.
+fn ran<R: Threads + Wait + Sync, B: Link, G: Gate>(
+    rt: &R,
+    alloc: Global,
+    accepted: &Accepted,
+    wire: &mut B,
+    gate: &G,
+) -> Result<Vec<u8>, PlayEnd>
+    requires good { IsGood accepted.now.config }
+    requires types { HasTypes accepted.now.config }
+    requires script { IsScript accepted.now.config accepted.now.script }
+    ensures report { IfOk result (λ text. IsReportOf IsRunOf
+        accepted.now.config accepted.now.script (B.told wire.new) text.items) }
+    ensures opened { OnOk result (B.opened_with wire.new
+        ≡ Some (opening_of accepted.now.config accepted.now.script)) }
+    ensures opens { B.opened_with wire.new ≢ B.opened_with wire.old
+        → B.opened_with wire.new ≡ Some (opening_of accepted.now.config accepted.now.script) }
+    ensures once { OpensOnce B.made B.openings (IsOk result) wire.old wire.new }
+    ensures unopened { result ≡ Err PlayEnd.Unopened
+        → Rose (B.faults wire.old) (B.faults wire.new) }
+    ensures unused { result ≡ Err PlayEnd.Unopened
+        → (B.told wire.new ≡ B.told wire.old) × (B.opened_with wire.new ≡ B.opened_with wire.old)
+        × (B.openings wire.new ≡ B.openings wire.old) }
+    ensures faults { B.faults wire.old ≤ B.faults wire.new }
+{
+    let closed = run_script(rt, alloc, &accepted.config, &accepted.script, wire, gate)?;
+    Ok(report(alloc, &accepted.config, &closed)?)
+}

@@ -1,5 +1,0 @@
-use Rattle.group_bench.specs.Taking.{MayTake}
-use Rattle.group_bench.proofs.reading.take.Given as goal
-
-abbrev pub invariant-loop-end : goal.invariant-loop-end
-invariant-loop-end l = MayTake l.config l.on l.group

@@ -1,5 +1,0 @@
-use Rattle.group_rows.specs.Kept.{AreTurners}
-use Rattle.group_rows.proofs.groups.turners_of.Given as goal
-
-abbrev pub invariant-loop-index : goal.invariant-loop-index
-invariant-loop-index l = AreTurners l.config l.metas l.turners.items

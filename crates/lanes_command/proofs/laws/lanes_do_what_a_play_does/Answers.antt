@@ -1,5 +1,0 @@
-use Rattle.lanes_command.proofs.Beside.{same-play}
-use Rattle.lanes_command.proofs.laws.lanes_do_what_a_play_does.Goals as goal
-
-pub returns : goal.returns
-returns c = λ config script earlier steps looks. same-play config script earlier steps looks

@@ -1,5 +1,0 @@
-use Rattle.frame_codec.specs.Words.{IsFrameOf}
-use Rattle.pubsub_bench.proofs.frames.write_often.Given as goal
-
-abbrev pub invariant-loop-turn : goal.invariant-loop-turn
-invariant-loop-turn l = IsFrameOf l.meta l.frame

@@ -1,6 +1,0 @@
-use Rattle.std.proofs.Common.{ℕ, ◌<◌}
-use Rattle.relay_command.specs.Sources.{HasSourceIn}
-use Rattle.relay_command.proofs.sources.has_source.Given as goal
-
-abbrev pub invariant-loop-r : goal.invariant-loop-r
-invariant-loop-r l = (q : ℕ) → q < l.r → HasSourceIn l.first q l.meta → ⊥

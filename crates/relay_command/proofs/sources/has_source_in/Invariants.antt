@@ -1,6 +1,0 @@
-use Rattle.std.proofs.Common.{ℕ, ◌<◌}
-use Rattle.relay_command.specs.Sources.{IsSourceAt}
-use Rattle.relay_command.proofs.sources.has_source_in.Given as goal
-
-abbrev pub invariant-loop-i : goal.invariant-loop-i
-invariant-loop-i l = (j : ℕ) → j < l.i → IsSourceAt l.first l.r j l.meta → ⊥

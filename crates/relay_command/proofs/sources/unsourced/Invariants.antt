@@ -1,7 +1,0 @@
-use Rattle.std.proofs.Common.{ℕ, ◌<◌}
-use Rattle.session_model.specs.Sets.{meta_in}
-use Rattle.relay_command.specs.Sources.{HasSource}
-use Rattle.relay_command.proofs.sources.unsourced.Given as goal
-
-abbrev pub invariant-loop-set : goal.invariant-loop-set
-invariant-loop-set l = (k : ℕ) → k < l.set → HasSource l.first (meta_in l.second.dataset k)

@@ -1,0 +1,25 @@
+//! Scripts.
+use crate::scripts::shown::lines_told;
+use case_lines::{Answer, Line, LineFault, config_of};
+use ps_script::{ScriptEnd, read_script};
+use std::alloc::Global;
+
+mod shown;
+pub mod work;
+
+/// `TEXT`: the lines of a script, each with its number, or the first that has a fault, and the least of its faults
+pub fn read(alloc: Global, document: &str, line: &mut Line, plain: bool) -> Answer {
+    let config = config_of(alloc, document)?;
+    match read_script(alloc, &config, &line.text(alloc)?, plain) {
+        Ok(script) => lines_told(alloc, "ok", script.lines.as_slice()),
+        Err(end) => refused(alloc, end),
+    }
+}
+
+fn refused(alloc: Global, end: ScriptEnd) -> Answer {
+    let ScriptEnd::Refused { line, fault } = end else {
+        return Err(LineFault::Memory);
+    };
+    let code = fault.number();
+    Ok(Some(format!(in alloc; "line {line} S{code} {fault}")?))
+}

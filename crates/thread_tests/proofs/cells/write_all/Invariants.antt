@@ -1,9 +1,0 @@
-use Rattle.std.specs.Prelude.{IsSome}
-use Rattle.version_cell.specs.Passes.{IsPassOf}
-use Rattle.thread_tests.proofs.cells.write_all.Given as goal
-
-abbrev pub invariant-loop-k : goal.invariant-loop-k
-invariant-loop-k g l = record {
-  own : IsPassOf l.cell l.pass;
-  numbered : IsSome l.pass.author;
-}
