@@ -1,7 +1,7 @@
 #!/usr/bin/env python3
-"""Compares the program rows_relay with model.py over the cases that random_cases.py makes of seeds.
+"""Compares the program rows_command with model.py over the cases that random_cases.py makes of seeds.
 
-usage: compare.py PROGRAM FROM TO     (the seeds FROM to TO - 1; PROGRAM is crates/rows_relay/out/rows_relay, which `rt run` builds there,
+usage: compare.py PROGRAM FROM TO     (the seeds FROM to TO - 1; PROGRAM is crates/rows_command/out/rows_command, which `rt run` builds there,
                                       or - for the model alone)
 
 It names each seed whose answers differ, with the first line that does, and prints how many cases have each of some traits, and last how many it
@@ -108,7 +108,7 @@ def main():
         made = parts([sys.executable, os.path.join(HERE, "random_cases.py"), str(at), str(min(AT_ONCE, last - at))])
         text = "".join(made)
         wanted = parts([sys.executable, os.path.join(HERE, "model.py")], text)
-        got = wanted if program == "-" else parts([program], text)
+        got = wanted if program == "-" else parts([program], "command relay\n" + text)
         if len(got) != len(made): sys.exit(f"seeds from {at}: {len(got)} answers to {len(made)} cases")
         for case, want, have in zip(made, wanted, got):
             told = Case(case, want)

@@ -1,7 +1,7 @@
 #!/usr/bin/env python3
-"""The cases of crates/rows_tap.
+"""The cases of crates/rows_json that are datagrams, behind those of cases.py.
 
-usage: tap_cases.py     (prints what crates/rows_tap/stdin has to be)"""
+usage: tap_cases.py     (prints the end of crates/rows_json/stdin)"""
 import random, struct
 from tap import groups, Tap, CONFIGURATIONS
 
@@ -25,7 +25,7 @@ def demo(number, *values):
 
 
 def case(name, *datagrams):
-    print(name, *[d if isinstance(d, str) else d.hex() for d in datagrams])
+    print("datagrams", name, *[d if isinstance(d, str) else d.hex() for d in datagrams])
 
 
 def note(text): print("# " + text)
@@ -67,8 +67,8 @@ for publisher in (("u8", 255), ("u16", 65535), ("u32", 4294967295), ("u64", 1844
 whole = datagram(U8, [(1, first)])
 case("built-in", bytes([whole[0] & ~0x10]) + whole[2:])
 note("no case")
-print("other 71")
-print("built-in 7x")
+print("datagrams other 71")
+print("datagrams built-in 7x")
 note("by chance: each byte of a good datagram may be another")
 chance = random.Random(2024)
 good = [datagram(TEXT, [(1, wide), (258, on)]), datagram(TEXT, [(258, on)], sequence=1), datagram(TEXT, [(1, wide)])]

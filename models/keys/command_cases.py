@@ -1,5 +1,5 @@
 #!/usr/bin/env python3
-"""Prints the cases of crates/rows_keys/stdin."""
+"""Prints the cases of `keys` in crates/rows_command."""
 
 
 def config(*groups, begin='[publisher]\\nid = "u8:5"\\n'):

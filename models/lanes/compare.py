@@ -1,7 +1,7 @@
 #!/usr/bin/env python3
-"""Compares the program rows_lanes with model.py over the cases that random_cases.py makes of seeds.
+"""Compares the program rows_command with model.py over the cases that random_cases.py makes of seeds.
 
-usage: compare.py FIRST COUNT [PROGRAM]     (the seeds FIRST to FIRST + COUNT - 1; PROGRAM is crates/rows_lanes/out/rows_lanes, which
+usage: compare.py FIRST COUNT [PROGRAM]     (the seeds FIRST to FIRST + COUNT - 1; PROGRAM is crates/rows_command/out/rows_command, which
                                             `rt run` builds there)
 
 It names each seed whose answers differ, with the first line that does, and prints how many cases it compared, and how many of them have each
@@ -20,13 +20,13 @@ def parts(command, text=None):
 
 def main():
     first, count = int(sys.argv[1]), int(sys.argv[2])
-    program = sys.argv[3] if len(sys.argv) > 3 else os.path.join(HERE, "..", "..", "crates", "rows_lanes", "out", "rows_lanes")
+    program = sys.argv[3] if len(sys.argv) > 3 else os.path.join(HERE, "..", "..", "crates", "rows_command", "out", "rows_command")
     differing, refused, traits = 0, 0, dict.fromkeys((t[0] for t in TRAITS), 0)
     for at in range(first, first + count, AT_ONCE):
         many = min(AT_ONCE, first + count - at)
         made = parts([sys.executable, os.path.join(HERE, "random_cases.py"), str(at), str(many)])
         text = "".join(made)
-        wanted, got = parts([sys.executable, os.path.join(HERE, "model.py")], text), parts([program], text)
+        wanted, got = parts([sys.executable, os.path.join(HERE, "model.py")], text), parts([program], "command lanes\n" + text)
         if len(got) != len(made): sys.exit(f"seeds from {at}: {len(got)} answers to {len(made)} cases")
         for case, want, have in zip(made, wanted, got):
             refused += "status 0" not in have

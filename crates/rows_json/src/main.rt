@@ -1,16 +1,25 @@
 //! Messages in the JSON mapping, one a line. Each is read for three data sets, and what is read of it is written again,
 //! with the number of the case, from 0 on, as its id. Each line is printed again, with the answer behind ` -> `: the
 //! number of elements that gave no frame and the message, or why none is read. Behind a word `bytes` a line has its bytes
-//! in hexadecimal digits. Lines that begin with `#`, and empty ones, are no cases and printed as they are.
+//! in hexadecimal digits.
+//!
+//! Behind a word `datagrams` a line has datagrams that are sent over a tap: the name of a configuration, and the bytes of each
+//! datagram in hexadecimal digits, in order; a `!` in front of one says that its send fails. The answer is the lines of the tap and how
+//! many datagrams gave none. Lines that begin with `#`, and empty ones, are no cases and printed as they are.
 #![tactic(auto)]
 
 ghost use Rattle.std.specs.List.{All};
 ghost use Rattle.json_frames.specs.Parts.{IsPartOf};
 
+mod cases;
+mod configurations;
 mod data_sets;
+mod sending;
 
+use cases::Case;
 use dataset_meta::Meta;
 use json_frames::{JsonMessage, JsonRead, read_json, write_json};
+use sending::written;
 use std::alloc::{AllocError, Global};
 use std::{io, str};
 
@@ -24,11 +33,23 @@ fn main(rt: HostRuntime) -> io::Result<()> {
             println!(rt; "{text}")?;
             continue;
         }
-        let answer = answer(rt.alloc(), &metas, id, text)?;
-        id = id.saturating_add(1);
+        let answer = if let Some(case) = text.strip_prefix("datagrams ") {
+            tapped(rt.alloc(), case)?
+        } else {
+            let number = id;
+            id = id.saturating_add(1);
+            answer(rt.alloc(), &metas, number, text)?
+        };
         println!(rt; "{text} -> {answer}")?;
     }
     Ok(())
+}
+
+fn tapped(alloc: Global, text: &str) -> Result<String, AllocError> {
+    match Case::read(alloc, text) {
+        Some(case) => written(alloc, case),
+        None => format!(in alloc; "not a case"),
+    }
 }
 
 fn answer(alloc: Global, metas: &[Meta], id: u64, line: &str) -> Result<String, AllocError> {
@@ -51,12 +72,17 @@ fn told(alloc: Global, metas: &[Meta], id: u64, bytes: &[u8]) -> Result<String, 
         &[(1, 0), (2, 1), (3, 2), (1, 2), (65535, 0)],
         bytes,
     ) {
-        Ok(read) => written(alloc, metas, id, read),
+        Ok(read) => message_again(alloc, metas, id, read),
         Err(end) => format!(in alloc; "{end:?}"),
     }
 }
 
-fn written(alloc: Global, metas: &[Meta], id: u64, read: JsonRead) -> Result<String, AllocError>
+fn message_again(
+    alloc: Global,
+    metas: &[Meta],
+    id: u64,
+    read: JsonRead,
+) -> Result<String, AllocError>
     requires { All (IsPartOf metas.now) read.parts }
 {
     let bad = read.bad;

@@ -1,4 +1,4 @@
-use Rattle.rows_tap.proofs.sending.tap_over.Given as goal
+use Rattle.rows_json.proofs.sending.tap_over.Given as goal
 
 -- the tap is over this link
 abbrev pub ghosts-tapped : goal.ghosts-tapped

@@ -1,8 +1,12 @@
-//! A case as its lines give it.
+//! Cases of whole sessions. `config` and `script` give the texts, several lines in one; `sends` and `receives` the numbers of the calls
+//! of the link that fail; `inject` a datagram that comes right after the one with a number was sent, `flood` so many of it; and `play`
+//! plays them: the report, or why there is none. What isn't given is the built-in configuration, an empty script, and a link that
+//! doesn't fail.
 ghost use Rattle.std.specs.Prelude.{All, ◌<◌, ◌^◌, vec_len};
 
+use crate::given::numbers_of;
 use crate::playing::report_of;
-use case_lines::{Answer, Line, LineFault, number};
+use case_lines::{Answer, Line, LineFault};
 use mem_edge::MemoryLink;
 use std::alloc::Global;
 use std::mem;
@@ -87,13 +91,4 @@ impl Case {
         let mut link = MemoryLink::new(alloc, injected, sends, receives, false);
         report_of(rt, alloc, &config, &script, &mut link)
     }
-}
-
-/// The words that are left, as numbers.
-fn numbers_of(alloc: Global, line: &mut Line) -> Result<Vec<u64>, LineFault> {
-    let mut numbers = Vec::new(alloc);
-    for word in line.words() {
-        numbers.push(number(word)?)?;
-    }
-    Ok(numbers)
 }
