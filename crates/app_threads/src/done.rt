@@ -1,7 +1,6 @@
 //! What a thread leaves.
 use crate::series::Series;
-use cell_bank::Passes;
-use target_cells::Passes as Watches;
+use version_cell::Passes;
 
 /// What the looks of one watch counted.
 #[derive(Drop)]
@@ -23,5 +22,5 @@ pub struct Done {
     /// What it has seen of the data sets.
     pub passes: Passes,
     /// What it has seen of the readers' targets.
-    pub watches: Watches,
+    pub watches: Passes,
 }

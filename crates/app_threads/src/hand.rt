@@ -10,9 +10,9 @@ use crate::item::Item;
 use cell_bank::Bank;
 use row_words::Patch;
 use std::sync::Wait;
-use target_cells::{Passes as Watches, Targets};
+use target_cells::Targets;
 use ua_base::Gate;
-use version_cell::Placed;
+use version_cell::{Passes, Placed};
 
 /// How many writes and watches of a list are done.
 #[derive(Clone, Copy)]
@@ -103,7 +103,7 @@ fn watch<R: Wait>(rt: &R, targets: &Targets, reader: u8, at: usize, done: &mut D
     look(rt, targets, reader, looked, &mut done.watches);
 }
 
-fn look<R: Wait>(rt: &R, targets: &Targets, reader: u8, looked: &mut Looked, watches: &mut Watches)
+fn look<R: Wait>(rt: &R, targets: &Targets, reader: u8, looked: &mut Looked, watches: &mut Passes)
     requires own { ArePassesOf targets.now.cells watches.old }
     requires reader { reader < length targets.now.cells }
     ensures same { looked.new.reader ≡ looked.old.reader }
@@ -123,7 +123,7 @@ fn look_each<R: Wait>(
     targets: &Targets,
     reader: u8,
     counts: &mut [u64],
-    watches: &mut Watches,
+    watches: &mut Passes,
 )
     requires own { ArePassesOf targets.now.cells watches.old }
     requires reader { reader < length targets.now.cells }

@@ -6,17 +6,16 @@ ghost use Rattle.app_threads.specs.Doing.{AddsRoom};
 use crate::done::{Done, Looked};
 use crate::item::Item;
 use crate::series::Series;
-use cell_bank::Passes;
 use std::alloc::Global;
-use target_cells::Passes as Watches;
 use ua_base::NoMemory;
+use version_cell::Passes;
 
 pub(crate) fn fresh(
     alloc: Global,
     thread: u32,
     list: &[Item],
     passes: Passes,
-    watches: Watches,
+    watches: Passes,
 ) -> Result<Done, NoMemory>
     requires short { length list.now < 2 ^ 32 }
     ensures fresh { IfOk result (IsFresh thread list.now) }

@@ -11,12 +11,13 @@ use crate::done::Done;
 use crate::hand::run_list;
 use crate::item::Item;
 use crate::opening::fresh;
-use cell_bank::{Bank, Passes};
+use cell_bank::Bank;
 use std::alloc::Global;
 use std::sync::Wait;
 use std::thread::{Threads, for_each_mut, join_mut};
-use target_cells::{Passes as Watches, Targets};
+use target_cells::Targets;
 use ua_base::{Gate, NoMemory};
+use version_cell::Passes;
 
 impl Crew {
     /// List t is that of thread t, which has the set t of the passes, and passes of its own that are split from `looks`. No later
@@ -25,7 +26,7 @@ impl Crew {
         alloc: Global,
         hands: Vec<Passes>,
         targets: &Targets,
-        looks: &mut Watches,
+        looks: &mut Passes,
         lists: Vec<Vec<Item>>,
     ) -> Result<Crew, NoMemory>
         requires count { length hands.items ≡ length lists.items }

@@ -7,13 +7,12 @@ ghost use Rattle.version_cell.specs.Histories.{row_after};
 ghost use Rattle.version_cell.specs.Passes.{SeesLawful, SeesMore, Tried, WasPlaced, shared_by};
 ghost use Rattle.version_cell.specs.Sets.{cell_at, pass_at, ArePassesOf, ChangesAt, EachSeesLawful, JoinEach};
 
-use crate::passes::Passes;
 use row_words::{Patch, Row};
 use std::alloc::Global;
 use std::marker::Model;
 use std::sync::Wait;
 use ua_base::NoMemory;
-use version_cell::{Cell, Placed, Wrote, histories_are_the_models, join_each, split_each};
+use version_cell::{Cell, Passes, Placed, Wrote, histories_are_the_models, join_each, split_each};
 
 /// One cell for each data set. To a contract it is the list of its cells, in the order of the data sets.
 #[derive(Drop)]

@@ -3,7 +3,5 @@
 
 mod bank;
 mod making;
-mod passes;
 
 pub use bank::Bank;
-pub use passes::Passes;

@@ -6,12 +6,11 @@ ghost use Rattle.cell_bank.specs.Hands.{AreSmall, AreHands};
 ghost use Rattle.version_cell.specs.Sets.{ArePassesOf, new_passes};
 
 use crate::bank::Bank;
-use crate::passes::Passes;
 use dataset_meta::Meta;
 use std::alloc::Global;
 use std::sync::Wait;
 use ua_base::NoMemory;
-use version_cell::{Cell, Pass};
+use version_cell::{Cell, Pass, Passes};
 
 impl Bank {
     /// A bank of a cell for each of these metas, whose authors may make so many entries; a set of passes with no numbers, and a

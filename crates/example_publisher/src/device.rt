@@ -7,7 +7,7 @@ ghost use Rattle.writer_group.specs.Standing.{GoesOnAt, IsGood, IsMadeAt, IsRese
 ghost use Rattle.example_publisher.specs.Devices.{IsBank, IsDevice};
 
 use crate::numbers::Numbers;
-use cell_bank::{Bank, Passes};
+use cell_bank::Bank;
 use dataset_meta::Meta;
 use example_parts::Fault;
 use message_guard::Sender;
@@ -17,7 +17,7 @@ use std::io;
 use std::rt::Files;
 use std::sync::Wait;
 use ua_base::{Link, Sent};
-use version_cell::histories_are_the_models;
+use version_cell::{Passes, histories_are_the_models};
 use writer_group::{Datagrams, Group, Sampled};
 
 /// The only group of a configuration, the sender of its key group, and what it has read of the data set.

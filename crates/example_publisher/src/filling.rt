@@ -3,7 +3,7 @@ ghost use Rattle.std.specs.Prelude.{IfOk};
 ghost use Rattle.row_words.specs.Patches.{IsPatchOf};
 ghost use Rattle.example_publisher.specs.Devices.{IsBank, IsWorker};
 
-use cell_bank::{Bank, Passes};
+use cell_bank::Bank;
 use dataset_meta::Meta;
 use example_parts::Fault;
 use row_words::Patch;
@@ -13,7 +13,7 @@ use std::sync::atomic::{AtomicBool, Ordering};
 use std::thread;
 use std::time::{Clock, Duration, SystemTime, UNIX_EPOCH};
 use ua_values::{Text, Value};
-use version_cell::Placed;
+use version_cell::{Passes, Placed};
 
 /// How often a thread may write.
 pub const QUOTA: u64 = 1 << 40;

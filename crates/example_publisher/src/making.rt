@@ -8,7 +8,7 @@ ghost use Rattle.example_publisher.specs.Devices.{AreWorkers, IsBank, IsHand, Is
 use crate::device::{Device, Sends};
 use crate::filling::{QUOTA, Worker, life_patch, patch_of};
 use crate::numbers::Numbers;
-use cell_bank::{Bank, Passes};
+use cell_bank::Bank;
 use dataset_meta::Meta;
 use example_parts::Fault;
 use message_guard::Sender;
@@ -16,7 +16,7 @@ use ps_config::{Config, KeyGroupPart, ring_of};
 use std::alloc::Global;
 use std::rt::Files;
 use std::sync::Wait;
-use version_cell::Placed;
+use version_cell::{Passes, Placed};
 use writer_group::{Datagrams, Group};
 
 /// How many threads write.

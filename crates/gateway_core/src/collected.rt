@@ -11,8 +11,9 @@ ghost use Rattle.gateway_core.specs.Standing.{HaveKept, KeepsOn, versions_in};
 
 use row_words::Row;
 use std::alloc::Global;
-use target_cells::{Origin, Passes};
+use target_cells::Origin;
 use ua_base::NoMemory;
+use version_cell::Passes;
 use writer_group::Sampled;
 
 /// The last sample of each data set of the gateway, and the versions of its source's stores.

@@ -19,14 +19,15 @@ use crate::sets::Sets;
 use crate::size::Size;
 use crate::storing::Stores;
 use arrayvec::ArrayVec;
-use cell_bank::{Bank, Passes};
+use cell_bank::Bank;
 use ps_config::{Config, ReaderPart};
 use pubsub_states::Tree;
 use session_parts::{Receiving, publisher_of, subscriber_of};
 use std::alloc::Global;
 use std::sync::Wait;
-use target_cells::{Passes as Watches, Targets};
+use target_cells::Targets;
 use ua_base::NoMemory;
+use version_cell::Passes;
 
 /// A new session, the cells of its data sets with the passes of the eight threads, and the targets of its readers with passes that
 /// look at them.
@@ -36,7 +37,7 @@ pub struct Opening<'c> {
     pub bank: Bank,
     pub hands: Vec<Passes>,
     pub targets: Targets,
-    pub watches: Watches,
+    pub watches: Passes,
 }
 
 impl<'c> Session<'c> {

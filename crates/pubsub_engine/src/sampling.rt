@@ -9,12 +9,13 @@ ghost use Rattle.session_model.specs.Sets.{AreRowsOf, GrowTo, cut_sample, rows_c
 ghost use Rattle.pubsub_engine.specs.Standing.{opening_sample, sample_of, samples_of};
 
 use crate::sets::Sets;
-use cell_bank::{Bank, Passes};
+use cell_bank::Bank;
 use dataset_meta::Meta;
 use row_words::Row;
 use std::alloc::Global;
 use std::sync::Wait;
 use ua_base::NoMemory;
+use version_cell::Passes;
 use writer_group::Sampled;
 
 /// What the session has seen of the data sets, the last sample, and the rows of a tick.

@@ -24,15 +24,15 @@ ghost use Rattle.writer_group.specs.Standing.{IsGood};
 use crate::sampling::Samples;
 use crate::sets::Sets;
 use crate::storing::Stores;
-use cell_bank::{Bank, Passes};
+use cell_bank::Bank;
 use ps_config::Config;
 use pubsub_states::Tree;
 use session_parts::{Publisher, Receiving, Subscriber, Told};
 use std::alloc::Global;
 use std::sync::Wait;
-use target_cells::{Origin, Passes as Watches, Targets};
+use target_cells::{Origin, Targets};
 use ua_base::{Link, NoMemory, Pumped, Ticked};
-use version_cell::histories_are_the_models;
+use version_cell::{Passes, histories_are_the_models};
 
 /// What may still come.
 #[derive(Clone, Copy, Debug)]
@@ -119,7 +119,7 @@ impl<'c> Session<'c> {
     }
 
     /// The passes see exactly the stores that there are.
-    pub fn level<R: Wait>(&mut self, rt: &R, targets: &Targets, looks: &mut Watches)
+    pub fn level<R: Wait>(&mut self, rt: &R, targets: &Targets, looks: &mut Passes)
         requires session { IsSession self.old }
         requires targets { AreTargetsOf self.old targets.now }
         requires own { ArePassesOf targets.now.cells looks.old }

@@ -5,11 +5,12 @@ ghost use Rattle.version_cell.specs.Sets.{cell_at, ArePassesOf};
 use crate::fields::{DataSets, patch_of};
 use crate::shown::{Answered, done, given, seen, text, tried, version, written};
 use case_lines::{Line, LineFault};
-use cell_bank::{Bank, Passes};
+use cell_bank::Bank;
 use dataset_meta::Meta;
 use std::alloc::Global;
 use std::marker::Model;
 use std::sync::Wait;
+use version_cell::Passes;
 
 /// A bank with its sets of passes: those of the numbers 0 to 7, the first one, which has no numbers, and then those that were
 /// split.

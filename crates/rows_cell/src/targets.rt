@@ -9,7 +9,8 @@ use dataset_meta::Meta;
 use std::alloc::Global;
 use std::marker::Model;
 use std::sync::Wait;
-use target_cells::{Keeper, Passes, Targets};
+use target_cells::{Keeper, Targets};
+use version_cell::Passes;
 
 /// Cells of readers with their keeper and sets of passes: the first one, and then those that were split.
 #[derive(Drop)]

@@ -8,14 +8,14 @@ ghost use Rattle.pubsub_engine.specs.Standing.{KeepsStands};
 ghost use Rattle.script_player.specs.Player.{HasWritten, KeepAuthors, SeeNoMore};
 
 use app_threads::{Done, Looked, Series};
-use cell_bank::{Bank, Passes};
+use cell_bank::Bank;
 use pubsub_engine::Session;
 use row_words::Patch;
 use std::alloc::Global;
 use std::sync::Wait;
-use target_cells::{Passes as Watches, Targets};
+use target_cells::Targets;
 use ua_base::NoMemory;
-use version_cell::{Placed, passes_see_on};
+use version_cell::{Passes, Placed, passes_see_on};
 
 /// A thread of the application.
 #[derive(Drop)]
@@ -100,7 +100,7 @@ impl Hand {
         alloc: Global,
         thread: u32,
         targets: &Targets,
-        watches: &mut Watches,
+        watches: &mut Passes,
     ) -> Result<Done, NoMemory>
         requires own { ArePassesOf targets.now.cells watches.old }
         ensures same { watches.new ≡ watches.old }

@@ -21,7 +21,7 @@ ghost use Rattle.script_player.specs.Player.{Appends, AreDonesOf, Does, HasPlaye
 use crate::hand::Hand;
 use crate::passing::pass;
 use app_threads::Done;
-use cell_bank::{Bank, Passes};
+use cell_bank::Bank;
 use ps_config::Config;
 use ps_report::Closed;
 use ps_script::{Act, Line, Script};
@@ -29,8 +29,9 @@ use pubsub_engine::{Opening, Session, Size};
 use row_words::Patch;
 use std::alloc::Global;
 use std::sync::Wait;
-use target_cells::{Origin, Passes as Watches, Targets};
+use target_cells::{Origin, Targets};
 use ua_base::{Link, NoMemory};
+use version_cell::Passes;
 
 /// A session, the cells that its application writes, and what each thread has. It plays a script line by line, so that what follows
 /// the session, as a gateway does, can see between two lines what its readers have stored.
@@ -40,7 +41,7 @@ pub struct Player<'c> {
     pub(crate) bank: Bank,
     pub(crate) targets: Targets,
     /// Passes that look at the targets, for all threads.
-    pub(crate) watches: Watches,
+    pub(crate) watches: Passes,
     pub(crate) hands: Vec<Hand>,
 }
 
@@ -247,7 +248,7 @@ impl<'c> Player<'c> {
     }
 
     /// The passes that look at the readers' stores, one for each reader over all read groups.
-    pub fn watches(&self) -> &Watches
+    pub fn watches(&self) -> &Passes
         ensures watches { result.now ≡ self.now.watches }
     {
         &self.watches
@@ -316,7 +317,7 @@ fn look<R: Wait>(
     rt: &R,
     alloc: Global,
     targets: &Targets,
-    watches: &mut Watches,
+    watches: &mut Passes,
     reader: u8,
     times: u32,
 ) -> Result<Vec<u64>, NoMemory>
@@ -341,7 +342,7 @@ fn dones_of(
     alloc: Global,
     hands: Vec<Hand>,
     targets: &Targets,
-    watches: &mut Watches,
+    watches: &mut Passes,
 ) -> Result<Vec<Done>, NoMemory>
     requires own { ArePassesOf targets.now.cells watches.old }
     requires few { length hands.items ≤ 256 }

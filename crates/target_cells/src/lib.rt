@@ -5,12 +5,10 @@ mod keeper;
 mod laws;
 mod making;
 mod origin;
-mod passes;
 mod storing;
 mod targets;
 
 pub use keeper::Keeper;
 pub use laws::keepers_are_sole_authors;
 pub use origin::Origin;
-pub use passes::Passes;
 pub use targets::Targets;

@@ -5,13 +5,12 @@ ghost use Rattle.version_cell.specs.Cells.{IsCell};
 ghost use Rattle.target_cells.specs.Keeping.{AreKept, metas_of};
 
 use crate::keeper::Keeper;
-use crate::passes::Passes;
 use crate::targets::Targets;
 use dataset_meta::Meta;
 use std::alloc::Global;
 use std::sync::Wait;
 use ua_base::NoMemory;
-use version_cell::Cell;
+use version_cell::{Cell, Passes};
 
 impl Targets {
     /// A cell for each reader, of rows of the meta of its data set, with the keeper that may make so many stores of each and is

@@ -6,7 +6,6 @@ ghost use Rattle.version_cell.specs.Sets.{cell_at, pass_at, ArePassesOf, Changes
 ghost use Rattle.target_cells.specs.Keeping.{AreLevel, AreSound};
 
 use crate::keeper::Keeper;
-use crate::passes::Passes;
 use crate::storing::{level_each, store};
 use dataset_meta::Meta;
 use row_words::Row;
@@ -14,7 +13,7 @@ use std::alloc::Global;
 use std::marker::Model;
 use std::sync::Wait;
 use ua_base::NoMemory;
-use version_cell::{Cell, join_each, split_each};
+use version_cell::{Cell, Passes, join_each, split_each};
 
 /// One cell for each reader, whose versions are the reader's stores: the first stored row is version 1. To a contract it is the
 /// list of its cells, in the order of the readers, and how many stores each may have.

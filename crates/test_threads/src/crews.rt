@@ -11,7 +11,7 @@ ghost use Rattle.test_threads.specs.Lists.{AreThreeItems, IsDoneOf};
 use crate::order::Order;
 use crate::sample::{meta, patch};
 use app_threads::{Crew, Done, Item};
-use cell_bank::{Bank, Passes};
+use cell_bank::Bank;
 use dataset_meta::Meta;
 use row_words::{Patch, Row};
 use std::alloc::Global;
@@ -20,7 +20,8 @@ use std::slice::from_ref;
 use std::sync::Wait;
 use std::test::Fail;
 use std::thread::{Threads, yield_now};
-use target_cells::{Keeper, Passes as Watches, Targets};
+use target_cells::{Keeper, Targets};
+use version_cell::Passes;
 
 // How often threads 0 to 6 look.
 const LOOKS: u32 = 1000;
@@ -73,7 +74,7 @@ fn crew(
     bank: &Bank,
     targets: &Targets,
     hands: Vec<Passes>,
-    looks: &mut Watches,
+    looks: &mut Passes,
     meta: &Meta,
     first: &Patch,
     second: &Patch,
@@ -189,7 +190,7 @@ fn bank<R: Wait>(rt: &R, alloc: Global, meta: &Meta) -> Result<(Bank, Passes, Ve
 }
 
 // A target for one reader, with one store, which the looks haven't seen.
-fn targets<R: Wait>(rt: &R, alloc: Global, meta: &Meta) -> Result<(Targets, Keeper, Watches), Fail>
+fn targets<R: Wait>(rt: &R, alloc: Global, meta: &Meta) -> Result<(Targets, Keeper, Passes), Fail>
     ensures limit { IfOk result (λ made. made.0.limit ≡ STORES) }
     ensures cells { IfOk result (λ made. All IsCell made.0.cells) }
     ensures one { IfOk result (λ made. length made.0.cells ≡ 1) }
@@ -221,7 +222,7 @@ fn join_all<R: Wait + Abort>(
     bank: &Bank,
     seen: &mut Passes,
     targets: &Targets,
-    looks: &mut Watches,
+    looks: &mut Passes,
     dones: Vec<Done>,
 ) -> bool
     requires seen { ArePassesOf bank.now seen.old }

@@ -15,6 +15,7 @@ mod cut;
 mod laws;
 mod making;
 mod pass;
+mod passes;
 mod places;
 mod rule;
 mod sets;
@@ -31,5 +32,6 @@ pub use laws::{
     steps_keep_the_rule,
 };
 pub use pass::Pass;
+pub use passes::Passes;
 pub use rule::{Entry, View};
 pub use sets::{join_each, split_each};

@@ -1,11 +1,12 @@
 //! Sets of passes.
+use crate::pass::Pass;
 use std::marker::Model;
-use version_cell::Pass;
 
-/// One pass for each cell of a bank. To a contract it is the list of what they know, in the order of the data sets.
+/// One pass for each of several cells. To a contract it is the list of what they know, in the order of the cells.
 #[derive(Drop)]
 pub struct Passes {
-    pub(crate) items: Vec<Pass>,
+    /// The passes, in the order of the cells.
+    pub items: Vec<Pass>,
 }
 
 impl Model for Passes {
@@ -22,13 +23,13 @@ impl Passes {
     ghost use Rattle.version_cell.specs.Passes.{SeesLawful};
     ghost use Rattle.version_cell.specs.Sets.{pass_at};
 
-    /// The pass of a data set.
-    pub fn pass(&self, set: u8) -> &Pass
-        requires { set < length self.now }
-        ensures pass { result.now ≡ pass_at self.entry.now set }
-        ensures lawful { SeesLawful (pass_at self.entry.now set) }
+    /// The pass of a cell.
+    pub fn pass(&self, index: u8) -> &Pass
+        requires { index < length self.now }
+        ensures pass { result.now ≡ pass_at self.entry.now index }
+        ensures lawful { SeesLawful (pass_at self.entry.now index) }
     {
-        let pass = &self.items[usize::from(set)];
+        let pass = &self.items[usize::from(index)];
         let _ = pass.row();
         pass
     }
