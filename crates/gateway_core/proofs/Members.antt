@@ -3,13 +3,13 @@ use Rattle.std.proofs.Common.{◌≡◌, refl, sym, ap, ◌∙◌, subst, arith,
 use Rattle.std.specs.Prelude.{vec_len, ◌==◌}
 use Rattle.dataset_meta.specs.Metas.{MetaData}
 use Rattle.dataset_reader.specs.declared.reader.Reader.{Reader}
-use Rattle.dataset_reader.specs.Reader.{IsReaderOf, kept_by}
+use Rattle.dataset_reader.specs.Reader.{IsReaderOf, kept_by, passed_of}
 use Rattle.dataset_writer.specs.declared.writer.Writer.{Writer}
 use Rattle.dataset_writer.specs.Standing.{IsWriter, logged_by}
 use Rattle.ps_config.specs.declared.parts.Config.{Config}
 use Rattle.ps_config.specs.declared.parts.GroupPart.{GroupPart}
 use Rattle.reader_group.specs.declared.group.ReaderGroup.{ReaderGroup}
-use Rattle.reader_group.specs.Groups.{IsKeptAt, IsMadeAt, IsMadeOf, Stands as ReadingStands, index_of, reader_count}
+use Rattle.reader_group.specs.Groups.{IsKeptAt, IsPassedAt, IsMadeAt, IsMadeOf, Stands as ReadingStands, index_of, reader_count}
 use Rattle.reader_group.specs.Members.{seat_at}
 use Rattle.reader_group.specs.Plain.{plain}
 use Rattle.reader_group.specs.Settings.{setting_of, seat_in, group_at as read_group_at}
@@ -101,15 +101,26 @@ reader-there s r i group gateway low within is =
     let index = ap (λ (n : ℕ). length (setting_of s.config.now n).seats) at.index in
     omega (arith, within, same, seats, index, at.made.readers.count)
 
+reading-stands : (second : Config) (lived : List GatewayStep) (s : Gateway) (r : ℕ) (group : ReaderGroup) → Stands second lived s → r < length s.config.now.readgroup
+    → group ≡ get_or s.subscriber.groups.items r group
+    → ReadingStands (setting_of second r) (plain (setting_of second r) (events second r (session_steps (sources_of s) lived))) group
+reading-stands second lived s r group stands low is =
+    let steps = session_steps (sources_of s) lived in
+    let setting = setting_of second r in
+    subst (λ (x : ReaderGroup). ReadingStands setting (plain setting (events second r steps)) x) (sym is)
+    (stands.session.readings r (subst (λ (c : Config). r < length c.readgroup) (same-config second lived s stands) low) group)
+
 pub reader-kept : (second : Config) (lived : List GatewayStep) (s : Gateway) (r i : ℕ) (group : ReaderGroup) (reader : Reader) → Stands second lived s → r < length s.config.now.readgroup
     → group ≡ get_or s.subscriber.groups.items r group → IsKeptAt group i reader
     → kept_by (seat_at (setting_of second r).seats i).meta.fields reader ≡ (reader_at second r i (session_steps (sources_of s) lived)).kept
 reader-kept second lived s r i group reader stands low is there =
-    let steps = session_steps (sources_of s) lived in
-    let setting = setting_of second r in
-    there setting (plain setting (events second r steps))
-    (subst (λ (x : ReaderGroup). ReadingStands setting (plain setting (events second r steps)) x) (sym is)
-    (stands.session.readings r (subst (λ (c : Config). r < length c.readgroup) (same-config second lived s stands) low) group))
+    there (setting_of second r) (plain (setting_of second r) (events second r (session_steps (sources_of s) lived))) (reading-stands second lived s r group stands low is)
+
+pub reader-passed : (second : Config) (lived : List GatewayStep) (s : Gateway) (r i : ℕ) (group : ReaderGroup) (reader : Reader) → Stands second lived s → r < length s.config.now.readgroup
+    → group ≡ get_or s.subscriber.groups.items r group → IsPassedAt group i reader
+    → passed_of reader ≡ (reader_at second r i (session_steps (sources_of s) lived)).passed
+reader-passed second lived s r i group reader stands low is there =
+    there (setting_of second r) (plain (setting_of second r) (events second r (session_steps (sources_of s) lived))) (reading-stands second lived s r group stands low is)
 
 pub reader-made : (s : Gateway) (r i : ℕ) (group : ReaderGroup) (reader : Reader) → IsGateway s → r < length s.config.now.readgroup
     → group ≡ get_or s.subscriber.groups.items r group → IsMadeAt group i reader

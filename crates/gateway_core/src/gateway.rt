@@ -2,7 +2,7 @@
 ghost use Rattle.std.specs.Prelude.{◌≡◌, ◌<◌, ◌≤◌, ◌∷◌, ◌↔◌, [], IsTrue, IsSome, ℕ, List, Bool, count_by, length, slice_index_or};
 ghost use Rattle.ua_base.specs.Journal.{Entry};
 ghost use Rattle.ua_base.specs.Links.{KeepsLink};
-ghost use Rattle.dataset_reader.specs.Reader.{IsReaderOf, kept_by};
+ghost use Rattle.dataset_reader.specs.Reader.{IsReaderOf, kept_by, passed_of};
 ghost use Rattle.dataset_writer.specs.Standing.{IsWriter, logged_by};
 ghost use Rattle.ps_config.specs.declared.parts.Config.{Config as ConfigValue};
 ghost use Rattle.reader_group.specs.Members.{seat_at};
@@ -187,6 +187,10 @@ impl<'c> Gateway<'c> {
             → Stands second lived self.now
             → kept_by (seat_at (setting_of second group).seats index).meta.fields result.now
             ≡ (reader_at second group index (session_steps (sources_of self.now) lived)).kept }
+        ensures passed { (second : ConfigValue) (lived : List GatewayStep)
+            → Stands second lived self.now
+            → passed_of result.now
+            ≡ (reader_at second group index (session_steps (sources_of self.now) lived)).passed }
         ensures made { IsReaderOf
             (seat_at (setting_of self.now.config.now group).seats index).meta result.now }
     {

@@ -7,7 +7,7 @@ use Rattle.frame_codec.specs.Frames.{Frame}
 use Rattle.chunker.specs.Joining.{Joining}
 use Rattle.reader_group.specs.declared.receipt.Receipt.{Receipt}
 use Rattle.reader_group.specs.Members.{Seat, MemberValue, noted, numbering_of}
-use Rattle.reader_group.specs.Plain.{given, short}
+use Rattle.reader_group.specs.Plain.{given, short, taken_in}
 
 abbrev pub with_joining : MemberValue → Joining → MemberValue
 with_joining member joining = record member { joining = joining }
@@ -23,7 +23,7 @@ noted-joining now outcomes.Unnumbered member joining = refl
 pub given-joining : (seat : Seat) (receipt : Receipt) (member : MemberValue) (frame : Frame) (joining : Joining) → given seat receipt (with_joining member joining) frame ≡ with_joining (given seat receipt member frame) joining
 given-joining seat receipt member frame joining =
     let taken = frame_case (numbering_of seat.part.numbering) seat.meta.major member.kept (short frame) receipt.stamp in
-    noted-joining receipt.moment taken.1.outcome (record member { kept = taken.0 }) joining
+    noted-joining receipt.moment taken.1.outcome (taken_in member taken) joining
 
 joining-noted : (now : ℕ) (outcome : Outcome) (member : MemberValue) → (noted now outcome member).joining ≡ member.joining
 joining-noted now outcomes.Held member = refl
@@ -37,4 +37,4 @@ joining-noted now outcomes.Unnumbered member = refl
 pub joining-given : (seat : Seat) (receipt : Receipt) (member : MemberValue) (frame : Frame) → with_joining (given seat receipt member frame) member.joining ≡ given seat receipt member frame
 joining-given seat receipt member frame =
     let taken = frame_case (numbering_of seat.part.numbering) seat.meta.major member.kept (short frame) receipt.stamp in
-    ap (with_joining (given seat receipt member frame)) (sym (joining-noted receipt.moment taken.1.outcome (record member { kept = taken.0 })))
+    ap (with_joining (given seat receipt member frame)) (sym (joining-noted receipt.moment taken.1.outcome (taken_in member taken)))

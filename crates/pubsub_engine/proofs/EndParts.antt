@@ -32,7 +32,7 @@ use Rattle.pubsub_states.specs.Changes.{TreeValue, flags_in}
 use Rattle.pubsub_states.specs.Components.{Counts, IsAmong, counts_of}
 use Rattle.pubsub_states.specs.States.{state_of}
 use Rattle.reader_group.specs.declared.group.ReaderGroup.{ReaderGroup}
-use Rattle.reader_group.specs.Groups.{IsKeptAt, IsMadeAt, Stands as ReadingStands}
+use Rattle.reader_group.specs.Groups.{IsKeptAt, IsMadeAt, IsPassedAt, Stands as ReadingStands}
 use Rattle.reader_group.specs.Members.{MemberValue, seat_at}
 use Rattle.reader_group.specs.Numbered.{HasItsNumber, HaveTheirNumbers}
 use Rattle.reader_group.specs.Plain.{Event, Setting, plain}
@@ -150,30 +150,38 @@ numbered-if most p steps publisher at meta kept log (Some held) logged past read
 -- whatever it is asked for, while the session runs and when it ends
 pub reader-at : (config : Config) (p : Plan) (steps : List Step) (subscriber : Subscriber) (r i : ℕ) (group : ReaderGroup) (reader : DataSetReader)
     → HoldSubscriber config subscriber → p.config ≡ config → HaveRead p.config steps subscriber.groups.items → r < length config.readgroup
-    → group ≡ get_or subscriber.groups.items r group → IsKeptAt group i reader → IsMadeAt group i reader → IsReaderAt p steps (r, i) reader
-reader-at config p steps subscriber r i group reader holds plan readings low at is_kept is_made = record {
+    → group ≡ get_or subscriber.groups.items r group → IsKeptAt group i reader → IsPassedAt group i reader → IsMadeAt group i reader → IsReaderAt p steps (r, i) reader
+reader-at config p steps subscriber r i group reader holds plan readings low at is_kept is_passed is_made = record {
   made = subst (λ (c : Config). IsReaderOf (seat_at (setting_of c r).seats i).meta reader) (sym plan)
       (subst (λ (q : ℕ). IsReaderOf (seat_at (setting_of config q).seats i).meta reader) own.index (is_made config own.made));
-  kept = is_kept (setting_of p.config r) (plain (setting_of p.config r) (events p.config r steps))
-      (subst (ReadingStands (setting_of p.config r) (plain (setting_of p.config r) (events p.config r steps))) (sym at)
-      (readings r (subst (λ (c : Config). r < length c.readgroup) (sym plan) low) group));
+  kept = is_kept (setting_of p.config r) (plain (setting_of p.config r) (events p.config r steps)) stands;
+  passed = is_passed (setting_of p.config r) (plain (setting_of p.config r) (events p.config r steps)) stands;
 }
   where
+    stands : ReadingStands (setting_of p.config r) (plain (setting_of p.config r) (events p.config r steps)) group
+    stands =
+        subst (ReadingStands (setting_of p.config r) (plain (setting_of p.config r) (events p.config r steps))) (sym at)
+        (readings r (subst (λ (c : Config). r < length c.readgroup) (sym plan) low) group)
+
     own : MayReceive config r group
     own = subst (MayReceive config r) (sym at) (holds.groups.each r low group)
 
 -- in a life
 pub reader-in : (config : Config) (p : Plan) (readings : ℕ → Reading) (subscriber : Subscriber) (r i : ℕ) (group : ReaderGroup) (reader : DataSetReader)
     → HoldSubscriber config subscriber → p.config ≡ config → HaveReadings p.config readings subscriber.groups.items → r < length config.readgroup
-    → group ≡ get_or subscriber.groups.items r group → IsKeptAt group i reader → IsMadeAt group i reader → IsReaderIn p readings (r, i) reader
-reader-in config p readings subscriber r i group reader holds plan stand low at is_kept is_made = record {
+    → group ≡ get_or subscriber.groups.items r group → IsKeptAt group i reader → IsPassedAt group i reader → IsMadeAt group i reader → IsReaderIn p readings (r, i) reader
+reader-in config p readings subscriber r i group reader holds plan stand low at is_kept is_passed is_made = record {
   made = subst (λ (c : Config). IsReaderOf (seat_at (setting_of c r).seats i).meta reader) (sym plan)
       (subst (λ (q : ℕ). IsReaderOf (seat_at (setting_of config q).seats i).meta reader) own.index (is_made config own.made));
-  kept = is_kept (setting_in p.config r (readings r)) (readings r).value
-      (subst (ReadingStands (setting_in p.config r (readings r)) (readings r).value) (sym at)
-      (stand r (subst (λ (c : Config). r < length c.readgroup) (sym plan) low) group));
+  kept = is_kept (setting_in p.config r (readings r)) (readings r).value stands;
+  passed = is_passed (setting_in p.config r (readings r)) (readings r).value stands;
 }
   where
+    stands : ReadingStands (setting_in p.config r (readings r)) (readings r).value group
+    stands =
+        subst (ReadingStands (setting_in p.config r (readings r)) (readings r).value) (sym at)
+        (stand r (subst (λ (c : Config). r < length c.readgroup) (sym plan) low) group)
+
     own : MayReceive config r group
     own = subst (MayReceive config r) (sym at) (holds.groups.each r low group)
 
@@ -182,12 +190,12 @@ pub reader-told : (config : Config) (most : ℕ) (p : Plan) (steps : List Step) 
     → MayTellReaders config tree subscriber → HavePublished config most p steps tree publisher → HaveReceived config p steps tree subscriber
     → r < length config.readgroup → i < length (read_group_at config r).reader
     → ((setting : Setting) (events : List Event) → HaveTheirNumbers setting events)
-    → group ≡ get_or subscriber.groups.items r group → IsKeptAt group i reader → IsMadeAt group i reader → IsLogRead config publisher (reader_in config (r, i)) log
+    → group ≡ get_or subscriber.groups.items r group → IsKeptAt group i reader → IsPassedAt group i reader → IsMadeAt group i reader → IsLogRead config publisher (reader_in config (r, i)) log
     → end.state ≡ state_of (flags_in tree) (Reader r i)
     → ((meta : MetaData) (member : MemberValue) → IsReaderOf meta reader → kept_by meta.fields reader ≡ member.kept → Shows meta member end)
     → IfSome end.held (λ held. held.version ≡ option_and_then (version_of log) held.number)
     → IsToldAt (logs_cut most p steps) p steps (r, i) end
-reader-told config most p steps tree publisher subscriber r i group reader log end may published have low within numbers at is_kept is_made read is_state shows version = record {
+reader-told config most p steps tree publisher subscriber r i group reader log end may published have low within numbers at is_kept is_passed is_made read is_state shows version = record {
   is = record {
     state = is_state ∙ state-told (flags_at p steps) tree (Reader r i) (low-among config tree.counts r i may.counts low within) have.flags;
     shows = shown;
@@ -211,7 +219,7 @@ reader-told config most p steps tree publisher subscriber r i group reader log e
     seat_there = subst (λ (n : ℕ). i < n) (sym (length-map (read_group_at p.config r).reader (seat_in p.config))) within_in
 
     at_place : IsReaderAt p steps (r, i) reader
-    at_place = reader-at config p steps subscriber r i group reader may.holds have.plan have.readings low at is_kept is_made
+    at_place = reader-at config p steps subscriber r i group reader may.holds have.plan have.readings low at is_kept is_passed is_made
 
     shown : Shows meta member end
     shown = shows meta member at_place.made at_place.kept

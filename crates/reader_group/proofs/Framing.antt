@@ -25,7 +25,7 @@ use Rattle.config_tables.specs.declared.words.NumberingWord.TheVariants as words
 use Rattle.reader_group.specs.declared.receipt.Receipt.{Receipt}
 use Rattle.reader_group.specs.Members.{MemberValue, numbering_of}
 use Rattle.reader_group.specs.Arrivals.{Way, Mark, Arrived, is_numbered, goes_by_numbers, framed, unnumbered, is_foreign, frame_of, arrivals_in, item_of, item_on, read_on}
-use Rattle.reader_group.specs.Plain.{short, after_took, read_case}
+use Rattle.reader_group.specs.Plain.{short, after_took, read_case, taken_in}
 use Rattle.reader_group.proofs.Counting.{Answers, behind_if, answers-count}
 use Rattle.reader_group.proofs.Answered.{MemberAt, StepKeeps, noted-is, marked_if, member_answered}
 use Rattle.reader_group.proofs.Nearness.{Nears}
@@ -99,7 +99,7 @@ member_came laws j major before m item message e is near h =
     subst (λ (list : List Arrival). Keeps list taken.0) came (laws.frame major arrivals m.kept item message is nears h.keeps) in
     let answers : Answers (behind_if j arrivals) item taken.1.outcome =
     subst (λ (b : Bool). Answers (behind_if b arrivals) item taken.1.outcome) e (answers-count major arrivals m.kept item message is nears h.keeps) in
-    subst (MemberAt words.Message (marked_if j before item)) (sym (noted-is (record m { kept = taken.0 }) item.moment taken.1.outcome))
+    subst (MemberAt words.Message (marked_if j before item)) (sym (noted-is (taken_in m taken) item.moment taken.1.outcome))
     (member_answered j before m item taken.0 taken.1.outcome keeps answers h)
   where
     came-if : (j : Bool) → (if j then Came item ∷ Cut Jump ∷ arrivals_in before else Came item ∷ arrivals_in before) ≡ arrivals_in (marked_if j before item)

@@ -6,18 +6,20 @@ use Rattle.frame_codec.specs.declared.fault.FrameFault.{FrameFault}
 use Rattle.frame_codec.specs.declared.frame.Frame.{Frame as FrameWords}
 use Rattle.frame_codec.specs.Frames.{Frame}
 use Rattle.frame_codec.specs.Words.{frame_in}
+use Rattle.dataset_reader.specs.declared.passed.Passed.{Passed}
+use Rattle.dataset_reader.specs.Passed.{counted}
 use Rattle.dataset_reader.specs.declared.took.Numbering.{Numbering}
 use Rattle.dataset_reader.specs.declared.took.Took.{Took}
 use Rattle.dataset_reader.specs.Kept.{Kept}
 use Rattle.dataset_reader.specs.Cases.{frame_case}
 use Rattle.dataset_reader.specs.declared.reader.Reader.{Reader}
 use Rattle.dataset_reader.specs.Reader as readers
-use Rattle.dataset_reader.specs.Reader.{kept_by, after_frame}
+use Rattle.dataset_reader.specs.Reader.{kept_by, passed_of, after_frame}
 use Rattle.reader_group.specs.declared.member.Member.{Member}
 use Rattle.reader_group.specs.declared.receipt.Receipt.{Receipt}
 use Rattle.reader_group.specs.Members.{Seat, MemberValue, noted, numbering_of}
 use Rattle.reader_group.specs.MemberWords.{IsMemberOf, Follows}
-use Rattle.reader_group.specs.Plain.{short, given, read_case}
+use Rattle.reader_group.specs.Plain.{short, given, read_case, taken_in}
 
 -- a number of 16 bits is the one that is carried
 short_on : (o : Option ℕ) → IfSome o (λ n. n < 65536) → option_map number_of_place o ≡ o
@@ -42,20 +44,22 @@ frame_is seat receipt member frame old carried h =
 pub given_is : (seat : Seat) (receipt : Receipt) (member : MemberValue) (frame : FrameWords) (old : Member) (between : Reader) (new : Member) (took : Took) → option_map number_of_place frame.number ≡ frame.number → IsMemberOf seat member old
     → kept_by seat.meta.fields between ≡ (after_frame seat.meta old.reader frame receipt.stamp).0 → took ≡ (after_frame seat.meta old.reader frame receipt.stamp).1
     → ((value : MemberValue) → IsMemberOf seat value (record old { reader = between }) → IsMemberOf seat (noted receipt.moment took.outcome value) new)
-    → readers.numbering_of between ≡ readers.numbering_of old.reader → IsMemberOf seat (given seat receipt member (frame_in seat.meta.fields frame)) new
-given_is seat receipt member frame old between new took carried h kept took_is note numbering =
+    → passed_of between ≡ counted (passed_of old.reader) took.outcome → readers.numbering_of between ≡ readers.numbering_of old.reader → IsMemberOf seat (given seat receipt member (frame_in seat.meta.fields frame)) new
+given_is seat receipt member frame old between new took carried h kept took_is note passed numbering =
     let taken = frame_case (numbering_of seat.part.numbering) seat.meta.major member.kept (short (frame_in seat.meta.fields frame)) receipt.stamp in
     let same = frame_is seat receipt member frame old carried h in
-    let here : IsMemberOf seat (record member { kept = taken.0 }) (record old { reader = between }) = record {
+    let answer = took_is ∙ ap (λ (t : Kept × Took). t.1) same in
+    let here : IsMemberOf seat (taken_in member taken) (record old { reader = between }) = record {
       kept = kept ∙ ap (λ (t : Kept × Took). t.0) same;
+      passed = passed ∙ ap (λ (p : Passed). counted p took.outcome) h.passed ∙ ap (λ (t : Took). counted member.passed t.outcome) answer;
       numbering = numbering ∙ h.numbering;
       joining = h.joining;
       timer = h.timer;
       late = h.late;
       ready = h.ready;
     } in
-    subst (λ (t : Took). IsMemberOf seat (noted receipt.moment t.outcome (record member { kept = taken.0 })) new) (took_is ∙ ap (λ (t : Kept × Took). t.1) same)
-    (note (record member { kept = taken.0 }) here)
+    subst (λ (t : Took). IsMemberOf seat (noted receipt.moment t.outcome (taken_in member taken)) new) answer
+    (note (taken_in member taken) here)
 
 -- a frame that was read, and was given
 pub read_follows : (seat : Seat) (receipt : Receipt) (member : MemberValue) (frame : Frame) (read : Result Frame FrameFault) (new : Member) → read ≡ Ok frame

@@ -28,7 +28,7 @@ use Rattle.reader_group.specs.declared.refusal.Refusal.{Refusal}
 use Rattle.reader_group.specs.Members.{Seat, seat_at, MemberValue, noted, numbering_of}
 use Rattle.reader_group.specs.Payloads.{Piece, Message, Chunked, Slotted, Missing, pieces}
 use Rattle.reader_group.specs.Opening.{Opened}
-use Rattle.reader_group.specs.Plain.{Setting, PlainGroup, Fed, short, given, read_case, joined_case, chunked_case, piece_case, unfed, fed_on, fed_by, cut_if, member_at, taken_on, is_raised, receipt_of}
+use Rattle.reader_group.specs.Plain.{Setting, PlainGroup, Fed, short, given, read_case, joined_case, chunked_case, piece_case, unfed, fed_on, fed_by, cut_if, member_at, taken_on, is_raised, receipt_of, taken_in}
 use Rattle.reader_group.specs.Complete.{BringsFrame, IsNewerThanLast, MayFollow, IsTakenBy, HoldsFrame, WholeIsHeld}
 use Rattle.reader_group.proofs.Each.{fed_member-at}
 
@@ -128,7 +128,7 @@ given-held seat receipt raised member frame row is of taken joining =
     let kept = (cut_if raised NewToken member).kept in
     let taken_as = frame_case numbering seat.meta.major kept (short frame) receipt.stamp in
     let holds = HoldsFrame seat.part.numbering frame row in
-    subst holds (sym (noted-kept receipt.moment taken_as.1.outcome (record (cut_if raised NewToken member) { kept = taken_as.0; joining = joining })))
+    subst holds (sym (noted-kept receipt.moment taken_as.1.outcome (taken_in (record (cut_if raised NewToken member) { joining = joining }) taken_as)))
     (subst (λ (t : Kept × Took). holds t.0) (sym (major_of numbering seat.meta.major kept (short frame) receipt.stamp frame.major of))
     (taken-held seat.part.numbering raised member frame receipt.stamp row is taken))
 

@@ -31,7 +31,7 @@ use Rattle.reader_group.specs.Members.{Seat, seat_at, MemberValue, new_member, e
 use Rattle.reader_group.specs.SlotFrames.{slot_frame_at}
 use Rattle.reader_group.specs.Payloads.{Payload, Piece, Message, Chunked, Slotted, Missing, pieces}
 use Rattle.reader_group.specs.Opening.{Opened}
-use Rattle.reader_group.specs.Plain.{Setting, PlainGroup, Event, Got, Expired, Stopped, Fed, short, given, read_case, joined_case, chunked_case, piece_case, fed_on, unfed, fed_by, cut_if, stopped_if, member_at, taken_on, is_raised, receipt_of, verdict_in, plain}
+use Rattle.reader_group.specs.Plain.{Setting, PlainGroup, Event, Got, Expired, Stopped, Fed, short, given, read_case, joined_case, chunked_case, piece_case, fed_on, unfed, fed_by, cut_if, stopped_if, member_at, taken_on, is_raised, receipt_of, taken_in, verdict_in, plain}
 use Rattle.reader_group.specs.Numbered.{HasItsNumber}
 use Rattle.reader_group.proofs.Each.{each-at, fed_member-at}
 
@@ -130,7 +130,7 @@ noted-in seat now outcomes.Unnumbered member h = h
 given-in : (seat : Seat) (receipt : Receipt) (member : MemberValue) (frame : Frame) → IsIn seat member → IsIn seat (given seat receipt member frame)
 given-in seat receipt member frame h =
     let taken = frame_case (numbering_of seat.part.numbering) seat.meta.major member.kept (short frame) receipt.stamp in
-    noted-in seat receipt.moment taken.1.outcome (record member { kept = taken.0 })
+    noted-in seat receipt.moment taken.1.outcome (taken_in member taken)
     (by-major seat.part.numbering seat.meta.major member.kept (short frame) receipt.stamp frame.major (short-low frame.number) h)
 
 read-in : (seat : Seat) (receipt : Receipt) (member : MemberValue) (read : Result Frame FrameFault) → IsIn seat member → IsIn seat (read_case seat receipt member read).0

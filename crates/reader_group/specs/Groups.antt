@@ -2,7 +2,7 @@
 use Rattle.std.specs.Prelude.{◌≡◌, ℕ, ◌<◌, Bool, List, length, map, sum_by, slice_set, slice_index_or, Result}
 use Rattle.std.specs.List.{HoldsAt}
 use Rattle.dataset_reader.specs.declared.reader.Reader.{Reader}
-use Rattle.dataset_reader.specs.Reader.{IsReaderOf, kept_by}
+use Rattle.dataset_reader.specs.Reader.{IsReaderOf, kept_by, passed_of}
 use Rattle.message_guard.specs.declared.guard.Guard.{Guard}
 use Rattle.message_guard.specs.declared.keys.TokenKeys.{TokenKeys}
 use Rattle.message_guard.specs.Guards.{IsGuardOf, setup_of}
@@ -129,6 +129,12 @@ abbrev pub IsKeptAt : ReaderGroup → ℕ → Reader → Type 0
 IsKeptAt group index reader =
     (setting : Setting) (plain : PlainGroup) → Stands setting plain group
     → kept_by (seat_at setting.seats index).meta.fields reader ≡ (member_at plain.members index).kept
+
+-- how many frames the reader at this index passed over is what the plain reading has
+abbrev pub IsPassedAt : ReaderGroup → ℕ → Reader → Type 0
+IsPassedAt group index reader =
+    (setting : Setting) (plain : PlainGroup) → Stands setting plain group
+    → passed_of reader ≡ (member_at plain.members index).passed
 
 -- the reader at this index holds rows of its meta alone
 abbrev pub IsMadeAt : ReaderGroup → ℕ → Reader → Type 0

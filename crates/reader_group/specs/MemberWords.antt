@@ -14,7 +14,7 @@ use Rattle.chunker.specs.Joiners.{IsJoinerOf, Meets}
 use Rattle.chunker.specs.Joining.{Joining, chunk_case, joined_bytes}
 use Rattle.chunker.specs.Joins.{numbered}
 use Rattle.ps_config.specs.declared.parts.ReaderPart.{ReaderPart}
-use Rattle.dataset_reader.specs.Reader.{kept_by, IsReaderOf}
+use Rattle.dataset_reader.specs.Reader.{kept_by, passed_of, IsReaderOf}
 use Rattle.dataset_reader.specs.Reader as readers
 use Rattle.reader_group.specs.declared.member.Member.{Member}
 use Rattle.reader_group.specs.declared.receipt.Receipt.{Receipt}
@@ -25,6 +25,7 @@ use Rattle.reader_group.specs.Plain.{Fed, fed_by, fed_if, fed_on, given, piece_c
 
 pub record IsMemberOf (seat : Seat) (value : MemberValue) (member : Member) : Type 0 where
   pub kept : kept_by seat.meta.fields member.reader ≡ value.kept
+  pub passed : passed_of member.reader ≡ value.passed
   pub numbering : readers.numbering_of member.reader ≡ numbering_of seat.part.numbering
   pub joining : IsJoinerOf value.joining member.joiner
   pub timer : IsTimerOf seat.part.timeout value.told member.timer

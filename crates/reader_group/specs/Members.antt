@@ -4,6 +4,8 @@ use Rattle.dataset_meta.specs.Metas.{MetaData, no_meta}
 use Rattle.pubsub_model.specs.declared.reading.Why.{Why}
 use Rattle.pubsub_model.specs.declared.reading.Why.TheVariants.{Timeout}
 use Rattle.dataset_reader.specs.Kept.{Kept, fresh, cut_kept}
+use Rattle.dataset_reader.specs.declared.passed.Passed.{Passed}
+use Rattle.dataset_reader.specs.Passed.{none_passed}
 use Rattle.dataset_reader.specs.declared.took.Outcome.{Outcome}
 use Rattle.dataset_reader.specs.declared.took.Outcome.TheVariants as outcomes
 use Rattle.dataset_reader.specs.declared.took.Numbering.{Numbering}
@@ -44,10 +46,11 @@ abbrev pub numbering_of : NumberingWord → Numbering
 numbering_of words.Message = numberings.Message
 numbering_of words.None = numberings.Unnumbered
 
--- What the reader keeps; the message whose chunks are joined; what its timer was told, the latest first; whether it timed out and no message came since;
+-- What the reader keeps, and how many frames it passed over; the message whose chunks are joined; what its timer was told, the latest first; whether it timed out and no message came since;
 -- whether it held a row, with neither a timeout nor a cut by hand since.
 pub record MemberValue : Type 0 where
   pub kept : Kept
+  pub passed : Passed
   pub joining : Joining
   pub told : List Told
   pub late : Bool
@@ -55,7 +58,7 @@ pub record MemberValue : Type 0 where
 
 -- before anything
 abbrev pub new_member : MemberValue
-new_member = record { kept = fresh; joining = empty; told = []; late = false; ready = false }
+new_member = record { kept = fresh; passed = none_passed; joining = empty; told = []; late = false; ready = false }
 
 -- a cut forgets the chunks, and when the last message came
 abbrev pub cut_member : Why → MemberValue → MemberValue

@@ -9,6 +9,7 @@ use Rattle.frame_codec.specs.Frames.{Frame}
 use Rattle.frame_codec.specs.Reading.{frame_at}
 use Rattle.dataset_reader.specs.Kept.{Kept}
 use Rattle.dataset_reader.specs.Cases.{frame_case}
+use Rattle.dataset_reader.specs.Passed.{counted}
 use Rattle.dataset_reader.specs.declared.took.Took.{Took}
 use Rattle.chunker.specs.Chunks.{Chunk}
 use Rattle.chunker.specs.Joining.{Joining, chunk_case, joined_bytes}
@@ -38,9 +39,13 @@ use Rattle.reader_group.specs.Opening.{Opened, verdict}
 abbrev pub short : Frame → Frame
 short frame = record frame { number = option_map number_of_place frame.number }
 
+-- what the reader kept and answered, which counts what is passed over
+abbrev pub taken_in : MemberValue → Kept × Took → MemberValue
+taken_in member taken = record member { kept = taken.0; passed = counted member.passed taken.1.outcome }
+
 -- after what the reader kept and answered
 abbrev pub after_took : ℕ → MemberValue → Kept × Took → MemberValue
-after_took now member taken = noted now taken.1.outcome (record member { kept = taken.0 })
+after_took now member taken = noted now taken.1.outcome (taken_in member taken)
 
 -- the reader is given a frame
 abbrev pub given : Seat → Receipt → MemberValue → Frame → MemberValue

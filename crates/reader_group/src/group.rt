@@ -35,7 +35,7 @@ impl ReaderGroup {
     ghost use Rattle.group_keys.specs.Ring.{key_sets};
     ghost use Rattle.message_guard.specs.Protection.{keys_in};
     ghost use Rattle.reader_group.specs.Plain.{Setting, Got, Expired, Stopped};
-    ghost use Rattle.reader_group.specs.Groups.{IsOpening, TakesOn, StepsBy, IsAnswer, AreLeft, IsKeptAt, IsMadeAt, IsLateAt, IsReadyAt, IsMadeOf, GoesOnWith, index_of, reader_count, guard_of, members_of};
+    ghost use Rattle.reader_group.specs.Groups.{IsOpening, TakesOn, StepsBy, IsAnswer, AreLeft, IsKeptAt, IsPassedAt, IsMadeAt, IsLateAt, IsReadyAt, IsMadeOf, GoesOnWith, index_of, reader_count, guard_of, members_of};
 
     /// The read group with this index, before anything.
     pub fn new(alloc: Global, config: &Config, index: u8) -> Result<ReaderGroup, NoMemory>
@@ -145,6 +145,7 @@ impl ReaderGroup {
     pub fn reader(&self, index: u8) -> &Reader
         requires { index < reader_count self.now }
         ensures kept { IsKeptAt self.now index result.now }
+        ensures passed { IsPassedAt self.now index result.now }
         ensures made { IsMadeAt self.now index result.now }
     {
         &self.members[usize::from(index)].reader

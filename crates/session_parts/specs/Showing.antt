@@ -1,7 +1,7 @@
 -- What a session and a gateway show while they run.
 use Rattle.std.specs.Prelude.{◌≡◌, ℕ, List, count_by}
 use Rattle.dataset_reader.specs.declared.reader.Reader.{Reader as DataSetReader}
-use Rattle.dataset_reader.specs.Reader.{IsReaderOf, kept_by}
+use Rattle.dataset_reader.specs.Reader.{IsReaderOf, kept_by, passed_of}
 use Rattle.message_guard.specs.Senders.{SenderState}
 use Rattle.reader_group.specs.Members.{seat_at}
 use Rattle.reader_group.specs.Settings.{setting_of}
@@ -15,10 +15,12 @@ use Rattle.session_model.specs.Answers.{counted}
 use Rattle.session_model.specs.Readings.{Reading}
 use Rattle.session_model.specs.Closing.{MemberPlace, is_broken, is_got, is_long, is_send_failed, is_sent, limits}
 
--- the reader with this place: it holds rows of its data set alone, and keeps what the plain reading of its read group has
+-- the reader with this place: it holds rows of its data set alone, and keeps, and has passed over, what the plain reading of its read
+-- group has
 pub record IsReaderAt (p : Plan) (steps : List Step) (place : MemberPlace) (reader : DataSetReader) : Type 0 where
   pub made : IsReaderOf (seat_at (setting_of p.config place.0).seats place.1).meta reader
   pub kept : kept_by (seat_at (setting_of p.config place.0).seats place.1).meta.fields reader ≡ (reader_at p.config place.0 place.1 steps).kept
+  pub passed : passed_of reader ≡ (reader_at p.config place.0 place.1 steps).passed
 
 -- the token that a sender uses, and the last number that it used under it
 abbrev pub standing_of : SenderState → ℕ × ℕ
@@ -33,6 +35,7 @@ standing_at p steps k = standing_of (sender_after p.config k (deeds p steps))
 pub record IsReaderIn (p : Plan) (readings : ℕ → Reading) (place : MemberPlace) (reader : DataSetReader) : Type 0 where
   pub made : IsReaderOf (seat_at (setting_of p.config place.0).seats place.1).meta reader
   pub kept : kept_by (seat_at (setting_of p.config place.0).seats place.1).meta.fields reader ≡ (member_at (readings place.0).value.members place.1).kept
+  pub passed : passed_of reader ≡ (member_at (readings place.0).value.members place.1).passed
 
 -- what came of the sends and receives of a journal, and of the steps' pumps
 abbrev pub link_of : List Entry → List Step → LinkEnd

@@ -38,7 +38,7 @@ loop-i-preserved c =
       told = λ most p steps places published have pairs.
           pairs-more (IsToldAt (logs_cut most p steps) p steps) places place i c.loop-i.ends.items c.push.new.self.items end c.in_ok-push.ensures.items
           (reader-told config most p steps c.args.tree.now c.args.publisher.now subscriber r i group c.reader.result.now c.log_read-log.result.now end
-          c.requires.readers published have c.requires.within within c.each_held_row_has_its_number.ensures at c.reader.ensures.kept c.reader.ensures.made read
+          c.requires.readers published have c.requires.within within c.each_held_row_has_its_number.ensures at c.reader.ensures.kept c.reader.ensures.passed c.reader.ensures.made read
           (c.reader_end.ensures.state ∙ c.state_of-state.ensures) c.reader_end.ensures.shows c.reader_end.ensures.version)
           (c.loop-i.invariant.told most p steps places published have pairs);
     }

@@ -9,11 +9,11 @@ returns-clause-stands c = λ p steps stands.
     let s = c.args.self.now in
     let group = c.index.result.now in
     reader-at s.config.now p steps s.subscriber c.args.read_group c.args.index group c.reader.result.now c.requires.session.subscriber (sym (ap (λ (q : Plan). q.config) stands.plan)) stands.readings
-    c.requires.there (c.index.ensures ∙ ap (λ (r : ℕ). get_or s.subscriber.groups.items r group) c.from.ensures) c.reader.ensures.kept c.reader.ensures.made
+    c.requires.there (c.index.ensures ∙ ap (λ (r : ℕ). get_or s.subscriber.groups.items r group) c.from.ensures) c.reader.ensures.kept c.reader.ensures.passed c.reader.ensures.made
 
 pub returns-clause-lives : goal.returns-clause-lives
 returns-clause-lives c = λ p life stands.
     let s = c.args.self.now in
     let group = c.index.result.now in
     reader-in s.config.now p (account_in p life).readings s.subscriber c.args.read_group c.args.index group c.reader.result.now c.requires.session.subscriber (sym (ap (λ (q : Plan). q.config) stands.parts.plan)) stands.parts.readings
-    c.requires.there (c.index.ensures ∙ ap (λ (r : ℕ). get_or s.subscriber.groups.items r group) c.from.ensures) c.reader.ensures.kept c.reader.ensures.made
+    c.requires.there (c.index.ensures ∙ ap (λ (r : ℕ). get_or s.subscriber.groups.items r group) c.from.ensures) c.reader.ensures.kept c.reader.ensures.passed c.reader.ensures.made

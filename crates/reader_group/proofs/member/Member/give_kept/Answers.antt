@@ -10,7 +10,7 @@ use Rattle.reader_group.proofs.member.Member.give_kept.Goals as goal
 pub returns-clause-member : goal.returns-clause-member
 returns-clause-member c = λ part member h.
     given_is (seat_of part c.args.meta.now) c.args.receipt.now member c.args.self.now.frame c.args.self.now c.frame-took.new.self c.note.new.self c.frame-took.result c.carries_short.ensures h
-    c.frame-took.ensures.kept c.frame-took.ensures.took (λ value is. c.note.ensures.member (seat_of part c.args.meta.now) value is) c.frame-took.ensures.numbering
+    c.frame-took.ensures.kept c.frame-took.ensures.took (λ value is. c.note.ensures.member (seat_of part c.args.meta.now) value is) c.frame-took.ensures.passed c.frame-took.ensures.numbering
 
 pub returns-clause-reader : goal.returns-clause-reader
 returns-clause-reader c = record {
