@@ -25,6 +25,14 @@ const WATCHED: &str =
 const LOOKED_AT: &str =
     "watch 1 r1 1000/watch 1 r1 1/watch 2 r1 1000/watch 2 r1 1/tick 100/tick 100/tick 100/tick 100/tick 100/tick 100/tick 100/tick 100/tick 100/tick 100/tick 100/tick 100/tick 100/tick 100/tick 100/tick 100/tick 100/tick 100/tick 100/tick 100/";
 
+/// Two data sets, a writer of each, and a reader of each.
+const TWO_SETS: &str =
+    r#"[publisher]/id = "u8:5"/[[dataset]]/name = "one"/field = [{name = "a", kind = "UInt32"}]/[[dataset]]/name = "two"/field = [{name = "b", kind = "UInt32"}]/[[group]]/name = "g1"/id = 1/interval = 100/writer = [{name = "w1", id = 1, dataset = "one"}, {name = "w2", id = 2, dataset = "two"}]/[[readgroup]]/name = "rg1"/publisher = "u8:5"/group = 1/reader = [{name = "r1", writer = 1, dataset = "one"}, {name = "r2", writer = 2, dataset = "two"}]/"#;
+
+/// Three writes of each data set by a thread of its own, three ticks, and three watches of the readers by turns.
+const TWO_WATCHED: &str =
+    "write 0 one a=1/write 0 one a=2/write 0 one a=3/write 1 two b=1/write 1 two b=2/write 1 two b=3/tick 100/tick 100/tick 100/watch 2 r2 2/watch 2 r1 2/watch 2 r2 2/";
+
 fn item(thread: u32, k: u32) -> Item {
     Item { thread, k }
 }
@@ -190,6 +198,41 @@ fn each_look_counts_the_ticks_before_it(rt: HostRuntime) -> Result<(), Fail> {
     assert!(&rt; has_line(text, "watch 1 r1: 1 1 1"));
     assert!(&rt; has_line(text, "watch 1 r1: 4 4 4"));
     assert!(&rt; has_line(text, "watch 1 r1: 5 5 5"));
+    Ok(())
+}
+
+/// Each tick is held until both threads' write of its number and the watch behind the tick before are answered, and each write and watch
+/// until the tick before it is done.
+fn holds_of_two(alloc: Global) -> Result<Vec<(Item, Until)>, Fail> {
+    let mut holds = Vec::new(alloc);
+    for k in 0..3u32 {
+        for thread in 0..2u32 {
+            holds.push((item(PUBLISHER, k), Until::Answered(item(thread, k))))?;
+            holds.push((item(thread, k + 1), Until::Answered(item(PUBLISHER, k))))?;
+        }
+        holds.push((item(2, k), Until::Answered(item(PUBLISHER, k))))?;
+        holds.push((item(PUBLISHER, k + 1), Until::Answered(item(2, k))))?;
+    }
+    Ok(holds)
+}
+
+/// A tick samples each data set, and a look at each reader counts what was received by then.
+#[test]
+fn each_data_set_and_reader_is_looked_at_anew(rt: HostRuntime) -> Result<(), Fail> {
+    let order = Order::new(rt.alloc(), holds_of_two(rt.alloc())?)?;
+    let files = format!(in rt.alloc(); "{TWO_WATCHED} | {TWO_SETS}")?;
+    let report = report_of(&rt, rt.alloc(), "run s --config c", &files, &order)?;
+    let text = str::from_utf8(&report).ok().ok_or("no text")?;
+    assert!(&rt; are_once(&order, 2, 3) && are_once(&order, PUBLISHER, 3));
+    assert_eq!(&rt;
+        (line_of(text, "writer w1 "), line_of(text, "writer w2 ")),
+        (
+            Some("operational 4: 0=1 1=2 2=3 3=3"),
+            Some("operational 4: 0=1 1=2 2=3 3=3")
+        )
+    );
+    assert!(&rt; has_line(text, "watch 2 r2: 1 1") && has_line(text, "watch 2 r2: 3 3"));
+    assert!(&rt; has_line(text, "watch 2 r1: 2 2"));
     Ok(())
 }
 
