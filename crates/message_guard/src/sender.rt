@@ -120,8 +120,8 @@ impl Sender {
     }
 
     /// Goes on with another ring, of the same key length. The keys in use stay, and their numbers go on, until `turn_to` finds a
-    /// set with a higher token: no token and number come twice, whatever the ring. Where the keys in use are those of the sender's
-    /// ring, a ring that `keeps_token` passes has them too, so that a guard of it opens what is sent until then.
+    /// set with a higher token: no token and number come twice, whatever the ring. A ring that `keeps_token` passes has the keys
+    /// in use, so that a guard of it opens what is sent until then.
     pub fn renew(&mut self, ring: Ring)
         ensures state { self.new ≡ renewed self.old (key_sets ring) }
     {
