@@ -13,6 +13,9 @@ use Rattle.frame_codec.specs.declared.fault.FrameFault.{FrameFault}
 use Rattle.frame_codec.specs.Frames as frames
 use Rattle.frame_codec.specs.Frames.{Content, Frame}
 use Rattle.frame_codec.specs.Carrying.{content_of}
+use Rattle.dataset_reader.specs.declared.passed.Passed.{Passed}
+use Rattle.dataset_reader.specs.Passed.{counted}
+use Rattle.dataset_reader.specs.declared.took.Outcome.TheVariants as outcomes
 use Rattle.dataset_reader.specs.declared.took.Numbering.{Numbering}
 use Rattle.dataset_reader.specs.declared.took.Numbering.TheVariants as numberings
 use Rattle.dataset_reader.specs.declared.took.Took.{Took}
@@ -70,12 +73,17 @@ own-major : (meta : MetaData) (frame : Frame) (carries : Option ℕ) → option_
 own-major meta frame None e = tt
 own-major meta frame (Some got) e = grind (arith, nat_tests)
 
-foreign-case : (numbering : Numbering) (major : ℕ) (k : Kept) (message : Frame) (s carries : Option ℕ) (m : MemberValue) (now : ℕ) → m.kept ≡ k
-    → option_map_or (λ (own : ℕ). not (own == major)) carries false ≡ true → after_took now m (major_case numbering major k message s carries) ≡ m
-foreign-case numbering major k message s None m now same e = absurd (grind arith)
-foreign-case numbering major k message s (Some got) m now same e =
+-- what was passed over stands in no list of marks
+passed-at : (word : NumberingWord) (list : List Mark) (m : MemberValue) (passed : Passed) → MemberAt word list m → MemberAt word list (record m { passed = passed })
+passed-at word list m passed h = record { keeps = h.keeps; joins = h.joins; seen = h.seen; late = h.late; ready = h.ready }
+
+foreign-case : (numbering : Numbering) (major : ℕ) (message : Frame) (s carries : Option ℕ) (m : MemberValue) (now : ℕ)
+    → option_map_or (λ (own : ℕ). not (own == major)) carries false ≡ true → (word : NumberingWord) (list : List Mark) → MemberAt word list m
+    → MemberAt word list (after_took now m (major_case numbering major m.kept message s carries))
+foreign-case numbering major message s None m now e word list h = absurd (grind arith)
+foreign-case numbering major message s (Some got) m now e word list h =
     let other : (got == major) ≡ false = grind (arith, nat_tests) in
-    rw other (ap (λ (x : Kept). record m { kept = x }) (sym same))
+    rw other (passed-at word list m (counted m.passed (outcomes.WrongMajor got)) h)
 
 major_of : (numbering : Numbering) (major : ℕ) (k : Kept) (message : Frame) (stamp carries : Option ℕ) → IsOfMajor major carries
     → major_case numbering major k message stamp carries ≡ numbering_case numbering k message stamp
@@ -100,7 +108,8 @@ member_came laws j major before m item message e is near h =
     let answers : Answers (behind_if j arrivals) item taken.1.outcome =
     subst (λ (b : Bool). Answers (behind_if b arrivals) item taken.1.outcome) e (answers-count major arrivals m.kept item message is nears h.keeps) in
     subst (MemberAt words.Message (marked_if j before item)) (sym (noted-is (taken_in m taken) item.moment taken.1.outcome))
-    (member_answered j before m item taken.0 taken.1.outcome keeps answers h)
+    (member_answered j before (record m { passed = counted m.passed taken.1.outcome }) item taken.0 taken.1.outcome keeps answers
+    (passed-at words.Message before m (counted m.passed taken.1.outcome) h))
   where
     came-if : (j : Bool) → (if j then Came item ∷ Cut Jump ∷ arrivals_in before else Came item ∷ arrivals_in before) ≡ arrivals_in (marked_if j before item)
     came-if true = refl
@@ -132,7 +141,7 @@ bare_framed (frames.Whole row) way before m now s num h =
       late = refl;
       ready = refl;
     })
-bare_framed (frames.Change patch) way before m now s num h = h
+bare_framed (frames.Change patch) way before m now s num h = passed-at words.None before m (counted m.passed outcomes.Unnumbered) h
 bare_framed frames.Alive way before m now s num h =
     bare_marked (goes_by_numbers way) before (after_took now m (unnumbered_case m.kept frames.Alive)) (item_of now s (model.Alive 1)) num (record {
       keeps = record { row = h.keeps.row; why = h.keeps.why; number = h.keeps.number; breaks = h.keeps.breaks; recent = h.keeps.recent };
@@ -154,7 +163,8 @@ member_own : StepKeeps → (word : NumberingWord) (numbered : Bool) (number : Op
 member_own laws words.Message false number way place f before m now s is e num at of near h = clash false e refl
 member_own laws words.Message true None way place f before m now s is e num at of near h =
     subst (λ (t : Kept × Took). MemberAt words.Message before (after_took now m t))
-    (sym (major_of numberings.Message way.seat.meta.major m.kept (short f) s f.major of ∙ ap (λ (o : Option ℕ). numbered_case m.kept f.content s (option_map number_of_place o)) at)) h
+    (sym (major_of numberings.Message way.seat.meta.major m.kept (short f) s f.major of ∙ ap (λ (o : Option ℕ). numbered_case m.kept f.content s (option_map number_of_place o)) at))
+    (passed-at words.Message before m (counted m.passed outcomes.Unnumbered) h)
 member_own laws words.Message true (Some n) way place f before m now s is e num at of near h =
     member_numbered laws (goes_by_numbers way) way.seat.meta.major before m (item_of now s (framed place f.content n)) (short f) num (framed-is place is way.seat.meta.major f n at of) near h
 member_own laws words.None true number way place f before m now s is e num at of near h = clash true refl e
@@ -168,7 +178,7 @@ member_framed : StepKeeps → (foreign : Bool) (word : NumberingWord) (way : Way
     → MemberAt word (item_on way now s before (framed_if foreign (goes_by_numbers way) place f.content f.number))
     (after_took now m (frame_case (numbering_of word) way.seat.meta.major m.kept (short f) s))
 member_framed laws true word way place f before m now s is e num near h =
-    subst (MemberAt word before) (sym (foreign-case (numbering_of word) way.seat.meta.major m.kept (short f) s f.major m now refl e)) h
+    foreign-case (numbering_of word) way.seat.meta.major (short f) s f.major m now e word before h
 member_framed laws false word way place f before m now s is e num near h =
     member_own laws word (goes_by_numbers way) f.number way place f before m now s is num num refl (own-major way.seat.meta f f.major e) near h
 
