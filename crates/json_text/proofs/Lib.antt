@@ -5,3 +5,4 @@ pub mod KeptOn
 pub mod Read
 pub mod Places
 pub mod Puts
+pub mod Small

@@ -9,6 +9,8 @@ mod reading;
 mod records;
 mod sets;
 mod text;
+mod witness;
 
 pub use laws::{lines_are_read_as_their_messages, readers_keep_records};
 pub use text::text_of_lines;
+pub use witness::a_small_message_meets_the_premises;

@@ -1,26 +1,22 @@
 -- Each turn of a session holds what is promised of turns.
-use Rattle.std.proofs.Common.{◌≡◌, ◌≢◌, refl, sym, ap, ◌∙◌, subst, arith, ℕ, zero, suc, ◌+◌, ◌<◌, ◌≤◌, ◌^◌, ◌⊎◌, inl, inr, Bool, true, false, List, [], ◌∷◌, length, map, get_or, set, All, Contains, Option, Some, None, IfSome}
-use Rattle.std.specs.Prelude.{◌==◌, find, fold, option_map, if◌then◌else◌}
+use Rattle.std.proofs.Common.{◌≡◌, ◌≢◌, refl, sym, ap, ◌∙◌, subst, arith, ℕ, zero, suc, ◌+◌, ◌<◌, ◌≤◌, ◌^◌, ◌⊎◌, inl, inr, Bool, true, false, List, [], ◌∷◌, length, get_or, set, Contains, Option, Some, None, IfSome}
+use Rattle.std.specs.Prelude.{◌==◌, fold, option_map, if◌then◌else◌}
 use Rattle.std.specs.List.{cons_option}
 use Rattle.std.proofs.lemmas.Bool.{cases_lt}
 use Rattle.std.proofs.lemmas.Bool.Decides.{nat_tests}
 use Rattle.std.proofs.lemmas.List.{get_or_past, get_or-set_same, get_or-set_other}
-use Rattle.std.proofs.lemmas.List.Elements.{All-head, All-tail}
 use Rattle.std.proofs.lemmas.List.FromFn.{length-map-range_with_len}
 use Rattle.std.proofs.lemmas.Option.{slice_get-get_or}
 use Rattle.dataset_meta.specs.Metas.{MetaData}
 use Rattle.dataset_meta.specs.Rows.{IsRow, cons_if}
 use Rattle.pubsub_model.specs.Cadence.{WriterTurn, WriterDeed, Refreshed, HadTurn, HasRowsOf}
-use Rattle.message_guard.specs.declared.keys.TokenKeys.{TokenKeys}
-use Rattle.message_guard.specs.Senders.{SenderState}
+use Rattle.group_keys.specs.declared.key_set.KeySet.{KeySet}
 use Rattle.ps_config.specs.declared.parts.Config.{Config}
 use Rattle.ps_config.specs.declared.parts.GroupPart.{GroupPart}
-use Rattle.ps_config.specs.declared.parts.KeyPart.{KeyPart}
 use Rattle.ps_config.specs.Headers.{is_secured}
 use Rattle.ps_config.specs.Sound.{IsKeyed}
 use Rattle.dataset_meta.specs.Metas.{grown}
 use Rattle.pubsub_states.specs.declared.component.Component.TheVariants.{Group, Writer}
-use Rattle.reader_group.specs.Settings.{keygroup_at, no_keygroup, token_keys}
 use Rattle.writer_group.specs.declared.sampled.Sampled.{Sampled}
 use Rattle.writer_group.specs.Answering.{with_turn}
 use Rattle.dataset_meta.specs.Metas.{no_meta}
@@ -30,17 +26,20 @@ use Rattle.writer_group.proofs.AnsweringLaws.{length-turns}
 use Rattle.writer_group.specs.Turning.{HasHeaderTypes, CanGiveFronts, IsFitFor}
 use Rattle.session_model.specs.Steps.{Plan, Step, Enable, Disable, Append, Tick, Pump, moment_of}
 use Rattle.session_model.specs.Sets.{metas_at, meta_in, AreRowsOf}
-use Rattle.session_model.specs.Deeds.{Deed, RefreshedBelow, RefreshedSet, CameTo, TookTurn, deeds, component_at, group_past, group_indexes, has_turn, is_writer_below, is_writer_of, refreshed_where, sender_after, tick_deeds, turn_input, turn_of, works, writer_indexes}
+use Rattle.session_model.specs.Deeds.{Deed, RefreshedBelow, RefreshedSet, CameTo, TookTurn, RenewedKeys, deeds, component_at, group_past, group_indexes, has_turn, is_writer_below, is_writer_of, refreshed_where, sender_after, tick_deeds, turn_input, turn_of, works, writer_indexes}
 use Rattle.writer_group.specs.Parts.{group_at, no_group}
-use Rattle.session_model.specs.Keeping.{AreSteps, IsPlan}
-use Rattle.ps_config.specs.Types.{HasKeyTypes, HasTypes}
-use Rattle.session_model.specs.Turns.{HoldsTurn, TurnsHold, deeds_before}
-use Rattle.session_model.proofs.Deeds.{HoldsTick, TickKeeps, next-turned, refreshed-keeps, tick-keeps}
+use Rattle.session_model.specs.Keeping.{AreSteps, IsPlan, MayGrow}
+use Rattle.session_model.specs.Lives.{Lived, Stepped, Renewed, TurnsHoldIn, account_in, steps_in}
+use Rattle.session_model.specs.Turns.{HoldsIfTurned, HoldsTurn, TurnsHold, deeds_till}
+use Rattle.session_model.proofs.Deeds.{TickKeeps, refreshed-keeps, tick-keeps}
+use Rattle.session_laws.specs.Renewals.{HasShortTokens}
 use Rattle.session_laws.proofs.Distinct.{at-contains}
 use Rattle.session_laws.proofs.Living.{writer-in}
 use Rattle.session_laws.proofs.Metas.{meta-other, grown-is}
 use Rattle.session_laws.proofs.Rowing.{WordLaws, fit-at, meta-there, took-sampled}
-use Rattle.session_laws.proofs.Senders.{AllSenders, IsKeySender, RingLaw, group-keyed, senders-came, senders-fresh, senders-open, senders-set, senders-turn, senders-use}
+use Rattle.session_laws.proofs.Giving.{AllGiving, giving-below, giving-came, giving-open, giving-renewed, giving-set, giving-turn, giving-use}
+use Rattle.session_laws.proofs.LifeTicks.{next-till}
+use Rattle.session_laws.proofs.Senders.{group-keyed}
 
 -- the laws of turns, as `writer_group` has them
 pub record TurnsLaws : Type 0 where
@@ -155,6 +154,10 @@ pasts-turn config metas other turn earlier is h = λ g w there within.
     (λ t same took. subst (λ (n : ℕ). w < length (group_at config n).writer → IsRow (meta_at (group_at config n) metas w) t.row) same (λ inside. is w inside t took) within)
     (h g w there within)
 
+pasts-renewed : (config : Config) (metas : List MetaData) (keygroup : ℕ) (sets : List KeySet) (earlier : List Deed) → AllPasts config metas earlier → AllPasts config metas (RenewedKeys keygroup sets ∷ earlier)
+unfolding AllPasts
+pasts-renewed config metas keygroup sets earlier h = h
+
 -- a field more
 past-grown : (config : Config) (metas : List MetaData) (g w index : ℕ) (new : MetaData) (past : List GroupDeed) (b : Bool) → ((writer_at (group_at config g) w).dataset == index) ≡ b → w < length (group_at config g).writer
     → HasPast (meta_at (group_at config g) metas w) w past
@@ -210,32 +213,15 @@ narrow-at p (Pump entries ∷ before) plan are k = narrow-at p before plan are.1
 
 -- ---- a sender can give fronts
 
-found-token : (keys : List KeyPart) (token : ℕ) (found : TokenKeys) → All HasKeyTypes keys → find (λ (k : TokenKeys). k.token == token) (map token_keys keys) ≡ Some found → found.token < 2 ^ 32
-found-token [] token found all e = absurd (cc)
-found-token (key ∷ keys) token found all e = on ((token_keys key).token == token) e (found-token keys token found (All-tail HasKeyTypes key keys all))
-  where
-    own : key.token < 2 ^ 32
-    own = (All-head HasKeyTypes key keys all).token
-
-    on : (b : Bool) → (if b then Some (token_keys key) else find (λ (k : TokenKeys). k.token == token) (map token_keys keys)) ≡ Some found
-        → (find (λ (k : TokenKeys). k.token == token) (map token_keys keys) ≡ Some found → found.token < 2 ^ 32) → found.token < 2 ^ 32
-    on true e rest = let same : token_keys key ≡ found = cc in subst (λ (k : TokenKeys). k.token < 2 ^ 32) same own
-    on false e rest = rest e
-
-gives-fronts : (config : Config) (k : ℕ) (s : SenderState) → HasTypes config → k < length config.keygroup → IsKeySender (keygroup_at config k) s → CanGiveFronts s
-gives-fronts config k s types there is =
-    let ring = types.keygroups k no_keygroup there in
-    record { random = is.of_ring.sender_is.random; token = found-token (keygroup_at config k).key s.keys.token s.keys ring.keys is.of_ring.keys }
-
-may-give : (p : Plan) (earlier : List Deed) (o : Option ℕ) (b : Bool) → IsPlan p → IsKeyed p.config b o → AllSenders p.config earlier → IfSome (option_map (λ k. sender_after p.config k earlier) o) CanGiveFronts
-may-give p earlier None b plan keyed h = tt
-may-give p earlier (Some k) b plan keyed h = gives-fronts p.config k (sender_after p.config k earlier) plan.types keyed.there (senders-use p.config earlier k h keyed.there)
+may-give : (p : Plan) (earlier : List Deed) (o : Option ℕ) (b : Bool) → IsKeyed p.config b o → AllGiving p.config earlier → IfSome (option_map (λ k. sender_after p.config k earlier) o) CanGiveFronts
+may-give p earlier None b keyed h = tt
+may-give p earlier (Some k) b keyed h = giving-use p.config earlier k h keyed.there
 
 -- ---- a turn holds
 
-module _ (laws : TurnsLaws) (words : WordLaws) (ring : RingLaw) (p : Plan) (plan : IsPlan p) (before : List Step) (are : AreSteps p before) (now : ℕ) (closing : Bool) (samples : List Sampled) (rows : AreRowsOf p.full samples) where
+module _ (laws : TurnsLaws) (words : WordLaws) (p : Plan) (plan : IsPlan p) (before : List Step) (are : AreSteps p before) (now : ℕ) (closing : Bool) (samples : List Sampled) (rows : AreRowsOf p.full samples) (done : List Deed) where
   abbrev Kept : List Deed → Type 0
-  Kept earlier = AllSenders p.config earlier × AllPasts p.config (metas_at p.config before) earlier
+  Kept earlier = AllGiving p.config earlier × AllPasts p.config (metas_at p.config before) earlier
 
   row-of : (earlier : List Deed) (g w : ℕ) → g < length p.config.group → w < length (group_at p.config g).writer → (t : WriterTurn) → took_by w (turn_of p before now closing samples earlier g) ≡ Some t
       → IsRow (meta_at (group_at p.config g) (metas_at p.config before) w) t.row
@@ -287,7 +273,7 @@ module _ (laws : TurnsLaws) (words : WordLaws) (ring : RingLaw) (p : Plan) (plan
       record {
         written = laws.written p.config group past input plan.good.sound (at-contains p.config g group at)
             (record { publisher = plan.types.publisher; version = types.version; class_id = types.class_id })
-            (may-give p earlier group.keygroup (is_secured group.security) plan (group-keyed p.config g plan.good.sound there) kept.0);
+            (may-give p earlier group.keygroup (is_secured group.security) (group-keyed p.config g plan.good.sound there) kept.0);
         answers = answers;
         few = laws.few p.config group past input
             (record {
@@ -301,10 +287,10 @@ module _ (laws : TurnsLaws) (words : WordLaws) (ring : RingLaw) (p : Plan) (plan
 
   kept-tick : TickKeeps p before now closing samples Kept
   kept-tick = record {
-    came = λ earlier h. (senders-came ring p.config now earlier plan.good.sound h.0, pasts-came p.config (metas_at p.config before) now earlier h.1);
-    fresh = λ g earlier h. (senders-fresh p.config (Group g) earlier h.0, pasts-below p.config (metas_at p.config before) (Group g) earlier h.1);
+    came = λ earlier h. (giving-came p.config now earlier h.0, pasts-came p.config (metas_at p.config before) now earlier h.1);
+    fresh = λ g earlier h. (giving-below p.config (Group g) earlier h.0, pasts-below p.config (metas_at p.config before) (Group g) earlier h.1);
     turn = λ g earlier there has h. (
-      senders-turn p before now closing samples g earlier has (turn-holds earlier g there h) h.0,
+      giving-turn p.config g (turn_of p before now closing samples earlier g) earlier h.0,
       pasts-turn p.config (metas_at p.config before) g (turn_of p before now closing samples earlier g) earlier (λ w within t took. row-of earlier g w there within t took) h.1,
     );
   }
@@ -317,45 +303,86 @@ module _ (laws : TurnsLaws) (words : WordLaws) (ring : RingLaw) (p : Plan) (plan
   fresh-if g true earlier h = kept-tick.fresh g earlier h
   fresh-if g false earlier h = h
 
-  kept-fresh : (gs : List ℕ) (earlier : List Deed) → Kept earlier → Kept (fold (λ so_far g. cons_if (Rattle.session_model.specs.Deeds.is_rekeyed p.config now (deeds p before) g) (RefreshedBelow (Group g)) so_far) earlier gs)
+  kept-fresh : (gs : List ℕ) (earlier : List Deed) → Kept earlier → Kept (fold (λ so_far g. cons_if (Rattle.session_model.specs.Deeds.is_rekeyed p.config now done g) (RefreshedBelow (Group g)) so_far) earlier gs)
   kept-fresh [] earlier h = h
-  kept-fresh (g ∷ gs) earlier h = kept-fresh gs (cons_if (Rattle.session_model.specs.Deeds.is_rekeyed p.config now (deeds p before) g) (RefreshedBelow (Group g)) earlier) (fresh-if g (Rattle.session_model.specs.Deeds.is_rekeyed p.config now (deeds p before) g) earlier h)
+  kept-fresh (g ∷ gs) earlier h = kept-fresh gs (cons_if (Rattle.session_model.specs.Deeds.is_rekeyed p.config now done g) (RefreshedBelow (Group g)) earlier) (fresh-if g (Rattle.session_model.specs.Deeds.is_rekeyed p.config now done g) earlier h)
 
-  kept-to : (g : ℕ) → g ≤ length p.config.group → Kept (deeds p before) → Kept (deeds_before p before now closing samples g)
-  kept-to zero le h = kept-fresh (group_indexes p.config) (CameTo now ∷ deeds p before) (kept-tick.came (deeds p before) h)
+  kept-to : (g : ℕ) → g ≤ length p.config.group → Kept done → Kept (deeds_till p before now closing samples done g)
+  kept-to zero le h = kept-fresh (group_indexes p.config) (CameTo now ∷ done) (kept-tick.came done h)
   kept-to (suc g) le h =
-      let earlier = deeds_before p before now closing samples g in
-      subst Kept (sym (next-turned p before now closing samples g)) (kept-if earlier g (has_turn p before now closing earlier g) refl (omega (arith, le)) (kept-to g (omega (arith, le)) h))
+      let earlier = deeds_till p before now closing samples done g in
+      subst Kept (sym (next-till p before now closing samples done g)) (kept-if earlier g (has_turn p before now closing earlier g) refl (omega (arith, le)) (kept-to g (omega (arith, le)) h))
 
-  tick-turns : Kept (deeds p before) → HoldsTick p before now closing samples
-  tick-turns h g there has = turn-holds (deeds_before p before now closing samples g) g there (kept-to g (omega (arith, there)) h)
+  tick-turns : Kept done → (g : ℕ) → g < length p.config.group → HoldsIfTurned p before now closing samples (deeds_till p before now closing samples done g) g
+  tick-turns h g there has = turn-holds (deeds_till p before now closing samples done g) g there (kept-to g (omega (arith, there)) h)
 
-  tick-kept : Kept (deeds p before) → Kept (tick_deeds p before now closing samples (deeds p before))
-  tick-kept h = tick-keeps p before now closing samples (deeds p before) Kept kept-tick h
+  tick-kept : Kept done → Kept (tick_deeds p before now closing samples done)
+  tick-kept h = tick-keeps p before now closing samples done Kept kept-tick h
 
 -- ---- over all steps
 
-all-kept : (laws : TurnsLaws) (words : WordLaws) (ring : RingLaw) (p : Plan) (steps : List Step) → IsPlan p → AreSteps p steps → AllSenders p.config (deeds p steps) × AllPasts p.config (metas_at p.config steps) (deeds p steps)
-all-kept laws words ring p [] plan are = (senders-open ring p.config plan.good.sound plan.types, pasts-open p.config p.config.dataset)
-all-kept laws words ring p (Enable id ∷ before) plan are =
-    let h = all-kept laws words ring p before plan are.1 in
-    (senders-fresh p.config (component_at p.config id) (deeds p before) h.0, pasts-below p.config (metas_at p.config before) (component_at p.config id) (deeds p before) h.1)
-all-kept laws words ring p (Disable id ∷ before) plan are = all-kept laws words ring p before plan are.1
-all-kept laws words ring p (Append index field ∷ before) plan are =
-    let h = all-kept laws words ring p before plan are.1 in
-    let metas = metas_at p.config before in (
-      senders-set p.config index (deeds p before) h.0,
-      subst (λ (l : List MetaData). AllPasts p.config l (RefreshedSet index ∷ deeds p before)) (sym (grown-is metas index field are.0.may.there)) (pasts-grown p.config metas index (grown (meta_in metas index) field) (deeds p before) h.1),
-    )
-all-kept laws words ring p (Tick ms closing samples done ∷ before) plan are =
-    tick-kept laws words ring p plan before are.1 (moment_of before + ms) closing samples are.0.rows (all-kept laws words ring p before plan are.1)
-all-kept laws words ring p (Pump entries ∷ before) plan are = all-kept laws words ring p before plan are.1
+-- the senders can give fronts, and the pasts have their rows, behind these steps and deeds
+abbrev AllKept : Plan → List Step → List Deed → Type 0
+AllKept p steps deeds = AllGiving p.config deeds × AllPasts p.config (metas_at p.config steps) deeds
 
-pub turns-hold : (laws : TurnsLaws) (words : WordLaws) (ring : RingLaw) (p : Plan) (steps : List Step) → IsPlan p → AreSteps p steps → TurnsHold p steps
-turns-hold laws words ring p [] plan are = tt
-turns-hold laws words ring p (Enable id ∷ before) plan are = turns-hold laws words ring p before plan are.1
-turns-hold laws words ring p (Disable id ∷ before) plan are = turns-hold laws words ring p before plan are.1
-turns-hold laws words ring p (Append index field ∷ before) plan are = turns-hold laws words ring p before plan are.1
-turns-hold laws words ring p (Tick ms closing samples done ∷ before) plan are =
-    (tick-turns laws words ring p plan before are.1 (moment_of before + ms) closing samples are.0.rows (all-kept laws words ring p before plan are.1), turns-hold laws words ring p before plan are.1)
-turns-hold laws words ring p (Pump entries ∷ before) plan are = turns-hold laws words ring p before plan are.1
+kept-open : (p : Plan) → IsPlan p → AllKept p [] []
+kept-open p plan = (giving-open p.config plan.types, pasts-open p.config p.config.dataset)
+
+kept-below : (p : Plan) (before : List Step) (id : ℕ) (done : List Deed) → AllKept p before done → AllKept p (Enable id ∷ before) (RefreshedBelow (component_at p.config id) ∷ done)
+kept-below p before id done h = (giving-below p.config (component_at p.config id) done h.0, pasts-below p.config (metas_at p.config before) (component_at p.config id) done h.1)
+
+kept-set : (p : Plan) (before : List Step) (index : ℕ) (field : Rattle.dataset_meta.specs.declared.field.Field.Field) (done : List Deed) → MayGrow p before index field → AllKept p before done
+    → AllKept p (Append index field ∷ before) (RefreshedSet index ∷ done)
+kept-set p before index field done may h =
+    let metas = metas_at p.config before in (
+      giving-set p.config index done h.0,
+      subst (λ (l : List MetaData). AllPasts p.config l (RefreshedSet index ∷ done)) (sym (grown-is metas index field may.may.there)) (pasts-grown p.config metas index (grown (meta_in metas index) field) done h.1),
+    )
+
+all-kept : (laws : TurnsLaws) (words : WordLaws) (p : Plan) (steps : List Step) → IsPlan p → AreSteps p steps → AllKept p steps (deeds p steps)
+all-kept laws words p [] plan are = kept-open p plan
+all-kept laws words p (Enable id ∷ before) plan are = kept-below p before id (deeds p before) (all-kept laws words p before plan are.1)
+all-kept laws words p (Disable id ∷ before) plan are = all-kept laws words p before plan are.1
+all-kept laws words p (Append index field ∷ before) plan are = kept-set p before index field (deeds p before) are.0 (all-kept laws words p before plan are.1)
+all-kept laws words p (Tick ms closing samples done ∷ before) plan are =
+    tick-kept laws words p plan before are.1 (moment_of before + ms) closing samples are.0.rows (deeds p before) (all-kept laws words p before plan are.1)
+all-kept laws words p (Pump entries ∷ before) plan are = all-kept laws words p before plan are.1
+
+pub turns-hold : (laws : TurnsLaws) (words : WordLaws) (p : Plan) (steps : List Step) → IsPlan p → AreSteps p steps → TurnsHold p steps
+turns-hold laws words p [] plan are = tt
+turns-hold laws words p (Enable id ∷ before) plan are = turns-hold laws words p before plan are.1
+turns-hold laws words p (Disable id ∷ before) plan are = turns-hold laws words p before plan are.1
+turns-hold laws words p (Append index field ∷ before) plan are = turns-hold laws words p before plan are.1
+turns-hold laws words p (Tick ms closing samples done ∷ before) plan are =
+    (tick-turns laws words p plan before are.1 (moment_of before + ms) closing samples are.0.rows (deeds p before) (all-kept laws words p before plan are.1), turns-hold laws words p before plan are.1)
+turns-hold laws words p (Pump entries ∷ before) plan are = turns-hold laws words p before plan are.1
+
+-- ---- over a life
+
+life-kept : (laws : TurnsLaws) (words : WordLaws) (p : Plan) (life : List Lived) → IsPlan p → AreSteps p (steps_in life) → HasShortTokens life → AllKept p (steps_in life) (account_in p life).deeds
+life-kept laws words p [] plan are short = kept-open p plan
+life-kept laws words p (Stepped (Enable id) ∷ before) plan are short = kept-below p (steps_in before) id (account_in p before).deeds (life-kept laws words p before plan are.1 short)
+life-kept laws words p (Stepped (Disable id) ∷ before) plan are short = life-kept laws words p before plan are.1 short
+life-kept laws words p (Stepped (Append index field) ∷ before) plan are short =
+    kept-set p (steps_in before) index field (account_in p before).deeds are.0 (life-kept laws words p before plan are.1 short)
+life-kept laws words p (Stepped (Tick ms closing samples done) ∷ before) plan are short =
+    let steps = steps_in before in
+    tick-kept laws words p plan steps are.1 (moment_of steps + ms) closing samples are.0.rows (account_in p before).deeds (life-kept laws words p before plan are.1 short)
+life-kept laws words p (Stepped (Pump entries) ∷ before) plan are short = life-kept laws words p before plan are.1 short
+life-kept laws words p (Renewed keygroup sets ∷ before) plan are short =
+    let done = (account_in p before).deeds in
+    let h = life-kept laws words p before plan are short.1 in
+    (giving-renewed p.config keygroup sets done short.0 h.0, pasts-renewed p.config (metas_at p.config (steps_in before)) keygroup sets done h.1)
+
+pub life-holds : (laws : TurnsLaws) (words : WordLaws) (p : Plan) (life : List Lived) → IsPlan p → AreSteps p (steps_in life) → HasShortTokens life → TurnsHoldIn p life
+life-holds laws words p [] plan are short = tt
+life-holds laws words p (Stepped (Enable id) ∷ before) plan are short = (tt, life-holds laws words p before plan are.1 short)
+life-holds laws words p (Stepped (Disable id) ∷ before) plan are short = (tt, life-holds laws words p before plan are.1 short)
+life-holds laws words p (Stepped (Append index field) ∷ before) plan are short = (tt, life-holds laws words p before plan are.1 short)
+life-holds laws words p (Stepped (Tick ms closing samples done) ∷ before) plan are short =
+    let steps = steps_in before in (
+      tick-turns laws words p plan steps are.1 (moment_of steps + ms) closing samples are.0.rows (account_in p before).deeds (life-kept laws words p before plan are.1 short),
+      life-holds laws words p before plan are.1 short,
+    )
+life-holds laws words p (Stepped (Pump entries) ∷ before) plan are short = (tt, life-holds laws words p before plan are.1 short)
+life-holds laws words p (Renewed keygroup sets ∷ before) plan are short = life-holds laws words p before plan are short.1

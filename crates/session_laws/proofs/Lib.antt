@@ -61,3 +61,7 @@ mod AllTaken
 mod BareTaken
 mod BareEnd
 mod SignedChunks
+mod Giving
+mod LifeTicks
+mod LifeTokens
+mod LifeReadings

@@ -99,7 +99,7 @@ pub record IsAdvanced (s after : SenderState) (count : ℕ) : Type 0 where
   pub random : after.random ≡ s.random
   pub first : after.first_block ≡ s.first_block
 
-advanced-is : (mode : Mode) (s : SenderState) (count : ℕ) → IsAdvanced s (advanced_by mode s count) count
+pub advanced-is : (mode : Mode) (s : SenderState) (count : ℕ) → IsAdvanced s (advanced_by mode s count) count
 advanced-is mode s zero = record { used = omega arith; keys = refl; sets = refl; random = refl; first = refl }
 advanced-is mode s (suc count) = let h = advanced-is mode s count in record { used = let e = h.used in omega (arith, e); keys = h.keys; sets = h.sets; random = h.random; first = h.first }
 
@@ -133,7 +133,7 @@ and-left : (a b : Bool) → (a && b) ≡ true → a ≡ true
 and-left true b e = refl
 and-left false b e = absurd (cc)
 
-not-spent : (p : Plan) (before : List Step) (now : ℕ) (closing : Bool) (earlier : List Deed) (g : ℕ) → has_turn p before now closing earlier g ≡ true → is_spent p.config g earlier ≡ false
+pub not-spent : (p : Plan) (before : List Step) (now : ℕ) (closing : Bool) (earlier : List Deed) (g : ℕ) → has_turn p before now closing earlier g ≡ true → is_spent p.config g earlier ≡ false
 not-spent p before now closing earlier g has =
     let flags = turn_flags p.config before earlier in
     let works_is : works p.config before earlier (Group g) ≡ true = and-left (works p.config before earlier (Group g)) (closing || is_due (group_at p.config g) (group_past p.config g earlier) now) has in
@@ -158,7 +158,7 @@ pub record TurnHolds (config : Config) (group : GroupPart) (past : List GroupDee
   pub written : AreWritten (envelope_of config group past) input.sender 0 (payloads_of config group (frames_in group past input))
   pub answers : (writer : ℕ) → IsFrameIf (writer_at group writer) (meta_at group input.told.metas writer) (answer_by group past input writer)
 
-left-by : (config : Config) (g k count : ℕ) (earlier : List Deed) → (group_at config g).keygroup ≡ Some k → is_spent config g earlier ≡ false → count ≤ 1024 → (sender_after config k earlier).used + count < 2 ^ 32
+pub left-by : (config : Config) (g k count : ℕ) (earlier : List Deed) → (group_at config g).keygroup ≡ Some k → is_spent config g earlier ≡ false → count ≤ 1024 → (sender_after config k earlier).used + count < 2 ^ 32
 left-by config g k count earlier keyed unspent few =
     let test : nat_lt (numbers_left (sender_after config k earlier)) 1024 ≡ false =
     sym (ap (λ (o : Option ℕ). option_map_or (λ s. nat_lt (numbers_left s) 1024) (option_map (λ (n : ℕ). sender_after config n earlier) o) false) keyed) ∙ unspent in

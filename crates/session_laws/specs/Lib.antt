@@ -10,6 +10,7 @@ pub mod Witness
 pub mod Noise
 pub mod Telling
 pub mod Fresh
+pub mod Renewals
 pub mod Twins
 pub mod Courses
 pub mod Newest

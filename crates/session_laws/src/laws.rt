@@ -185,7 +185,6 @@ pub fn no_token_and_number_come_twice_in_a_session()
     ensures { (p : Plan) (k : ℕ) (steps : List Step) → IsPlan p → AreSteps p steps → k < length p.config.keygroup
         → AllPairs HaveOtherNumbers (protected_by p k steps) }
 {
-    a_ring_makes_senders_of_its_key_group();
     no_token_and_number_come_twice_in_groups();
     each_turn_of_a_session_holds();
 }

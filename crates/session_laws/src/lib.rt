@@ -6,6 +6,7 @@ mod noise;
 mod premises;
 mod printed;
 mod readers;
+mod renewals;
 mod turning;
 mod witness;
 
@@ -22,7 +23,11 @@ pub use premises::{
 };
 pub use printed::{a_closed_session_tells_the_headline, closed_sessions_tell_published_versions};
 pub use readers::{a_sessions_sender_makes_what_is_signed, signed_readers_have_their_records};
-pub use turning::each_turn_of_a_session_holds;
+pub use renewals::{
+    no_pair_is_taken_twice_in_a_life, no_token_and_number_come_twice_in_a_life,
+    tokens_never_fall_in_a_life,
+};
+pub use turning::{each_turn_of_a_life_holds, each_turn_of_a_session_holds};
 pub use witness::{
     readers_of_each_kind_get_closing_frames, sessions_of_each_kind_meet_the_premises,
     small_sessions_meet_the_premises, what_is_sent_can_come,

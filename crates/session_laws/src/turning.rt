@@ -1,10 +1,11 @@
-//! What is promised of turns holds in each session.
+//! What is promised of turns holds in each session, and in each life of one.
 ghost use Rattle.std.specs.Prelude.{List};
 ghost use Rattle.session_model.specs.Steps.{Plan, Step};
 ghost use Rattle.session_model.specs.Keeping.{AreSteps, IsPlan};
+ghost use Rattle.session_model.specs.Lives.{Lived, TurnsHoldIn, steps_in};
 ghost use Rattle.session_model.specs.Turns.{TurnsHold};
+ghost use Rattle.session_laws.specs.Renewals.{HasShortTokens};
 
-use group_laws::a_ring_makes_senders_of_its_key_group;
 use row_words::cut_rows_have_words;
 use writer_group::{
     a_turn_makes_at_most_1024_datagrams, each_answer_is_a_frame, headers_of_a_turn_can_be_written,
@@ -16,7 +17,17 @@ pub fn each_turn_of_a_session_holds()
     ensures { (p : Plan) (steps : List Step) → IsPlan p → AreSteps p steps → TurnsHold p steps }
 {
     cut_rows_have_words();
-    a_ring_makes_senders_of_its_key_group();
+    headers_of_a_turn_can_be_written();
+    each_answer_is_a_frame();
+    a_turn_makes_at_most_1024_datagrams();
+}
+
+/// So has each turn of a life, whichever rings renew its senders: their tokens have 32 bits, as those of each ring in memory.
+pub fn each_turn_of_a_life_holds()
+    ensures { (p : Plan) (life : List Lived) → IsPlan p → AreSteps p (steps_in life) → HasShortTokens life
+        → TurnsHoldIn p life }
+{
+    cut_rows_have_words();
     headers_of_a_turn_can_be_written();
     each_answer_is_a_frame();
     a_turn_makes_at_most_1024_datagrams();

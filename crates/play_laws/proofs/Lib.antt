@@ -1,0 +1,4 @@
+pub mod Calls
+pub mod Nothings
+pub mod SmallRun
+pub mod Reporting

@@ -1,0 +1,73 @@
+-- A script that gives datagrams their fates, played over a link in memory: `write 0 demo a=7`, `tick 100`, and the fates.
+use Rattle.std.specs.Prelude.{◌≡◌, ℕ, false, List, [], ◌∷◌, map, replicate, Option, Some}
+use Rattle.dataset_meta.specs.DataValues.{DataValue}
+use Rattle.row_words.specs.declared.patch.Patch.{Patch}
+use Rattle.pubsub_model.specs.declared.reading.Why.{Why}
+use Rattle.ua_base.specs.declared.link.Fate.{Fate}
+use Rattle.ua_base.specs.Journal.{Empty, LinkState}
+use Rattle.ua_base.specs.Links.{Making}
+use Rattle.mem_edge.specs.declared.memory_link.MemoryLink.{MemoryLink}
+use Rattle.mem_edge.specs.MemoryLinks.{made_by, opened_by, told_by}
+use Rattle.ps_config.specs.BuiltIn.{built_in_config, demo}
+use Rattle.ps_report.specs.declared.closed.Closed.{Closed}
+use Rattle.ps_script.specs.declared.script.Act.TheVariants as act
+use Rattle.ps_script.specs.declared.script.Line.{Line}
+use Rattle.ps_script.specs.declared.script.Script.{Script}
+use Rattle.session_model.specs.Closing.{IsClosedAfter}
+use Rattle.session_model.specs.Events.{reader_at}
+use Rattle.session_model.specs.Steps.{Step, Pump}
+use Rattle.session_laws.specs.Witness.{closing_on, first_session, last_receives, lost_session, small_plan}
+use Rattle.script_player.specs.Plays.{IsPlayOf, opening_of}
+
+-- ---- the script
+
+-- a=7
+abbrev pub small_patch : Patch
+small_patch = record { mask = 1; row = record { words = 7 ∷ replicate 124 0 } }
+
+abbrev pub write_line : Line
+write_line = record { at = 1; act = act.Write 0 0 small_patch }
+
+abbrev pub tick_line : Line
+tick_line = record { at = 2; act = act.Tick 100 }
+
+abbrev pub fate_line : ℕ × Fate → Line
+fate_line fated = record { at = 3; act = act.Fated fated.0 fated.1 }
+
+abbrev pub small_script : List (ℕ × Fate) → Script
+small_script fates = record { lines = write_line ∷ tick_line ∷ map fate_line fates; metas = demo ∷ [] }
+
+-- ---- over a link in memory
+
+-- it does nothing of its own
+abbrev pub obedient : Making
+obedient = record { injected = []; send_fails = []; receive_fails = []; open_fails = false }
+
+-- the script was played over the link, which obeys its fates alone and tells to the end
+pub record IsPlayedOver (link : MemoryLink) (fates : List (ℕ × Fate)) (closed : Closed) : Type 0 where
+  pub state : LinkState
+  pub tells : told_by link ≡ Some state
+  pub made : made_by link ≡ obedient
+  pub opened : opened_by link ≡ Some (opening_of built_in_config (small_script fates))
+  pub played : IsPlayOf built_in_config (small_script fates) (told_by link) closed
+
+-- ---- its sessions
+
+-- the first datagram is lost, and the closing one comes
+abbrev pub first_lost : List Step
+first_lost = Pump last_receives ∷ closing_on lost_session
+
+-- the first one comes, and the closing one is lost
+abbrev pub last_lost : List Step
+last_lost = Pump (Empty ∷ []) ∷ closing_on first_session
+
+-- both are lost
+abbrev pub both_lost : List Step
+both_lost = Pump (Empty ∷ []) ∷ closing_on lost_session
+
+-- the closed session is what these steps leave, which its report tells; its reader has this row and this number, or waits for this
+pub record EndsBehind (steps : List Step) (closed : Closed) (row : Option (List DataValue)) (number : Option ℕ) (why : Why) : Type 0 where
+  pub after : IsClosedAfter small_plan steps closed
+  pub row_is : (reader_at small_plan.config 0 0 steps).kept.row ≡ row
+  pub number_is : (reader_at small_plan.config 0 0 steps).kept.number ≡ number
+  pub why_is : (reader_at small_plan.config 0 0 steps).kept.why ≡ why

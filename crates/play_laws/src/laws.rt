@@ -1,0 +1,25 @@
+//! What a session receives over a link in memory, each law the contract of a function that does nothing.
+ghost use Rattle.std.specs.Prelude.{◌≡◌, ◌++◌, ℕ, List};
+ghost use Rattle.ua_base.specs.Journal.{Entry};
+ghost use Rattle.mem_edge.specs.Marks.{EndsInNothings};
+ghost use Rattle.mem_edge.specs.Standings.{Settings};
+ghost use Rattle.session_model.specs.Keeping.{AreSteps};
+ghost use Rattle.session_model.specs.Sends.{IsPump, IsRun, journal};
+ghost use Rattle.session_model.specs.Steps.{Plan, Step};
+ghost use Rattle.play_laws.specs.Taking.{IsOfItsCalls, MayTakeAll, TakesAll};
+
+/// Over a link in memory none of whose receives fails, a pump takes all that waits, in order, each datagram once, and then finds
+/// that nothing is ready: where fewer wait than a pump takes, none longer than one may be.
+pub fn a_pump_takes_all_that_waits()
+    ensures { (settings : Settings) (before entries rest : List Entry) (left : ℕ)
+        → IsOfItsCalls settings (before ++ entries ++ rest) → IsPump left entries → MayTakeAll settings before left
+        → TakesAll settings before entries }
+{}
+
+/// No beginning of a session's journal ends in 2^64 - 1 answers Nothing, since a session has 4,097 pumps at most, each of which
+/// ends with its first such answer. A link in memory that tells its journal tells it until so many stand in a row and one more comes
+/// (`tells` of its `receive`); so no receive of a session silences it.
+pub fn a_memory_link_tells_of_each_session()
+    ensures { (p : Plan) (steps : List Step) (first rest : List Entry) → AreSteps p steps → IsRun p steps
+        → journal p steps ≡ first ++ rest → ¬ EndsInNothings first }
+{}

@@ -1,0 +1,8 @@
+//! Laws of scripts that are played over a link in memory: what fates make of them, and that such a link tells to the end.
+#![tactic(auto)]
+
+mod laws;
+mod witness;
+
+pub use laws::{a_memory_link_tells_of_each_session, a_pump_takes_all_that_waits};
+pub use witness::{a_script_with_a_fate_ends_so, a_script_with_a_fate_reports_so};

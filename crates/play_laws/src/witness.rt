@@ -1,0 +1,35 @@
+//! A script with a fate, played over a link in memory.
+ghost use Rattle.std.specs.Prelude.{[], ◌∷◌, Some, None};
+ghost use Rattle.pubsub_model.specs.declared.reading.Why.TheVariants.{Start};
+ghost use Rattle.ua_base.specs.declared.link.Fate.TheVariants as fates;
+ghost use Rattle.mem_edge.specs.declared.memory_link.MemoryLink.{MemoryLink as LinkValue};
+ghost use Rattle.ps_report.specs.declared.closed.Closed.{Closed};
+ghost use Rattle.session_laws.specs.Witness.{small_row};
+ghost use Rattle.play_laws.specs.Reports.{ReportsSo, both_lost_run, both_lost_text, first_lost_run, first_lost_text, last_lost_run, last_lost_text};
+ghost use Rattle.play_laws.specs.Small.{EndsBehind, IsPlayedOver, both_lost, first_lost, last_lost};
+
+/// The script `write 0 demo a=7`, `tick 100` with a fate, played with the built-in configuration over a link in memory that was
+/// made to do nothing of its own and tells to the end. With `fate 0 drop` the reader gets no start from the first tick, whose key
+/// frame is lost, and holds the closing one, number 1. With `fate 1 drop` it holds the first, number 0. With both it waits for its
+/// start. The closed session, and so its report, is that of just these steps.
+pub fn a_script_with_a_fate_ends_so()
+    ensures first { (link : LinkValue) (closed : Closed) → IsPlayedOver link ((0, fates.Drop) ∷ []) closed
+        → EndsBehind first_lost closed (Some small_row) (Some 1) Start }
+    ensures last { (link : LinkValue) (closed : Closed) → IsPlayedOver link ((1, fates.Drop) ∷ []) closed
+        → EndsBehind last_lost closed (Some small_row) (Some 0) Start }
+    ensures both { (link : LinkValue) (closed : Closed)
+        → IsPlayedOver link ((0, fates.Drop) ∷ (1, fates.Drop) ∷ []) closed
+        → EndsBehind both_lost closed None None Start }
+{}
+
+/// And its report is this text: with `fate 0 drop` one datagram was received, and the reader has number 1 and version 1; with
+/// `fate 1 drop` it has number 0; with both none was received, and the reader waits for its start.
+pub fn a_script_with_a_fate_reports_so()
+    ensures first { (link : LinkValue) (closed : Closed) → IsPlayedOver link ((0, fates.Drop) ∷ []) closed
+        → ReportsSo closed first_lost_run first_lost_text }
+    ensures last { (link : LinkValue) (closed : Closed) → IsPlayedOver link ((1, fates.Drop) ∷ []) closed
+        → ReportsSo closed last_lost_run last_lost_text }
+    ensures both { (link : LinkValue) (closed : Closed)
+        → IsPlayedOver link ((0, fates.Drop) ∷ (1, fates.Drop) ∷ []) closed
+        → ReportsSo closed both_lost_run both_lost_text }
+{}

@@ -1,0 +1,6 @@
+use Rattle.session_laws.proofs.LifeReadings.{taken-rise}
+use Rattle.session_laws.proofs.LifeTokens.{tokens-up}
+use Rattle.session_laws.proofs.renewals.tokens_never_fall_in_a_life.Goals as goal
+
+pub returns : goal.returns
+returns c = record { protects = tokens-up; takes = taken-rise }

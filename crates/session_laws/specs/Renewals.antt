@@ -1,0 +1,37 @@
+-- Lives, in which rings renew a session's keys: what a key group protected, under which token it protects, and what a read group took.
+use Rattle.std.specs.Prelude.{◌<◌, ◌≤◌, ◌≢◌, ◌^◌, ⊤, ℕ, List, [], ◌∷◌, All, AllPairs}
+use Rattle.group_keys.specs.declared.key_set.KeySet.{KeySet}
+use Rattle.message_guard.specs.Acceptance.{Accepted}
+use Rattle.session_model.specs.Lives.{Lived, Stepped, Renewed, account_in}
+use Rattle.session_model.specs.Steps.{Plan}
+use Rattle.session_laws.specs.Fresh.{protected_in, token_after}
+
+-- each token has 32 bits, as those of each ring in memory
+abbrev pub HaveShortTokens : List KeySet → Type 0
+HaveShortTokens sets = All (λ set. set.token < 2 ^ 32) sets
+
+-- so have those of all rings of a life
+abbrev pub HasShortTokens : List Lived → Type 0
+HasShortTokens [] = ⊤
+HasShortTokens (Stepped step ∷ before) = HasShortTokens before
+HasShortTokens (Renewed keygroup sets ∷ before) = HaveShortTokens sets × HasShortTokens before
+
+-- the datagrams that a key group protected, the first first
+abbrev pub protected_in_life : Plan → ℕ → List Lived → List (List ℕ)
+protected_in_life p k life = protected_in p.config k (account_in p life).deeds
+
+-- the token under which it protects behind the life
+abbrev pub token_in_life : Plan → ℕ → List Lived → ℕ
+token_in_life p k life = token_after p.config k (account_in p life).deeds
+
+-- the pairs of token and number that a read group took, the latest first
+abbrev pub taken_in_life : Plan → ℕ → List Lived → Accepted
+taken_in_life p r life = ((account_in p life).readings r).value.accepted
+
+-- no pair comes twice
+abbrev pub AreDistinctPairs : Accepted → Type 0
+AreDistinctPairs taken = AllPairs (λ pair earlier. pair ≢ earlier) taken
+
+-- no pair has a lower token than an earlier one
+abbrev pub TokensRise : Accepted → Type 0
+TokensRise taken = AllPairs (λ pair earlier. earlier.0 ≤ pair.0) taken
