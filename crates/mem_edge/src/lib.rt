@@ -17,7 +17,9 @@ mod transit;
 
 pub use gate::OpenGate;
 pub use laws::{
-    a_journal_is_determined_by_its_calls, a_memory_link_is_honest, fates_are_those_of_the_opening,
+    a_fated_journal_delivers_what_its_sends_queue, a_journal_is_determined_by_its_calls,
+    a_memory_link_is_honest, a_memory_link_tells_its_fated_journal, fates_are_those_of_the_opening,
+    fates_make_of_three_datagrams,
 };
 pub use memory_folder::MemoryFolder;
 pub use memory_link::MemoryLink;
