@@ -1,5 +1,5 @@
 -- What the headers of a group's datagrams begin with, which stays from turn to turn (OPC 10000-14 7.2.4.4, UADP NetworkMessage).
-use Rattle.std.specs.Prelude.{◌≡◌, ℕ, List, [], ◌∷◌, ◌++◌, take, Option, None}
+use Rattle.std.specs.Prelude.{◌≡◌, ℕ, List, [], ◌∷◌, ◌++◌, take, None}
 use Rattle.std.specs.Int.{w16, w32, to_le_bytes}
 use Rattle.ua_binary.specs.Wire.{optional}
 use Rattle.uadp_header.specs.Headers.{PublisherValue, IdsValue, NoIds, ListOf, ChunkOf, HeaderValue}
@@ -21,10 +21,11 @@ lead_bytes h =
 abbrev pub rest_bytes : HeaderValue → List ℕ
 rest_bytes h = optional (to_le_bytes w16) h.message_number ++ optional (to_le_bytes w16) h.sequence ++ ids_bytes h.ids
 
--- what a group's first header begins with, of a message with these ids
+-- the numbers of a group's first header
 abbrev pub first_numbering : Numbering
 first_numbering = record { sequence = 0; message = 1; security = None }
 
+-- what that begins with, of a message with these ids
 abbrev pub lead_of : PublisherValue → HeaderSettings → IdsValue → List ℕ
 lead_of publisher settings ids = lead_bytes (numbered_header publisher settings first_numbering ids)
 

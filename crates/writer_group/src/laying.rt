@@ -104,6 +104,7 @@ impl<'a> Cargo<'a> {
     }
 
     /// Writes the payload of a datagram that begins at `start`.
+    #[inline(always)]
     fn put(&self, pen: &mut Pen<'_>, start: usize, load: Load)
         requires cargo { IsCargo self.now }
         requires load { IsLoad (cargo_in self.now) load }
@@ -120,6 +121,7 @@ impl<'a> Cargo<'a> {
     }
 
     /// Writes the payload of frames that share a datagram.
+    #[inline(always)]
     fn put_frames(&self, pen: &mut Pen<'_>, first: u8, count: u8)
         requires cargo { IsCargo self.now }
         requires some { 0 < count }
@@ -151,7 +153,8 @@ impl<'a> Cargo<'a> {
         (list[first].start, list[first + count - 1].end)
     }
 
-    /// Writes the payload of a chunk.
+    /// Writes the payload of a chunk. A call, as that of slots, so that the loop over datagrams stays short.
+    #[inline(never)]
     fn put_chunk(&self, pen: &mut Pen<'_>, frame: u8, index: u32)
         requires cargo { IsCargo self.now }
         requires frame { frame < length (listed self.now.frames.now) }
@@ -215,7 +218,8 @@ fn put_led(pen: &mut Pen<'_>, lead: &[u8], header: &Header<'_>)
 #[inline(always)]
 pub(crate) fn put_rest(pen: &mut Pen<'_>, header: &Header<'_>)
     requires ids { AreIds (ids_in header.now.ids) }
-    requires room { pen.old.at + length (rest_bytes (header_in header.now)) ≤ length pen.old.bytes.now }
+    requires room { pen.old.at + length (rest_bytes (header_in header.now))
+        ≤ length pen.old.bytes.now }
     ensures { Puts pen.old pen.new (rest_bytes (header_in header.now)) }
 {
     put_number_if(pen, header.message_number);
@@ -250,7 +254,8 @@ fn put_ids(pen: &mut Pen<'_>, ids: &Ids<'_>)
 #[inline(always)]
 fn put_counted(pen: &mut Pen<'_>, ids: &[u8])
     requires few { length ids.now ≤ 510 }
-    requires room { pen.old.at + length ((length ids.now / 2) ∷ ids.now) ≤ length pen.old.bytes.now }
+    requires room { pen.old.at + length ((length ids.now / 2) ∷ ids.now)
+        ≤ length pen.old.bytes.now }
     ensures { Puts pen.old pen.new ((length ids.now / 2) ∷ ids.now) }
 {
     pen.put_u8((ids.len() / 2) as u8);

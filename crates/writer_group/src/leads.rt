@@ -4,7 +4,7 @@ ghost use Rattle.ua_binary.specs.Writing.{laid};
 ghost use Rattle.uadp_header.specs.Headers.{header_in, ids_in, publisher_in};
 ghost use Rattle.uadp_header.specs.Spelling.{AreIds, IsIds, IsSenders, ids_len};
 ghost use Rattle.writer_group.specs.Holding.{CanBeWritten, header_text, settings_in};
-ghost use Rattle.writer_group.specs.Leads.{AreLeadsOf, lead_bytes, lead_in, lead_of, lead_text, rest_bytes};
+ghost use Rattle.writer_group.specs.Leads.{AreLeadsOf, lead_in, lead_of, lead_text, rest_bytes};
 
 use crate::header_parts::HeaderParts;
 use crate::laying::{put_rest, put_whole};
@@ -13,7 +13,7 @@ use crate::load::Load;
 use ua_binary::Pen;
 use uadp_header::{Header, Ids};
 
-/// That of the datagrams with each kind of load.
+/// What the headers of datagrams with each kind of load begin with.
 #[derive(Drop)]
 pub(crate) struct Leads {
     listed: Lead,
@@ -22,6 +22,7 @@ pub(crate) struct Leads {
 }
 
 impl Leads {
+    /// Those of the headers that have these parts.
     pub fn new<'a>(parts: &'a HeaderParts<'a>) -> Leads
         requires { CanBeWritten (publisher_in parts.now.publisher) }
         ensures { AreLeadsOf (publisher_in parts.now.publisher) (settings_in parts.now) result }
@@ -52,7 +53,8 @@ fn lead_of<'a>(parts: &'a HeaderParts<'a>, ids: Ids<'a>) -> Lead
     requires ids { AreIds (ids_in ids) }
     requires is_ids { IsIds (ids_in ids) }
     requires few { ids_len (ids_in ids) ≤ 2 }
-    ensures { lead_text result ≡ lead_of (publisher_in parts.now.publisher) (settings_in parts.now) (ids_in ids.entry) }
+    ensures { lead_text result
+        ≡ lead_of (publisher_in parts.now.publisher) (settings_in parts.now) (ids_in ids.entry) }
 {
     let header = parts.header(0, ids, None);
     let mut bytes = [0; LEAD_BYTES];
@@ -74,7 +76,7 @@ fn lay_whole(bytes: &mut [u8], header: &Header<'_>) -> usize
     pen.at
 }
 
-/// The same of what stands behind the lead.
+/// Writes what stands behind the lead of a header to the front of the bytes, and tells where it ends.
 fn lay_rest(bytes: &mut [u8], header: &Header<'_>) -> usize
     requires ids { AreIds (ids_in header.now.ids) }
     requires room { length (rest_bytes (header_in header.now)) ≤ length bytes.old }

@@ -196,7 +196,7 @@ fn lay_fronted<'a>(
 }
 
 /// Lays header and payload of a datagram at a place of the free bytes. Tells where the payload begins, and where it ends.
-// Without security it is known where this is called that no header is made, and then none stands in memory.
+// Where it is called without security no header stands in memory.
 #[inline(always)]
 fn lay_out<'a>(
     parts: &'a HeaderParts<'a>,

@@ -1,4 +1,4 @@
-use Rattle.std.proofs.Common.{◌≡◌, ◌-◌, take, refl, ap, ◌∙◌, arith, Option, None}
+use Rattle.std.proofs.Common.{◌≡◌, ◌-◌, take, refl, ap, ◌∙◌, arith, None}
 use Rattle.uadp_header.specs.Headers.{HeaderValue, header_in, ids_in, publisher_in}
 use Rattle.writer_group.specs.Holding.{envelope_in, numbering_of, settings_in}
 use Rattle.writer_group.specs.Leads.{first_numbering, lead_bytes}
