@@ -1,4 +1,4 @@
-// Times the turns and the datagrams of libgroup_bench.a beside a publisher and a subscriber by hand, in turns, and prints the
+// Times the turns and the datagrams of libbench_groups.a beside a publisher and a subscriber by hand, in turns, and prints the
 // least time of each. Opening is taken off: a call without turns is timed too. Both sides must make the same datagrams and
 // come to the same rows, and neither may allocate after opening.
 #include "plain.h"

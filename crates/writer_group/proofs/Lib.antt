@@ -8,6 +8,7 @@ pub mod HeaderLengths
 pub mod Joining
 pub mod KeptWriters
 pub mod LargestFrame
+pub mod LeadLaws
 pub mod LoadBytes
 pub mod LoadHeaders
 pub mod LoadPayloads

@@ -25,6 +25,7 @@ use Rattle.writer_group.specs.declared.load.Load.{Load}
 use Rattle.writer_group.specs.declared.posting.Range.{Range}
 use Rattle.writer_group.specs.declared.spelled.Frames.{Frames}
 use Rattle.writer_group.specs.Holding.{AreSpelledIn, CanBeWritten, CargoValue, cargo_in, envelope_in, frames_at, payload_in, settings_in}
+use Rattle.writer_group.specs.Leads.{AreLeadsOf}
 use Rattle.writer_group.specs.Loading.{IsLoad}
 use Rattle.writer_group.specs.Making.{IsFilled, IsPosted, MayFill, MayMake, MayMakeOf, cargo_from, cargo_with, made_from, made_with}
 use Rattle.writer_group.specs.Payloads.{fixed_header}
@@ -78,8 +79,8 @@ slots-len config part made = refl
 
 pub may-post : (config : Config) (part : GroupPart) (sender : Option SenderState) (group : Group) (front : List ℕ) (loads : List Load) (parts : HeaderParts) (cargo : Cargo)
     → MayMakeOf config part sender group front cargo.frames.now loads → AreParts config part group front cargo.bytes.now cargo.room parts → cargo.slots.now ≡ group.slots
-    → MayPost (envelope_in parts) cargo loads
-may-post config part sender group front loads parts cargo may are slots =
+    → cargo.leads.now ≡ group.leads → MayPost (envelope_in parts) cargo loads
+may-post config part sender group front loads parts cargo may are slots leads =
     let value : cargo_in cargo ≡ cargo_from config part group front cargo.frames.now =
     ap (λ (s : SlotsLayout). let v : CargoValue = record { frames = frames_at cargo.bytes.now cargo.frames.now; room = cargo.room; start = s.start; slots = s.slots } in v) slots
     ∙ cargo-is config part group front cargo.bytes.now cargo.frames.now cargo.room parts are in
@@ -93,6 +94,8 @@ may-post config part sender group front loads parts cargo may are slots =
       few = may.few;
       start = ap (λ (e : Envelope). header_len (slots_header e)) are.envelope ∙ slots-len config part group.made ∙ sym may.made_for.start ∙ ap (λ (v : CargoValue). v.start) (sym value);
       publisher = are.written;
+      leads = subst (λ (e : Envelope). AreLeadsOf e.publisher e.settings cargo.leads.now) (sym are.envelope)
+          (subst (AreLeadsOf (publisher_value config.publisher.id) (header_settings part)) (sym leads) may.made_for.leads);
     }
 
 made-by : (config : Config) (part : GroupPart) (sender : Option SenderState) (group : Group) (front bytes : List ℕ) (frames : Frames) (room : ℕ) (loads : List Load) (parts : HeaderParts)

@@ -37,6 +37,7 @@ post-one e cargo loads index load may within is =
       few = omega arith;
       start = may.start;
       publisher = may.publisher;
+      leads = may.leads;
     }
   where
     All-one : (x : Load) → IsLoad (cargo_in cargo) (get_or loads index load) → x ≡ get_or loads index load → All (IsLoad (cargo_in cargo)) (x ∷ [])

@@ -46,7 +46,7 @@ pub passed-made : (config : Config) (part : GroupPart) (now : ℕ) (closing : Bo
     → IsMadeFor config part before → IsMadeFor config part after
 passed-made config part now closing count before after is made =
     subst (IsMadeFor config part) (sym is)
-    (record { interval = made.interval; start = made.start; writers = made.writers; slots = made.slots; rooms = made.rooms })
+    (record { interval = made.interval; start = made.start; writers = made.writers; slots = made.slots; rooms = made.rooms; leads = made.leads })
 
 pub keeps-ticked : (config : Config) (metas : List MetaData) (rows : List Sampled) (on : List Bool) (sender : Option SenderState) (old new : Group)
     → index_of new ≡ index_of old → index_of old < length config.group → IsMadeAt config (index_of old) new → GoesOnAt config metas old new

@@ -18,6 +18,7 @@ pub mod Holding
 pub mod Making
 pub mod Posting
 pub mod Planning
+pub mod Leads
 pub mod Loading
 pub mod Slotting
 pub mod Numbers

@@ -13,6 +13,7 @@ use Rattle.writer_group.specs.declared.laying.Cargo.{Cargo}
 use Rattle.writer_group.specs.declared.load.Load.{Load}
 use Rattle.writer_group.specs.declared.posting.Range.{Range}
 use Rattle.writer_group.specs.Holding.{CargoValue, CanBeWritten, cargo_in, envelope_in, payload_in, numbering_of}
+use Rattle.writer_group.specs.Leads.{AreLeadsOf}
 use Rattle.writer_group.specs.Loading.{IsCargo, IsLoad}
 use Rattle.writer_group.specs.Sealing.{Envelope, datagrams_from, open_datagram, secured_datagram, secured_header}
 use Rattle.writer_group.specs.Limits.{most_datagrams}
@@ -42,13 +43,14 @@ slots_header envelope =
     numbered_header envelope.publisher envelope.settings
     (record { sequence = 0; message = 0; security = security_value envelope.settings.security }) NoIds
 
--- the loads are of what the datagrams carry, and slots begin behind the header
+-- the loads are of what the datagrams carry, slots begin behind the header, and the leads are those of the headers
 pub record MayPost (envelope : Envelope) (cargo : Cargo) (loads : List Load) : Type 0 where
   pub cargo_is : IsCargo cargo
   pub loads_are : All (IsLoad (cargo_in cargo)) loads
   pub few : length loads ≤ most_datagrams
   pub start : header_len (slots_header envelope) ≡ (cargo_in cargo).start
   pub publisher : CanBeWritten envelope.publisher
+  pub leads : AreLeadsOf envelope.publisher envelope.settings cargo.leads.now
 
 abbrev pub joined : List (List ℕ) → List ℕ
 joined [] = []

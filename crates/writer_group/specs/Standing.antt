@@ -9,8 +9,8 @@ use Rattle.dataset_writer.specs.Standing.{IsWriter, HoldsRowOf, KeepsAll, logged
 use Rattle.message_guard.specs.Senders.{SenderState, IsSender, numbers_left}
 use Rattle.ps_config.specs.declared.parts.Config.{Config}
 use Rattle.ps_config.specs.declared.parts.GroupPart.{GroupPart}
-use Rattle.ps_config.specs.Headers.{is_secured, mode_of}
-use Rattle.ps_config.specs.Rooms.{is_fixed, lacks_room}
+use Rattle.ps_config.specs.Headers.{is_secured, mode_of, publisher_value}
+use Rattle.ps_config.specs.Rooms.{header_settings, is_fixed, lacks_room}
 use Rattle.ps_config.specs.Sound.{IsSound}
 use Rattle.ps_config.specs.FixedSound.{IsFixedSound}
 use Rattle.writer_group.specs.declared.datagrams.Datagrams.{Datagrams}
@@ -18,6 +18,7 @@ use Rattle.writer_group.specs.declared.group.Group.{Group}
 use Rattle.writer_group.specs.declared.posting.Range.{Range}
 use Rattle.writer_group.specs.declared.sampled.Sampled.{Sampled}
 use Rattle.writer_group.specs.Answering.{HasLived, LogsStay}
+use Rattle.writer_group.specs.Leads.{AreLeadsOf}
 use Rattle.writer_group.specs.Payloads.{meta_at, writer_at, fixed_header, payloads_of, IsFrameIf}
 use Rattle.writer_group.specs.Sealing.{AreWritten, advanced_by}
 use Rattle.writer_group.specs.Setup.{AreSlotsOf, rooms_of}
@@ -49,6 +50,7 @@ pub record IsMadeFor (config : Config) (part : GroupPart) (group : Group) : Type
   pub writers : vec_len group.writers ≡ length part.writer
   pub slots : AreSlotsOf config part group.slots
   pub rooms : group.rooms ≡ rooms_of config.publisher.id part
+  pub leads : AreLeadsOf (publisher_value config.publisher.id) (header_settings part) group.leads
 
 -- where these deeds leave it; `metas` has for the index of each writer the meta of its turns since its last refresh
 pub record IsGroup (metas : ℕ → MetaData) (part : GroupPart) (past : List GroupDeed) (group : Group) : Type 0 where

@@ -11,6 +11,8 @@ ghost use Rattle.writer_group.specs.Turns.{GroupDeed, told_of};
 
 use crate::answering::answer_all;
 use crate::datagrams::Datagrams;
+use crate::header_parts::HeaderParts;
+use crate::leads::Leads;
 use crate::planning::plan_loads;
 use crate::sampled::Sampled;
 use crate::settings::{Rooms, a_class_id_is_whole, rooms_of};
@@ -31,6 +33,7 @@ pub struct Group {
     writers: Vec<Writer>,
     pub(crate) rooms: Rooms,
     pub(crate) slots: Slots,
+    pub(crate) leads: Leads,
     // How many datagrams were made, modulo 65536.
     pub(crate) made: u16,
     // The moment of the last turn that wasn't the closing one, at first 0.
@@ -75,12 +78,15 @@ impl Group {
     {
         let group = part_of(config, index);
         let writers = writers_of(alloc, group, turns, logged)?;
+        let parts = HeaderParts::new(&config.publisher.id, group, 0);
+        let leads = Leads::new(&parts);
         Ok(Group {
             index,
             interval: group.interval,
             writers,
             rooms: rooms_of(&config.publisher.id, group),
             slots: slots_of(config, group),
+            leads,
             made: 0,
             turned_at: 0,
         })

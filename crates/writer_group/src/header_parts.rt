@@ -35,6 +35,7 @@ impl<'a> HeaderParts<'a> {
     }
 
     /// The header of the turn's datagram with this index, from 0.
+    #[inline(always)]
     pub fn header(
         &'a self,
         index: u16,

@@ -8,6 +8,8 @@ mod group;
 mod header_parts;
 mod laws;
 mod laying;
+mod lead;
+mod leads;
 mod load;
 mod making;
 mod planning;

@@ -81,6 +81,7 @@ impl Group {
             frames,
             room: self.rooms.chunk,
             slots: &self.slots,
+            leads: &self.leads,
         };
         post_open(&parts, &cargo, loads, free, ranges);
     }
@@ -116,6 +117,7 @@ impl Group {
             frames,
             room: self.rooms.chunk,
             slots: &self.slots,
+            leads: &self.leads,
         };
         let mode = mode_of(group.security);
         post_secured(&parts, &cargo, loads, mode, sender, free, ranges);

@@ -57,7 +57,8 @@ pub(crate) fn post_open<'a>(
     }
 }
 
-/// Makes the datagrams with these loads, each with the sender's next number.
+/// Makes the datagrams with these loads, each with the sender's next number. A call, so that turns without security stay short.
+#[inline(never)]
 pub(crate) fn post_secured<'a>(
     parts: &'a HeaderParts<'a>,
     cargo: &'a Cargo<'a>,
@@ -108,6 +109,7 @@ fn push_range(range: Range, ranges: &mut Vec<Range>)
 }
 
 /// Lays a datagram at a place of the free bytes, and tells where it ends.
+#[inline(always)]
 fn open_datagram<'a>(
     parts: &'a HeaderParts<'a>,
     cargo: &'a Cargo<'a>,
@@ -194,6 +196,8 @@ fn lay_fronted<'a>(
 }
 
 /// Lays header and payload of a datagram at a place of the free bytes. Tells where the payload begins, and where it ends.
+// Where it is called without security no header stands in memory.
+#[inline(always)]
 fn lay_out<'a>(
     parts: &'a HeaderParts<'a>,
     cargo: &'a Cargo<'a>,

@@ -13,6 +13,7 @@ use ua_binary::Pen;
 
 /// Writes the payload of a fixed datagram, which begins at `start`, behind its header: each frame in its writer's slot, and zeros
 /// elsewhere.
+#[inline(never)]
 pub(crate) fn put_slots(
     pen: &mut Pen<'_>,
     start: usize,

@@ -94,7 +94,8 @@ impl Frames {
         &self.ids[..2 * self.count]
     }
 
-    /// Spells a frame behind the others.
+    /// Spells a frame behind the others. A call, so that the loop over writers stays short.
+    #[inline(never)]
     pub fn spell(
         &mut self,
         bytes: &mut [u8],

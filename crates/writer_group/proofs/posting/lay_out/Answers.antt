@@ -5,6 +5,7 @@ use Rattle.uadp_header.specs.Spelling.{IsWritten, header_bytes}
 use Rattle.writer_group.specs.Envelopes.{numbered_header}
 use Rattle.writer_group.specs.Holding.{cargo_in, envelope_in, numbering_of, payload_in}
 use Rattle.writer_group.specs.Posting.{load_header}
+use Rattle.writer_group.proofs.LeadLaws.{begins}
 use Rattle.writer_group.proofs.LoadHeaders.{has-header}
 use Rattle.writer_group.proofs.posting.lay_out.Goals as goal
 
@@ -18,6 +19,14 @@ lay-requires-clause-header c =
     let is : header_in c.header-header.result ≡ load_header e c.args.index (cargo_in c.args.cargo.now) c.args.load security =
     c.header-header.ensures.header ∙ ap (λ (ids : IdsValue). numbered_header e.publisher e.settings (numbering_of e c.args.index security) ids) c.ids.ensures.ids in
     has-header e c.args.cargo.now c.args.load c.args.index security (header_in c.header-header.result) is c.header-header.ensures.written c.requires.post c.requires.secured
+
+pub lay-requires-clause-lead : goal.lay-requires-clause-lead
+lay-requires-clause-lead c =
+    let e = envelope_in c.args.parts.now in
+    let security = if_there security_in c.args.security in
+    let is : header_in c.header-header.result ≡ load_header e c.args.index (cargo_in c.args.cargo.now) c.args.load security =
+    c.header-header.ensures.header ∙ ap (λ (ids : IdsValue). numbered_header e.publisher e.settings (numbering_of e c.args.index security) ids) c.ids.ensures.ids in
+    begins e c.args.cargo.now c.args.load c.args.index security (header_in c.header-header.result) is c.requires.post.leads
 
 pub lay-requires-clause-room : goal.lay-requires-clause-room
 lay-requires-clause-room c =

@@ -1,7 +1,10 @@
 use Rattle.std.proofs.Common.{◌≡◌, ℕ, [], true, refl, sym, subst}
 use Rattle.std.proofs.lemmas.List.Elements.{at_read}
 use Rattle.ps_config.specs.FixedSound.{IsFixedGroup}
-use Rattle.ps_config.specs.Rooms.{is_fixed}
+use Rattle.ps_config.specs.declared.parts.GroupPart.{GroupPart}
+use Rattle.ps_config.specs.Rooms.{header_settings, is_fixed}
+use Rattle.uadp_header.specs.Headers.{PublisherValue, publisher_in}
+use Rattle.writer_group.specs.Leads.{AreLeadsOf}
 use Rattle.ps_config.specs.Sound.{IsGroup as IsSoundGroup}
 use Rattle.dataset_meta.specs.Metas.{MetaData}
 use Rattle.writer_group.specs.declared.group.Group.{Group}
@@ -31,7 +34,7 @@ slots_of-requires-clause-fixed c =
     subst (λ part. is_fixed part.layout ≡ true → IsFixedGroup c.args.config.now part) (sym c.part_of-group.ensures) (c.requires.good.fixed.groups c.args.index c.part_of-group.result.now c.requires.index)
 
 abbrev made : After-slots_of → Group
-made c = record { index = c.args.index; interval = c.part_of-group.result.now.interval; writers = c.in_ok-writers.writers; rooms = c.rooms_of.result; slots = c.slots_of.result; made = 0; turned_at = 0 }
+made c = record { index = c.args.index; interval = c.part_of-group.result.now.interval; writers = c.in_ok-writers.writers; rooms = c.rooms_of.result; slots = c.slots_of.result; leads = c.new-leads.result; made = 0; turned_at = 0 }
 
 new : (c : After-slots_of) → IsNewGroup c.part_of-group.result.now c.args.turns c.args.logged (made c)
 new c = record { writers = c.in_ok-writers.ensures; made = refl; moment = refl }
@@ -43,6 +46,8 @@ made-for c = record {
   writers = new-count c.part_of-group.result.now c.args.turns c.args.logged (made c) (new c);
   slots = c.slots_of.ensures.slots;
   rooms = c.rooms_of.ensures;
+  leads = subst (λ (p : PublisherValue). AreLeadsOf p (header_settings c.part_of-group.result.now) c.new-leads.result) c.new-parts.ensures.publisher
+      (subst (λ (part : GroupPart). AreLeadsOf (publisher_in c.new-parts.result.publisher) (header_settings part) c.new-leads.result) c.new-parts.ensures.group c.new-leads.ensures);
 }
 
 pub returns-clause-made : goal.returns-clause-made

@@ -16,7 +16,7 @@ post_secured-requires-clause-post c =
     let bytes = c.split_at_mut-bytes.result.0.now in
     let are = are-parts config part c.args.self.now front bytes c.args.self.now.rooms.chunk c.new-parts.result
     c.new-parts.ensures.publisher (ap header_settings c.new-parts.ensures.group) c.new-parts.ensures.made c.new-parts.ensures.written (ap (λ (r : Rooms). r.chunk) c.requires.may.may.made_for.rooms) c.split_at_mut-bytes.ensures.front in
-    may-post config part _ c.args.self.now front c.args.loads.now c.new-parts.result _ c.requires.may.may are refl
+    may-post config part _ c.args.self.now front c.args.loads.now c.new-parts.result _ c.requires.may.may are refl refl
 
 pub post_secured-requires-clause-room : goal.post_secured-requires-clause-room
 post_secured-requires-clause-room c =

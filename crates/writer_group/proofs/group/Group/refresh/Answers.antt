@@ -46,5 +46,5 @@ pub returns-clause-keeps_to : goal.returns-clause-keeps_to
 returns-clause-keeps_to c = λ config keeps.
     let r = (goal.at.returns-clause-keeps_to c).After-refresh in
     keeps-refreshed config c.args.index c.args.self.now (after r) refl
-    (λ config part made. record { interval = made.interval; start = made.start; writers = made.writers; slots = made.slots; rooms = made.rooms })
+    (λ config part made. record { interval = made.interval; start = made.start; writers = made.writers; slots = made.slots; rooms = made.rooms; leads = made.leads })
     (returns-clause-goes_on c) keeps
