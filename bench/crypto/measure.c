@@ -1,4 +1,4 @@
-// Times the calls of libbenches.a beside OpenSSL's, in turns, and prints the least time of each.
+// Times the calls of libbench_parts.a beside OpenSSL's, in turns, and prints the least time of each.
 #include <openssl/evp.h>
 #include <openssl/hmac.h>
 #include <stdint.h>

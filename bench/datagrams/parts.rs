@@ -1,4 +1,4 @@
-// Times the calls on headers, payloads and chunks of libbenches.a beside plain hand-written code, in turns, and prints
+// Times the calls on headers, payloads and chunks of libbench_parts.a beside plain hand-written code, in turns, and prints
 // the least time of each.
 use std::hint::black_box;
 use std::time::Instant;

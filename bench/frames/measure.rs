@@ -1,4 +1,4 @@
-// Times the calls of libpubsub_bench.a beside a plain hand-written codec, in turns, and prints the least time of each.
+// Times the calls of libbench_frames.a beside a plain hand-written codec, in turns, and prints the least time of each.
 use std::hint::black_box;
 use std::time::Instant;
 

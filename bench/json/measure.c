@@ -1,4 +1,4 @@
-// Times the calls of libbenches.a on a key frame of so many fields, and prints the least time of each. With words CALL FIELDS
+// Times the calls of libbench_parts.a on a key frame of so many fields, and prints the least time of each. With words CALL FIELDS
 // TURNS it makes a call so often, for a tool that counts its instructions.
 #include <stdint.h>
 #include <stdio.h>

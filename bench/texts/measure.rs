@@ -1,4 +1,4 @@
-// Times the calls of libbenches.a on the largest texts and on a tenth of them by turns, and prints the least time of each;
+// Times the calls of libbench_parts.a on the largest texts and on a tenth of them by turns, and prints the least time of each;
 // scripts and reports beside plain hand-written Rust, by turns too. A whole and its tenth find the same machine: memory that
 // was freed stays with the process, and the caches are filled with other bytes before each call. Else the largest blocks alone
 // would be given back to the system and cleared page by page by the next call, and a tenth alone would stay in the caches: the
