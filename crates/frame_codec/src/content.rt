@@ -41,16 +41,37 @@ pub(crate) fn read_content_into(
 {
     match kind {
         FrameKind::Whole(row) if front.kind == KEY => {
-            read_whole(cursor, meta, newer, front.encoding, row)
+            read_whole_apart(cursor, meta, newer, front.encoding, row)
         }
         FrameKind::Change(patch) if front.kind == DELTA => {
             read_patch_apart(cursor, meta, newer, front.encoding, patch)
         }
-        _ => replace_content(cursor, meta, newer, front, kind),
+        _ => replace_apart(cursor, meta, newer, front, kind),
     }
 }
 
-/// The same in place of content of other words.
+/// The same in place of content of other words, by copies of the cursor and the front, so that neither need stand in memory.
+#[inline(always)]
+fn replace_apart(
+    cursor: &mut Cursor<'_>,
+    meta: &Meta,
+    newer: bool,
+    front: &Front,
+    kind: &mut FrameKind,
+) -> Result<(), FrameFault>
+    requires { IsKindOf meta.now kind.old }
+    ensures of { IsKindOf meta.now kind.new }
+    ensures answer { ReadsAhead (leaving result (content_in meta.now.fields kind.new))
+        cursor.old cursor.new (content_at meta.now newer front.now.encoding front.now.kind) }
+{
+    let mut lent = *cursor;
+    let front = *front;
+    replace_content(&mut lent, meta, newer, &front, kind)?;
+    *cursor = lent;
+    Ok(())
+}
+
+/// The same by a cursor and a front that are lent.
 #[inline(never)]
 fn replace_content(
     cursor: &mut Cursor<'_>,
@@ -90,6 +111,26 @@ fn read_content(
         DELTA => Ok(FrameKind::Change(read_patch(cursor, meta, newer, front.encoding)?)),
         _ => Ok(FrameKind::Alive),
     }
+}
+
+/// The fields of a key frame, by a copy of the cursor, so that the cursor itself need not stand in memory.
+#[inline(always)]
+fn read_whole_apart(
+    cursor: &mut Cursor<'_>,
+    meta: &Meta,
+    newer: bool,
+    encoding: u8,
+    row: &mut Row,
+) -> Result<(), FrameFault>
+    requires { Belongs meta.now row.old.words }
+    ensures belongs { Belongs meta.now row.new.words }
+    ensures answer { ReadsAhead (leaving result (row_in meta.now.fields row.new.words))
+        cursor.old cursor.new (whole_at meta.now newer encoding) }
+{
+    let mut lent = *cursor;
+    read_whole(&mut lent, meta, newer, encoding, row)?;
+    *cursor = lent;
+    Ok(())
 }
 
 /// The fields of a key frame: their count, and each.

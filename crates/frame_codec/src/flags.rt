@@ -7,6 +7,9 @@ use crate::fault::FrameFault;
 // The bits of DataSetFlags1.
 pub(crate) const VALID: u8 = 0x01;
 
+/// VALID, and the bit of the field encoding that Variants and DataValues don't have.
+const VALID_OR_RAW: u8 = 0x03;
+
 pub(crate) const NUMBER: u8 = 0x08;
 
 pub(crate) const STATUS: u8 = 0x10;
@@ -68,11 +71,14 @@ fn is_encoding(fixed: bool, encoding: u8) -> bool
     encoding == VARIANT || encoding == DATA_VALUE || (fixed && encoding == RAW_DATA)
 }
 
-/// What DataSetFlags1 is refused for.
+/// What DataSetFlags1 is refused for. Those of Variants and DataValues, the most common, are judged first and at once.
 #[inline(always)]
 pub(crate) fn fault_in_flags1(fixed: bool, flags: u8) -> Option<FrameFault>
     ensures { result ≡ fault_in_flags1 fixed flags }
 {
+    if flags & VALID_OR_RAW == VALID {
+        return None;
+    }
     if flags & VALID == 0 {
         return Some(FrameFault::NotValid);
     }
@@ -83,11 +89,15 @@ pub(crate) fn fault_in_flags1(fixed: bool, flags: u8) -> Option<FrameFault>
     }
 }
 
-/// What DataSetFlags2 is refused for, with this field encoding.
+/// What DataSetFlags2 is refused for, with this field encoding. Those that tell of no more than a key frame or a delta frame are
+/// judged first and at once.
 #[inline(always)]
 pub(crate) fn fault_in_flags2(encoding: u8, extended: u8) -> Option<FrameFault>
     ensures { result ≡ fault_in_flags2 encoding extended }
 {
+    if extended <= DELTA && encoding != RAW_DATA {
+        return None;
+    }
     let kind = kind_of(extended);
     if encoding == RAW_DATA && kind == DELTA {
         return Some(FrameFault::BadEncoding);

@@ -64,6 +64,7 @@ fn opening(meta: &Meta) -> Frame
     OPENING
 }
 
+/// What the front tells is kept before the content is read, so that it need not be held meanwhile.
 #[inline(always)]
 #[tactic(auto, unfolding(crate::specs::Reading::message_at, crate::specs::Reading::behind_front))]
 fn read_message(cursor: &mut Cursor<'_>, meta: &Meta, frame: &mut Frame) -> Result<(), FrameFault>
@@ -74,10 +75,10 @@ fn read_message(cursor: &mut Cursor<'_>, meta: &Meta, frame: &mut Frame) -> Resu
 {
     let front = read_front_in(cursor, false)?;
     let newer = is_newer(meta, front.minor);
-    read_content_into(cursor, meta, newer, &front, &mut frame.kind)?;
     frame.number = front.number;
     frame.major = front.major;
     frame.minor = front.minor;
+    read_content_into(cursor, meta, newer, &front, &mut frame.kind)?;
     Ok(())
 }
 
