@@ -3,9 +3,10 @@ pub mod Wholes
 pub mod Begun
 pub mod Ending
 pub mod TickEnd
-pub mod HaltedTick
 pub mod Receipts
 pub mod Lives
+pub mod Unrenewed
+pub mod Rings
 pub mod Notes
 pub mod Takes
 pub mod Fresh

@@ -3,13 +3,13 @@ use Rattle.std.proofs.Common.{◌≡◌, refl, sym, ap, ◌∙◌, subst, arith,
 use Rattle.std.specs.Prelude.{vec_len, ◌==◌}
 use Rattle.dataset_meta.specs.Metas.{MetaData}
 use Rattle.dataset_reader.specs.declared.reader.Reader.{Reader}
-use Rattle.dataset_reader.specs.Reader.{IsReaderOf, kept_by, passed_of}
+use Rattle.dataset_reader.specs.Reader.{IsReaderOf, kept_by}
 use Rattle.dataset_writer.specs.declared.writer.Writer.{Writer}
 use Rattle.dataset_writer.specs.Standing.{IsWriter, logged_by}
 use Rattle.ps_config.specs.declared.parts.Config.{Config}
 use Rattle.ps_config.specs.declared.parts.GroupPart.{GroupPart}
 use Rattle.reader_group.specs.declared.group.ReaderGroup.{ReaderGroup}
-use Rattle.reader_group.specs.Groups.{IsKeptAt, IsPassedAt, IsMadeAt, IsMadeOf, Stands as ReadingStands, index_of, reader_count}
+use Rattle.reader_group.specs.Groups.{IsKeptAt, IsMadeAt, IsMadeOf, Stands as ReadingStands, index_of, reader_count}
 use Rattle.reader_group.specs.Members.{seat_at}
 use Rattle.reader_group.specs.Plain.{plain}
 use Rattle.reader_group.specs.Settings.{setting_of, seat_in, group_at as read_group_at}
@@ -18,15 +18,19 @@ use Rattle.writer_group.specs.declared.group.Group.{Group}
 use Rattle.writer_group.specs.Parts.{group_at}
 use Rattle.writer_group.specs.Payloads.{meta_at, writer_at}
 use Rattle.writer_group.specs.Standing.{AreLogged, IsGroup, IsLoggedIn, IsWriterIn, metas_for, writer_count}
-use Rattle.writer_group.specs.Turns.{settings_of}
-use Rattle.session_model.specs.Steps.{Plan, Step}
-use Rattle.session_model.specs.Deeds.{deeds, group_past, log_at, writer_deeds}
+use Rattle.writer_group.specs.Turns.{settings_of, writer_past}
+use Rattle.session_model.specs.Steps.{Plan}
+use Rattle.session_model.specs.Sets.{metas_at}
+use Rattle.session_model.specs.Deeds.{Deed, deeds, group_past, log_at, writer_deeds}
+use Rattle.session_model.specs.Lives.{Lived, account_in, steps_in}
 use Rattle.session_model.specs.Events.{events, reader_at}
+use Rattle.session_parts.specs.Standing.{HavePast}
 use Rattle.gateway_core.specs.declared.gateway.Gateway.{Gateway}
 use Rattle.session_model.proofs.Ticks.{log-few}
 use Rattle.gateway_core.specs.Lived.{GatewayStep, Collect, Pump, Tick, collects_in, first_kept, last_store, no_origin, plan_again, session_steps, version_by, versions_kept}
 use Rattle.gateway_core.specs.Holding.{IsGateway, KeepsAll, logged_of, sources_of}
 use Rattle.gateway_core.specs.Standing.{Stands}
+use Rattle.gateway_core.specs.Living.{StandsIn, writer_deeds_in}
 use Rattle.gateway_core.proofs.Notes.{first-all, one-more}
 
 same-config : (second : Config) (lived : List GatewayStep) (s : Gateway) → Stands second lived s → s.config.now ≡ second
@@ -41,24 +45,33 @@ writer-there s g w group gateway low within is =
     let same : vec_len group.writers ≡ vec_len (get_or s.publisher.groups.items g group).writers = ap (λ (x : Group). vec_len x.writers) is in
     omega (arith, within, made, same)
 
-pub writer-lived : (second : Config) (lived : List GatewayStep) (s : Gateway) (g w : ℕ) (group : Group) (writer : Writer) → Stands second lived s → g < length s.config.now.group
-    → w < length (group_at s.config.now g).writer → group ≡ get_or s.publisher.groups.items g group → IsWriterIn group w writer
-    → IsWriter (meta_at (group_at second g) second.dataset w) (settings_of (writer_at (group_at second g) w)) (writer_deeds (plan_again second) g w (session_steps (sources_of s) lived)) writer
-writer-lived second lived s g w group writer stands low within is there =
-    there (metas_for part second.dataset) part (group_past second g (deeds (plan_again second) steps))
+-- where its deeds left the group
+writer-behind : (second : Config) (metas : List MetaData) (all : List Deed) (s : Gateway) (g w : ℕ) (group : Group) (writer : Writer) → s.config.now ≡ second → metas ≡ second.dataset
+    → HavePast second metas all s.publisher.groups.items → g < length s.config.now.group → w < length (group_at s.config.now g).writer → group ≡ get_or s.publisher.groups.items g group
+    → IsWriterIn group w writer → IsWriter (meta_at (group_at second g) second.dataset w) (settings_of (writer_at (group_at second g) w)) (writer_past w (group_past second g all)) writer
+writer-behind second metas all s g w group writer same metas_are past low within is there =
+    there (metas_for part second.dataset) part (group_past second g all)
     (subst (λ (c : Config). w < length (group_at c g).writer) same within)
-    (subst (λ (x : Group). IsGroup (metas_for part second.dataset) part (group_past second g (deeds (plan_again second) steps)) x) (sym is)
-    (subst (λ (m : List MetaData). IsGroup (metas_for part m) part (group_past second g (deeds (plan_again second) steps)) (get_or s.publisher.groups.items g group)) stands.session.metas
-    (stands.session.groups g (subst (λ (c : Config). g < length c.group) same low) group)))
+    (subst (λ (x : Group). IsGroup (metas_for part second.dataset) part (group_past second g all) x) (sym is)
+    (subst (λ (m : List MetaData). IsGroup (metas_for part m) part (group_past second g all) (get_or s.publisher.groups.items g group)) metas_are
+    (past g (subst (λ (c : Config). g < length c.group) same low) group)))
   where
     part : GroupPart
     part = group_at second g
 
-    steps : List Step
-    steps = session_steps (sources_of s) lived
+pub writer-lived : (second : Config) (lived : List GatewayStep) (s : Gateway) (g w : ℕ) (group : Group) (writer : Writer) → Stands second lived s → g < length s.config.now.group
+    → w < length (group_at s.config.now g).writer → group ≡ get_or s.publisher.groups.items g group → IsWriterIn group w writer
+    → IsWriter (meta_at (group_at second g) second.dataset w) (settings_of (writer_at (group_at second g) w)) (writer_deeds (plan_again second) g w (session_steps (sources_of s) lived)) writer
+writer-lived second lived s g w group writer stands =
+    let steps = session_steps (sources_of s) lived in
+    writer-behind second (metas_at second steps) (deeds (plan_again second) steps) s g w group writer (same-config second lived s stands) stands.session.metas stands.session.groups
 
-    same : s.config.now ≡ second
-    same = same-config second lived s stands
+pub writer-lives : (second : Config) (lived : List GatewayStep) (life : List Lived) (s : Gateway) (g w : ℕ) (group : Group) (writer : Writer) → StandsIn second lived life s
+    → g < length s.config.now.group → w < length (group_at s.config.now g).writer → group ≡ get_or s.publisher.groups.items g group → IsWriterIn group w writer
+    → IsWriter (meta_at (group_at second g) second.dataset w) (settings_of (writer_at (group_at second g) w)) (writer_deeds_in second life g w) writer
+writer-lives second lived life s g w group writer stands =
+    writer-behind second (metas_at second (steps_in life)) (account_in (plan_again second) life).deeds s g w group writer (ap (λ (p : Plan). p.config) stands.session.parts.plan)
+    stands.session.parts.metas stands.session.parts.round.groups
 
 -- its log keeps as many data frames as the gateway's
 pub writer-logged : (s : Gateway) (g : ℕ) (group : Group) (writer : Writer) → IsGateway s → g < length s.config.now.group → group ≡ get_or s.publisher.groups.items g group
@@ -114,12 +127,6 @@ pub reader-kept : (second : Config) (lived : List GatewayStep) (s : Gateway) (r 
     → group ≡ get_or s.subscriber.groups.items r group → IsKeptAt group i reader
     → kept_by (seat_at (setting_of second r).seats i).meta.fields reader ≡ (reader_at second r i (session_steps (sources_of s) lived)).kept
 reader-kept second lived s r i group reader stands low is there =
-    there (setting_of second r) (plain (setting_of second r) (events second r (session_steps (sources_of s) lived))) (reading-stands second lived s r group stands low is)
-
-pub reader-passed : (second : Config) (lived : List GatewayStep) (s : Gateway) (r i : ℕ) (group : ReaderGroup) (reader : Reader) → Stands second lived s → r < length s.config.now.readgroup
-    → group ≡ get_or s.subscriber.groups.items r group → IsPassedAt group i reader
-    → passed_of reader ≡ (reader_at second r i (session_steps (sources_of s) lived)).passed
-reader-passed second lived s r i group reader stands low is there =
     there (setting_of second r) (plain (setting_of second r) (events second r (session_steps (sources_of s) lived))) (reading-stands second lived s r group stands low is)
 
 pub reader-made : (s : Gateway) (r i : ℕ) (group : ReaderGroup) (reader : Reader) → IsGateway s → r < length s.config.now.readgroup

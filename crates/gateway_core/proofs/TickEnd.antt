@@ -1,5 +1,5 @@
 -- What a tick leaves of the gateway.
-use Rattle.std.proofs.Common.{◌≡◌, refl, sym, ap, ◌∙◌, subst, arith, ℕ, ◌+◌, ◌<◌, List, length, get_or, Bool, Option}
+use Rattle.std.proofs.Common.{◌≡◌, refl, sym, ap, ◌∙◌, subst, arith, ℕ, ◌+◌, ◌-◌, ◌<◌, List, ◌∷◌, length, get_or, Bool, Option}
 use Rattle.ua_base.specs.Journal.{LinkState}
 use Rattle.dataset_meta.specs.Metas.{MetaData}
 use Rattle.ps_config.specs.declared.parts.Config.{Config}
@@ -10,6 +10,8 @@ use Rattle.writer_group.specs.Parts.{group_at}
 use Rattle.writer_group.specs.Standing.{AreMetas, IsGood, metas_for}
 use Rattle.session_model.specs.Steps.{Plan, Step, Tick}
 use Rattle.session_model.specs.Sets.{AreRowsOf, metas_at, rows_cut}
+use Rattle.session_model.specs.Keeping.{AreStepsOf}
+use Rattle.session_model.specs.Lives.{Account, Lived, account_in, steps_in}
 use Rattle.session_parts.specs.declared.publisher.Publisher.{Publisher}
 use Rattle.session_parts.specs.declared.publisher.Told.{Told}
 use Rattle.session_parts.specs.Holding.{AreStillLogged, HoldPublisher, MayAllGoOn}
@@ -19,9 +21,9 @@ use Rattle.session_parts.proofs.Ticks.{go-one}
 use Rattle.pubsub_states.specs.Changes.{TreeValue}
 use Rattle.gateway_core.specs.declared.gateway.Gateway.{Gateway}
 use Rattle.gateway_core.specs.Holding.{IsGateway, KeepsCollected, MayTick, logged_of, sampled_by}
-use Rattle.gateway_core.specs.Standing.{StandsAsSession}
+use Rattle.gateway_core.specs.Living.{LivesAsSession, StandsAs}
 use Rattle.gateway_core.specs.Beginning.{HasBegun, tick_of}
-use Rattle.gateway_core.proofs.Ending.{LeadsAsSession, ends}
+use Rattle.gateway_core.proofs.Ending.{LeadsAsSession, ends, may-come}
 use Rattle.gateway_core.proofs.Wholes.{rows-whole}
 
 -- the gateway after turns, written over the one before
@@ -56,21 +58,30 @@ ticked-gateway ms closing old mid s may begun rest holds counts goes logs = subs
 pub ticked-keeps : (ms : ℕ) (closing : Bool) (old mid s : Gateway) → HasBegun ms closing old mid → s ≡ record mid { publisher = s.publisher; tree = s.tree } → KeepsCollected old s
 ticked-keeps ms closing old mid s begun rest = ap (λ (x : Gateway). x.collected) (after-is ms closing old mid s begun rest)
 
-pub ticked-leads : (p : Plan) (before : List Step) (ms n : ℕ) (closing : Bool) (old mid s : Gateway) (told after : Option LinkState) → MayTick ms closing old → HasBegun ms closing old mid
-    → s ≡ record mid { publisher = s.publisher; tree = s.tree } → n ≡ length old.config.now.group → StandsAsSession p before old
-    → HasPassed (tick_of p before ms closing old) n s.publisher s.tree told after
-    → (done : List Bool) × LeadsAsSession p before (Tick ms closing (sampled_by old) done) told after s
-ticked-leads p before ms n closing old mid s told after may begun rest all stands passed = (
+-- in a life
+pub ticked-lives : (p : Plan) (life : List Lived) (ms n : ℕ) (closing : Bool) (old mid s : Gateway) (told after : Option LinkState) → MayTick ms closing old → HasBegun ms closing old mid
+    → s ≡ record mid { publisher = s.publisher; tree = s.tree } → n ≡ length old.config.now.group → LivesAsSession p life old
+    → HasPassed (tick_of p (steps_in life) (account_in p life) ms closing old) n s.publisher s.tree told after
+    → (done : List Bool) × LeadsAsSession p life (Tick ms closing (sampled_by old) done) told after s
+ticked-lives p life ms n closing old mid s told after may begun rest all stands passed = (
   whole.done,
-  subst (λ (x : Gateway). LeadsAsSession p before (Tick ms closing (sampled_by old) whole.done) told after x) (sym rest)
-      (ends p before ms closing old mid s.publisher s.tree whole.done told after may stands begun whole.at (λ g low. whole.holds g low) whole.tells),
+  subst (λ (x : Gateway). LeadsAsSession p life (Tick ms closing (sampled_by old) whole.done) told after x) (sym rest) (record {
+    stands = record {
+      run = (whole.at.sent, stands.run);
+      steps_are = subst (λ (m : ℕ). AreStepsOf (m - 1) p (Tick ms closing (sampled_by old) whole.done ∷ steps_in life)) (sym begun.counts_tick.turns)
+          (may-come p (steps_in life) (account_in p life) ms closing old may stands.parts, stands.steps_are);
+      turns = (λ g low. whole.holds g low, stands.turns);
+      parts = ends p (steps_in life) (account_in p life) ms closing old mid s.publisher s.tree whole.done may stands.parts begun whole.at;
+    };
+    tells = whole.tells;
+  }),
 )
   where
     count : n ≡ length p.config.group
-    count = all ∙ ap (λ (q : Plan). length q.config.group) stands.plan
+    count = all ∙ ap (λ (q : Plan). length q.config.group) stands.parts.plan
 
-    whole : HasPassed (tick_of p before ms closing old) (length p.config.group) s.publisher s.tree told after
-    whole = subst (λ (m : ℕ). HasPassed (tick_of p before ms closing old) m s.publisher s.tree told after) count passed
+    whole : HasPassed (tick_of p (steps_in life) (account_in p life) ms closing old) (length p.config.group) s.publisher s.tree told after
+    whole = subst (λ (m : ℕ). HasPassed (tick_of p (steps_in life) (account_in p life) ms closing old) m s.publisher s.tree told after) count passed
 
 -- ---- what the turns are told
 
@@ -120,13 +131,13 @@ may-pass-all ms closing old mid told may begun is = record {
   spent = subst (λ (c : Config). KnowsSpent c mid.publisher.senders.items mid.tree) (sym is.config) begun.spent;
 }
 
-pub told-of : (ms : ℕ) (closing : Bool) (old : Gateway) (told : Told) → MayTick ms closing old → TellsOf ms closing old told → (p : Plan) (before : List Step) → StandsAsSession p before old
-    → IsToldOf (tick_of p before ms closing old) told
-told-of ms closing old told may is p before stands = record {
+pub told-of : (ms : ℕ) (closing : Bool) (old : Gateway) (told : Told) → MayTick ms closing old → TellsOf ms closing old told → (p : Plan) (before : List Step) (a : Account) → StandsAs p before a old
+    → IsToldOf (tick_of p before a ms closing old) told
+told-of ms closing old told may is p before a stands = record {
   config = is.config ∙ same;
   metas = is.metas ∙ ap (λ (c : Config). c.dataset) same ∙ sym stands.metas;
   rows = is.rows ∙ sym cut;
-  moment = is.moment ∙ ap (λ (m : ℕ). m + ms) stands.moment;
+  moment = is.moment ∙ ap (λ (m : ℕ). m + ms) stands.round.moment;
   closing = is.closing_is;
 }
   where

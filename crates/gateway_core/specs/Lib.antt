@@ -2,4 +2,5 @@ pub mod Lived
 pub mod Sources
 pub mod Holding
 pub mod Standing
+pub mod Living
 pub mod Beginning

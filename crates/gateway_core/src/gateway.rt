@@ -2,7 +2,7 @@
 ghost use Rattle.std.specs.Prelude.{◌≡◌, ◌<◌, ◌≤◌, ◌∷◌, ◌↔◌, [], IsTrue, IsSome, ℕ, List, Bool, count_by, length, slice_index_or};
 ghost use Rattle.ua_base.specs.Journal.{Entry};
 ghost use Rattle.ua_base.specs.Links.{KeepsLink};
-ghost use Rattle.dataset_reader.specs.Reader.{IsReaderOf, kept_by, passed_of};
+ghost use Rattle.dataset_reader.specs.Reader.{IsReaderOf, kept_by};
 ghost use Rattle.dataset_writer.specs.Standing.{IsWriter, logged_by};
 ghost use Rattle.ps_config.specs.declared.parts.Config.{Config as ConfigValue};
 ghost use Rattle.reader_group.specs.Members.{seat_at};
@@ -15,10 +15,15 @@ ghost use Rattle.session_model.specs.Closing.{is_datagram, is_got, is_send_faile
 ghost use Rattle.session_model.specs.Counts.{most_taken};
 ghost use Rattle.session_model.specs.Deeds.{log_at, writer_deeds};
 ghost use Rattle.session_model.specs.Events.{reader_at};
+ghost use Rattle.session_model.specs.Lives.{Lived, account_in};
 ghost use Rattle.session_model.specs.Sends.{journal};
+ghost use Rattle.session_model.specs.Steps.{Pump as SessionPump, Tick as SessionTick};
+ghost use Rattle.session_parts.specs.Showing.{IsReaderIn};
+ghost use Rattle.session_parts.specs.Ticking.{HaltsTickIn};
 ghost use Rattle.gateway_core.specs.Lived.{Collect, GatewayStep, Pump, Tick, first_kept, plan_again, session_steps, version_in, versions_kept};
-ghost use Rattle.gateway_core.specs.Holding.{CountsCollect, CountsPump, CountsTick, IsGateway, KeepsAll, KeepsCollected, MayPump, MayTake, MayTick, left_of, logged_of, sources_of};
+ghost use Rattle.gateway_core.specs.Holding.{CountsCollect, CountsPump, CountsTick, IsGateway, KeepsAll, KeepsCollected, MayPump, MayTake, MayTick, left_of, logged_of, sampled_by, sources_of};
 ghost use Rattle.gateway_core.specs.Standing.{HaltsTick, Leads, Stands};
+ghost use Rattle.gateway_core.specs.Living.{LeadsIn, StandsIn, writer_deeds_in};
 ghost use Rattle.gateway_core.specs.Beginning.{HasBegun};
 
 use crate::collected::Collected;
@@ -27,9 +32,8 @@ use dataset_writer::Writer;
 use ps_config::Config;
 use pubsub_states::Tree;
 use session_parts::{Publisher, Receiving, Subscriber, Told};
-use target_cells::Origin;
+use target_cells::{Origin, Passes};
 use ua_base::{Link, Pumped, Ticked};
-use version_cell::Passes;
 
 /// How long a gateway lasts, and what may still come.
 #[derive(Clone, Copy, Debug)]
@@ -73,6 +77,9 @@ impl<'c> Gateway<'c> {
         ensures stands { (second : ConfigValue) (lived : List GatewayStep)
             → Stands second lived self.old
             → Stands second (Collect passes.now origins.now ∷ lived) self.new }
+        ensures lives { (second : ConfigValue) (lived : List GatewayStep) (life : List Lived)
+            → StandsIn second lived life self.old
+            → StandsIn second (Collect passes.now origins.now ∷ lived) life self.new }
     {
         self.left.collects -= 1;
         self.collected.take(passes, origins);
@@ -96,6 +103,15 @@ impl<'c> Gateway<'c> {
         ensures halted { result ≡ Ticked.Memory → (second : ConfigValue) (lived : List GatewayStep)
             → Stands second lived self.old
             → HaltsTick second (sources_of self.old) lived ms closing
+            (L.told link.old) (L.told link.new) }
+        ensures lives { result ≡ Ticked.Done → (second : ConfigValue) (lived : List GatewayStep)
+            (life : List Lived) → StandsIn second lived life self.old
+            → (done : List Bool) × LeadsIn second lived life (Tick ms closing done)
+            (SessionTick ms closing (sampled_by self.old) done)
+            (L.told link.old) (L.told link.new) self.new }
+        ensures halted_lives { result ≡ Ticked.Memory → (second : ConfigValue)
+            (lived : List GatewayStep) (life : List Lived) → StandsIn second lived life self.old
+            → HaltsTickIn (plan_again second) life ms closing (sampled_by self.old)
             (L.told link.old) (L.told link.new) }
         ensures collected { KeepsCollected self.old self.new }
         ensures memory { result ≡ Ticked.Memory → IsTrue L.takes_memory }
@@ -142,6 +158,11 @@ impl<'c> Gateway<'c> {
             → (entries : List Entry) × Leads second lived (Pump entries)
             (L.told link.old) (L.told link.new) self.new
             × (result.taken ≡ count_by is_datagram entries) }
+        ensures lives { (second : ConfigValue) (lived : List GatewayStep) (life : List Lived)
+            → StandsIn second lived life self.old
+            → (entries : List Entry) × LeadsIn second lived life (Pump entries)
+            (SessionPump entries) (L.told link.old) (L.told link.new) self.new
+            × (result.taken ≡ count_by is_datagram entries) }
         ensures limit { IsTrue result.limit ↔ (result.taken ≡ most_taken) }
         ensures collected { KeepsCollected self.old self.new }
         ensures link { KeepsLink L.opened_with L.faults L.made L.openings link.old link.new }
@@ -170,6 +191,11 @@ impl<'c> Gateway<'c> {
             (settings_of (writer_at (group_at second group) index))
             (writer_deeds (plan_again second) group index
             (session_steps (sources_of self.now) lived)) result.now }
+        ensures lives { (second : ConfigValue) (lived : List GatewayStep) (life : List Lived)
+            → StandsIn second lived life self.now
+            → IsWriter (meta_at (group_at second group) second.dataset index)
+            (settings_of (writer_at (group_at second group) index))
+            (writer_deeds_in second life group index) result.now }
         ensures logged { logged_by result.now ≡ logged_of self.now }
         ensures all { KeepsAll self.now → (second : ConfigValue) (lived : List GatewayStep)
             → Stands second lived self.now → length (log_at (plan_again second) group index
@@ -187,10 +213,9 @@ impl<'c> Gateway<'c> {
             → Stands second lived self.now
             → kept_by (seat_at (setting_of second group).seats index).meta.fields result.now
             ≡ (reader_at second group index (session_steps (sources_of self.now) lived)).kept }
-        ensures passed { (second : ConfigValue) (lived : List GatewayStep)
-            → Stands second lived self.now
-            → passed_of result.now
-            ≡ (reader_at second group index (session_steps (sources_of self.now) lived)).passed }
+        ensures lives { (second : ConfigValue) (lived : List GatewayStep) (life : List Lived)
+            → StandsIn second lived life self.now → IsReaderIn (plan_again second)
+            (account_in (plan_again second) life).readings (group, index) result.now }
         ensures made { IsReaderOf
             (seat_at (setting_of self.now.config.now group).seats index).meta result.now }
     {
@@ -203,6 +228,11 @@ impl<'c> Gateway<'c> {
         ensures counts { (second : ConfigValue) (lived : List GatewayStep)
             → Stands second lived self.now
             → let told = journal (plan_again second) (session_steps (sources_of self.now) lived) in
+            result ≡ counted (count_by is_sent told) ∷ counted (count_by is_send_failed told)
+            ∷ counted (count_by is_got told) ∷ [] }
+        ensures lives { (second : ConfigValue) (lived : List GatewayStep) (life : List Lived)
+            → StandsIn second lived life self.now
+            → let told = (account_in (plan_again second) life).journal in
             result ≡ counted (count_by is_sent told) ∷ counted (count_by is_send_failed told)
             ∷ counted (count_by is_got told) ∷ [] }
     {
@@ -221,6 +251,10 @@ impl<'c> Gateway<'c> {
         requires set { set < length self.now.config.now.dataset }
         ensures first { (second : ConfigValue) (lived : List GatewayStep)
             → Stands second lived self.now
+            → let source = slice_index_or (sources_of self.now) set 0 in
+            result ≡ version_in (first_kept (logged_of self.now) (versions_kept source lived)) store }
+        ensures lives { (second : ConfigValue) (lived : List GatewayStep) (life : List Lived)
+            → StandsIn second lived life self.now
             → let source = slice_index_or (sources_of self.now) set 0 in
             result ≡ version_in (first_kept (logged_of self.now) (versions_kept source lived)) store }
         ensures all { KeepsAll self.now → (second : ConfigValue) (lived : List GatewayStep)

@@ -4,9 +4,12 @@
 
 mod collected;
 mod gateway;
+mod laws;
 mod opening;
+mod renewing;
 mod showing;
 mod sources;
 
 pub use gateway::Gateway;
+pub use laws::a_gateway_that_is_not_renewed_stands_behind_its_steps;
 pub use ua_base::{Pumped, Ticked};

@@ -4,13 +4,15 @@ ghost use Rattle.ps_config.specs.declared.parts.Config.{Config as ConfigValue};
 ghost use Rattle.pubsub_states.specs.Components.{IsAmong, counts_of};
 ghost use Rattle.session_model.specs.Answers.{answers_at};
 ghost use Rattle.session_model.specs.Closing.{link_end};
+ghost use Rattle.session_model.specs.Lives.{Lived, account_in, state_in, steps_in};
 ghost use Rattle.session_model.specs.States.{state_at};
 ghost use Rattle.session_model.specs.Steps.{moment_of};
-ghost use Rattle.session_parts.specs.Showing.{standing_at};
+ghost use Rattle.session_parts.specs.Showing.{link_of, sender_in, standing_at, standing_of};
 ghost use Rattle.session_parts.specs.Standing.{IsTallyOf};
 ghost use Rattle.gateway_core.specs.Holding.{IsGateway};
 ghost use Rattle.gateway_core.specs.Lived.{GatewayStep, plan_again};
 ghost use Rattle.gateway_core.specs.Standing.{Stands, steps_of};
+ghost use Rattle.gateway_core.specs.Living.{StandsIn};
 
 use crate::gateway::Gateway;
 use ps_report::LinkEnd;
@@ -20,8 +22,11 @@ use session_parts::{Tally, link_end};
 impl Gateway<'_> {
     /// Milliseconds since it was opened: the sum of what its ticks took.
     pub fn moment(&self) -> u64
-        ensures { (second : ConfigValue) (lived : List GatewayStep) → Stands second lived self.now
+        ensures stands { (second : ConfigValue) (lived : List GatewayStep) → Stands second lived self.now
             → result ≡ moment_of (steps_of self.now lived) }
+        ensures lives { (second : ConfigValue) (lived : List GatewayStep) (life : List Lived)
+            → StandsIn second lived life self.now
+            → result ≡ moment_of (steps_in life) }
     {
         self.moment
     }
@@ -30,8 +35,11 @@ impl Gateway<'_> {
     pub fn state(&self, component: Component) -> State
         requires gateway { IsGateway self.now }
         requires there { IsAmong (counts_of self.now.config.now) component }
-        ensures { (second : ConfigValue) (lived : List GatewayStep) → Stands second lived self.now
+        ensures stands { (second : ConfigValue) (lived : List GatewayStep) → Stands second lived self.now
             → result ≡ state_at (plan_again second) (steps_of self.now lived) component }
+        ensures lives { (second : ConfigValue) (lived : List GatewayStep) (life : List Lived)
+            → StandsIn second lived life self.now
+            → result ≡ state_in (plan_again second) life component }
     {
         self.tree.state_of(component)
     }
@@ -40,16 +48,22 @@ impl Gateway<'_> {
     pub fn tally(&self, read_group: u8) -> Tally
         requires gateway { IsGateway self.now }
         requires there { read_group < length self.now.config.now.readgroup }
-        ensures { (second : ConfigValue) (lived : List GatewayStep) → Stands second lived self.now
+        ensures stands { (second : ConfigValue) (lived : List GatewayStep) → Stands second lived self.now
             → IsTallyOf (answers_at second read_group (steps_of self.now lived)) result }
+        ensures lives { (second : ConfigValue) (lived : List GatewayStep) (life : List Lived)
+            → StandsIn second lived life self.now
+            → IsTallyOf ((account_in (plan_again second) life).readings read_group).answered result }
     {
         self.subscriber.tallies[usize::from(read_group)]
     }
 
     /// What came of all sends and receives over the link.
     pub fn link(&self) -> LinkEnd
-        ensures { (second : ConfigValue) (lived : List GatewayStep) → Stands second lived self.now
+        ensures stands { (second : ConfigValue) (lived : List GatewayStep) → Stands second lived self.now
             → result ≡ link_end (plan_again second) (steps_of self.now lived) }
+        ensures lives { (second : ConfigValue) (lived : List GatewayStep) (life : List Lived)
+            → StandsIn second lived life self.now
+            → result ≡ link_of (account_in (plan_again second) life).journal (steps_in life) }
     {
         link_end(&self.publisher, &self.receiving)
     }
@@ -59,8 +73,11 @@ impl Gateway<'_> {
     pub fn standing(&self, key_group: u8) -> (u32, u32)
         requires gateway { IsGateway self.now }
         requires there { key_group < length self.now.config.now.keygroup }
-        ensures { (second : ConfigValue) (lived : List GatewayStep) → Stands second lived self.now
+        ensures stands { (second : ConfigValue) (lived : List GatewayStep) → Stands second lived self.now
             → result ≡ standing_at (plan_again second) (steps_of self.now lived) key_group }
+        ensures lives { (second : ConfigValue) (lived : List GatewayStep) (life : List Lived)
+            → StandsIn second lived life self.now
+            → result ≡ standing_of (sender_in (plan_again second) life key_group) }
     {
         self.publisher.senders[usize::from(key_group)].standing()
     }

@@ -16,7 +16,8 @@ use Rattle.reader_group.specs.Settings.{group_at as read_group_at}
 use Rattle.writer_group.specs.Parts.{group_at, no_group}
 use Rattle.session_model.specs.Deeds.{group_indexes}
 use Rattle.session_model.specs.Closing.{MemberPlace, reader_places, writer_places}
-use Rattle.pubsub_engine.specs.Ending.{places_of_group, reader_in}
+use Rattle.pubsub_engine.specs.Ending.{places_of_group}
+use Rattle.pubsub_engine.specs.LifeEnds.{reader_in}
 use Rattle.pubsub_engine.specs.Storing.{first_reader}
 use Rattle.pubsub_engine.proofs.Places.{flat-lengths, grouped-places, indexed, place-at}
 use Rattle.pubsub_engine.proofs.PlacesInOrder.{all-members}

@@ -214,22 +214,24 @@ appended-of : (p : Plan) (before : List Step) (a : Account) (set : ℕ) (field :
     → StandsAs p (Append set field ∷ before) (stepped p before a (Append set field)) new
 appended-of p before a set field old new stands same changed parts metas past = record {
   plan = same ∙ stands.plan;
-  moment = ap (λ (s : Session). s.moment) changed ∙ stands.moment;
   closed = ap (λ (s : Session). s.left.is_closed) changed ∙ stands.closed;
   ticks = subst (λ (s : Session). ticks_in before + s.left.ticks ≤ ticks_of s + 1) (sym changed) stands.ticks;
   pumps = subst (λ (s : Session). pumps_in before + s.left.pumps ≡ ticks_in before) (sym changed) stands.pumps;
   metas = metas;
-  groups = past;
-  senders = subst (λ (q : Publisher). HaveSent p.config a.deeds q.senders.items) (sym parts) stands.senders;
-  outcomes = subst (λ (q : Publisher). HaveOutcomesOf p.config a.sent a.failing q.sends.items) (sym parts) stands.outcomes;
-  sends = subst (λ (q : Publisher). AreSendsIn a.journal q.link) (sym parts) stands.sends;
-  readings = subst (λ (s : Session). HaveReadings p.config a.readings s.subscriber.groups.items) (sym changed) stands.readings;
-  tallies = subst (λ (s : Session). HaveTallies p.config a.readings s.subscriber.tallies.items) (sym changed) stands.tallies;
-  receives =
-      let is : AreReceivesIn a.journal before new.receiving = subst (λ (s : Session). AreReceivesIn a.journal before s.receiving) (sym changed) stands.receives in
-      record { received = is.received; broken = is.broken; long = is.long; limit = is.limit };
   stores_are = subst (λ (s : Session). HaveStored p.config (λ place. a.stores place.0 place.1) s.stores) (sym changed) stands.stores_are;
-  flags = flags-appended p before a set field new.tree (subst (λ (s : Session). HasFlags (flags_by p.config before a) s.tree) (sym changed) stands.flags);
+  round = record {
+    moment = ap (λ (s : Session). s.moment) changed ∙ stands.round.moment;
+    groups = past;
+    senders = subst (λ (q : Publisher). HaveSent p.config a.deeds q.senders.items) (sym parts) stands.round.senders;
+    outcomes = subst (λ (q : Publisher). HaveOutcomesOf p.config a.sent a.failing q.sends.items) (sym parts) stands.round.outcomes;
+    sends = subst (λ (q : Publisher). AreSendsIn a.journal q.link) (sym parts) stands.round.sends;
+    readings = subst (λ (s : Session). HaveReadings p.config a.readings s.subscriber.groups.items) (sym changed) stands.round.readings;
+    tallies = subst (λ (s : Session). HaveTallies p.config a.readings s.subscriber.tallies.items) (sym changed) stands.round.tallies;
+    receives =
+        let is : AreReceivesIn a.journal before new.receiving = subst (λ (s : Session). AreReceivesIn a.journal before s.receiving) (sym changed) stands.round.receives in
+        record { received = is.received; broken = is.broken; long = is.long; limit = is.limit };
+    flags = flags-appended p before a set field new.tree (subst (λ (s : Session). HasFlags (flags_by p.config before a) s.tree) (sym changed) stands.round.flags);
+  };
 }
 
 -- of the session's own plan
@@ -259,7 +261,7 @@ appended-own before a old new growth may appends stands =
       stands = appended-of (plan_of old) before a set field old new stands (appended-keeps old new set growth appends).plan appends.changed appends.refreshes.rest
           (appends.next.metas ∙ grown_are)
           (appends.refreshes.past past after a.deeds
-          (subst (λ (m : List MetaData). AreSameButSet set past m) (grown-is past set field there) (same-but past set (grown (meta_in past set) field))) stands.groups);
+          (subst (λ (m : List MetaData). AreSameButSet set past m) (grown-is past set field there) (same-but past set (grown (meta_in past set) field))) stands.round.groups);
     }
 
 pub appended-as : (p : Plan) (before : List Step) (a : Account) (old new : Session) (set : ℕ) (growth : Growth) → MayAppendNext old → AppendsNext old new set growth → StandsAs p before a old

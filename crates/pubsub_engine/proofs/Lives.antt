@@ -21,20 +21,22 @@ use Rattle.pubsub_engine.specs.Storing.{IsStoredAs, meta_at_place}
 pub as-stands : (p : Plan) (steps : List Step) (s : Session) → Stands p steps s → StandsAs p steps (account_of p steps) s
 as-stands p steps s stands = record {
   plan = stands.plan;
-  moment = stands.moment;
   closed = stands.closed;
   ticks = stands.ticks;
   pumps = stands.pumps;
   metas = stands.metas;
-  groups = stands.groups;
-  senders = stands.senders;
-  outcomes = stands.outcomes;
-  sends = stands.sends;
-  readings = stands.readings;
-  tallies = stands.tallies;
-  receives = stands.receives;
   stores_are = stands.stores_are;
-  flags = λ c there. stands.flags c there ∙ flags-as p steps c;
+  round = record {
+    moment = stands.moment;
+    groups = stands.groups;
+    senders = stands.senders;
+    outcomes = stands.outcomes;
+    sends = stands.sends;
+    readings = stands.readings;
+    tallies = stands.tallies;
+    receives = stands.receives;
+    flags = λ c there. stands.flags c there ∙ flags-as p steps c;
+  };
 }
 
 pub stands-of : (p : Plan) (steps : List Step) (s : Session) → IsRun p steps → AreStepsOf (ticks_of s) p steps → TurnsHold p steps → StandsAs p steps (account_of p steps) s → Stands p steps s
@@ -43,20 +45,20 @@ stands-of p steps s run steps_are turns stands = record {
   run = run;
   steps_are = steps_are;
   turns = turns;
-  moment = stands.moment;
+  moment = stands.round.moment;
   closed = stands.closed;
   ticks = stands.ticks;
   pumps = stands.pumps;
   metas = stands.metas;
-  groups = stands.groups;
-  senders = stands.senders;
-  outcomes = stands.outcomes;
-  sends = stands.sends;
-  readings = stands.readings;
-  tallies = stands.tallies;
-  receives = stands.receives;
+  groups = stands.round.groups;
+  senders = stands.round.senders;
+  outcomes = stands.round.outcomes;
+  sends = stands.round.sends;
+  readings = stands.round.readings;
+  tallies = stands.round.tallies;
+  receives = stands.round.receives;
   stores_are = stands.stores_are;
-  flags = λ c there. stands.flags c there ∙ sym (flags-as p steps c);
+  flags = λ c there. stands.round.flags c there ∙ sym (flags-as p steps c);
 }
 
 -- ---- accounts that differ in readings and stores by their form alone
@@ -65,18 +67,20 @@ pub same-stands : (p : Plan) (steps : List Step) (a b : Account) (s : Session) �
     → ((r i : ℕ) → a.stores r i ≡ b.stores r i) → StandsAs p steps a s → StandsAs p steps b s
 same-stands p steps a b s rest same stored stands = subst (λ (x : Account). StandsAs p steps x s) (sym rest) (record {
   plan = stands.plan;
-  moment = stands.moment;
   closed = stands.closed;
   ticks = stands.ticks;
   pumps = stands.pumps;
   metas = stands.metas;
-  groups = stands.groups;
-  senders = stands.senders;
-  outcomes = stands.outcomes;
-  sends = stands.sends;
-  readings = λ r low d. subst (λ (x : Reading). ReadingStands (setting_in p.config r x) x.value (get_or s.subscriber.groups.items r d)) (same r) (stands.readings r low d);
-  tallies = λ r low d. subst (λ (x : Reading). IsTallyOf x.answered (get_or s.subscriber.tallies.items r d)) (same r) (stands.tallies r low d);
-  receives = stands.receives;
   stores_are = λ k place at. subst (λ (l : List Store). IsStoredAs (meta_at_place p.config place) l s.stores k) (stored place.0 place.1) (stands.stores_are k place at);
-  flags = λ c there. stands.flags c there ∙ same-flags p.config steps a (record a { readings = b.readings; stores = b.stores }) refl same c;
+  round = record {
+    moment = stands.round.moment;
+    groups = stands.round.groups;
+    senders = stands.round.senders;
+    outcomes = stands.round.outcomes;
+    sends = stands.round.sends;
+    readings = λ r low d. subst (λ (x : Reading). ReadingStands (setting_in p.config r x) x.value (get_or s.subscriber.groups.items r d)) (same r) (stands.round.readings r low d);
+    tallies = λ r low d. subst (λ (x : Reading). IsTallyOf x.answered (get_or s.subscriber.tallies.items r d)) (same r) (stands.round.tallies r low d);
+    receives = stands.round.receives;
+    flags = λ c there. stands.round.flags c there ∙ same-flags p.config steps a (record a { readings = b.readings; stores = b.stores }) refl same c;
+  };
 })

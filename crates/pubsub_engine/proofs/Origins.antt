@@ -14,17 +14,16 @@ use Rattle.row_words.specs.Belonging.{row_in}
 use Rattle.target_cells.specs.declared.origin.Origin.{Origin}
 use Rattle.version_cell.specs.declared.rule.Entry.{Entry}
 use Rattle.version_cell.specs.Known.{Known}
-use Rattle.session_model.specs.Steps.{Plan, Step}
-use Rattle.session_model.specs.Sets.{metas_at}
-use Rattle.session_model.specs.Deeds.{deeds, logs_cut}
+use Rattle.session_model.specs.Steps.{Plan}
+use Rattle.session_model.specs.Deeds.{Deed}
 use Rattle.session_model.specs.Closing.{MemberPlace, reader_places}
-use Rattle.session_model.specs.Stores.{Store, stores}
+use Rattle.session_model.specs.Stores.{Store}
 use Rattle.session_parts.specs.declared.publisher.Publisher.{Publisher}
 use Rattle.session_parts.specs.Holding.{AreAllLogged}
 use Rattle.session_parts.specs.Standing.{HavePast}
 use Rattle.pubsub_engine.specs.declared.storing.Last.{Last}
-use Rattle.pubsub_engine.specs.Logs.{IsLogRead, log_by}
-use Rattle.pubsub_engine.specs.Standing.{IsOriginWith, IsVersionStored, number_stored}
+use Rattle.pubsub_engine.specs.Logs.{IsLogRead, log_after, log_by}
+use Rattle.pubsub_engine.specs.Standing.{IsOriginFrom, IsVersionStored, number_stored}
 use Rattle.pubsub_engine.specs.Storing.{HasStored, IsLast}
 use Rattle.pubsub_engine.proofs.Places.{grouped_at, grouped-places}
 
@@ -33,17 +32,16 @@ none-there [] meta row last off is = refl
 none-there (store ∷ before) meta row last off is = absurd (false≢true (sym off ∙ is.0))
 
 -- before the first store
-pub no-origin : (logs : ℕ → ℕ → List (ℕ × ℕ)) (p : Plan) (steps : List Step) (place : MemberPlace) (meta : MetaData) (row : List ℕ) (last : Last) → last.is_there ≡ false
-    → IsLast (stores p.config place.0 place.1 steps) meta row last
-    → IsOriginWith logs p steps place (record { store = 0; number = None; version = Some 0 })
-no-origin logs p steps place meta row last off is = record {
+pub no-origin : (logs : ℕ → ℕ → List (ℕ × ℕ)) (p : Plan) (place : MemberPlace) (stored : List Store) (meta : MetaData) (row : List ℕ) (last : Last) → last.is_there ≡ false
+    → IsLast stored meta row last → IsOriginFrom logs p place stored (record { store = 0; number = None; version = Some 0 })
+no-origin logs p place stored meta row last off is = record {
   store = sym (ap length none);
   number = sym (ap number_stored none);
   version = subst (λ (list : List Store). IsVersionStored logs p place list (Some 0)) (sym none) refl;
 }
   where
-    none : stores p.config place.0 place.1 steps ≡ []
-    none = none-there (stores p.config place.0 place.1 steps) meta row last off is
+    none : stored ≡ []
+    none = none-there stored meta row last off is
 
 -- as many as the keeper's pass has seen
 count-seen : (list : List Store) (meta : MetaData) (pass : Known) → HasStored list meta pass → length pass.seen ≡ length list
@@ -69,19 +67,19 @@ version-is logs p place (store ∷ before) meta row last version on is own other
     (λ same. own same ∙ ap (option_and_then (version_in (log_by logs p.config (seat_at (setting_of p.config place.0).seats place.1).part.writer))) is.1, other)
 
 -- of the last store
-pub is-origin : (most : ℕ) (p : Plan) (steps : List Step) (place : MemberPlace) (meta : MetaData) (row : List ℕ) (last : Last) (pass : Known) (publisher : Publisher) (log : List (ℕ × ℕ)) (origin : Origin) (k : ℕ)
+pub is-origin : (most : ℕ) (p : Plan) (metas : List MetaData) (deeds : List Deed) (place : MemberPlace) (stored : List Store) (meta : MetaData) (row : List ℕ) (last : Last) (pass : Known) (publisher : Publisher) (log : List (ℕ × ℕ)) (origin : Origin) (k : ℕ)
     → last.is_there ≡ true
-    → IsLast (stores p.config place.0 place.1 steps) meta row last → HasStored (stores p.config place.0 place.1 steps) meta pass
+    → IsLast stored meta row last → HasStored stored meta pass
     → slice_get (reader_places p.config) k ≡ Some place
-    → AreAllLogged most publisher.groups.items → HavePast p.config (metas_at p.config steps) (deeds p steps) publisher.groups.items
+    → AreAllLogged most publisher.groups.items → HavePast p.config metas deeds publisher.groups.items
     → ((at : ReadGroupPart × ReaderPart) → slice_get (grouped_readers p.config.readgroup) k ≡ Some at → IsLogRead p.config publisher at log)
     → origin.store ≡ length pass.seen → origin.number ≡ last.number → origin.version ≡ option_and_then (version_in log) last.number
-    → IsOriginWith (logs_cut most p steps) p steps place origin
-is-origin most p steps place meta row last pass publisher log origin k on is seen at logged past read is_store is_number is_version = record {
-  store = is_store ∙ count-seen (stores p.config place.0 place.1 steps) meta pass seen;
-  number = is_number ∙ number-is (stores p.config place.0 place.1 steps) meta row last on is;
-  version = version-is (logs_cut most p steps) p place (stores p.config place.0 place.1 steps) meta row last origin.version on is
-      (λ same. is_version ∙ ap (λ (l : List (ℕ × ℕ)). option_and_then (version_in l) last.number) (named.own same most (metas_at p.config steps) (deeds p steps) logged past))
+    → IsOriginFrom (log_after most p.config deeds) p place stored origin
+is-origin most p metas deeds place stored meta row last pass publisher log origin k on is seen at logged past read is_store is_number is_version = record {
+  store = is_store ∙ count-seen stored meta pass seen;
+  number = is_number ∙ number-is stored meta row last on is;
+  version = version-is (log_after most p.config deeds) p place stored meta row last origin.version on is
+      (λ same. is_version ∙ ap (λ (l : List (ℕ × ℕ)). option_and_then (version_in l) last.number) (named.own same most metas deeds logged past))
       (λ apart. is_version ∙ ap (λ (l : List (ℕ × ℕ)). option_and_then (version_in l) last.number) (named.other apart) ∙ no-version last.number);
 }
   where

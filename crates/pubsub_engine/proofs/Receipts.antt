@@ -1,5 +1,5 @@
 -- A pump: where its receives, what the tree is told of readers and the stores leave the session.
-use Rattle.std.proofs.Common.{◌≡◌, refl, sym, ap, ◌∙◌, subst, arith, ℕ, ◌+◌, ◌-◌, ◌*◌, ◌<◌, List, [], ◌∷◌, ◌++◌, Option}
+use Rattle.std.proofs.Common.{◌≡◌, refl, sym, ap, ◌∙◌, subst, arith, ℕ, ◌+◌, ◌-◌, ◌*◌, ◌<◌, List, ◌∷◌, ◌++◌, Option}
 use Rattle.ua_base.specs.Journal.{LinkState, Entry}
 use Rattle.pubsub_states.specs.Components.{counts_of}
 use Rattle.pubsub_states.specs.Changes.{TreeValue}
@@ -7,9 +7,7 @@ use Rattle.reader_group.specs.Members.{seat_at}
 use Rattle.reader_group.specs.Plain.{member_at}
 use Rattle.reader_group.specs.Settings.{setting_of}
 use Rattle.session_model.specs.Steps.{Plan, Step, Pump}
-use Rattle.session_model.specs.Counts.{most_ms, most_taken, pumps_in, ticks_in}
-use Rattle.session_model.specs.Sets.{metas_at}
-use Rattle.session_model.specs.Events.{got_all}
+use Rattle.session_model.specs.Counts.{most_ms, pumps_in, ticks_in}
 use Rattle.session_model.specs.Lives.{Account, IsRunOn, Lived, account_in, account_of, reading_after, stepped, steps_in}
 use Rattle.session_model.specs.Readings.{Reading}
 use Rattle.session_model.specs.Sends.{TellsJournal}
@@ -18,20 +16,21 @@ use Rattle.session_model.specs.Closing.{MemberPlace}
 use Rattle.session_parts.specs.declared.receiving.Receiving.{Receiving}
 use Rattle.session_parts.specs.declared.subscriber.Subscriber.{Subscriber}
 use Rattle.session_parts.specs.Holding.{AreAllLogged, HasBuffers, HoldSubscriber, MayAllGoOn}
-use Rattle.session_parts.specs.Standing.{AreSendsIn, HaveOutcomesOf, HavePast, HaveReadings, HaveSent}
-use Rattle.session_parts.specs.Pumping.{HaveGot, Pumps, PumpsTo, TellsReaders}
-use Rattle.session_parts.proofs.Entries.{pump_sends}
+use Rattle.session_parts.specs.Standing.{HaveReadings}
+use Rattle.session_parts.specs.Rounds.{RoundStands}
+use Rattle.session_parts.specs.Pumping.{PumpsTo, TellsReaders}
+use Rattle.session_parts.proofs.Rounds.{round-pumped}
 use Rattle.pubsub_engine.specs.declared.session.Left.{Left}
 use Rattle.pubsub_engine.specs.declared.session.Session.{Session}
 use Rattle.pubsub_engine.specs.declared.storing.Stores.{Stores}
 use Rattle.session_model.specs.Keeping.{AreStepsOf}
 use Rattle.pubsub_engine.specs.Holding.{CountsPump, HoldStores, IsSession, plan_of, ticks_of}
 use Rattle.pubsub_engine.specs.Standing.{Leads, Stands}
-use Rattle.pubsub_engine.specs.Living.{LeadsIn, StandsAs, StandsIn}
+use Rattle.pubsub_engine.specs.Living.{LeadsIn, StandsAs, StandsIn, round_of}
 use Rattle.session_parts.proofs.Accounts.{reading-pumped}
 use Rattle.pubsub_engine.proofs.Lives.{as-stands, same-stands, stands-of}
 use Rattle.pubsub_engine.specs.Storing.{HaveStored, stored_at}
-use Rattle.session_parts.proofs.Pumped.{flags-pumped, receives-pumped, sends-pumped, switches, tells-pumped}
+use Rattle.session_parts.proofs.Pumped.{tells-pumped}
 
 -- ---- the session
 
@@ -84,34 +83,22 @@ pumped-of : (before : List Step) (a : Account) (old new : Session) (taken : ℕ)
     → StandsAs (plan_of old) (Pump does.pumps.entries ∷ before) (stepped (plan_of old) before a (Pump does.pumps.entries)) new
 pumped-of before a old new taken told after does stands = record {
   plan = ap plan_of does.changed;
-  moment = ap (λ (s : Session). s.moment) does.changed ∙ stands.moment;
   closed = ap (λ (l : Left). l.is_closed) does.left.rest ∙ stands.closed;
   ticks = omega (arith, ap (λ (l : Left). l.ticks) does.left.rest, ap (λ (l : Left). l.stores) does.left.rest, stands.ticks);
   pumps = omega (arith, stands.pumps, does.left.pumps);
   metas = ap (λ (s : Session). s.sets.metas.items) does.changed ∙ stands.metas;
-  groups = subst (λ (s : Session). HavePast p.config (metas_at p.config before) a.deeds s.publisher.groups.items) (sym does.changed) stands.groups;
-  senders = subst (λ (s : Session). HaveSent p.config a.deeds s.publisher.senders.items) (sym does.changed) stands.senders;
-  outcomes = subst (λ (s : Session). HaveOutcomesOf p.config a.sent a.failing s.publisher.sends.items) (sym does.changed) stands.outcomes;
-  sends = subst (λ (s : Session). AreSendsIn (a.journal ++ entries) s.publisher.link) (sym does.changed)
-      (sends-pumped a.journal entries old.publisher.link (pump_sends most_taken entries pumps.pump) stands.sends);
-  readings = got.readings;
-  tallies = got.tallies;
-  receives = receives-pumped p before a entries old.receiving new.receiving old.subscriber new.subscriber old.tree old.moment pumps stands.receives;
-  stores_are = does.stored (reading_after p.config before (Pump entries) a) (λ place. a.stores place.0 place.1) got.readings stands.stores_are;
-  flags = flags-pumped p before a entries new.subscriber old.tree new.tree does.kept got.readings does.told_readers stands.flags;
+  stores_are = does.stored (reading_after old.config.now before (Pump does.pumps.entries) a) (λ place. a.stores place.0 place.1) round.readings stands.stores_are;
+  round = round;
 }
   where
-    p : Plan
-    p = plan_of old
-
-    entries : List Entry
-    entries = does.pumps.entries
-
-    pumps : Pumps old.config.now does.pumps.entries old.receiving new.receiving old.subscriber new.subscriber old.tree old.moment
-    pumps = does.pumps.pumps
-
-    got : HaveGot old.config.now a.readings (λ r. got_all old.config.now before r does.pumps.entries []) new.subscriber
-    got = pumps.hands_on before a.readings (λ r. []) (switches (plan_of old) before a old.tree does.counts stands.flags) stands.moment (record { readings = stands.readings; tallies = stands.tallies })
+    round : RoundStands (plan_of old) (Pump does.pumps.entries ∷ before) (stepped (plan_of old) before a (Pump does.pumps.entries)) (round_of new)
+    round = round-pumped (plan_of old) before a does.pumps.entries (round_of old) (round_of new) (record {
+      changed = ap round_of does.changed;
+      counts = does.counts;
+      kept = does.kept;
+      pumps = does.pumps.pumps;
+      told = does.told_readers;
+    }) stands.round
 
 pub pumped-as : (p : Plan) (before : List Step) (a : Account) (old new : Session) (taken : ℕ) (told after : Option LinkState) → (does : DoesPump old new taken told after) → StandsAs p before a old
     → HasPumped p before a does.pumps.entries old new told after

@@ -54,20 +54,12 @@ lives-sampled old new changed p life stands = subst (StandsIn p life) (sym chang
   turns = stands.turns;
   parts = record {
     plan = stands.parts.plan;
-    moment = stands.parts.moment;
     closed = stands.parts.closed;
     ticks = stands.parts.ticks;
     pumps = stands.parts.pumps;
     metas = stands.parts.metas;
-    groups = stands.parts.groups;
-    senders = stands.parts.senders;
-    outcomes = stands.parts.outcomes;
-    sends = stands.parts.sends;
-    readings = stands.parts.readings;
-    tallies = stands.parts.tallies;
-    receives = stands.parts.receives;
     stores_are = stands.parts.stores_are;
-    flags = stands.parts.flags;
+    round = stands.parts.round;
   };
 })
 

@@ -63,7 +63,7 @@ pub was-on-as : (old : Session) (id : ℕ) → IsSession old → IsId (counts_of
     → (changes.flags_at old.tree id).enabled ≡ is_on p.config before (component_at p.config id)
 was-on-as old id session there p before a stands =
     subst (λ (q : Plan). StandsAs q before a old → (changes.flags_at old.tree id).enabled ≡ is_on q.config before (component_at q.config id)) stands.plan
-    (λ at. is-on (plan_of old) before a id old.tree session.tree there at.flags) stands
+    (λ at. is-on (plan_of old) before a id old.tree session.tree there at.round.flags) stands
 
 pub was-on : (old : Session) (id : ℕ) → IsSession old → IsId (counts_of old.config.now) id → (p : Plan) (before : List Step) → Stands p before old
     → (changes.flags_at old.tree id).enabled ≡ is_on p.config before (component_at p.config id)
@@ -194,23 +194,25 @@ enabled-of : (before : List Step) (a : Account) (id : ℕ) (component : Componen
     → StandsAs (plan_of old) (Enable id ∷ before) (stepped (plan_of old) before a (Enable id)) new
 enabled-of before a id component old new does stands = record {
   plan = ap plan_of does.changed;
-  moment = ap (λ (s : Session). s.moment) does.changed ∙ stands.moment;
   closed = ap (λ (s : Session). s.left.is_closed) does.changed ∙ stands.closed;
   ticks = omega (arith, ap (λ (s : Session). s.left.ticks) does.changed, ap (λ (s : Session). s.left.stores) does.changed, stands.ticks);
   pumps = omega (arith, ap (λ (s : Session). s.left.pumps) does.changed, stands.pumps);
   metas = ap (λ (s : Session). s.sets.metas.items) does.changed ∙ stands.metas;
-  groups = subst (λ (c : Component). HavePast p.config (metas_at p.config before) (RefreshedBelow c ∷ a.deeds) new.publisher.groups.items) (sym does.is_component)
-      (does.past (metas_at p.config before) a.deeds stands.groups);
-  senders = subst (λ (q : Publisher). HaveSent p.config a.deeds q.senders.items) (sym does.parts) stands.senders;
-  outcomes = subst (λ (q : Publisher). HaveOutcomesOf p.config a.sent a.failing q.sends.items) (sym does.parts) stands.outcomes;
-  sends = subst (λ (q : Publisher). AreSendsIn a.journal q.link) (sym does.parts) stands.sends;
-  readings = subst (λ (s : Session). HaveReadings p.config a.readings s.subscriber.groups.items) (sym does.changed) stands.readings;
-  tallies = subst (λ (s : Session). HaveTallies p.config a.readings s.subscriber.tallies.items) (sym does.changed) stands.tallies;
-  receives =
-      let same : AreReceivesIn a.journal before new.receiving = subst (λ (s : Session). AreReceivesIn a.journal before s.receiving) (sym does.changed) stands.receives in
-      record { received = same.received; broken = same.broken; long = same.long; limit = same.limit };
   stores_are = subst (λ (s : Session). HaveStored p.config (λ place. a.stores place.0 place.1) s.stores) (sym does.changed) stands.stores_are;
-  flags = flags-enabled p before a id old.tree new.tree does.counts does.switched stands.flags;
+  round = record {
+    moment = ap (λ (s : Session). s.moment) does.changed ∙ stands.round.moment;
+    groups = subst (λ (c : Component). HavePast p.config (metas_at p.config before) (RefreshedBelow c ∷ a.deeds) new.publisher.groups.items) (sym does.is_component)
+        (does.past (metas_at p.config before) a.deeds stands.round.groups);
+    senders = subst (λ (q : Publisher). HaveSent p.config a.deeds q.senders.items) (sym does.parts) stands.round.senders;
+    outcomes = subst (λ (q : Publisher). HaveOutcomesOf p.config a.sent a.failing q.sends.items) (sym does.parts) stands.round.outcomes;
+    sends = subst (λ (q : Publisher). AreSendsIn a.journal q.link) (sym does.parts) stands.round.sends;
+    readings = subst (λ (s : Session). HaveReadings p.config a.readings s.subscriber.groups.items) (sym does.changed) stands.round.readings;
+    tallies = subst (λ (s : Session). HaveTallies p.config a.readings s.subscriber.tallies.items) (sym does.changed) stands.round.tallies;
+    receives =
+        let same : AreReceivesIn a.journal before new.receiving = subst (λ (s : Session). AreReceivesIn a.journal before s.receiving) (sym does.changed) stands.round.receives in
+        record { received = same.received; broken = same.broken; long = same.long; limit = same.limit };
+    flags = flags-enabled p before a id old.tree new.tree does.counts does.switched stands.round.flags;
+  };
 }
   where
     p : Plan
@@ -223,7 +225,7 @@ enabled-as p before a id component old new does stands =
     (λ at. record {
       may = record {
         there = does.there;
-        was = sym (is-on (plan_of old) before a id old.tree does.counts does.there at.flags) ∙ does.was;
+        was = sym (is-on (plan_of old) before a id old.tree does.counts does.there at.round.flags) ∙ does.was;
         running = sym at.closed ∙ does.running;
       };
       kept = ap ticks_of does.changed;
@@ -285,23 +287,25 @@ disabled-of : (before : List Step) (a : Account) (id : ℕ) (component : Compone
     → StandsAs (plan_of old) (Disable id ∷ before) (stepped (plan_of old) before a (Disable id)) new
 disabled-of before a id component old new tree does stands = record {
   plan = ap plan_of does.changed;
-  moment = ap (λ (s : Session). s.moment) does.changed ∙ stands.moment;
   closed = ap (λ (s : Session). s.left.is_closed) does.changed ∙ stands.closed;
   ticks = omega (arith, ap (λ (s : Session). s.left.ticks) does.changed, ap (λ (s : Session). s.left.stores) does.changed, stands.ticks);
   pumps = omega (arith, ap (λ (s : Session). s.left.pumps) does.changed, stands.pumps);
   metas = ap (λ (s : Session). s.sets.metas.items) does.changed ∙ stands.metas;
-  groups = subst (λ (s : Session). HavePast p.config (metas_at p.config before) a.deeds s.publisher.groups.items) (sym does.changed) stands.groups;
-  senders = subst (λ (s : Session). HaveSent p.config a.deeds s.publisher.senders.items) (sym does.changed) stands.senders;
-  outcomes = subst (λ (s : Session). HaveOutcomesOf p.config a.sent a.failing s.publisher.sends.items) (sym does.changed) stands.outcomes;
-  sends = subst (λ (s : Session). AreSendsIn a.journal s.publisher.link) (sym does.changed) stands.sends;
-  readings = read;
-  tallies = subst (λ (s : Subscriber). HaveTallies p.config (reading_after p.config before (Disable id) a) s.tallies.items) (sym does.parts)
-      (tallies-stopped p.config before id a old.subscriber.tallies.items stands.tallies);
-  receives =
-      let same : AreReceivesIn a.journal before new.receiving = subst (λ (s : Session). AreReceivesIn a.journal before s.receiving) (sym does.changed) stands.receives in
-      record { received = same.received; broken = same.broken; long = same.long; limit = same.limit };
   stores_are = subst (λ (s : Session). HaveStored p.config (λ place. a.stores place.0 place.1) s.stores) (sym does.changed) stands.stores_are;
-  flags = flags-disabled p before a id new.subscriber old.tree tree new.tree does.counts does.switched does.kept read does.told stands.flags;
+  round = record {
+    moment = ap (λ (s : Session). s.moment) does.changed ∙ stands.round.moment;
+    groups = subst (λ (s : Session). HavePast p.config (metas_at p.config before) a.deeds s.publisher.groups.items) (sym does.changed) stands.round.groups;
+    senders = subst (λ (s : Session). HaveSent p.config a.deeds s.publisher.senders.items) (sym does.changed) stands.round.senders;
+    outcomes = subst (λ (s : Session). HaveOutcomesOf p.config a.sent a.failing s.publisher.sends.items) (sym does.changed) stands.round.outcomes;
+    sends = subst (λ (s : Session). AreSendsIn a.journal s.publisher.link) (sym does.changed) stands.round.sends;
+    readings = read;
+    tallies = subst (λ (s : Subscriber). HaveTallies p.config (reading_after p.config before (Disable id) a) s.tallies.items) (sym does.parts)
+        (tallies-stopped p.config before id a old.subscriber.tallies.items stands.round.tallies);
+    receives =
+        let same : AreReceivesIn a.journal before new.receiving = subst (λ (s : Session). AreReceivesIn a.journal before s.receiving) (sym does.changed) stands.round.receives in
+        record { received = same.received; broken = same.broken; long = same.long; limit = same.limit };
+    flags = flags-disabled p before a id new.subscriber old.tree tree new.tree does.counts does.switched does.kept read does.told stands.round.flags;
+  };
 }
   where
     p : Plan
@@ -309,7 +313,7 @@ disabled-of before a id component old new tree does stands = record {
 
     read : HaveReadings old.config.now (reading_after old.config.now before (Disable id) a) new.subscriber.groups.items
     read = subst (λ (c : Component). HaveReadAll old.config.now a.readings (λ r. stopped_below old.config.now r c []) new.subscriber.groups.items) (sym does.is_component)
-        (does.stopped a.readings (λ r. []) stands.readings)
+        (does.stopped a.readings (λ r. []) stands.round.readings)
 
 pub disabled-as : (p : Plan) (before : List Step) (a : Account) (id : ℕ) (component : Component) (old new : Session) (tree : TreeValue) → DoesDisable id component old new tree → StandsAs p before a old
     → HasSwitched p before a true id (Disable id) old new
@@ -318,7 +322,7 @@ disabled-as p before a id component old new tree does stands =
     (λ at. record {
       may = record {
         there = does.there;
-        was = sym (is-on (plan_of old) before a id old.tree does.counts does.there at.flags) ∙ does.was;
+        was = sym (is-on (plan_of old) before a id old.tree does.counts does.there at.round.flags) ∙ does.was;
         running = sym at.closed ∙ does.running;
       };
       kept = ap ticks_of does.changed;

@@ -215,7 +215,7 @@ told-of ms closing old mid told begun is p before a stands = record {
   rows = is.rows ∙ begun.cut
       ∙ ap (λ (m : List MetaData). rows_cut m old.sets.full.items old.samples.taken.items) stands.metas
       ∙ ap (λ (q : Plan). rows_cut (metas_at p.config before) q.full old.samples.taken.items) stands.plan;
-  moment = is.moment ∙ ap (λ (m : ℕ). m + ms) stands.moment;
+  moment = is.moment ∙ ap (λ (m : ℕ). m + ms) stands.round.moment;
   closing = is.closing_is;
 }
 

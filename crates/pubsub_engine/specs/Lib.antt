@@ -4,5 +4,6 @@ pub mod Standing
 pub mod Living
 pub mod Ticking
 pub mod Authored
+pub mod LifeEnds
 pub mod Ending
 pub mod Logs

@@ -93,11 +93,15 @@ abbrev pub number_stored : List Store → Option ℕ
 number_stored [] = None
 number_stored (last ∷ before) = last.number
 
+-- where the reader with this place has these stores, and the version in these logs
+pub record IsOriginFrom (logs : ℕ → ℕ → List (ℕ × ℕ)) (p : Plan) (place : MemberPlace) (list : List Store) (origin : Origin) : Type 0 where
+  pub store : origin.store ≡ length list
+  pub number : origin.number ≡ number_stored list
+  pub version : IsVersionStored logs p place list origin.version
+
 -- the stores of the reader with this place, and the version in these logs
-pub record IsOriginWith (logs : ℕ → ℕ → List (ℕ × ℕ)) (p : Plan) (steps : List Step) (place : MemberPlace) (origin : Origin) : Type 0 where
-  pub store : origin.store ≡ length (stores p.config place.0 place.1 steps)
-  pub number : origin.number ≡ number_stored (stores p.config place.0 place.1 steps)
-  pub version : IsVersionStored logs p place (stores p.config place.0 place.1 steps) origin.version
+abbrev pub IsOriginWith : (ℕ → ℕ → List (ℕ × ℕ)) → Plan → List Step → MemberPlace → Origin → Type 0
+IsOriginWith logs p steps place origin = IsOriginFrom logs p place (stores p.config place.0 place.1 steps) origin
 
 -- in the whole logs
 abbrev pub IsOriginOf : Plan → List Step → MemberPlace → Origin → Type 0

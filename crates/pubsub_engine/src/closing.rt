@@ -4,8 +4,11 @@ ghost use Rattle.ps_report.specs.Conditions.{IsClosedOf};
 ghost use Rattle.session_model.specs.Steps.{Plan, Step};
 ghost use Rattle.session_model.specs.Closing.{IsClosedAfter, IsClosedWith};
 ghost use Rattle.session_model.specs.Deeds.{logs_cut};
+ghost use Rattle.session_model.specs.Lives.{Lived};
 ghost use Rattle.pubsub_engine.specs.Holding.{IsSession, KeepsWholeLogs, logged_of, passes_of, plan_of};
 ghost use Rattle.pubsub_engine.specs.Standing.{Stands};
+ghost use Rattle.pubsub_engine.specs.Living.{StandsIn};
+ghost use Rattle.pubsub_engine.specs.LifeEnds.{IsClosedIn};
 ghost use Rattle.pubsub_engine.specs.Authored.{AreHistories, AreInOrder, AreLooksAt, HasThreads, IsAuthored, byte_of, filled, watch_of, watches_in_bytes, watches_of};
 ghost use Rattle.app_threads.specs.Items.{versions_in};
 ghost use Rattle.ps_config.specs.Sound.{readers};
@@ -17,6 +20,7 @@ use crate::session::Session;
 use app_threads::{Done, Looked};
 use ps_config::Parts;
 use ps_report::{Closed, History, WatchEnd};
+use reader_group::each_held_row_has_its_number;
 use session_parts::link_end;
 use std::alloc::Global;
 use ua_base::NoMemory;
@@ -37,7 +41,13 @@ impl Session<'_> {
         ensures watches { AreInOrder dones.now → IfOk result (λ closed. closed.watches ≡ watches_of dones.now) }
         ensures of { IfOk result (λ closed. (steps : List Step) → Stands (plan_of self.entry) steps self.entry
             → AreLooksAt (readers (plan_of self.entry).config) dones.now → IsClosedOf (plan_of self.entry).config closed) }
+        ensures lives { (p : Plan) (life : List Lived) → StandsIn p life self.entry
+            → IfOk result (IsClosedIn (logged_of self.entry) p life) }
+        ensures of_lives { IfOk result (λ closed. (life : List Lived)
+            → StandsIn (plan_of self.entry) life self.entry
+            → AreLooksAt (readers (plan_of self.entry).config) dones.now → IsClosedOf (plan_of self.entry).config closed) }
     {
+        each_held_row_has_its_number();
         let sets = self.sets.metas.len() as u8;
         let histories = histories(alloc, &self.samples, sets, dones)?;
         let groups = group_ends(alloc, self.config, &self.tree, &self.publisher)?;

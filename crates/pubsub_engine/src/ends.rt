@@ -13,12 +13,15 @@ ghost use Rattle.pubsub_states.specs.Changes.{flags_in};
 ghost use Rattle.pubsub_states.specs.States.{state_of};
 ghost use Rattle.pubsub_states.specs.declared.component.Component.TheVariants.{Writer as WriterOf};
 ghost use Rattle.session_model.specs.Steps.{Plan, Step};
-ghost use Rattle.session_model.specs.Deeds.{group_indexes, logs_cut};
+ghost use Rattle.session_model.specs.Deeds.{group_indexes};
 ghost use Rattle.session_model.specs.Events.{read_group_indexes};
-ghost use Rattle.session_model.specs.Closing.{IsWriterEndWith, MemberPlace, Shows, group_end, read_group_end, reader_places, writer_places};
+ghost use Rattle.session_model.specs.Closing.{MemberPlace, Shows, reader_places, writer_places};
+ghost use Rattle.session_model.specs.Lives.{Account};
 ghost use Rattle.writer_group.specs.Parts.{group_at};
 ghost use Rattle.pubsub_engine.specs.Storing.{first_reader};
-ghost use Rattle.pubsub_engine.specs.Ending.{HavePublished, HaveReceived, IsToldAt, MayTellReaders, MayTellWriters, places_of_group, places_of_read_group};
+ghost use Rattle.pubsub_engine.specs.Logs.{log_after};
+ghost use Rattle.pubsub_engine.specs.LifeEnds.{IsToldBy, IsWriterEndBy, group_end_by, read_group_end_by};
+ghost use Rattle.pubsub_engine.specs.Ending.{HavePublished, HaveReceived, MayTellReaders, MayTellWriters, places_of_group, places_of_read_group};
 
 use crate::logs::{log_read, version_at};
 use arrayvec::ArrayVec;
@@ -27,7 +30,6 @@ use ps_config::{Config, Parts};
 use ps_report::{GroupEnd, HeldEnd, ReadGroupEnd, ReaderEnd, WriterEnd};
 use pubsub_model::Break;
 use pubsub_states::{Component, State, Tree};
-use reader_group::each_held_row_has_its_number;
 use session_parts::{Publisher, Subscriber, group_part, read_group_part};
 use std::alloc::Global;
 use ua_base::NoMemory;
@@ -40,9 +42,9 @@ pub(crate) fn group_ends(
     publisher: &Publisher,
 ) -> Result<Vec<GroupEnd>, NoMemory>
     requires { MayTellWriters config.now tree.now publisher.now }
-    ensures { IfOk result (λ ends. (most : ℕ) (p : Plan) (steps : List Step)
-        → HavePublished config.now most p steps tree.now publisher.now
-        → ends.items ≡ map (group_end p steps) (group_indexes p.config)) }
+    ensures { IfOk result (λ ends. (most : ℕ) (p : Plan) (steps : List Step) (a : Account)
+        → HavePublished config.now most p steps a tree.now publisher.now
+        → ends.items ≡ map (group_end_by p steps a) (group_indexes p.config)) }
 {
     let mut ends = Vec::new(alloc);
     for g in 0..config.group.as_slice().len() {
@@ -62,9 +64,9 @@ pub(crate) fn writer_ends(
     publisher: &Publisher,
 ) -> Result<Vec<WriterEnd>, NoMemory>
     requires { MayTellWriters config.now tree.now publisher.now }
-    ensures { IfOk result (λ ends. (most : ℕ) (p : Plan) (steps : List Step)
-        → HavePublished config.now most p steps tree.now publisher.now
-        → AllZip (IsWriterEndWith (logs_cut most p steps) p steps) (writer_places p.config) ends.items) }
+    ensures { IfOk result (λ ends. (most : ℕ) (p : Plan) (steps : List Step) (a : Account)
+        → HavePublished config.now most p steps a tree.now publisher.now
+        → AllZip (IsWriterEndBy (log_after most p.config a.deeds) p steps a) (writer_places p.config) ends.items) }
 {
     let mut ends = Vec::new(alloc);
     for g in 0..config.group.as_slice().len() {
@@ -84,9 +86,9 @@ fn push_writer_ends(
 ) -> Result<(), NoMemory>
     requires may { MayTellWriters config.now tree.now publisher.now }
     requires within { group < length config.now.group }
-    ensures { OnOk result ((most : ℕ) (p : Plan) (steps : List Step) (places : List MemberPlace)
-        → HavePublished config.now most p steps tree.now publisher.now
-        → let is_end = IsWriterEndWith (logs_cut most p steps) p steps in
+    ensures { OnOk result ((most : ℕ) (p : Plan) (steps : List Step) (a : Account)
+        (places : List MemberPlace) → HavePublished config.now most p steps a tree.now publisher.now
+        → let is_end = IsWriterEndBy (log_after most p.config a.deeds) p steps a in
         AllZip is_end places ends.old.items
         → AllZip is_end (places ++ places_of_group p.config group) ends.new.items) }
 {
@@ -112,9 +114,9 @@ fn writer_end(
     requires may { MayTellWriters config.now tree.now publisher.now }
     requires within { group < length config.now.group }
     requires there { writer < length (group_at config.now group).writer }
-    ensures { IfOk result (λ end. (most : ℕ) (p : Plan) (steps : List Step)
-        → HavePublished config.now most p steps tree.now publisher.now
-        → IsWriterEndWith (logs_cut most p steps) p steps (group, writer) end) }
+    ensures { IfOk result (λ end. (most : ℕ) (p : Plan) (steps : List Step) (a : Account)
+        → HavePublished config.now most p steps a tree.now publisher.now
+        → IsWriterEndBy (log_after most p.config a.deeds) p steps a (group, writer) end) }
 {
     let log = publisher.groups[usize::from(group)].writer(writer).log();
     Ok(WriterEnd {
@@ -137,9 +139,9 @@ pub(crate) fn read_group_ends(
     subscriber: &Subscriber,
 ) -> Result<Vec<ReadGroupEnd>, NoMemory>
     requires { MayTellReaders config.now tree.now subscriber.now }
-    ensures { IfOk result (λ ends. (p : Plan) (steps : List Step)
-        → HaveReceived config.now p steps tree.now subscriber.now
-        → ends.items ≡ map (read_group_end p steps) (read_group_indexes p.config)) }
+    ensures { IfOk result (λ ends. (p : Plan) (steps : List Step) (a : Account)
+        → HaveReceived config.now p steps a tree.now subscriber.now
+        → ends.items ≡ map (read_group_end_by p steps a) (read_group_indexes p.config)) }
 {
     let mut ends = Vec::new(alloc);
     for r in 0..config.readgroup.as_slice().len() {
@@ -165,10 +167,10 @@ pub(crate) fn reader_ends(
 ) -> Result<Vec<ReaderEnd>, NoMemory>
     requires writers { MayTellWriters config.now tree.now publisher.now }
     requires readers { MayTellReaders config.now tree.now subscriber.now }
-    ensures { IfOk result (λ ends. (most : ℕ) (p : Plan) (steps : List Step)
-        → HavePublished config.now most p steps tree.now publisher.now
-        → HaveReceived config.now p steps tree.now subscriber.now
-        → AllZip (IsToldAt (logs_cut most p steps) p steps) (reader_places p.config) ends.items) }
+    ensures { IfOk result (λ ends. (most : ℕ) (p : Plan) (steps : List Step) (a : Account)
+        → HavePublished config.now most p steps a tree.now publisher.now
+        → HaveReceived config.now p steps a tree.now subscriber.now
+        → AllZip (IsToldBy (log_after most p.config a.deeds) p steps a) (reader_places p.config) ends.items) }
 {
     let mut ends = Vec::new(alloc);
     for r in 0..config.readgroup.as_slice().len() {
@@ -192,14 +194,13 @@ fn push_reader_ends(
     requires behind { length ends.old.items ≡ first_reader config.now read_group }
     ensures behind { OnOk result
         (length ends.new.items ≡ first_reader config.now (read_group + 1)) }
-    ensures more { OnOk result ((most : ℕ) (p : Plan) (steps : List Step) (places : List MemberPlace)
-        → HavePublished config.now most p steps tree.now publisher.now
-        → HaveReceived config.now p steps tree.now subscriber.now
-        → let is_told = IsToldAt (logs_cut most p steps) p steps in
+    ensures more { OnOk result ((most : ℕ) (p : Plan) (steps : List Step) (a : Account)
+        (places : List MemberPlace) → HavePublished config.now most p steps a tree.now publisher.now
+        → HaveReceived config.now p steps a tree.now subscriber.now
+        → let is_told = IsToldBy (log_after most p.config a.deeds) p steps a in
         AllZip is_told places ends.old.items
         → AllZip is_told (places ++ places_of_read_group p.config read_group) ends.new.items) }
 {
-    each_held_row_has_its_number();
     let r = usize::from(read_group);
     for i in 0..read_group_part(config, r).reader.as_slice().len() {
         let reader = i as u8;

@@ -6,8 +6,9 @@ ghost use Rattle.ps_config.specs.Configs.{is_long};
 ghost use Rattle.reader_group.specs.Settings.{keygroup_at};
 ghost use Rattle.session_model.specs.Steps.{Plan};
 ghost use Rattle.session_model.specs.Lives.{Lived};
+ghost use Rattle.session_parts.specs.Showing.{sender_in};
 ghost use Rattle.pubsub_engine.specs.Holding.{IsSession, KeepsPasses, appends_left, left_of, plan_of};
-ghost use Rattle.pubsub_engine.specs.Living.{LeadsRenewed, StandsIn, sender_in};
+ghost use Rattle.pubsub_engine.specs.Living.{LeadsRenewed, StandsIn};
 
 use crate::session::Session;
 use group_keys::Ring;

@@ -12,13 +12,14 @@ ghost use Rattle.session_model.specs.Counts.{most_taken};
 ghost use Rattle.session_model.specs.Closing.{MemberPlace, is_datagram, reader_places};
 ghost use Rattle.session_model.specs.Deeds.{logs_cut};
 ghost use Rattle.pubsub_engine.specs.Holding.{AddsOneAtMost, AreTargetsOf, ChangesSamples, ChangesStores, CountsPump, CountsTick, IsBankOf, IsRunning, IsSession, KeepsPasses, KeepsWholeLogs, MayAppendNext, MayPump, MayTick, appends_left, keeper_of, left_of, logged_of, passes_of, plan_of};
-ghost use Rattle.session_model.specs.Lives.{Lived, Stepped};
-ghost use Rattle.pubsub_engine.specs.Living.{HaltsTickIn, KeepsLife, LeadsIn, StandsIn};
-ghost use Rattle.pubsub_engine.specs.Standing.{IsOriginWith, IsOriginOf, KeepsStands, Leads, Stands, sampled_by, samples_of};
+ghost use Rattle.session_model.specs.Lives.{Lived, Stepped, account_in};
+ghost use Rattle.pubsub_engine.specs.LifeEnds.{logs_in};
+ghost use Rattle.pubsub_engine.specs.Living.{KeepsLife, LeadsIn, StandsIn};
+ghost use Rattle.pubsub_engine.specs.Standing.{IsOriginFrom, IsOriginWith, IsOriginOf, KeepsStands, Leads, Stands, sampled_by, samples_of};
 ghost use Rattle.pubsub_engine.specs.Ticking.{HasBegun};
 ghost use Rattle.pubsub_states.specs.Components.{counts_of};
 ghost use Rattle.session_parts.specs.Holding.{HoldPublisher};
-ghost use Rattle.session_parts.specs.Ticking.{HaltsTick, TellsFaults};
+ghost use Rattle.session_parts.specs.Ticking.{HaltsTick, HaltsTickIn, TellsFaults};
 ghost use Rattle.writer_group.specs.Standing.{IsGood};
 
 use crate::sampling::Samples;
@@ -270,6 +271,10 @@ impl<'c> Session<'c> {
         ensures whole { KeepsWholeLogs self.now → (p : Plan) (steps : List Step) (place : MemberPlace)
             → Stands p steps self.now → slice_get (reader_places p.config) reader ≡ Some place
             → IsOriginOf p steps place result }
+        ensures lives { (p : Plan) (life : List Lived) (place : MemberPlace) → StandsIn p life self.now
+            → slice_get (reader_places p.config) reader ≡ Some place
+            → IsOriginFrom (logs_in (logged_of self.now) p life) p place
+            ((account_in p life).stores place.0 place.1) result }
     {
         self.stores.origin(self.config, &self.publisher, reader)
     }

@@ -7,11 +7,11 @@ ghost use Rattle.session_model.specs.Answers.{answers_at};
 ghost use Rattle.session_model.specs.Closing.{link_end};
 ghost use Rattle.session_model.specs.States.{state_at};
 ghost use Rattle.session_model.specs.Lives.{Lived, account_in, state_in, steps_in};
-ghost use Rattle.session_parts.specs.Showing.{IsReaderAt, IsReaderIn, link_of, standing_at, standing_of};
+ghost use Rattle.session_parts.specs.Showing.{IsReaderAt, IsReaderIn, link_of, sender_in, standing_at, standing_of};
 ghost use Rattle.session_parts.specs.Standing.{IsTallyOf};
 ghost use Rattle.pubsub_engine.specs.Holding.{IsSession, plan_of};
 ghost use Rattle.pubsub_engine.specs.Standing.{Stands};
-ghost use Rattle.pubsub_engine.specs.Living.{StandsIn, sender_in};
+ghost use Rattle.pubsub_engine.specs.Living.{StandsIn};
 
 use crate::session::Session;
 use dataset_reader::Reader;

@@ -7,13 +7,13 @@ ghost use Rattle.dataset_reader.specs.Reader.{IsReaderOf, kept_by};
 ghost use Rattle.version_cell.specs.Sets.{ArePassesOf, cell_at, pass_at};
 ghost use Rattle.writer_group.specs.Standing.{IsGood};
 ghost use Rattle.row_words.specs.Belonging.{Belongs, row_in};
-ghost use Rattle.session_model.specs.Steps.{Plan, Step};
-ghost use Rattle.session_model.specs.Sets.{metas_at};
-ghost use Rattle.session_model.specs.Deeds.{deeds, logs_cut};
+ghost use Rattle.session_model.specs.Steps.{Plan};
+ghost use Rattle.session_model.specs.Deeds.{Deed};
 ghost use Rattle.session_model.specs.Closing.{MemberPlace, reader_places};
-ghost use Rattle.session_model.specs.Stores.{Store, is_same, stored_on, stores as stores_of};
+ghost use Rattle.session_model.specs.Stores.{Store, is_same, stored_on};
 ghost use Rattle.pubsub_engine.specs.Holding.{AddsOneAtMost, HoldStores};
-ghost use Rattle.pubsub_engine.specs.Standing.{IsOriginWith};
+ghost use Rattle.pubsub_engine.specs.Logs.{log_after};
+ghost use Rattle.pubsub_engine.specs.Standing.{IsOriginFrom};
 ghost use Rattle.session_parts.specs.Holding.{AreAllLogged, AreGroups, HoldSubscriber};
 ghost use Rattle.session_parts.specs.Standing.{HavePast, HaveReadings};
 ghost use Rattle.pubsub_engine.specs.Storing.{HaveStored, HaveStoredOn, IsLast, IsSameAt, IsStoredAs, MayStore, MayStoreFrom, first_reader, held_in, stored_at};
@@ -95,12 +95,13 @@ impl Stores {
         requires there { reader < length (readers config.now) }
         requires count { length self.now.last.items ≡ length (readers config.now) }
         requires keepers { length self.now.keeper ≡ length (readers config.now) }
-        ensures { (most : ℕ) (p : Plan) (steps : List Step) (place : MemberPlace)
+        ensures { (most : ℕ) (p : Plan) (metas : List MetaData) (deeds : List Deed)
+            (list : MemberPlace → List Store) (place : MemberPlace)
             → p.config ≡ config.now → AreAllLogged most publisher.now.groups.items
-            → HavePast p.config (metas_at p.config steps) (deeds p steps) publisher.now.groups.items
-            → HaveStored p.config (λ place. stores_of p.config place.0 place.1 steps) self.now
+            → HavePast p.config metas deeds publisher.now.groups.items
+            → HaveStored p.config list self.now
             → slice_get (reader_places p.config) reader ≡ Some place
-            → IsOriginWith (logs_cut most p steps) p steps place result }
+            → IsOriginFrom (log_after most p.config deeds) p place (list place) result }
     {
         let last = &self.last[usize::from(reader)];
         if !last.is_there {

@@ -35,3 +35,7 @@ pub mod Fresh
 pub mod StatesTold
 pub mod Rekeying
 pub mod Accounts
+pub mod Shown
+pub mod RenewedStates
+pub mod Unrenewed
+pub mod Rounds

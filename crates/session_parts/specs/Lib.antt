@@ -6,3 +6,4 @@ pub mod Pumping
 pub mod Befalling
 pub mod Showing
 pub mod Renewing
+pub mod Rounds

@@ -12,6 +12,7 @@ use Rattle.ua_base.specs.Journal.{Entry}
 use Rattle.ps_report.specs.declared.closed.LinkEnd.{LinkEnd}
 use Rattle.reader_group.specs.Plain.{member_at}
 use Rattle.session_model.specs.Answers.{counted}
+use Rattle.session_model.specs.Lives.{Lived, account_in}
 use Rattle.session_model.specs.Readings.{Reading}
 use Rattle.session_model.specs.Closing.{MemberPlace, is_broken, is_got, is_long, is_send_failed, is_sent, limits}
 
@@ -36,6 +37,10 @@ pub record IsReaderIn (p : Plan) (readings : ℕ → Reading) (place : MemberPla
   pub made : IsReaderOf (seat_at (setting_of p.config place.0).seats place.1).meta reader
   pub kept : kept_by (seat_at (setting_of p.config place.0).seats place.1).meta.fields reader ≡ (member_at (readings place.0).value.members place.1).kept
   pub passed : passed_of reader ≡ (member_at (readings place.0).value.members place.1).passed
+
+-- the sender of a key group in a life
+abbrev pub sender_in : Plan → List Lived → ℕ → SenderState
+sender_in p life k = sender_after p.config k (account_in p life).deeds
 
 -- what came of the sends and receives of a journal, and of the steps' pumps
 abbrev pub link_of : List Entry → List Step → LinkEnd

@@ -28,7 +28,7 @@ use Rattle.session_model.specs.Deeds.{Deed, TookTurn, group_past, opening_sender
 use Rattle.writer_group.specs.Parts.{group_at}
 use Rattle.session_model.specs.Turns.{HoldsIfTurned, deeds_till}
 use Rattle.session_model.specs.Sends.{Send, TellsJournal, last_sends, sends_by, send_entries, is_done_by, failing_after, last_failed}
-use Rattle.session_model.specs.Lives.{Account, account_of, is_ready_by, late_in, stepped}
+use Rattle.session_model.specs.Lives.{Account, Lived, account_in, account_of, is_ready_by, late_in, stepped, steps_in}
 use Rattle.session_model.specs.Readings.{Reading}
 use Rattle.session_model.specs.Answers.{counted}
 use Rattle.session_parts.specs.declared.publisher.Publisher.{Publisher}
@@ -375,3 +375,7 @@ pub record HaltsTickBehind (p : Plan) (before : List Step) (a : Account) (ms : �
 -- behind steps alone
 abbrev pub HaltsTick : Plan → List Step → ℕ → Bool → List Sampled → Option LinkState → Option LinkState → Type 0
 HaltsTick p before ms closing samples told after = HaltsTickBehind p before (account_of p before) ms closing samples told after
+
+-- in a life
+abbrev pub HaltsTickIn : Plan → List Lived → ℕ → Bool → List Sampled → Option LinkState → Option LinkState → Type 0
+HaltsTickIn p life ms closing samples told after = HaltsTickBehind p (steps_in life) (account_in p life) ms closing samples told after

@@ -2,9 +2,9 @@ use Rattle.std.proofs.Common.{ap, arith, get_or, length, ℕ, ◌≡◌, ◌+◌
 use Rattle.std.proofs.lemmas.List.{length_push}
 use Rattle.reader_group.specs.Settings.{group_at as read_group_at}
 use Rattle.session_model.specs.Closing.{MemberPlace}
-use Rattle.session_model.specs.Deeds.{logs_cut}
 use Rattle.session_parts.proofs.TellingReaders.{few-readers}
-use Rattle.pubsub_engine.specs.Ending.{IsToldAt, reader_in}
+use Rattle.pubsub_engine.specs.LifeEnds.{IsToldBy, reader_in}
+use Rattle.pubsub_engine.specs.Logs.{log_after}
 use Rattle.pubsub_engine.specs.Storing.{first_reader}
 use Rattle.pubsub_engine.proofs.ByPlace.{reader-behind}
 use Rattle.pubsub_engine.proofs.EndParts.{reader-told}
@@ -35,12 +35,12 @@ loop-i-preserved c =
     let place : ℕ → MemberPlace = λ i. (r, i) in
     record {
       behind = omega (arith, ap length c.in_ok-push.ensures.items, length_push c.loop-i.ends.items end, c.loop-i.invariant.behind);
-      told = λ most p steps places published have pairs.
-          pairs-more (IsToldAt (logs_cut most p steps) p steps) places place i c.loop-i.ends.items c.push.new.self.items end c.in_ok-push.ensures.items
-          (reader-told config most p steps c.args.tree.now c.args.publisher.now subscriber r i group c.reader.result.now c.log_read-log.result.now end
-          c.requires.readers published have c.requires.within within c.each_held_row_has_its_number.ensures at c.reader.ensures.kept c.reader.ensures.passed c.reader.ensures.made read
+      told = λ most p steps a places published have pairs.
+          pairs-more (IsToldBy (log_after most p.config a.deeds) p steps a) places place i c.loop-i.ends.items c.push.new.self.items end c.in_ok-push.ensures.items
+          (reader-told config most p steps a c.args.tree.now c.args.publisher.now subscriber r i group c.reader.result.now c.log_read-log.result.now end
+          c.requires.readers published have c.requires.within within at c.reader.ensures.kept c.reader.ensures.passed c.reader.ensures.made read
           (c.reader_end.ensures.state ∙ c.state_of-state.ensures) c.reader_end.ensures.shows c.reader_end.ensures.version)
-          (c.loop-i.invariant.told most p steps places published have pairs);
+          (c.loop-i.invariant.told most p steps a places published have pairs);
     }
 
 pub returns-clause-behind : goal.returns-clause-behind

@@ -1,10 +1,14 @@
-use Rattle.std.proofs.Common.{◌-◌, refl, arith}
+use Rattle.std.proofs.Common.{◌-◌, map, refl, arith}
+use Rattle.session_model.specs.Lives.{Stepped}
+use Rattle.session_model.specs.Steps.{Pump as SessionPump}
 use Rattle.gateway_core.specs.declared.gateway.Left.{Left}
 use Rattle.gateway_core.specs.declared.gateway.Gateway.{Gateway}
-use Rattle.gateway_core.specs.Lived.{plan_again, session_steps}
-use Rattle.gateway_core.specs.Holding.{CountsPump, sources_of}
+use Rattle.gateway_core.specs.Lived.{Pump, plan_again}
+use Rattle.gateway_core.specs.Holding.{CountsPump}
+use Rattle.gateway_core.specs.Standing.{steps_of}
 use Rattle.gateway_core.proofs.Lives.{lives-pumped}
-use Rattle.gateway_core.proofs.Receipts.{DoesPump, pumped-gateway, pumps-lead}
+use Rattle.gateway_core.proofs.Receipts.{DoesPump, pumped-gateway, pumps-live}
+use Rattle.gateway_core.proofs.Unrenewed.{leads-back, stands-in}
 use Rattle.gateway_core.proofs.gateway.Gateway.pump.Goals as goal
 
 pub returns-clause-gateway : goal.returns-clause-gateway
@@ -15,9 +19,9 @@ returns-clause-gateway g c =
     pumped-gateway old left c.tell.new.tree c.pump-pumped.new.subscriber c.pump-pumped.new.self c.requires.may.gateway counts c.tell.ensures.counts
     c.pump-pumped.ensures.holds c.pump-pumped.ensures.room
 
-pub returns-clause-leads : goal.returns-clause-leads
-returns-clause-leads g c =
-    λ second lived stands.
+pub returns-clause-lives : goal.returns-clause-lives
+returns-clause-lives g c =
+    λ second lived life stands.
     let old = c.args.self.now in
     let new : Gateway = record old {
       left = record old.left { pumps = old.left.pumps - 1 };
@@ -35,8 +39,25 @@ returns-clause-leads g c =
       pumps = c.pump-pumped.ensures.pumps;
       told_readers = c.tell.ensures.told;
     } in
-    let leads = pumps-lead (plan_again second) (session_steps (sources_of old) lived) old new c.pump-pumped.result.taken told after does stands.session in (
+    let leads = pumps-live (plan_again second) life old new c.pump-pumped.result.taken told after does stands.session in (
       c.pump-pumped.ensures.pumps.entries,
-      lives-pumped second lived c.pump-pumped.ensures.pumps.entries old new told after refl does.left stands leads,
+      lives-pumped second lived life c.pump-pumped.ensures.pumps.entries old new told after refl does.left stands leads,
       c.pump-pumped.ensures.pumps.taken_are,
+    )
+
+pub returns-clause-leads : goal.returns-clause-leads
+returns-clause-leads g c =
+    λ second lived stands.
+    let old = c.args.self.now in
+    let new : Gateway = record old {
+      left = record old.left { pumps = old.left.pumps - 1 };
+      tree = c.tell.new.tree;
+      subscriber = c.pump-pumped.new.subscriber;
+      receiving = c.pump-pumped.new.self;
+    } in
+    let steps = steps_of old lived in
+    let leads = returns-clause-lives g c second lived (map Stepped steps) (stands-in second lived old stands) in (
+      leads.0,
+      leads-back second lived steps (Pump leads.0) (SessionPump leads.0) (g.L.Link.told c.args.link.now) (g.L.Link.told c.pump-pumped.new.link) new refl leads.1,
+      leads.2,
     )

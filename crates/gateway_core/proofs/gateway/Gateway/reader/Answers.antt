@@ -1,5 +1,9 @@
-use Rattle.std.proofs.Common.{ap, ◌∙◌, ℕ, get_or}
-use Rattle.gateway_core.proofs.Members.{reader-kept, reader-made, reader-passed, reader-there}
+use Rattle.std.proofs.Common.{ap, sym, ◌∙◌, ℕ, get_or}
+use Rattle.session_model.specs.Steps.{Plan}
+use Rattle.session_model.specs.Lives.{account_in}
+use Rattle.session_parts.proofs.Shown.{reader-in}
+use Rattle.gateway_core.specs.Lived.{plan_again}
+use Rattle.gateway_core.proofs.Members.{reader-kept, reader-made, reader-there}
 use Rattle.gateway_core.proofs.gateway.Gateway.reader.Goals as goal
 
 pub reader-requires : goal.reader-requires
@@ -17,17 +21,18 @@ returns-clause-kept c =
     reader-kept second lived s c.args.group c.args.index group c.reader.result.now stands c.requires.group
     (c.index.ensures ∙ ap (λ (n : ℕ). get_or s.subscriber.groups.items n group) c.from.ensures) c.reader.ensures.kept
 
-pub returns-clause-passed : goal.returns-clause-passed
-returns-clause-passed c =
-    λ second lived stands.
-    let s = c.args.self.now in
-    let group = c.index.result.now in
-    reader-passed second lived s c.args.group c.args.index group c.reader.result.now stands c.requires.group
-    (c.index.ensures ∙ ap (λ (n : ℕ). get_or s.subscriber.groups.items n group) c.from.ensures) c.reader.ensures.passed
-
 pub returns-clause-made : goal.returns-clause-made
 returns-clause-made c =
     let s = c.args.self.now in
     let group = c.index.result.now in
     reader-made s c.args.group c.args.index group c.reader.result.now c.requires.gateway c.requires.group
     (c.index.ensures ∙ ap (λ (n : ℕ). get_or s.subscriber.groups.items n group) c.from.ensures) c.reader.ensures.made
+
+pub returns-clause-lives : goal.returns-clause-lives
+returns-clause-lives c =
+    λ second lived life stands.
+    let s = c.args.self.now in
+    let group = c.index.result.now in
+    reader-in s.config.now (plan_again second) (account_in (plan_again second) life).readings s.subscriber c.args.group c.args.index group c.reader.result.now c.requires.gateway.subscriber
+    (sym (ap (λ (q : Plan). q.config) stands.session.parts.plan)) stands.session.parts.round.readings c.requires.group
+    (c.index.ensures ∙ ap (λ (n : ℕ). get_or s.subscriber.groups.items n group) c.from.ensures) c.reader.ensures.kept c.reader.ensures.passed c.reader.ensures.made

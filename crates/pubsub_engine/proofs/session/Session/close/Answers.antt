@@ -4,13 +4,15 @@ use Rattle.ps_report.specs.declared.closed.Closed.{Closed}
 use Rattle.ps_report.specs.declared.closed.History.{History}
 use Rattle.ps_report.specs.declared.closed.ReaderEnd.{ReaderEnd}
 use Rattle.ps_report.specs.declared.closed.WriterEnd.{WriterEnd}
-use Rattle.session_model.specs.Closing.{IsWriterEndWith, reader_places, writer_places}
-use Rattle.session_model.specs.Deeds.{logs_cut}
-use Rattle.session_model.specs.Sends.{journal}
+use Rattle.session_model.specs.Closing.{reader_places, writer_places}
+use Rattle.session_model.specs.Lives.{account_in, account_of, steps_in}
 use Rattle.pubsub_engine.specs.Authored.{AreHistories}
-use Rattle.pubsub_engine.specs.Ending.{IsToldAt}
+use Rattle.pubsub_engine.specs.Holding.{plan_of}
+use Rattle.pubsub_engine.specs.LifeEnds.{IsToldBy, IsWriterEndBy}
+use Rattle.pubsub_engine.specs.Logs.{log_after}
+use Rattle.pubsub_engine.proofs.Lives.{as-stands}
 use Rattle.pubsub_engine.proofs.Watched.{same-watches}
-use Rattle.pubsub_engine.proofs.Whole.{TellsParts, few-sets, is-closed, is-closed-of, is-whole, passes-count}
+use Rattle.pubsub_engine.proofs.Whole.{TellsParts, closed-by, few-sets, is-closed, is-closed-of, is-whole, passes-count}
 use Rattle.pubsub_engine.proofs.session.Session.close.Goals as goal
 
 pub overflow_cast-sets : goal.overflow_cast-sets
@@ -36,20 +38,25 @@ returns c =
     let tells : TellsParts s dones sets closed = record {
       count = omega arith;
       histories = subst (λ (l : List History). AreHistories s.samples.passes dones sets l) (sym c.new.ensures) c.in_ok-histories.ensures;
-      groups = λ most p steps have. c.new-2.ensures ∙ c.in_ok-groups.ensures most p steps have;
-      writers = λ most p steps have.
-          subst (λ (l : List WriterEnd). AllZip (IsWriterEndWith (logs_cut most p steps) p steps) (writer_places p.config) l) (sym c.new-3.ensures) (c.in_ok-writers.ensures most p steps have);
-      read_groups = λ p steps have. c.new-4.ensures ∙ c.in_ok-read_groups.ensures p steps have;
-      readers = λ most p steps published have.
-          subst (λ (l : List ReaderEnd). AllZip (IsToldAt (logs_cut most p steps) p steps) (reader_places p.config) l) (sym c.new-5.ensures) (c.in_ok-readers.ensures most p steps published have);
+      groups = λ most p steps a have. c.new-2.ensures ∙ c.in_ok-groups.ensures most p steps a have;
+      writers = λ most p steps a have.
+          subst (λ (l : List WriterEnd). AllZip (IsWriterEndBy (log_after most p.config a.deeds) p steps a) (writer_places p.config) l) (sym c.new-3.ensures)
+          (c.in_ok-writers.ensures most p steps a have);
+      read_groups = λ p steps a have. c.new-4.ensures ∙ c.in_ok-read_groups.ensures p steps a have;
+      readers = λ most p steps a published have.
+          subst (λ (l : List ReaderEnd). AllZip (IsToldBy (log_after most p.config a.deeds) p steps a) (reader_places p.config) l) (sym c.new-5.ensures)
+          (c.in_ok-readers.ensures most p steps a published have);
       watches = c.new-6.ensures ∙ c.in_ok-watches.ensures;
-      link = λ p steps. c.link_end.ensures (journal p steps) steps;
+      link = λ steps a. c.link_end.ensures a.journal steps;
     } in
     record {
-      closed = λ p steps stands order. is-closed p steps s dones sets closed tells c.requires.session stands order;
-      whole = λ keeps p steps stands order. is-whole p steps s closed keeps stands (is-closed p steps s dones sets closed tells c.requires.session stands order);
+      closed = λ p steps stands order. is-closed c.each_held_row_has_its_number.ensures p steps s dones sets closed tells c.requires.session stands order;
+      whole = λ keeps p steps stands order.
+          is-whole p steps s closed keeps stands (is-closed c.each_held_row_has_its_number.ensures p steps s dones sets closed tells c.requires.session stands order);
       histories = λ few set threads low authored long.
           tells.histories.named few set threads (omega (arith, low, tells.count, passes-count s c.requires.session)) authored long;
       watches = λ order. tells.watches ∙ same-watches dones order;
-      of = λ steps stands looks. is-closed-of steps s dones sets closed tells c.requires.session stands looks;
+      of = λ steps stands looks. is-closed-of steps (account_of (plan_of s) steps) s dones sets closed tells c.requires.session (as-stands (plan_of s) steps s stands) looks;
+      lives = λ p life stands. closed-by p (steps_in life) (account_in p life) s dones sets closed tells c.requires.session stands.parts;
+      of_lives = λ life stands looks. is-closed-of (steps_in life) (account_in (plan_of s) life) s dones sets closed tells c.requires.session stands.parts looks;
     }

@@ -6,4 +6,4 @@ pub returns-clause-stands : goal.returns-clause-stands
 returns-clause-stands c = λ p steps stands. c.link_end.ensures (journal p steps) steps stands.sends stands.receives
 
 pub returns-clause-lives : goal.returns-clause-lives
-returns-clause-lives c = λ p life stands. c.link_end.ensures (account_in p life).journal (steps_in life) stands.parts.sends stands.parts.receives
+returns-clause-lives c = λ p life stands. c.link_end.ensures (account_in p life).journal (steps_in life) stands.parts.round.sends stands.parts.round.receives

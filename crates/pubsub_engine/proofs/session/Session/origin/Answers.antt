@@ -1,5 +1,9 @@
 use Rattle.std.proofs.Common.{ℕ, List, sym, ap, subst}
 use Rattle.session_model.specs.Steps.{Plan}
+use Rattle.session_model.specs.Sets.{metas_at}
+use Rattle.session_model.specs.Deeds.{deeds}
+use Rattle.session_model.specs.Lives.{account_in, steps_in}
+use Rattle.session_model.specs.Stores.{stores}
 use Rattle.session_model.proofs.Ticks.{logs-whole}
 use Rattle.pubsub_engine.specs.Holding.{logged_of, ticks_of}
 use Rattle.pubsub_engine.specs.Standing.{IsOriginWith}
@@ -10,8 +14,13 @@ returns c =
     let s = c.args.self.now in
     record {
       origin = λ p steps place stands at.
-          c.origin.ensures (logged_of s) p steps place (sym (ap (λ (plan : Plan). plan.config) stands.plan)) c.requires.session.logged stands.groups stands.stores_are at;
+          c.origin.ensures (logged_of s) p (metas_at p.config steps) (deeds p steps) (λ it. stores p.config it.0 it.1 steps) place (sym (ap (λ (plan : Plan). plan.config) stands.plan))
+          c.requires.session.logged stands.groups stands.stores_are at;
       whole = λ keeps p steps place stands at.
           subst (λ (logs : ℕ → ℕ → List (ℕ × ℕ)). IsOriginWith logs p steps place c.origin.result) (logs-whole (logged_of s) (ticks_of s) p steps stands.steps_are keeps)
-          (c.origin.ensures (logged_of s) p steps place (sym (ap (λ (plan : Plan). plan.config) stands.plan)) c.requires.session.logged stands.groups stands.stores_are at);
+          (c.origin.ensures (logged_of s) p (metas_at p.config steps) (deeds p steps) (λ it. stores p.config it.0 it.1 steps) place (sym (ap (λ (plan : Plan). plan.config) stands.plan))
+          c.requires.session.logged stands.groups stands.stores_are at);
+      lives = λ p life place stands at.
+          c.origin.ensures (logged_of s) p (metas_at p.config (steps_in life)) (account_in p life).deeds (λ it. (account_in p life).stores it.0 it.1) place
+          (sym (ap (λ (plan : Plan). plan.config) stands.parts.plan)) c.requires.session.logged stands.parts.round.groups stands.parts.stores_are at;
     }

@@ -1,7 +1,7 @@
 use Rattle.std.proofs.Common.{ℕ, ap, sym, ◌∙◌, get_or}
 use Rattle.session_model.specs.Steps.{Plan}
 use Rattle.session_model.specs.Lives.{account_in}
-use Rattle.pubsub_engine.proofs.EndParts.{reader-at, reader-in}
+use Rattle.session_parts.proofs.Shown.{reader-at, reader-in}
 use Rattle.pubsub_engine.proofs.session.Session.reader.Goals as goal
 
 pub returns-clause-stands : goal.returns-clause-stands
@@ -15,5 +15,5 @@ pub returns-clause-lives : goal.returns-clause-lives
 returns-clause-lives c = λ p life stands.
     let s = c.args.self.now in
     let group = c.index.result.now in
-    reader-in s.config.now p (account_in p life).readings s.subscriber c.args.read_group c.args.index group c.reader.result.now c.requires.session.subscriber (sym (ap (λ (q : Plan). q.config) stands.parts.plan)) stands.parts.readings
+    reader-in s.config.now p (account_in p life).readings s.subscriber c.args.read_group c.args.index group c.reader.result.now c.requires.session.subscriber (sym (ap (λ (q : Plan). q.config) stands.parts.plan)) stands.parts.round.readings
     c.requires.there (c.index.ensures ∙ ap (λ (r : ℕ). get_or s.subscriber.groups.items r group) c.from.ensures) c.reader.ensures.kept c.reader.ensures.passed c.reader.ensures.made

@@ -2,8 +2,7 @@ use Rattle.std.proofs.Common.{refl, sym, ap, subst, arith, ◌<◌, ℕ, length}
 use Rattle.group_keys.specs.Ring.{key_sets}
 use Rattle.session_model.specs.Steps.{Plan}
 use Rattle.session_model.specs.Lives.{account_in}
-use Rattle.pubsub_engine.specs.declared.session.Session.{Session}
-use Rattle.pubsub_engine.proofs.Rings.{DoesRenew, renewed-lives, renewed-session}
+use Rattle.pubsub_engine.proofs.Rings.{renewed-lives, renewed-session}
 use Rattle.pubsub_engine.proofs.session.Session.renew.Goals as goal
 
 pub renew-requires : goal.renew-requires
@@ -22,17 +21,14 @@ pub returns-clause-kept : goal.returns-clause-kept
 returns-clause-kept c =
     λ p life stands.
     c.renew-2.ensures.kept p.config (account_in p life).deeds
-    (subst (λ (q : Plan). c.args.key_group < length q.config.keygroup) stands.parts.plan c.requires.there) stands.parts.senders
+    (subst (λ (q : Plan). c.args.key_group < length q.config.keygroup) stands.parts.plan c.requires.there) stands.parts.round.senders
 
 pub returns-clause-lives : goal.returns-clause-lives
 returns-clause-lives c =
-    let old = c.args.self.now in
-    let new : Session = record old { publisher = c.renew-2.new.self; subscriber = c.renew.new.self } in
-    let does : DoesRenew c.args.key_group (key_sets c.args.ring) old new = record {
+    renewed-lives c.args.key_group (key_sets c.args.ring) c.args.self.now c.renew-2.new.self c.renew.new.self (record {
       changed = refl;
       sender = c.renew-2.ensures.rest;
       groups = c.renew.ensures.rest;
       renewed_are = c.renew-2.ensures.renewed;
       rekeyed_are = c.renew.ensures.rekeyed;
-    } in
-    renewed-lives c.args.key_group (key_sets c.args.ring) old new does
+    })

@@ -13,4 +13,4 @@ returns-clause-stands c = λ p steps stands.
 pub returns-clause-lives : goal.returns-clause-lives
 returns-clause-lives c = λ p life stands.
     let there : IsAmong c.args.self.now.tree.counts c.args.component = subst (λ (counts : Counts). IsAmong counts c.args.component) (sym c.requires.session.tree) c.requires.there in
-    c.state_of.ensures ∙ state-told (flags_by p.config (steps_in life) (account_in p life)) c.args.self.now.tree c.args.component there stands.parts.flags
+    c.state_of.ensures ∙ state-told (flags_by p.config (steps_in life) (account_in p life)) c.args.self.now.tree c.args.component there stands.parts.round.flags

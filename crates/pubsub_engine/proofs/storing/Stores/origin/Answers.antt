@@ -6,38 +6,37 @@ use Rattle.ps_report.specs.Told.{grouped_readers}
 use Rattle.version_cell.specs.Histories.{row_after}
 use Rattle.version_cell.specs.Known.{Known}
 use Rattle.version_cell.specs.Sets.{pass_at}
-use Rattle.session_model.specs.Deeds.{logs_cut}
-use Rattle.session_model.specs.Steps.{Plan, Step}
+use Rattle.session_model.specs.Steps.{Plan}
 use Rattle.session_model.specs.Closing.{MemberPlace, reader_places}
-use Rattle.session_model.specs.Stores.{stores}
+use Rattle.session_model.specs.Stores.{Store}
 use Rattle.pubsub_engine.specs.declared.storing.Last.{Last}
 use Rattle.pubsub_engine.specs.declared.storing.Stores.{Stores}
-use Rattle.pubsub_engine.specs.Logs.{IsLogRead}
+use Rattle.pubsub_engine.specs.Logs.{IsLogRead, log_after}
 use Rattle.pubsub_engine.specs.Storing.{HaveStored, IsLast, meta_at_place}
 use Rattle.pubsub_engine.proofs.Origins.{is-origin, no-origin}
 use Rattle.pubsub_engine.proofs.storing.Stores.origin.Goals as goal
 
 -- the last store is at the reader's index
-last-at : (p : Plan) (steps : List Step) (place : MemberPlace) (s : Stores) (k j : ℕ) (last : Last) → HaveStored p.config (λ it. stores p.config it.0 it.1 steps) s
+last-at : (p : Plan) (list : MemberPlace → List Store) (place : MemberPlace) (s : Stores) (k j : ℕ) (last : Last) → HaveStored p.config list s
     → slice_get (reader_places p.config) k ≡ Some place → j ≡ k → last ≡ get_or s.last.items j last
-    → IsLast (stores p.config place.0 place.1 steps) (meta_at_place p.config place) (row_after (pass_at s.keeper k).seen) last
-last-at p steps place s k j last stored at is found =
-    subst (λ (l : Last). IsLast (stores p.config place.0 place.1 steps) (meta_at_place p.config place) (row_after (pass_at s.keeper k).seen) l) (sym (found ∙ ap (λ n. get_or s.last.items n last) is))
+    → IsLast (list place) (meta_at_place p.config place) (row_after (pass_at s.keeper k).seen) last
+last-at p list place s k j last stored at is found =
+    subst (λ (l : Last). IsLast (list place) (meta_at_place p.config place) (row_after (pass_at s.keeper k).seen) l) (sym (found ∙ ap (λ n. get_or s.last.items n last) is))
     ((stored k place at).last last)
 
 pub returns-then-not-last : goal.returns-then-not-last
-returns-then-not-last c = λ most p steps place same logged past stored at.
-    no-origin (logs_cut most p steps) p steps place (meta_at_place p.config place) (row_after (pass_at c.args.self.now.keeper c.args.reader).seen) c.index-last.result.now c.if-not-last.true
-    (last-at p steps place c.args.self.now c.args.reader c.from.result c.index-last.result.now stored at c.from.ensures c.index-last.ensures)
+returns-then-not-last c = λ most p metas deeds list place same logged past stored at.
+    no-origin (log_after most p.config deeds) p place (list place) (meta_at_place p.config place) (row_after (pass_at c.args.self.now.keeper c.args.reader).seen) c.index-last.result.now c.if-not-last.true
+    (last-at p list place c.args.self.now c.args.reader c.from.result c.index-last.result.now stored at c.from.ensures c.index-last.ensures)
 
 pub returns : goal.returns
-returns c = λ most p steps place same logged past stored at.
+returns c = λ most p metas deeds list place same logged past stored at.
     let k = c.args.reader in
     let log = c.log_read-log.result.now in
     let publisher = c.args.publisher.now in
-    is-origin most p steps place (meta_at_place p.config place) (row_after (pass_at c.args.self.now.keeper c.args.reader).seen) c.index-last.result.now (pass_at c.args.self.now.keeper k) publisher log
+    is-origin most p metas deeds place (list place) (meta_at_place p.config place) (row_after (pass_at c.args.self.now.keeper c.args.reader).seen) c.index-last.result.now (pass_at c.args.self.now.keeper k) publisher log
     (record { store = c.version.result; number = c.index-last.result.now.number; version = c.version_at.result }) k c.if-not-last.false
-    (last-at p steps place c.args.self.now k c.from.result c.index-last.result.now stored at c.from.ensures c.index-last.ensures)
+    (last-at p list place c.args.self.now k c.from.result c.index-last.result.now stored at c.from.ensures c.index-last.ensures)
     (stored k place at).seen at logged past
     (subst (λ (config : Config). (it : ReadGroupPart × ReaderPart) → slice_get (grouped_readers config.readgroup) k ≡ Some it → IsLogRead config publisher it log) (sym same)
     (subst (λ (n : ℕ). (it : ReadGroupPart × ReaderPart) → slice_get (grouped_readers c.args.config.now.readgroup) n ≡ Some it → IsLogRead c.args.config.now publisher it log)

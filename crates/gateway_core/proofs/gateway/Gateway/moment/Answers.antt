@@ -1,0 +1,4 @@
+use Rattle.gateway_core.proofs.gateway.Gateway.moment.Goals as goal
+
+pub returns-clause-lives : goal.returns-clause-lives
+returns-clause-lives c = λ second lived life stands. stands.session.parts.round.moment
