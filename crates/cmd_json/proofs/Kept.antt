@@ -40,8 +40,8 @@ use Rattle.session_model.specs.Steps.{Plan, Step}
 use Rattle.session_model.proofs.Ticks.{log-few}
 use Rattle.session_laws.specs.Pasts.{settings_at}
 use Rattle.session_laws.specs.Plays.{IsAnswerBy, ItemsAre}
-use Rattle.session_laws.proofs.Counts.{ticks-few}
-use Rattle.session_laws.proofs.Near.{items-since, span-near}
+use Rattle.session_laws.proofs.Versions.Counts.{ticks-few}
+use Rattle.session_laws.proofs.HeldRows.Near.{items-since, span-near}
 use Rattle.json_frames.specs.Parts.{Part, meta_at}
 use Rattle.json_text.specs.Matching.{is_plain}
 use Rattle.json_text.specs.Readers.{AreNearBy, HasRecords, brought, came, is_for, kept_for}

@@ -56,12 +56,12 @@ use Rattle.session_model.specs.Steps.{Plan, Step}
 use Rattle.session_laws.specs.Below.{Laws, TurnLaws}
 use Rattle.session_laws.specs.Pasts.{AreTurns, IsMade, IsPast, WasMade, answered_by}
 use Rattle.session_laws.specs.Sessions.{SamplesRise, pasts_at}
-use Rattle.session_laws.proofs.Distinct.{IsAt}
-use Rattle.session_laws.proofs.Living.{past-of}
-use Rattle.session_laws.proofs.Pieces.{made-pieces}
-use Rattle.session_laws.proofs.Sending.{sent-made}
-use Rattle.session_laws.proofs.Answering.{spelled_at}
-use Rattle.session_laws.proofs.Sources.{IsChunkOf, IsOfAnswer}
+use Rattle.session_laws.proofs.Versions.Distinct.{IsAt}
+use Rattle.session_laws.proofs.Versions.Living.{past-of}
+use Rattle.session_laws.proofs.HeldRows.Pieces.{made-pieces}
+use Rattle.session_laws.proofs.HeldRows.Sending.{sent-made}
+use Rattle.session_laws.proofs.Versions.Answering.{spelled_at}
+use Rattle.session_laws.proofs.HeldRows.Sources.{IsChunkOf, IsOfAnswer}
 use Rattle.json_frames.specs.Parts.{Part}
 use Rattle.json_frames.specs.Reading.{set_of}
 use Rattle.json_tap.specs.Transcoding.{Message, all_of, are_past, frame_if, is_spelled, message_in, message_of, message_read, messages_of, part_for, part_of, parts_for, publisher_of, sets_of, transcoded}

@@ -20,7 +20,7 @@ use Rattle.session_model.specs.Deeds.{log_at, logs_at}
 use Rattle.session_model.specs.Steps.{Plan, Step}
 use Rattle.session_model.specs.Stores.{Store, stores}
 use Rattle.session_laws.specs.Reading.{IsMatchedIn}
-use Rattle.session_laws.proofs.Ends.{writer-part, writer-place}
+use Rattle.session_laws.proofs.Versions.Ends.{writer-part, writer-place}
 use Rattle.pubsub_engine.specs.Standing.{IsOriginOf, IsVersionStored, log_named, number_stored}
 use Rattle.pubsub_engine.proofs.Places.{seat-part}
 use Rattle.gateway_laws.specs.Origins.{origin_at, origin_by}

@@ -24,8 +24,8 @@ use Rattle.session_laws.specs.Headline.{PublishesVersion, answered_turn}
 use Rattle.session_laws.specs.Pasts.{settings_at}
 use Rattle.session_laws.specs.Reading.{IsMatchedIn}
 use Rattle.session_laws.specs.Sessions.{AreVersions}
-use Rattle.session_laws.proofs.Ends.{reader-place, writer-place}
-use Rattle.session_laws.proofs.Telling.{writer-index}
+use Rattle.session_laws.proofs.Versions.Ends.{reader-place, writer-place}
+use Rattle.session_laws.proofs.Versions.Telling.{writer-index}
 use Rattle.gateway_core.specs.declared.collected.StoreVersion.{StoreVersion}
 use Rattle.gateway_core.specs.Lived.{plan_again, version_in}
 use Rattle.gateway_laws.specs.Gateways.{IsRelay, set_of}

@@ -32,8 +32,9 @@ use dataset_writer::Writer;
 use ps_config::Config;
 use pubsub_states::Tree;
 use session_parts::{Publisher, Receiving, Subscriber, Told};
-use target_cells::{Origin, Passes};
+use target_cells::Origin;
 use ua_base::{Link, Pumped, Ticked};
+use version_cell::Passes;
 
 /// How long a gateway lasts, and what may still come.
 #[derive(Clone, Copy, Debug)]

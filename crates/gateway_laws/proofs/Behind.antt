@@ -8,7 +8,7 @@ use Rattle.session_model.specs.Keeping.{AreSteps}
 use Rattle.session_model.specs.Sends.{IsRun}
 use Rattle.session_laws.specs.Headline.{InSession}
 use Rattle.session_laws.specs.Sessions.{AreVersions, HasSample, SamplesRise, TakesWhatWasSent}
-use Rattle.session_laws.proofs.Taking.{taken-before}
+use Rattle.session_laws.proofs.HeldRows.Taking.{taken-before}
 
 module _ (p : Plan) where
   pub steps-behind : (later now : List Step) → AreSteps p (later ++ now) → AreSteps p now

@@ -27,8 +27,8 @@ use Rattle.session_laws.specs.Reading.{IsMatchedIn, arrivals_at, first_number_of
 use Rattle.session_laws.specs.Headline.{meta_of}
 use Rattle.session_laws.specs.Pasts.{settings_at}
 use Rattle.session_laws.specs.Sessions.{HasSample}
-use Rattle.session_laws.proofs.Distinct.{IsAt, at-sound}
-use Rattle.session_laws.proofs.Living.{IsVersionTurn, TurnsAre, past-of}
+use Rattle.session_laws.proofs.Versions.Distinct.{IsAt, at-sound}
+use Rattle.session_laws.proofs.Versions.Living.{IsVersionTurn, TurnsAre, past-of}
 use Rattle.gateway_laws.specs.Sources.{Source, source_at}
 use Rattle.gateway_laws.specs.Relays.{RelayStep, firsts, seconds, stored_rows, stores_of}
 use Rattle.gateway_laws.specs.Origins.{HoldsVersionAt}

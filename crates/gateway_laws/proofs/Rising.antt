@@ -35,15 +35,15 @@ use Rattle.session_model.specs.Turns.{TurnsHold}
 use Rattle.session_laws.specs.Headline.{InSession, ComesFrom, meta_of}
 use Rattle.session_laws.specs.Pasts.{settings_at}
 use Rattle.session_laws.specs.Plays.{ItemsAre, IsAnswerBy}
-use Rattle.session_laws.proofs.BareHeld.{since-more}
+use Rattle.session_laws.proofs.HeldRows.BareHeld.{since-more}
 use Rattle.session_model.proofs.Deeds.{TickKeeps, tick-keeps, refreshed-keeps}
 use Rattle.pubsub_model.proofs.HeldRows.{all-records}
-use Rattle.session_laws.proofs.Living.{past-of}
+use Rattle.session_laws.proofs.Versions.Living.{past-of}
 use Rattle.pubsub_model.proofs.LoggedTurns.{turn-at, has-data-at, answer-in}
-use Rattle.session_laws.proofs.Near.{items-since}
+use Rattle.session_laws.proofs.HeldRows.Near.{items-since}
 use Rattle.pubsub_model.proofs.AnswerPlaces.{answers-span, place-span, next-is, data-at, took}
-use Rattle.session_laws.proofs.Rowing.{WordLaws}
-use Rattle.session_laws.proofs.Senders.{RingLaw}
+use Rattle.session_laws.proofs.Versions.Rowing.{WordLaws}
+use Rattle.session_laws.proofs.Versions.Senders.{RingLaw}
 use Rattle.session_model.proofs.Ticks.{log-few}
 use Rattle.pubsub_model.proofs.LogVersions.{version-is}
 use Rattle.pubsub_model.proofs.CadenceLaws.{length-log_of}

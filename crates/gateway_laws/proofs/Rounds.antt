@@ -18,8 +18,8 @@ use Rattle.session_model.specs.Sets.{AreRowsOf}
 use Rattle.session_model.specs.Deeds.{Deed, deeds, group_past, is_writer_below, tick_deeds, turn_of, writer_deeds, writer_indexes}
 use Rattle.session_model.specs.Keeping.{AreSteps, IsPlan}
 use Rattle.session_model.proofs.Deeds.{TickKeeps, refreshed-keeps, tick-keeps}
-use Rattle.session_laws.proofs.Living.{TurnsAre}
-use Rattle.session_laws.proofs.Rowing.{WordLaws, took-sampled}
+use Rattle.session_laws.proofs.Versions.Living.{TurnsAre}
+use Rattle.session_laws.proofs.Versions.Rowing.{WordLaws, took-sampled}
 use Rattle.gateway_core.specs.Lived.{plan_again}
 use Rattle.gateway_laws.specs.Gateways.{set_of}
 use Rattle.gateway_laws.specs.Relays.{Append, Collects, Disable, Enable, RelayStep, Round, firsts, seconds, stores_of}

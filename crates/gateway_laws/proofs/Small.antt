@@ -47,7 +47,7 @@ use Rattle.session_model.specs.Stores.{Store}
 use Rattle.session_laws.specs.Headline.{InSession}
 use Rattle.session_laws.specs.Reading.{IsMatchedIn, arrivals_at, first_number_of}
 use Rattle.session_laws.specs.Witness.{closing_on, first_session, last_receives, seven, small_datagram, small_plan, small_row, tick_on, whole_session}
-use Rattle.session_laws.proofs.Meeting.{taken-of}
+use Rattle.session_laws.proofs.SmallSessions.Meeting.{taken-of}
 use Rattle.gateway_core.specs.Lived.{collected, plan_again}
 use Rattle.gateway_core.specs.Sources.{HaveSources as HaveIndexes, IsSourceOf as IsIndexOf}
 use Rattle.gateway_laws.specs.Gateways.{IsHonestAgain, IsHonestSource, IsRelay}

@@ -27,7 +27,7 @@ use Rattle.session_model.specs.Steps.{Plan, Step}
 use Rattle.session_laws.specs.Headline.{PublishesVersion, answered_turn}
 use Rattle.session_laws.specs.Pasts.{settings_at}
 use Rattle.session_laws.specs.Sessions.{AreVersions, HasSample, TakesWhatWasSent}
-use Rattle.session_laws.proofs.Telling.{writer-index}
+use Rattle.session_laws.proofs.Versions.Telling.{writer-index}
 use Rattle.gateway_core.specs.Lived.{plan_again}
 use Rattle.gateway_laws.specs.Gateways.{IsHonestAgain, IsHonestSource, IsRelay, set_of}
 use Rattle.gateway_laws.specs.Relays.{Append, Collects, Disable, Enable, RelayStep, Round, firsts, seconds, stored_rows, stores_of}

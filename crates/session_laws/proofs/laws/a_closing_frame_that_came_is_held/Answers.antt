@@ -1,9 +1,9 @@
-use Rattle.session_laws.proofs.BareEnd.{got-last-held}
-use Rattle.session_laws.proofs.BareHeld.{bare-held}
-use Rattle.session_laws.proofs.ClosingGot.{got-held}
-use Rattle.session_laws.proofs.ClosingHeld.{closing-held}
-use Rattle.session_laws.proofs.ClosingVersions.{closes-with}
-use Rattle.session_laws.proofs.SignedEnd.{secured-held, since-last-held, took-held, took-last-held}
+use Rattle.session_laws.proofs.Closing.BareEnd.{got-last-held}
+use Rattle.session_laws.proofs.HeldRows.BareHeld.{bare-held}
+use Rattle.session_laws.proofs.Closing.ClosingGot.{got-held}
+use Rattle.session_laws.proofs.Closing.ClosingHeld.{closing-held}
+use Rattle.session_laws.proofs.Closing.ClosingVersions.{closes-with}
+use Rattle.session_laws.proofs.Closing.SignedEnd.{secured-held, since-last-held, took-held, took-last-held}
 use Rattle.session_laws.proofs.laws.a_closing_frame_that_came_is_held.Goals as goal
 
 pub returns : goal.returns

@@ -1,4 +1,4 @@
-use Rattle.session_laws.proofs.Newest.{closing-logged, holds-newest, holds-row}
+use Rattle.session_laws.proofs.Closing.Newest.{closing-logged, holds-newest, holds-row}
 use Rattle.session_laws.proofs.laws.a_key_frame_that_comes_last_is_held.Goals as goal
 
 pub returns : goal.returns

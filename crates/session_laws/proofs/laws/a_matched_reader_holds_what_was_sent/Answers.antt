@@ -1,5 +1,5 @@
-use Rattle.session_laws.proofs.Holding.{comes-from-writer, holds-version}
-use Rattle.session_laws.proofs.Near.{reads-by-records}
+use Rattle.session_laws.proofs.HeldRows.Holding.{comes-from-writer, holds-version}
+use Rattle.session_laws.proofs.HeldRows.Near.{reads-by-records}
 use Rattle.session_laws.proofs.laws.a_matched_reader_holds_what_was_sent.Goals as goal
 
 pub returns : goal.returns

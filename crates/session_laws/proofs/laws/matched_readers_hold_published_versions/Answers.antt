@@ -1,4 +1,4 @@
-use Rattle.session_laws.proofs.Published.{comes-from, published, session-records}
+use Rattle.session_laws.proofs.HeldRows.Published.{comes-from, published, session-records}
 use Rattle.session_laws.proofs.laws.matched_readers_hold_published_versions.Goals as goal
 
 pub returns : goal.returns

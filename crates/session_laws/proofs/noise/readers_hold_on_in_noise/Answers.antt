@@ -1,7 +1,7 @@
 use Rattle.group_laws.specs.Witness.{three_config, three_text}
-use Rattle.session_laws.proofs.Meeting.{BuiltInLaws}
-use Rattle.session_laws.proofs.Noisy.{in-noisy, noisy-held, noisy-link, noisy-newest}
-use Rattle.session_laws.proofs.ThreeGroups.{ThreeLaws}
+use Rattle.session_laws.proofs.SmallSessions.Meeting.{BuiltInLaws}
+use Rattle.session_laws.proofs.SmallSessions.Noisy.{in-noisy, noisy-held, noisy-link, noisy-newest}
+use Rattle.session_laws.proofs.SmallSessions.ThreeGroups.{ThreeLaws}
 use Rattle.session_laws.proofs.noise.readers_hold_on_in_noise.Goals as goal
 
 pub returns : goal.returns

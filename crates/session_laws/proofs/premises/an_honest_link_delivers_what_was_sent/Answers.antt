@@ -1,4 +1,4 @@
-use Rattle.session_laws.proofs.Taking.{honest-for-takes}
+use Rattle.session_laws.proofs.HeldRows.Taking.{honest-for-takes}
 use Rattle.session_laws.proofs.premises.an_honest_link_delivers_what_was_sent.Goals as goal
 
 pub returns : goal.returns

@@ -1,7 +1,7 @@
 use Rattle.group_laws.specs.Witness.{three_config, three_text}
 use Rattle.session_laws.specs.Witness.{three_plan}
-use Rattle.session_laws.proofs.MadeSigned.{signed-premises}
-use Rattle.session_laws.proofs.ThreeGroups.{ThreeLaws}
+use Rattle.session_laws.proofs.SmallSessions.MadeSigned.{signed-premises}
+use Rattle.session_laws.proofs.SmallSessions.ThreeGroups.{ThreeLaws}
 use Rattle.session_laws.proofs.readers.a_sessions_sender_makes_what_is_signed.Goals as goal
 
 pub returns : goal.returns

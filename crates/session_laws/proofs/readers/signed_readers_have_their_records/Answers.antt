@@ -1,4 +1,4 @@
-use Rattle.session_laws.proofs.SignedReaders.{signed-records}
+use Rattle.session_laws.proofs.HeldRows.SignedReaders.{signed-records}
 use Rattle.session_laws.proofs.readers.signed_readers_have_their_records.Goals as goal
 
 pub returns : goal.returns

@@ -1,4 +1,4 @@
-use Rattle.session_laws.proofs.LifeReadings.{taken-once}
+use Rattle.session_laws.proofs.HeldRows.LifeReadings.{taken-once}
 use Rattle.session_laws.proofs.renewals.no_pair_is_taken_twice_in_a_life.Goals as goal
 
 pub returns : goal.returns

@@ -1,4 +1,4 @@
-use Rattle.session_laws.proofs.Numbers.{life-once}
+use Rattle.session_laws.proofs.Versions.Numbers.{life-once}
 use Rattle.session_laws.proofs.renewals.no_token_and_number_come_twice_in_a_life.Goals as goal
 
 pub returns : goal.returns

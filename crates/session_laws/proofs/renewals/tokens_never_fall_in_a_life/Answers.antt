@@ -1,5 +1,5 @@
-use Rattle.session_laws.proofs.LifeReadings.{taken-rise}
-use Rattle.session_laws.proofs.LifeTokens.{tokens-up}
+use Rattle.session_laws.proofs.HeldRows.LifeReadings.{taken-rise}
+use Rattle.session_laws.proofs.Versions.LifeTokens.{tokens-up}
 use Rattle.session_laws.proofs.renewals.tokens_never_fall_in_a_life.Goals as goal
 
 pub returns : goal.returns

@@ -1,4 +1,4 @@
-use Rattle.session_laws.proofs.EachTurn.{TurnsLaws, life-holds}
+use Rattle.session_laws.proofs.Versions.EachTurn.{TurnsLaws, life-holds}
 use Rattle.session_laws.proofs.turning.each_turn_of_a_life_holds.Goals as goal
 
 pub returns : goal.returns

@@ -1,6 +1,6 @@
 use Rattle.session_laws.specs.Witness.{GotLast, bare_config, bare_text, chunks_config, chunks_text, lone_config, lone_text}
-use Rattle.session_laws.proofs.BareMeeting.{BareLaws, ChunksLaws, HeldLaw, any-newest, bare-is-read, bare-types, bare_any-held, bare_signed-held, bare_slotted-held, chunks-are-read, chunks-held, chunks-types, slotted-came-held, slotted-since-held}
-use Rattle.session_laws.proofs.BehindAnother.{LoneLaws, lone-is-read, received-again, since-old}
+use Rattle.session_laws.proofs.SmallSessions.BareMeeting.{BareLaws, ChunksLaws, HeldLaw, any-newest, bare-is-read, bare-types, bare_any-held, bare_signed-held, bare_slotted-held, chunks-are-read, chunks-held, chunks-types, slotted-came-held, slotted-since-held}
+use Rattle.session_laws.proofs.SmallSessions.BehindAnother.{LoneLaws, lone-is-read, received-again, since-old}
 use Rattle.session_laws.proofs.witness.readers_of_each_kind_get_closing_frames.Goals as goal
 
 pub returns : goal.returns

@@ -1,8 +1,8 @@
 use Rattle.group_laws.specs.Witness.{three_config, three_text}
 use Rattle.session_laws.specs.Witness.{CameSinceCut, GotAll, telling_config, telling_text}
-use Rattle.session_laws.proofs.Growing.{TellingLaws, growing-held, growing-newest, in-growing, telling-is-read}
-use Rattle.session_laws.proofs.SinceCut.{whole-newest}
-use Rattle.session_laws.proofs.ThreeGroups.{NewestLaw, ThreeLaws, cut-held, cut-newest, four-sends, in-cut, in-signed, in-slotted, run-three, secured-held, signed-newest, slotted-held, slotted-newest}
+use Rattle.session_laws.proofs.SmallSessions.Growing.{TellingLaws, growing-held, growing-newest, in-growing, telling-is-read}
+use Rattle.session_laws.proofs.SmallSessions.SinceCut.{whole-newest}
+use Rattle.session_laws.proofs.SmallSessions.ThreeGroups.{NewestLaw, ThreeLaws, cut-held, cut-newest, four-sends, in-cut, in-signed, in-slotted, run-three, secured-held, signed-newest, slotted-held, slotted-newest}
 use Rattle.session_laws.proofs.witness.sessions_of_each_kind_meet_the_premises.Goals as goal
 
 pub returns : goal.returns

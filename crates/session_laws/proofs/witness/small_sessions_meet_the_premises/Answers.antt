@@ -1,5 +1,5 @@
-use Rattle.session_laws.proofs.Meeting.{BuiltInLaws, in-first, in-lossy, in-lost, lost-waits, in-whole, closed-whole, versions-whole, run-whole, first-held, lossy-held}
-use Rattle.session_laws.proofs.Reaching.{reaches}
+use Rattle.session_laws.proofs.SmallSessions.Meeting.{BuiltInLaws, in-first, in-lossy, in-lost, lost-waits, in-whole, closed-whole, versions-whole, run-whole, first-held, lossy-held}
+use Rattle.session_laws.proofs.SmallSessions.Reaching.{reaches}
 use Rattle.session_laws.proofs.witness.small_sessions_meet_the_premises.Goals as goal
 
 pub returns : goal.returns

@@ -1,0 +1,17 @@
+pub mod BareHeld
+pub mod Delivering
+pub mod Holding
+pub mod KnownTokens
+pub mod LifeReadings
+pub mod Marks
+pub mod Near
+pub mod Passing
+pub mod Pieces
+pub mod Published
+pub mod Refusing
+pub mod SameLines
+pub mod Sending
+pub mod SignedReaders
+pub mod Sources
+pub mod Taking
+pub mod Traces

@@ -1,0 +1,11 @@
+pub mod BareMeeting
+pub mod BehindAnother
+pub mod Growing
+pub mod MadeSigned
+pub mod Meeting
+pub mod Noisy
+pub mod OneTick
+pub mod Quiet
+pub mod Reaching
+pub mod SinceCut
+pub mod ThreeGroups
