@@ -5,4 +5,5 @@ pub mod Bounds
 pub mod Sending
 pub mod Played
 pub mod Texts
+pub mod Telling
 pub mod Beside

@@ -19,6 +19,7 @@ use Rattle.lane_groups.specs.Deeds.{datagrams_by, plan_of, turns_deeds}
 use Rattle.lane_groups.specs.Lanes.{IsWork}
 use Rattle.lane_groups.specs.Running.{AreBehind, AreLanes, HasRunLanes}
 use Rattle.lane_groups.specs.Turns.{AreTurns}
+use Rattle.cmd_lanes.specs.Alike.{HaveNumbers}
 use Rattle.cmd_lanes.specs.Courses.{AreTurnsOf}
 use Rattle.cmd_lanes.specs.Runs.{IsLanesOf}
 use Rattle.cmd_lanes.specs.Scripts.{refusal, ticks_of}
@@ -62,14 +63,16 @@ module _ (laws : AreTicks) (config : Config) (script : Script) (turns : List Tur
       ∙ laws config (ticks_of script) turns are.are
 
   pub is-lanes : (first told : Option LinkState) (ran : Ran) (text : List ℕ) → ((link : LinkState) → first ≡ Some link → link.journal ≡ []) → HasRunLanes config turns first told ran
-      → text ≡ lanes_text config (counts_of ran) (logs_by config (turns_deeds config turns)) → IsLanesOf config script told text
-  is-lanes first told ran text new run text-is = record {
+      → text ≡ lanes_text config (counts_of ran) (logs_by config (turns_deeds config turns)) → HaveNumbers config (counts_of ran) (logs_by config (turns_deeds config turns))
+      → IsLanesOf config script told text
+  is-lanes first told ran text new run text-is numbers = record {
     sends = map send_of run.parcels;
     counts = counts_of ran;
     groups = λ g low. datagrams-same g run.parcels ∙ run.groups g low ∙ ap (datagrams_by config g) (sym deeds-are);
     others = λ g high. none-to g run.parcels (run.others g high);
     tells = λ link told-is. sent-by link (subst (λ (t : Option LinkState). Tells first t (Conveyed run.parcels (record { sent = ran.sent; failed = ran.failed; lacks = false }))) told-is run.tells);
     text_is = text-is ∙ ap (λ (d : List Deed). lanes_text config (counts_of ran) (logs_by config d)) (sym deeds-are);
+    numbers = subst (λ (d : List Deed). HaveNumbers config (counts_of ran) (logs_by config d)) (sym deeds-are) numbers;
   }
     where
       sent-by : (link : LinkState) → Tells first (Some link) (Conveyed run.parcels (record { sent = ran.sent; failed = ran.failed; lacks = false }))

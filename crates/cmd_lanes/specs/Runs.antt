@@ -10,13 +10,14 @@ use Rattle.lane_groups.specs.Deeds.{datagrams_by}
 use Rattle.commands.specs.declared.status.Status.{Status}
 use Rattle.commands.specs.Outside.{Outside, Wire}
 use Rattle.commands.specs.Sessions.{SessionEnds}
+use Rattle.cmd_lanes.specs.Alike.{HaveNumbers}
 use Rattle.cmd_lanes.specs.Scripts.{refusal, ticks_of}
 use Rattle.cmd_lanes.specs.Sends.{AreSent, Counts, datagrams_to}
 use Rattle.cmd_lanes.specs.Texts.{lanes_text}
 
 -- There are datagrams with their groups, one for each entry of the link's journal, in order. The datagrams of each group are, in order and each once, those
 -- that *Session run* gives for it from the ticks of the script with the exact sample of the writes before each and with all components enabled, and there are
--- no others. The text tells how many were sent, and the log that the same ticks give each writer.
+-- no others. The text tells how many were sent, and the log that the same ticks give each writer; these are numbers of 64 bits, so it tells no other ones.
 pub record IsLanesOf (config : Config) (script : Script) (told : Option LinkState) (text : List ℕ) : Type 0 where
   pub sends : List Send
   pub counts : Counts
@@ -25,6 +26,7 @@ pub record IsLanesOf (config : Config) (script : Script) (told : Option LinkStat
   pub others : (g : ℕ) → length config.group ≤ g → datagrams_to g sends ≡ []
   pub tells : (link : LinkState) → told ≡ Some link → AreSent (length config.group) sends counts link
   pub text_is : text ≡ lanes_text config counts (λ g w. log_at (plan_by config script) g w (ticks_of script))
+  pub numbers : HaveNumbers config counts (λ g w. log_at (plan_by config script) g w (ticks_of script))
 
 -- How the command ends: with what lanes make of the script, which may give fates. old, new: what the folder and the output tell before and behind; before,
 -- after: what the link tells

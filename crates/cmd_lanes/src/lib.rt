@@ -10,6 +10,6 @@ mod refusal;
 mod text;
 
 pub use command::{lanes, lanes_by};
-pub use laws::lanes_do_what_a_play_does;
+pub use laws::{a_text_of_lanes_tells_one_run, lanes_do_what_a_play_does};
 pub use playing::play_lanes;
 pub use refusal::refused;

@@ -6,6 +6,7 @@ ghost use Rattle.writer_group.specs.Standing.{IsGood, IsGroup, KeepsLogs, writer
 ghost use Rattle.writer_group.specs.Turns.{GroupDeed};
 ghost use Rattle.session_model.specs.Answers.{counted};
 ghost use Rattle.session_model.specs.Deeds.{Deed, group_indexes};
+ghost use Rattle.cmd_lanes.specs.Alike.{GroupsHaveNumbers, HaveNumbers, LogsHaveNumbers};
 ghost use Rattle.cmd_lanes.specs.Standing.{HaveGroups, IsGroupOf, IsHad, StandAll, all_of, counts_of, log_in, logs_by};
 ghost use Rattle.cmd_lanes.specs.Texts.{group_lines, lanes_text, writer_lines};
 
@@ -22,9 +23,11 @@ use writer_group::Group;
 pub(crate) fn lanes_text(alloc: Global, config: &Config, ran: &Ran) -> Result<Vec<u8>, NoMemory>
     requires good { IsGood config.now }
     requires lanes { HaveGroups config.now ran.now.lanes.items }
-    ensures { (deeds : List Deed) → StandAll config.now deeds ran.now.lanes.items
+    ensures text { (deeds : List Deed) → StandAll config.now deeds ran.now.lanes.items
         → IfOk result (λ text. text.items
         ≡ lanes_text config.now (counts_of ran.now) (logs_by config.now deeds)) }
+    ensures numbers { (deeds : List Deed) → StandAll config.now deeds ran.now.lanes.items
+        → OnOk result (HaveNumbers config.now (counts_of ran.now) (logs_by config.now deeds)) }
 {
     let mut out = Vec::new(alloc);
     put_groups(&mut out, config, ran)?;
@@ -37,10 +40,12 @@ pub(crate) fn lanes_text(alloc: Global, config: &Config, ran: &Ran) -> Result<Ve
 fn put_groups(out: &mut Vec<u8>, config: &Config, ran: &Ran) -> Result<(), NoMemory>
     requires good { IsGood config.now }
     requires lanes { HaveGroups config.now ran.now.lanes.items }
-    ensures { (deeds : List Deed) → StandAll config.now deeds ran.now.lanes.items
+    ensures lines { (deeds : List Deed) → StandAll config.now deeds ran.now.lanes.items
         → OnOk result (out.new.items ≡ out.old.items
         ++ flat_map (group_lines config.now (counts_of ran.now) (logs_by config.now deeds))
         (group_indexes config.now)) }
+    ensures numbers { (deeds : List Deed) → StandAll config.now deeds ran.now.lanes.items
+        → OnOk result (GroupsHaveNumbers config.now (counts_of ran.now) (logs_by config.now deeds)) }
 {
     let parts = config.group.as_slice();
     for g in 0..parts.len() {
@@ -55,9 +60,12 @@ fn put_writers(out: &mut Vec<u8>, part: &GroupPart, group: &Group) -> Result<(),
     requires count { writer_count group.now ≡ length part.now.writer }
     requires few { length part.now.writer ≤ 16 }
     requires logs { KeepsLogs group.now }
-    ensures { (metas : ℕ → MetaData) (past : List GroupDeed)
+    ensures lines { (metas : ℕ → MetaData) (past : List GroupDeed)
         → IsGroup metas part.now past group.now → OnOk result (out.new.items
         ≡ out.old.items ++ writer_lines part.now (log_in part.now past)) }
+    ensures numbers { (metas : ℕ → MetaData) (past : List GroupDeed)
+        → IsGroup metas part.now past group.now
+        → OnOk result (LogsHaveNumbers part.now (log_in part.now past)) }
 {
     let writers = part.writer.as_slice();
     for w in 0..writers.len() {

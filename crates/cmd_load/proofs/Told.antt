@@ -27,6 +27,7 @@ use Rattle.ps_config.specs.declared.parts.Config.{Config}
 use Rattle.ps_script.specs.declared.script.Script.{Script}
 use Rattle.ps_script.specs.Generated.{generated}
 use Rattle.ps_script.specs.Sessions.{ticks_in}
+use Rattle.report_laws.specs.Reported.{IsReported}
 use Rattle.session_model.specs.Steps.{Plan}
 use Rattle.session_laws.specs.Printed.{TellsPublished}
 use Rattle.session_laws.specs.Reading.{IsMatchedIn}
@@ -160,8 +161,8 @@ opens_for n config script opened config_is script_is is =
 
 -- what is made of the work's run
 pub summarized : (n : ℕ) (config : Config) (script : Script) (closed : Closed) (after : Wire) (text : List ℕ) (ticks : ℕ) → config ≡ built_in_config → script ≡ generated n → 1 ≤ n → n ≤ 1024
-    → IsRunOf config script after.told closed → after.opened_with ≡ Some (opening_of config script) → ticks ≡ ticks_in script.lines → text ≡ load_text config closed n ticks → Summarizes n after text
-summarized n config script closed after text ticks config_is script_is least most ran opened ticks_are told =
+    → IsRunOf config script after.told closed → IsReported config closed → after.opened_with ≡ Some (opening_of config script) → ticks ≡ ticks_in script.lines → text ≡ load_text config closed n ticks → Summarizes n after text
+summarized n config script closed after text ticks config_is script_is least most ran reported opened ticks_are told =
     let run : IsRunOf built_in_config (generated n) after.told closed =
     subst (λ (s : Script). IsRunOf built_in_config s after.told closed) script_is (subst (λ (c : Config). IsRunOf c script after.told closed) config_is ran) in
     let count : (threads : List ℕ) → IsLegal threads (writes_to (generated n) 0) → length threads ≡ 32 * n = λ threads. law_versions n threads most in
@@ -171,6 +172,7 @@ summarized n config script closed after text ticks config_is script_is least mos
       closed = closed;
       opened = opens_for n config script after.opened_with config_is script_is opened;
       run = run;
+      reported = subst (λ (c : Config). IsReported c closed) config_is reported;
       text_is = text_told;
       versions = versions_told n after.told closed count run;
       newest = λ taken holds. text_told ∙ newest_told n after.told closed count (λ threads. law_newest n threads least most) run taken holds;

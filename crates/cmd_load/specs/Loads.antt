@@ -9,6 +9,7 @@ use Rattle.ps_report.specs.declared.closed.HeldEnd.{HeldEnd}
 use Rattle.ps_report.specs.declared.closed.ReaderEnd.{ReaderEnd}
 use Rattle.ps_report.specs.Reports.{load_text, load_versions}
 use Rattle.ps_script.specs.Generated.{generated}
+use Rattle.report_laws.specs.Reported.{IsReported}
 use Rattle.session_laws.specs.Sessions.{TakesWhatWasSent}
 use Rattle.script_player.specs.Plays.{opening_of, plan_by}
 use Rattle.script_runner.specs.Runs.{IsRunOf}
@@ -44,11 +45,13 @@ pub record HoldsVersion (version : ℕ) (closed : Closed) : Type 0 where
   pub version_is : held.version ≡ Some version
 
 -- The text is the summary of a session that ran the work, which the link tells of: its history has 32n versions. Where the read group
--- takes nothing but what was sent, it is the same text each time that the reader holds the last of them, whatever order the threads wrote in.
+-- takes nothing but what was sent, it is the same text each time that the reader holds the last of them, whatever order the threads wrote in. The text tells what
+-- it prints of this session: no other with the same text has another row there, or waits for another reason.
 pub record Summarizes (n : ℕ) (after : Wire) (text : List ℕ) : Type 0 where
   pub closed : Closed
   pub opened : OpensForWork n after.opened_with
   pub run : IsRunOf built_in_config (generated n) after.told closed
+  pub reported : IsReported built_in_config closed
   pub text_is : text ≡ load_text built_in_config closed n (4 * n)
   pub versions : load_versions closed.histories ≡ 32 * n
   pub newest : TakesWhatWasSent (plan_by built_in_config (generated n)) 0 run.steps → HoldsVersion (32 * n) closed → text ≡ newest_text n

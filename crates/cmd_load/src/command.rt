@@ -14,6 +14,7 @@ use commands::{Status, status_of, write_text};
 use ps_config::{Config, built_in, the_built_in_configuration_is_sound};
 use ps_report::load_summary;
 use ps_script::{Script, generate};
+use report_laws::closed_sessions_are_reported;
 use script_player::PlayEnd;
 use script_runner::run_script;
 use std::alloc::Global;
@@ -91,6 +92,7 @@ fn work_summary<R: Threads + Wait + Sync, A: Link, G: Gate>(
         (wire_of A.told A.faults A.opened_with A.made A.openings lab.new) }
 {
     let closed = run_script(rt, alloc, config, script, lab, gate)?;
+    closed_sessions_are_reported(config, &closed);
     let ticks = script.ticks() as u64;
     match load_summary(alloc, config, &closed, n, ticks) {
         Ok(text) => Ok(text),

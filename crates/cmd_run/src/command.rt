@@ -15,6 +15,7 @@ ghost use Rattle.cmd_run.specs.Runs.{RunEnds};
 
 use commands::{Accepted, Status, accept, status_of, write_text};
 use ps_report::report;
+use report_laws::closed_sessions_are_reported;
 use script_player::PlayEnd;
 use script_runner::run_script;
 use std::alloc::Global;
@@ -79,5 +80,6 @@ fn ran<R: Threads + Wait + Sync, B: Link, G: Gate>(
     ensures faults { B.faults wire.old ≤ B.faults wire.new }
 {
     let closed = run_script(rt, alloc, &accepted.config, &accepted.script, wire, gate)?;
+    closed_sessions_are_reported(&accepted.config, &closed);
     Ok(report(alloc, &accepted.config, &closed)?)
 }

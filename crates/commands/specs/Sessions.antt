@@ -10,6 +10,7 @@ use Rattle.ps_config.specs.declared.parts.Config.{Config}
 use Rattle.ps_config.specs.Reading.{configuration}
 use Rattle.ps_report.specs.declared.closed.Closed.{Closed}
 use Rattle.ps_report.specs.Reports.{report_text}
+use Rattle.report_laws.specs.Reported.{IsReported}
 use Rattle.ps_script.specs.declared.script.Script.{Script}
 use Rattle.ps_script.specs.declared.fault.ScriptFault.{ScriptFault}
 use Rattle.ps_script.specs.Scripts.{script as script_in}
@@ -42,9 +43,10 @@ takes_all script = None
 abbrev pub Performance : Type 1
 Performance = Config → Script → Option LinkState → Closed → Type 0
 
--- the text is the report of a session of the script, which the link tells of
+-- the text is the report of a session of the script, which the link tells of, and tells this session and no other
 abbrev pub IsReportOf : Performance → Text
-IsReportOf Performs config script told text = (closed : Closed) × Performs config script told closed × (text ≡ report_text config closed)
+IsReportOf Performs config script told text =
+    (closed : Closed) × Performs config script told closed × (text ≡ report_text config closed) × IsReported config closed
 
 -- what the files of these names were accepted as, which the folder told before
 pub record Accepts (fates : Bool) (tells : List ℕ → ToldFile) (script_name : List ℕ) (config_name : Option (List ℕ)) (config : Config) (script : Script) : Type 0 where

@@ -14,6 +14,7 @@ ghost use Rattle.commands.specs.Plays.{PlayEnds};
 
 use crate::{Accepted, Status, accept, status_of, write_text};
 use ps_report::report;
+use report_laws::closed_sessions_are_reported;
 use script_player::{PlayEnd, play_script};
 use std::alloc::Global;
 use std::sync::Wait;
@@ -72,5 +73,6 @@ fn played<R: Wait, A: Link>(
     ensures faults { A.faults lab.old ≤ A.faults lab.new }
 {
     let closed = play_script(rt, alloc, &accepted.config, &accepted.script, lab)?;
+    closed_sessions_are_reported(&accepted.config, &closed);
     Ok(report(alloc, &accepted.config, &closed)?)
 }

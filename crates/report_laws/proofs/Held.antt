@@ -59,7 +59,7 @@ status_cut m n s t in_m in_n same = go (nat_eq m 0) (nat_eq n 0) refl refl
 
 -- ---- fields
 
-field_is : (name : List ℕ) (value : Value) (status : ℕ) (s : List ℕ) → field_text name value status ++ s ≡ 32 ∷ (name ++ (status_mark status ++ (61 ∷ (value_text_of value ++ s))))
+pub field_is : (name : List ℕ) (value : Value) (status : ℕ) (s : List ℕ) → field_text name value status ++ s ≡ 32 ∷ (name ++ (status_mark status ++ (61 ∷ (value_text_of value ++ s))))
 unfolding field_text
 field_is name value status s = simp append_assoc
 
@@ -140,7 +140,7 @@ numbered_cut m n v w s t in_m in_n in_v in_w same =
     let version = dash_cut v w (58 ∷ s) (58 ∷ t) in_v in_w refl refl (append_cancel_left (codes " version ") left right number.1) in
     ((number.0, version.0), tail_same 58 58 s t version.1)
 
-waits_is : (why : Why) (s : List ℕ) → waits_text why ++ s ≡ codes " waits " ++ (why_word why ++ s)
+pub waits_is : (why : Why) (s : List ℕ) → waits_text why ++ s ≡ codes " waits " ++ (why_word why ++ s)
 unfolding waits_text
 waits_is why s = simp append_assoc
 

@@ -7,7 +7,9 @@ pub mod Lines
 pub mod Naming
 pub mod Parts
 pub mod Printing
+pub mod Alone
 pub mod Seeing
+pub mod Summing
 pub mod Telling
 pub mod Values
 pub mod Watches

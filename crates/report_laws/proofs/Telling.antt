@@ -1,6 +1,7 @@
 -- A whole report, line by line.
 use Rattle.std.proofs.Common.{◌≡◌, ℕ, ◌<◌, List, ◌++◌, length, sym, ap, ◌∙◌, append_assoc}
 use Rattle.std.specs.List.{AllZip, AllByRecursion}
+use Rattle.std.proofs.lemmas.List.{append_cancel_right}
 use Rattle.std.proofs.lemmas.List.Elements.{recursion_from_All}
 use Rattle.dataset_meta.specs.Metas.{MetaData}
 use Rattle.ps_config.specs.declared.parts.Config.{Config}
@@ -49,6 +50,28 @@ report_is config closed =
     six (history_lines config.dataset closed.histories) (group_lines config.group closed.groups closed.writers)
     (read_group_lines config.dataset config.readgroup closed.read_groups closed.readers) (watch_lines config closed.watches) (link_line closed.link) end_line
 
+-- the lines before the end
+abbrev pub begun_text : Config → Closed → List ℕ
+begun_text config closed =
+    history_lines config.dataset closed.histories
+    ++ group_lines config.group closed.groups closed.writers
+    ++ read_group_lines config.dataset config.readgroup closed.read_groups closed.readers
+    ++ watch_lines config closed.watches
+    ++ link_line closed.link
+
+begun_is : (config : Config) (closed : Closed) (s : List ℕ) → begun_text config closed ++ s
+    ≡ history_lines config.dataset closed.histories ++ (group_lines config.group closed.groups closed.writers
+    ++ (read_group_lines config.dataset config.readgroup closed.read_groups closed.readers
+    ++ (watch_lines config closed.watches ++ (link_line closed.link ++ s))))
+begun_is config closed s =
+    six (history_lines config.dataset closed.histories) (group_lines config.group closed.groups closed.writers)
+    (read_group_lines config.dataset config.readgroup closed.read_groups closed.readers) (watch_lines config closed.watches) (link_line closed.link) s
+
+-- what stands before the end is this
+pub begins_so : (config : Config) (closed : Closed) (front : List ℕ) → front ++ end_line ≡ report_text config closed → front ≡ begun_text config closed
+begins_so config closed front is =
+    append_cancel_right front (begun_text config closed) end_line (is ∙ report_is config closed ∙ sym (begun_is config closed end_line))
+
 -- what a closed session of a configuration has
 record Has (config : Config) (closed : Closed) : Type 0 where
   histories : AllZip HistoryHas config.dataset closed.histories
@@ -69,14 +92,15 @@ has config closed numbers of = record {
       (recursion_from_All WatchHasNumbers closed.watches numbers.watches);
 }
 
-pub report_tells : (config : Config) (one other : Closed) → NamesReaders config → HasNumbers one → HasNumbers other
+-- whatever follows
+pub begun_tells : (config : Config) (one other : Closed) (s t : List ℕ) → NamesReaders config → HasNumbers one → HasNumbers other
     → IsClosedOf config one → IsClosedOf config other
-    → report_text config one ≡ report_text config other → AreToldAlike one other
-report_tells config one other names in_one in_other of_one of_other same =
+    → begun_text config one ++ s ≡ begun_text config other ++ t → AreToldAlike one other × (s ≡ t)
+begun_tells config one other s t names in_one in_other of_one of_other same =
     let left = has config one in_one of_one in
     let right = has config other in_other of_other in
-    let link = link_line one.link ++ end_line in
-    let another = link_line other.link ++ end_line in
+    let link = link_line one.link ++ s in
+    let another = link_line other.link ++ t in
     let watched = watch_lines config one.watches ++ link in
     let seen = watch_lines config other.watches ++ another in
     let read = read_group_lines config.dataset config.readgroup one.read_groups one.readers ++ watched in
@@ -84,18 +108,27 @@ report_tells config one other names in_one in_other of_one of_other same =
     let written = group_lines config.group one.groups one.writers ++ read in
     let writing = group_lines config.group other.groups other.writers ++ reading in
     let histories = parts_cut history_text HistoryHas SameHistory history_tells config.dataset one.histories other.histories written writing left.histories right.histories
-    (sym (report_is config one) ∙ same ∙ report_is config other) in
+    (sym (begun_is config one s) ∙ same ∙ begun_is config other t) in
     let groups = groups_cut config.group one.groups other.groups one.writers other.writers read reading left.groups right.groups left.writers right.writers histories.1 in
     let read_groups = read_groups_cut config.dataset config.readgroup one.read_groups other.read_groups one.readers other.readers watched seen
     left.read_groups right.read_groups left.readers right.readers groups.1 in
-    let watches = watches_cut config one.watches other.watches link another names left.watches right.watches (link_begins one.link end_line) (link_begins other.link end_line) read_groups.1 in
-    let linked = link_cut one.link other.link end_line end_line in_one.link in_other.link watches.1 in
-    record {
-      histories = same_all one.histories other.histories histories.0;
-      groups = groups.0.0;
-      writers = groups.0.1;
-      read_groups = read_groups.0.0;
-      readers = read_groups.0.1;
-      watches = watches.0;
-      link = linked.0;
-    }
+    let watches = watches_cut config one.watches other.watches link another names left.watches right.watches (link_begins one.link s) (link_begins other.link t) read_groups.1 in
+    let linked = link_cut one.link other.link s t in_one.link in_other.link watches.1 in (
+      record {
+        histories = same_all one.histories other.histories histories.0;
+        groups = groups.0.0;
+        writers = groups.0.1;
+        read_groups = read_groups.0.0;
+        readers = read_groups.0.1;
+        watches = watches.0;
+        link = linked.0;
+      },
+      linked.1,
+    )
+
+pub report_tells : (config : Config) (one other : Closed) → NamesReaders config → HasNumbers one → HasNumbers other
+    → IsClosedOf config one → IsClosedOf config other
+    → report_text config one ≡ report_text config other → AreToldAlike one other
+report_tells config one other names in_one in_other of_one of_other same =
+    (begun_tells config one other end_line end_line names in_one in_other of_one of_other
+    (begun_is config one end_line ∙ sym (report_is config one) ∙ same ∙ report_is config other ∙ sym (begun_is config other end_line))).0

@@ -1,8 +1,10 @@
--- What a report tells of a closed session: all but why a reader waited, where it holds a row.
-use Rattle.std.specs.Prelude.{◌≡◌, None}
+-- What a report tells of a closed session: all but why a reader waited, where it holds a row. And what a summary tells.
+use Rattle.std.specs.Prelude.{◌≡◌, None, option_map}
 use Rattle.std.specs.List.{AllZip}
 use Rattle.ps_report.specs.declared.closed.Closed.{Closed}
+use Rattle.ps_report.specs.declared.closed.HeldEnd.{HeldEnd}
 use Rattle.ps_report.specs.declared.closed.ReaderEnd.{ReaderEnd}
+use Rattle.ps_report.specs.Reports.{load_versions}
 
 -- one state, and one row with its number and version, or one reason why there is none; and the same breaks
 pub record AreReadersAlike (one other : ReaderEnd) : Type 0 where
@@ -22,3 +24,13 @@ pub record AreToldAlike (one other : Closed) : Type 0 where
   pub readers : AllZip AreReadersAlike one.readers other.readers
   pub watches : one.watches ≡ other.watches
   pub link : one.link ≡ other.link
+
+-- one row, or one reason why there is none
+pub record HoldAlike (one other : ReaderEnd) : Type 0 where
+  pub rows : option_map (λ (held : HeldEnd). held.row.words) one.held ≡ option_map (λ (held : HeldEnd). held.row.words) other.held
+  pub waits : one.held ≡ None → one.why ≡ other.why
+
+-- first histories that are as long, and readers that hold alike
+pub record AreSummedAlike (one other : Closed) : Type 0 where
+  pub versions : load_versions one.histories ≡ load_versions other.histories
+  pub readers : AllZip HoldAlike one.readers other.readers

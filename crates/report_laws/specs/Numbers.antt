@@ -1,5 +1,5 @@
 -- What the types of a closed session say of its numbers: they have 64 bits at most, and causes are counted at 20 places.
-use Rattle.std.specs.Prelude.{◌≡◌, ℕ, ◌^◌, ◌<◌, length, IfSome}
+use Rattle.std.specs.Prelude.{◌≡◌, ℕ, ◌^◌, ◌<◌, List, length, IfSome}
 use Rattle.std.specs.List.{All}
 use Rattle.ps_report.specs.declared.closed.Closed.{Closed}
 use Rattle.ps_report.specs.declared.closed.GroupEnd.{GroupEnd}
@@ -21,8 +21,11 @@ abbrev pub GroupHasNumbers : GroupEnd → Type 0
 GroupHasNumbers end = IsNumber end.sent
 
 -- place and version of each data frame
+abbrev pub LogHasNumbers : List (ℕ × ℕ) → Type 0
+LogHasNumbers log = All (λ entry. IsNumber entry.0 × IsNumber entry.1) log
+
 abbrev pub WriterHasNumbers : WriterEnd → Type 0
-WriterHasNumbers end = All (λ entry. IsNumber entry.0 × IsNumber entry.1) end.log
+WriterHasNumbers end = LogHasNumbers end.log
 
 pub record ReadGroupHasNumbers (end : ReadGroupEnd) : Type 0 where
   pub taken : IsNumber end.taken

@@ -1,6 +1,6 @@
 //! What its type says of a closed session, by functions that walk through one.
 ghost use Rattle.std.specs.Prelude.{All, IfSome};
-ghost use Rattle.report_laws.specs.Numbers.{IsNumber, HistoryHasNumbers, GroupHasNumbers, WriterHasNumbers, ReadGroupHasNumbers, HeldHasNumbers, ReaderHasNumbers, WatchHasNumbers, LinkHasNumbers, HasNumbers};
+ghost use Rattle.report_laws.specs.Numbers.{IsNumber, HistoryHasNumbers, GroupHasNumbers, LogHasNumbers, WriterHasNumbers, ReadGroupHasNumbers, HeldHasNumbers, ReaderHasNumbers, WatchHasNumbers, LinkHasNumbers, HasNumbers};
 
 use ps_report::{
     Break, Closed, GroupEnd, HeldEnd, History, LinkEnd, ReadGroupEnd, ReaderEnd, WatchEnd,
@@ -40,12 +40,13 @@ fn see_writers(writers: &[WriterEnd])
     ensures { All WriterHasNumbers writers.now }
 {
     for end in writers {
-        see_log(end.log.as_slice());
+        logs_have_numbers(end.log.as_slice());
     }
 }
 
-fn see_log(log: &[(u64, u64)])
-    ensures { All (λ entry. IsNumber entry.0 × IsNumber entry.1) log.now }
+/// Place and version of each data frame of a log have 64 bits at most.
+pub fn logs_have_numbers(log: &[(u64, u64)])
+    ensures { LogHasNumbers log.now }
 {
     for entry in log {
         see_number(entry.0);

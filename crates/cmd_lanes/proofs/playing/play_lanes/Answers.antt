@@ -19,7 +19,9 @@ returns-clause-text g c =
     (g.L.Link.told c.open.new.self) (g.L.Link.told c.run_lanes.new.link) c.in_ok-ran.ran c.in_ok-lanes_text.field-0.items
     (opened-new (g.L.Link.told c.args.link.now) (g.L.Link.told c.open.new.self) c.in-Done.ensures.empty)
     c.in_ok-ran.ensures.lanes
-    (c.in_ok-lanes_text.ensures (turns_deeds config turns)
+    (c.in_ok-lanes_text.ensures.text (turns_deeds config turns)
+    (stand-all config turns c.len.result c.in_ok-lanes.lanes.items c.in_ok-ran.ran.lanes.items c.in_ok-lanes.ensures c.in_ok-ran.ensures.behind))
+    (c.in_ok-lanes_text.ensures.numbers (turns_deeds config turns)
     (stand-all config turns c.len.result c.in_ok-lanes.lanes.items c.in_ok-ran.ran.lanes.items c.in_ok-lanes.ensures c.in_ok-ran.ensures.behind))
 
 -- the link was opened once, and no call behind that opened it again

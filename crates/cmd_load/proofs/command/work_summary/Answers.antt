@@ -4,7 +4,7 @@ use Rattle.cmd_load.proofs.command.work_summary.Goals as goal
 
 pub returns-in-Ok-clause-summary : goal.returns-in-Ok-clause-summary
 returns-in-Ok-clause-summary g c =
-    summarized _ _ _ _ _ _ _ c.requires.config c.requires.script c.requires.least c.requires.most c.in_ok-closed.ensures.ran c.in_ok-closed.ensures.opened c.ticks-ticks.ensures c.in-Ok.ensures
+    summarized _ _ _ _ _ _ _ c.requires.config c.requires.script c.requires.least c.requires.most c.in_ok-closed.ensures.ran c.closed_sessions_are_reported.ensures c.in_ok-closed.ensures.opened c.ticks-ticks.ensures c.in-Ok.ensures
 
 pub returns-in-Ok-clause-link : goal.returns-in-Ok-clause-link
 returns-in-Ok-clause-link g c = record {
