@@ -13,3 +13,4 @@ pub mod Whole
 pub mod TextOf
 pub mod Tells
 pub mod Writing
+pub mod Alone

@@ -4,6 +4,8 @@ use Rattle.ua_base.specs.Journal.{Entry, LinkState}
 use Rattle.ps_config.specs.declared.parts.Config.{Config}
 use Rattle.ps_report.specs.declared.closed.Closed.{Closed}
 use Rattle.ps_report.specs.Conditions.{IsClosedOf}
+use Rattle.report_laws.specs.Numbers.{HasNumbers}
+use Rattle.report_laws.specs.ReaderNames.{NamesReaders}
 use Rattle.ps_script.specs.declared.script.Script.{Script}
 use Rattle.ps_script.specs.Sound.{IsScript}
 use Rattle.reader_group.specs.Members.{seat_at}
@@ -100,8 +102,8 @@ module _ (law : ShowsCollected) (rows : HistoriesHaveRows) (tells-all : RunsTell
 
   module _ (lines : LinesLaw) (text : List ℕ) (told : (lived : List GatewayStep) → Stands second lived new.gateway
       → IsTextOf first closed second (session_steps (sources_of new.gateway) lived) (kept_by_index (sources_of new.gateway) lived) text) where
-    pub relayed : IsRelayOf first second script lab_after wire_after text
-    relayed =
+    pub relayed : NamesReaders first → HasNumbers closed → IsRelayOf first second script lab_after wire_after text
+    relayed names numbers =
         let all = samples_of (passes_of e.mid.session) in
         let played = play in
         let f = e.behind in
@@ -145,6 +147,7 @@ module _ (law : ShowsCollected) (rows : HistoriesHaveRows) (tells-all : RunsTell
         record {
           closed = closed;
           play = played.0;
+          reported = record { names = names; numbers = numbers; closed_of = closed-of };
           sources = h.sources;
           relay = relay;
           firsts_are = sym now_is;

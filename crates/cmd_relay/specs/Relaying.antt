@@ -4,6 +4,7 @@ use Rattle.ua_base.specs.Journal.{Entry, LinkState}
 use Rattle.ps_config.specs.declared.parts.Config.{Config}
 use Rattle.ps_config.specs.Sound.{readers}
 use Rattle.ps_report.specs.declared.closed.Closed.{Closed}
+use Rattle.report_laws.specs.Reported.{IsReported}
 use Rattle.ps_script.specs.declared.script.Act.{Act}
 use Rattle.ps_script.specs.declared.script.Act.TheVariants as act
 use Rattle.ps_script.specs.declared.script.Line.{Line}
@@ -37,10 +38,11 @@ use Rattle.cmd_relay.specs.Texts.{IsTextOf, versions_of}
 
 -- A play of the script with the first configuration, and a gateway of the second that follows it, in which each data set has a source: behind each tick and pump of
 -- the session the gateway collects what its readers have stored, and has a tick of as many milliseconds, and a pump. Both links tell their journals, and the text tells
--- the play and the gateway: what this publishes and holds is of the history that the script writes.
+-- the play, and no other, and the gateway: what this publishes and holds is of the history that the script writes.
 pub record IsRelayOf (first second : Config) (script : Script) (lab wire : Option LinkState) (text : List ℕ) : Type 0 where
   pub closed : Closed
   pub play : IsPlayOf first script lab closed
+  pub reported : IsReported first closed
   pub sources : List Source
   pub relay : List RelayStep
   pub firsts_are : firsts relay ≡ play.steps

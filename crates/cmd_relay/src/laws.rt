@@ -4,6 +4,8 @@ ghost use Rattle.dataset_meta.specs.DataValues.{DataValue};
 ghost use Rattle.ps_config.specs.declared.parts.Config.{Config};
 ghost use Rattle.ps_report.specs.declared.closed.Closed.{Closed};
 ghost use Rattle.ps_report.specs.Lines.{waits_text};
+ghost use Rattle.report_laws.specs.Alike.{AreToldAlike};
+ghost use Rattle.report_laws.specs.Reported.{IsReported};
 ghost use Rattle.writer_group.specs.Parts.{group_at};
 ghost use Rattle.session_model.specs.Events.{reader_at};
 ghost use Rattle.session_model.specs.Steps.{Plan, Step};
@@ -52,3 +54,11 @@ pub fn the_lines_of_a_gateway_tell_stores()
     a_gateway_tells_the_first_history();
     a_kept_version_is_of_its_store();
 }
+
+/// The text of a relay tells one first session: two that have the same text, whatever the gateways did, are told alike.
+pub fn a_text_of_a_relay_tells_one_session()
+    ensures { (first second : Config) (one other : Closed) (steps others : List Step)
+        (kept stores : ℕ → List StoreVersion) (text : List ℕ) → IsReported first one → IsReported first other
+        → IsTextOf first one second steps kept text → IsTextOf first other second others stores text
+        → AreToldAlike one other }
+{}

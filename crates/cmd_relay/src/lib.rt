@@ -11,6 +11,6 @@ mod sources;
 mod text;
 
 pub use command::relay;
-pub use laws::the_lines_of_a_gateway_tell_stores;
+pub use laws::{a_text_of_a_relay_tells_one_session, the_lines_of_a_gateway_tell_stores};
 pub use matching::matched_writer;
 pub use sources::unsourced;

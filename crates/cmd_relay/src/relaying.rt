@@ -24,6 +24,7 @@ use gateway_core::{Gateway, Ticked};
 use gateway_laws::passes_show_what_is_collected;
 use ps_config::Config;
 use ps_script::{Act, Line, Script};
+use report_laws::{closed_sessions_have_numbers, readers_are_told_by_their_names};
 use script_player::{PlayEnd, Player, size_of};
 use session_laws::a_closed_session_tells_the_headline;
 use std::alloc::Global;
@@ -86,6 +87,8 @@ pub(crate) fn relayed_text<R: Wait, A: Link, B: Link>(
         ..
     } = relay;
     let closed = player.close(alloc)?;
+    readers_are_told_by_their_names(first);
+    closed_sessions_have_numbers(&closed);
     Ok(text_of(alloc, first, &closed, second, &gateway)?)
 }
 

@@ -12,7 +12,10 @@ use Rattle.app_threads.specs.Marks.{authors}
 use Rattle.dataset_meta.specs.Metas.{HasGrown, MetaData}
 use Rattle.ps_config.specs.declared.parts.Config.{Config}
 use Rattle.ps_report.specs.declared.closed.Closed.{Closed}
+use Rattle.ps_report.specs.Reports.{report_text}
 use Rattle.ps_script.specs.declared.script.Script.{Script}
+use Rattle.report_laws.specs.Reported.{IsReported}
+use Rattle.report_laws.proofs.Alone.{written_tells}
 use Rattle.session_model.specs.Closing.{IsClosedAfter}
 use Rattle.session_model.specs.Sends.{TellsRun}
 use Rattle.session_model.specs.Sets.{GrowTo, meta_in}
@@ -41,7 +44,7 @@ use Rattle.cmd_lanes.specs.Runs.{IsLanesOf}
 use Rattle.cmd_lanes.specs.Scripts.{refusal as lanes_refusal}
 use Rattle.uapubsub.specs.Ends.{Does, IsBeforeLink, World, output_in}
 use Rattle.uapubsub.specs.Words.{Shape, Check, Play, Run, Load, Json, Keys, Relay, Lanes}
-use Rattle.uapubsub.specs.Headline.{Performance as Performed, PlayedIn, RanIn, Rows, Threads, WritesHeadline, WritesPlay, WritesRun}
+use Rattle.uapubsub.specs.Headline.{Performance as Performed, PlayedIn, RanIn, Rows, TellsOne, Threads, WritesHeadline, WritesPlay, WritesRun}
 
 -- what a performed script has for the headline
 record HasHeadline (InSteps : Performed) (config : Config) (script : Script) (told : Option LinkState) (closed : Closed) : Type 0 where
@@ -147,6 +150,14 @@ does_is_no_usage (Relay script first second) status old new h two =
 does_is_no_usage (Lanes script config) status old new h two =
     session_is_no_usage IsLanesOf lanes_refusal true status script config old.outside new.outside new.lab h.says two
 
+-- what was written tells one session
+tells-one : (config : Config) (closed : Closed) (old new : Option (List ℕ)) → IsReported config closed → new ≡ appended old (report_text config closed)
+    → TellsOne config closed old new
+tells-one config closed old new reported written = λ before other is its same.
+    written_tells config closed other before reported its
+    (ap (λ (told : Option (List ℕ)). appended told (report_text config closed)) (sym is) ∙ sym written ∙ same
+    ∙ ap (λ (told : Option (List ℕ)). appended told (report_text config other)) is)
+
 -- with status 0 the report tells the headline, where what is performed has such rows
 headline_by : (Performs : Performance) (fates : Bool) (InSteps : Performed) → ((config : Config) (script : Script) (told : Option LinkState) (closed : Closed)
     → Performs config script told closed → HasHeadline InSteps config script told closed)
@@ -155,6 +166,7 @@ headline_by : (Performs : Performance) (fates : Bool) (InSteps : Performed) → 
     → number_of status ≡ 0 → WritesHeadline fates InSteps script_name config_name old new after
 headline_by Performs fates InSteps has Done script_name config_name old new after h zero =
     let headline = has h.1.config h.1.script after.told h.1.is_text.0 h.1.is_text.1 in
+    let written : new.written ≡ appended old.written (report_text h.1.config h.1.is_text.0) = h.2 ∙ ap (appended old.written) h.1.is_text.2 in
     record {
       config = h.1.config;
       script = h.1.script;
@@ -167,10 +179,12 @@ headline_by Performs fates InSteps has Done script_name config_name old new afte
       lived = headline.lived;
       tells = headline.tells;
       closed_after = headline.closed_after;
+      reported = h.1.is_text.3;
       histories = headline.histories;
       closes = headline.closes;
       headline = headline.headline;
-      written = h.2 ∙ ap (appended old.written) h.1.is_text.2;
+      written = written;
+      alone = tells-one h.1.config h.1.is_text.0 old.written new.written h.1.is_text.3 written;
     }
 headline_by Performs fates InSteps has BadWords script_name config_name old new after h zero = absurd h
 headline_by Performs fates InSteps has (ConfigRefused code path) script_name config_name old new after h zero = absurd (omega arith)

@@ -1,5 +1,5 @@
 -- THE HEADLINE, of what a command wrote.
-use Rattle.std.specs.Prelude.{◌≡◌, ℕ, ◌<◌, Bool, true, false, List, length, map, Option}
+use Rattle.std.specs.Prelude.{◌≡◌, ℕ, ◌<◌, Bool, true, false, List, length, map, Option, Some}
 use Rattle.std.specs.List.{range_with_len}
 use Rattle.ua_base.specs.Journal.{LinkState}
 use Rattle.ua_base.specs.Output.{appended}
@@ -8,6 +8,8 @@ use Rattle.ps_config.specs.declared.parts.Config.{Config}
 use Rattle.ps_report.specs.declared.closed.Closed.{Closed}
 use Rattle.ps_report.specs.Reports.{report_text}
 use Rattle.ps_script.specs.declared.script.Script.{Script}
+use Rattle.report_laws.specs.Alike.{AreToldAlike}
+use Rattle.report_laws.specs.Reported.{IsReported}
 use Rattle.app_threads.specs.Marks.{authors}
 use Rattle.session_model.specs.Closing.{IsClosedAfter}
 use Rattle.session_model.specs.Sends.{TellsRun}
@@ -32,10 +34,16 @@ Rows = ℕ → ℕ → List DataValue
 abbrev pub Performance : Type 1
 Performance = Config → Script → Threads → Rows → List Step → Option LinkState → Closed → Type 0
 
+-- where it is told what was written before, any session of the configuration with whose report the same would have been written is told as this one
+abbrev pub TellsOne : Config → Closed → Option (List ℕ) → Option (List ℕ) → Type 0
+TellsOne config closed old new = (before : List ℕ) (other : Closed) → old ≡ Some before → IsReported config other
+    → new ≡ appended old (report_text config other) → AreToldAlike closed other
+
 -- What was written is the report of a closed session of the accepted configuration and script, which was so performed that the link tells its steps. Each data
 -- message of a writer stands for one whole version of its data set's single history, that of the script's writes, and never for an older one than the message
 -- before; and whatever datagrams were lost, repeated or reordered, each reader that the report tells holds exactly the version that its unbroken run of messages
--- names, or has said why it waits. The report tells the threads whose writes made each history, and the closing tick sampled each history's last version.
+-- names, or has said why it waits. The report tells the threads whose writes made each history, and the closing tick sampled each history's last version. It
+-- tells this session and no other.
 -- fates: whether the script may give datagrams fates; Performed: how it was performed
 pub record WritesHeadline (fates : Bool) (Performed : Performance) (script_name : List ℕ) (config_name : Option (List ℕ)) (old new : Outside) (after : Wire) : Type 0 where
   pub config : Config
@@ -49,10 +57,12 @@ pub record WritesHeadline (fates : Bool) (Performed : Performance) (script_name 
   pub lived : HasRun (plan_by config script) steps rows
   pub tells : TellsRun (plan_by config script) steps after.told
   pub closed_after : IsClosedAfter (plan_by config script) steps closed
+  pub reported : IsReported config closed
   pub histories : map (λ history. history.threads) closed.histories ≡ map threads (range_with_len 0 (length config.dataset))
   pub closes : (set : ℕ) → set < length config.dataset → ClosesWith steps set (length (threads set))
   pub headline : TellsHeadline (plan_by config script) steps rows closed
   pub written : new.written ≡ appended old.written (report_text config closed)
+  pub alone : TellsOne config closed old.written new.written
 
 -- the script was played in these steps: the histories are those of its writes in the order of the lines
 pub record PlayedIn (config : Config) (script : Script) (threads : Threads) (rows : Rows) (steps : List Step) (told : Option LinkState) (closed : Closed) : Type 0 where

@@ -66,6 +66,7 @@ returns-clause-text g c =
     relayed c.passes_show_what_is_collected.ensures c.histories_are_the_models.ensures.rows c.a_closed_session_tells_the_headline.ensures a.first a.second a.script c.requires.script
     c.in_ok-relay.ensures.new.plan (is-plan a.second [] c.requires.second.0 c.requires.second.1 tt) _ _ _ _ c.play.new.self c.end.new.self h e c.in_ok-closed.closed c.in_ok-closed.ensures.closes
     c.the_lines_of_a_gateway_tell_stores.ensures.text c.in_ok-text_of.field-0.items c.in_ok-text_of.ensures
+    c.readers_are_told_by_their_names.ensures c.closed_sessions_have_numbers.ensures
 
 -- each link was opened once, and no call behind that opened it again
 pub returns-in_err-open_again-clause-lab_once : goal.returns-in_err-open_again-clause-lab_once
