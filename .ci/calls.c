@@ -85,6 +85,8 @@ static void check_publisher(void) {
     DEMAND(uap_set_u32(&handle, 9, 0, 1) == UAP_INDEX);
     DEMAND(uap_set_text(&handle, 0, 1, "this text is longer than its cap") == UAP_MISFIT);
     DEMAND(uap_set_text(&handle, 0, 1, "\xff") == UAP_BAD_TEXT);
+    DEMAND(uap_set_field_status(&handle, 0, 0, 0) == UAP_OK);
+    DEMAND(uap_set_field_status(&handle, 0, 0, 0x80000000u) == UAP_MISFIT);
     DEMAND(uap_publisher_next(&handle, 0, bytes, sizeof bytes, &length) == UAP_NONE);
     DEMAND(uap_publisher_next(&handle, 103, bytes, 4, &length) == UAP_ROOM && length > 4);
     DEMAND(uap_publisher_next(&handle, 103, bytes, length, &length) == UAP_OK);
@@ -103,6 +105,85 @@ static void check_publisher(void) {
     DEMAND(uap_publisher_resume(&handle, 0, 305, UINT32_MAX - 5) == UAP_OK);
     DEMAND(uap_publisher_next(&handle, 400, bytes, sizeof bytes, &length) == UAP_SPENT);
     DEMAND(uap_close(&handle) == UAP_OK);
+}
+
+// ---- Guids, statuses, and what is switched on and off
+
+static const char mixed[] =
+    "[publisher]\nid = \"u8:9\"\n"
+    "[[dataset]]\nname = \"set\"\nquality = true\n"
+    "[[dataset.field]]\nname = \"unit\"\nkind = \"Guid\"\n"
+    "[[dataset.field]]\nname = \"level\"\nkind = \"Double\"\n"
+    "[[group]]\nname = \"group\"\nid = 1\ninterval = 10\n"
+    "[[group.writer]]\nname = \"writer\"\nid = 1\ndataset = \"set\"\nkey_frame_count = 100\n"
+    "[[readgroup]]\nname = \"peer\"\npublisher = \"u8:9\"\ngroup = 1\n"
+    "[[readgroup.reader]]\nname = \"reader\"\nwriter = 1\ndataset = \"set\"\ntimeout = 1000\n";
+
+enum { UNCERTAIN = 0x40000000 };
+
+// What the turn at this moment sends is taken; the answer says how often a message was given to a reader.
+static uint32_t carry(struct uap_handle *publisher, struct uap_handle *subscriber, uint64_t now) {
+    uint8_t bytes[DATAGRAM_BYTES];
+    size_t length;
+    struct uap_taken taken;
+    DEMAND(uap_publisher_next(publisher, now, bytes, sizeof bytes, &length) == UAP_OK);
+    DEMAND(uap_subscriber_datagram(subscriber, 0, now, bytes, length, &taken) == UAP_OK);
+    return taken.matched;
+}
+
+static void check_fields(struct uap_handle *publisher, struct uap_handle *subscriber) {
+    struct uap_guid unit, held;
+    uint32_t status = 1;
+    double level;
+    for (uint8_t i = 0; i < 16; i++) unit.bytes[i] = (uint8_t)(200 + i);
+    DEMAND(uap_set_guid(publisher, 0, 0, &unit) == UAP_OK);
+    DEMAND(uap_set_guid(publisher, 0, 1, &unit) == UAP_MISFIT);
+    DEMAND(uap_set_f64(publisher, 0, 1, 2.5) == UAP_OK);
+    DEMAND(uap_set_field_status(publisher, 0, 1, UNCERTAIN) == UAP_OK);
+    DEMAND(uap_set_field_status(publisher, 0, 2, UNCERTAIN) == UAP_INDEX);
+    DEMAND(uap_get_guid(subscriber, 0, 0, 0, &held) == UAP_NONE);
+    DEMAND(uap_get_field_status(subscriber, 0, 0, 1, &status) == UAP_NONE && status == 1);
+    DEMAND(carry(publisher, subscriber, 10) == 1);
+    DEMAND(uap_get_guid(subscriber, 0, 0, 0, &held) == UAP_OK && memcmp(&held, &unit, sizeof unit) == 0);
+    DEMAND(uap_get_guid(subscriber, 0, 0, 1, &held) == UAP_MISFIT);
+    DEMAND(uap_get_f64(subscriber, 0, 0, 1, &level) == UAP_OK && level == 2.5);
+    DEMAND(uap_get_field_status(subscriber, 0, 0, 0, &status) == UAP_OK && status == 0);
+    DEMAND(uap_get_field_status(subscriber, 0, 0, 1, &status) == UAP_OK && status == UNCERTAIN);
+    DEMAND(uap_get_field_status(subscriber, 0, 0, 2, &status) == UAP_INDEX);
+}
+
+static void check_switches(struct uap_handle *publisher, struct uap_handle *subscriber) {
+    uint8_t bytes[DATAGRAM_BYTES];
+    size_t length;
+    uint32_t why;
+    double level;
+    DEMAND(uap_writer_disable(publisher, 0, 1) == UAP_INDEX && uap_writer_disable(publisher, 1, 0) == UAP_INDEX);
+    DEMAND(uap_writer_disable(publisher, 0, 0) == UAP_OK);
+    DEMAND(uap_set_f64(publisher, 0, 1, 3.5) == UAP_OK);
+    DEMAND(uap_publisher_next(publisher, 20, bytes, sizeof bytes, &length) == UAP_NONE);
+    DEMAND(uap_writer_enable(publisher, 0, 0) == UAP_OK);
+    DEMAND(carry(publisher, subscriber, 30) == 1);
+    DEMAND(uap_get_f64(subscriber, 0, 0, 1, &level) == UAP_OK && level == 3.5);
+    DEMAND(uap_reader_disable(subscriber, 0, 1) == UAP_INDEX && uap_reader_disable(subscriber, 1, 0) == UAP_INDEX);
+    DEMAND(uap_reader_disable(subscriber, 0, 0) == UAP_OK);
+    DEMAND(uap_reader_why(subscriber, 0, 0, &why) == UAP_NONE && why == UAP_WHY_RESTARTED);
+    DEMAND(uap_get_f64(subscriber, 0, 0, 1, &level) == UAP_NONE);
+    DEMAND(uap_writer_enable(publisher, 0, 0) == UAP_OK);
+    DEMAND(carry(publisher, subscriber, 40) == 0);
+    DEMAND(uap_reader_enable(subscriber, 0, 0) == UAP_OK);
+    DEMAND(uap_writer_enable(publisher, 0, 0) == UAP_OK);
+    DEMAND(carry(publisher, subscriber, 50) == 1);
+    DEMAND(uap_reader_why(subscriber, 0, 0, &why) == UAP_OK && why == UAP_WHY_RESTARTED);
+    DEMAND(uap_reader_disable(publisher, 0, 0) == UAP_OTHER_SIDE && uap_writer_enable(subscriber, 0, 0) == UAP_OTHER_SIDE);
+}
+
+static void check_mixed(void) {
+    struct uap_handle publisher = UAP_CLOSED_HANDLE, subscriber = UAP_CLOSED_HANDLE;
+    DEMAND(uap_publisher_open(&publisher, mixed, sizeof mixed - 1) == UAP_OK);
+    DEMAND(uap_subscriber_open(&subscriber, mixed, sizeof mixed - 1) == UAP_OK);
+    check_fields(&publisher, &subscriber);
+    check_switches(&publisher, &subscriber);
+    DEMAND(uap_close(&publisher) == UAP_OK && uap_close(&subscriber) == UAP_OK);
 }
 
 // ---- damaged datagrams
@@ -173,6 +254,7 @@ int main(int count, char **words) {
     check_configurations();
     check_handles();
     check_publisher();
+    check_mixed();
     check_damaged();
     printf("calls: ok, %u damaged datagrams\n", turns * COPIES);
     return 0;

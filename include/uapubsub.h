@@ -33,8 +33,8 @@ enum {
     UAP_OTHER_SIDE = 5,  /* the handle is a subscriber's, and the call a publisher's, or the other way about */
     UAP_MEMORY = 6,      /* memory ran out */
     UAP_REFUSED = 7,     /* the configuration is refused: uap_config_check says why */
-    UAP_INDEX = 8,       /* there is no such data set, field, key group, read group or reader */
-    UAP_MISFIT = 9,      /* the field doesn't have this kind, or the value is longer than its cap */
+    UAP_INDEX = 8,       /* there is no such data set, field, key group, group, writer, read group or reader */
+    UAP_MISFIT = 9,      /* the field doesn't have this kind, this value or this status: of another kind, longer than its cap, or without quality */
     UAP_ROOM = 10,       /* the buffer is too short */
     UAP_SPENT = 11,      /* a group that is due can have no turn: fewer than 1,024 numbers are left under its token */
     UAP_BAD_TEXT = 12,   /* the text isn't UTF-8, or has more than 256 bytes */
@@ -89,6 +89,11 @@ struct uap_key_set {
     uint8_t encrypting[32];
 };
 
+/* The 16 bytes of a Guid as they stand on the wire: the first three fields are little-endian. */
+struct uap_guid {
+    uint8_t bytes[16];
+};
+
 /* What became of the messages of a datagram. */
 struct uap_taken {
     uint32_t parts;    /* how many messages, chunks or slots it had */
@@ -107,18 +112,26 @@ uint32_t uapubsub_publisher_next(struct uap_handle *handle, uint64_t now_ms, uin
 uint32_t uapubsub_publisher_standing(struct uap_handle *handle, uint8_t keygroup, uint32_t *token, uint32_t *used);
 uint32_t uapubsub_publisher_resume(struct uap_handle *handle, uint8_t keygroup, uint64_t now_ms, uint32_t used);
 uint32_t uapubsub_publisher_renew(struct uap_handle *handle, uint8_t keygroup, const struct uap_key_set *sets, size_t count);
+uint32_t uapubsub_writer_enable(struct uap_handle *handle, uint8_t group, uint8_t writer);
+uint32_t uapubsub_writer_disable(struct uap_handle *handle, uint8_t group, uint8_t writer);
 uint32_t uapubsub_subscriber_open(struct uap_handle *handle, const uint8_t *text, size_t length);
 uint32_t uapubsub_subscriber_datagram(struct uap_handle *handle, uint8_t group, uint64_t now_ms, uint8_t *bytes, size_t length, struct uap_taken *taken);
 uint32_t uapubsub_subscriber_expire(struct uap_handle *handle, uint64_t now_ms);
 uint32_t uapubsub_subscriber_renew(struct uap_handle *handle, uint8_t group, const struct uap_key_set *sets, size_t count);
+uint32_t uapubsub_reader_enable(struct uap_handle *handle, uint8_t group, uint8_t reader);
+uint32_t uapubsub_reader_disable(struct uap_handle *handle, uint8_t group, uint8_t reader);
 uint32_t uapubsub_reader_why(struct uap_handle *handle, uint8_t group, uint8_t reader, uint32_t *why);
 uint32_t uapubsub_reader_number(struct uap_handle *handle, uint8_t group, uint8_t reader, uint16_t *number);
 uint32_t uapubsub_set_scalar(struct uap_handle *handle, uint8_t set, uint8_t field, uint32_t kind, uint64_t word);
 uint32_t uapubsub_set_text(struct uap_handle *handle, uint8_t set, uint8_t field, const uint8_t *text, size_t length);
 uint32_t uapubsub_set_bytes(struct uap_handle *handle, uint8_t set, uint8_t field, const uint8_t *bytes, size_t length);
+uint32_t uapubsub_set_guid(struct uap_handle *handle, uint8_t set, uint8_t field, const struct uap_guid *guid);
+uint32_t uapubsub_set_field_status(struct uap_handle *handle, uint8_t set, uint8_t field, uint32_t status);
 uint32_t uapubsub_get_scalar(struct uap_handle *handle, uint8_t group, uint8_t reader, uint8_t field, uint32_t kind, uint64_t *word);
 uint32_t uapubsub_get_text(struct uap_handle *handle, uint8_t group, uint8_t reader, uint8_t field, uint8_t *buffer, size_t room, size_t *length);
 uint32_t uapubsub_get_bytes(struct uap_handle *handle, uint8_t group, uint8_t reader, uint8_t field, uint8_t *buffer, size_t room, size_t *length);
+uint32_t uapubsub_get_guid(struct uap_handle *handle, uint8_t group, uint8_t reader, uint8_t field, struct uap_guid *guid);
+uint32_t uapubsub_get_field_status(struct uap_handle *handle, uint8_t group, uint8_t reader, uint8_t field, uint32_t *status);
 
 /* ---- both sides */
 
@@ -246,6 +259,30 @@ static inline uint32_t uap_set_text(struct uap_handle *handle, uint8_t set, uint
 static inline uint32_t uap_set_bytes(struct uap_handle *handle, uint8_t set, uint8_t field, const void *bytes, size_t length) {
     if (handle == NULL || bytes == NULL) return UAP_NULL;
     return uapubsub_set_bytes(handle, set, field, (const uint8_t *)bytes, length);
+}
+
+static inline uint32_t uap_set_guid(struct uap_handle *handle, uint8_t set, uint8_t field, const struct uap_guid *guid) {
+    if (handle == NULL || guid == NULL) return UAP_NULL;
+    return uapubsub_set_guid(handle, set, field, guid);
+}
+
+/* Sets the status of a field, a StatusCode (0 is Good), and leaves its value. A data set without quality has none but Good. The calls
+ * above that set a text, bytes or a Guid make the field Good; those that set a scalar leave its status. */
+static inline uint32_t uap_set_field_status(struct uap_handle *handle, uint8_t set, uint8_t field, uint32_t status) {
+    if (handle == NULL) return UAP_NULL;
+    return uapubsub_set_field_status(handle, set, field, status);
+}
+
+/* Switches a writer on or off, by the indexes of its group and of the writer in it. At first all are on. One that is switched on sends a
+ * key frame next. */
+static inline uint32_t uap_writer_enable(struct uap_handle *handle, uint8_t group, uint8_t writer) {
+    if (handle == NULL) return UAP_NULL;
+    return uapubsub_writer_enable(handle, group, writer);
+}
+
+static inline uint32_t uap_writer_disable(struct uap_handle *handle, uint8_t group, uint8_t writer) {
+    if (handle == NULL) return UAP_NULL;
+    return uapubsub_writer_disable(handle, group, writer);
 }
 
 /* The next datagram that is due, laid into `buffer`; UAP_NONE where no other is. With UAP_ROOM it has `length` bytes, and waits.
@@ -425,6 +462,29 @@ static inline uint32_t uap_get_bytes(struct uap_handle *handle, uint8_t group, u
                                     size_t *length) {
     if (handle == NULL || buffer == NULL || length == NULL) return UAP_NULL;
     return uapubsub_get_bytes(handle, group, reader, field, (uint8_t *)buffer, room, length);
+}
+
+static inline uint32_t uap_get_guid(struct uap_handle *handle, uint8_t group, uint8_t reader, uint8_t field, struct uap_guid *guid) {
+    if (handle == NULL || guid == NULL) return UAP_NULL;
+    return uapubsub_get_guid(handle, group, reader, field, guid);
+}
+
+/* Gets the status of a field of the row that a reader holds, a StatusCode (0 is Good). */
+static inline uint32_t uap_get_field_status(struct uap_handle *handle, uint8_t group, uint8_t reader, uint8_t field, uint32_t *status) {
+    if (handle == NULL || status == NULL) return UAP_NULL;
+    return uapubsub_get_field_status(handle, group, reader, field, status);
+}
+
+/* Switches a reader on or off, by the indexes of its read group and of the reader in it. At first all are on. One that is switched off
+ * lets its row go, and waits (UAP_WHY_RESTARTED). */
+static inline uint32_t uap_reader_enable(struct uap_handle *handle, uint8_t group, uint8_t reader) {
+    if (handle == NULL) return UAP_NULL;
+    return uapubsub_reader_enable(handle, group, reader);
+}
+
+static inline uint32_t uap_reader_disable(struct uap_handle *handle, uint8_t group, uint8_t reader) {
+    if (handle == NULL) return UAP_NULL;
+    return uapubsub_reader_disable(handle, group, reader);
 }
 
 /* A read group goes on with other key sets, as `uap_publisher_renew` has them. */

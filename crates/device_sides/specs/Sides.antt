@@ -1,11 +1,12 @@
 -- The sides of a device, between two calls.
-use Rattle.std.specs.Prelude.{◌≡◌, ℕ, ◌<◌, ◌≤◌, true, false, List, length, slice_set, slice_index_or, [], ◌∷◌, ◌⊎◌, All, Option, Some, None, Result}
+use Rattle.std.specs.Prelude.{◌≡◌, ℕ, ◌<◌, ◌≤◌, Bool, true, false, List, length, slice_set, slice_index_or, [], ◌∷◌, ◌⊎◌, All, Option, Some, None, Result}
 use Rattle.std.specs.List.{HoldsAt}
 use Rattle.ua_values.specs.declared.value.Value.{Value}
+use Rattle.dataset_meta.specs.DataValues.{IsStatus}
 use Rattle.dataset_meta.specs.Metas.{MetaData}
 use Rattle.ua_values.specs.declared.kind.Kind.{Kind}
 use Rattle.row_words.specs.Belonging.{row_in}
-use Rattle.row_words.specs.Setting.{with_value}
+use Rattle.row_words.specs.Setting.{with_status, with_value}
 use Rattle.row_words.specs.Words.{is_scalar, scalar_in}
 use Rattle.group_keys.specs.declared.key_set.KeySet.{KeySet}
 use Rattle.message_guard.specs.Senders.{SenderState, IsSender, renewed}
@@ -15,9 +16,10 @@ use Rattle.reader_group.specs.Plain.{Got}
 use Rattle.reader_group.specs.declared.refusal.Refusal.{Refusal}
 use Rattle.reader_group.specs.declared.refusal.Taken.{Taken}
 use Rattle.writer_group.specs.declared.datagrams.Datagrams.{Datagrams}
+use Rattle.writer_group.specs.declared.group.Group.{Group}
 use Rattle.writer_group.specs.declared.sampled.Sampled.{Sampled}
 use Rattle.writer_group.specs.Parts.{group_at}
-use Rattle.writer_group.specs.Standing.{AreRowsOf, HasTickedAt, IsGood, IsReserved, KeepsTo, datagrams_in, index_of, input_of}
+use Rattle.writer_group.specs.Standing.{AreRowsOf, HasTickedAt, IsGood, IsRefreshed, IsReserved, KeepsTo, datagrams_in, index_of, input_of, writer_count}
 use Rattle.device_sides.specs.declared.listening.Listening.{Listening}
 use Rattle.device_sides.specs.declared.publisher.Publisher.{Publisher}
 use Rattle.device_sides.specs.declared.side.Side.{Side}
@@ -45,6 +47,22 @@ pub record HasTurned (config : Config) (moment : ℕ) (rows : List Sampled) (sen
     (made : ℕ) : Type 0 where
   pub stands : HasTickedAt config (input_of moment false config.dataset rows old.on.items sender) old.group new.group out
   pub made_is : made ≡ length (datagrams_in out)
+
+-- the group has a writer with this index
+pub record HasWriter (writer : ℕ) (side : Side) : Type 0 where
+  pub on : writer < length side.on.items
+  pub group : writer < writer_count side.group
+
+-- the next frame of a writer that is switched on is a key frame
+abbrev pub HasComeOn : ℕ → Bool → Group → Group → Type 0
+HasComeOn writer true old new = IsRefreshed writer old new
+HasComeOn writer false old new = new ≡ old
+
+-- the writer with this index is on from now on, or off, and the others stay
+pub record HasSwitched (writer : ℕ) (on : Bool) (old new : Side) : Type 0 where
+  pub on_is : new.on.items ≡ slice_set old.on.items writer on
+  pub group : HasComeOn writer on old.group new.group
+  pub index : new.index ≡ old.index
 
 -- ---- a publisher
 
@@ -89,6 +107,31 @@ pub record HasWordSet (metas : List MetaData) (set field : ℕ) (kind : Kind) (w
 pub record HasSetWord (set field : ℕ) (kind : Kind) (word : ℕ) (old new : Publisher) : Type 0 where
   pub rows : HasWordSet old.config.dataset set field kind word old.rows.items new.rows.items
   pub rest : new ≡ record old { rows = new.rows }
+
+-- the row of the data set has this status at the field, with the value that was there, and the other data sets' rows stay
+pub record HasRowStatus (metas : List MetaData) (set field status : ℕ) (old new : List Sampled) : Type 0 where
+  pub within : set < length metas
+  pub row : HoldsAt (λ meta. HoldsAt (λ was. HoldsAt (λ is. row_in meta.fields is.row.words
+      ≡ with_status (row_in meta.fields was.row.words) field status)
+      new set) old set) metas set
+  pub others : HoldsAt (λ is. new ≡ slice_set old set is) new set
+
+-- the same, and nothing else changed
+pub record HasSetStatus (set field status : ℕ) (old new : Publisher) : Type 0 where
+  pub rows : HasRowStatus old.config.dataset set field status old.rows.items new.rows.items
+  pub rest : new ≡ record old { rows = new.rows }
+
+-- the field is there, and may have this status
+pub record MayHaveStatus (meta : MetaData) (field status : ℕ) : Type 0 where
+  pub within : field < length meta.fields
+  pub is_status : IsStatus meta.quality status
+
+-- the writer of the group with this index is on from now on, or off, and nothing else changed
+pub record HasWriterSwitched (group writer : ℕ) (on : Bool) (old new : Publisher) : Type 0 where
+  pub within : group < length old.sides.items
+  pub is : HoldsAt (λ was. HoldsAt (λ is. HasSwitched writer on was is) new.sides.items group) old.sides.items group
+  pub others : HoldsAt (λ is. new.sides.items ≡ slice_set old.sides.items group is) new.sides.items group
+  pub rest : new ≡ record old { sides = new.sides }
 
 -- the sender of the key group is at this token, with this number used last
 pub record StandsAt (keygroup : ℕ) (publisher : Publisher) (standing : ℕ × ℕ) : Type 0 where

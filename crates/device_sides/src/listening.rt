@@ -4,18 +4,21 @@ ghost use Rattle.dataset_meta.specs.Rows.{FitsAt};
 ghost use Rattle.group_keys.specs.Ring.{key_sets};
 ghost use Rattle.message_guard.specs.Protection.{keys_in};
 ghost use Rattle.ps_config.specs.Sound.{IsSound};
-ghost use Rattle.reader_group.specs.Groups.{AreLeft, IsAnswer, IsMadeOf, IsOpening, StepsBy, GoesOnWith, reader_count};
+ghost use Rattle.reader_group.specs.Groups.{AreLeft, IsAnswer, IsMadeOf, IsOpening, StepsBy, GoesOnWith, index_of, reader_count};
 ghost use Rattle.reader_group.specs.Plain.{Got};
+ghost use Rattle.ps_config.specs.declared.parts.Config.{Config as ConfigValue};
+ghost use Rattle.device_sides.specs.Readings.{HasGoneOff, HasSwitchedReader};
 ghost use Rattle.device_sides.specs.Sides.{IsListening};
 
 use dataset_reader::Reader;
 use group_keys::Ring;
 use ps_config::{Config, ReadGroupPart};
+use pubsub_model::Why;
 use reader_group::{ReaderGroup, Refusal, Taken};
 use std::alloc::Global;
 use ua_base::NoMemory;
 
-/// A read group, whose readers are all on, with its place in the configuration.
+/// A read group, whose readers are all on at first, with its place in the configuration.
 #[derive(Drop)]
 pub struct Listening {
     pub index: u8,
@@ -63,6 +66,17 @@ impl Listening {
         self.group.expire(now);
     }
 
+    /// Switches the reader with this index on or off. One that is switched off forgets its row (`ReaderGroup::cut`).
+    pub fn switch(&mut self, _config: &Config, reader: u8, on: bool)
+        requires listening { IsListening _config.now self.old }
+        requires reader { reader < reader_count self.old.group }
+        ensures listening { IsListening _config.now self.new }
+        ensures switched { HasSwitchedReader reader on self.old self.new }
+    {
+        cut_unless(&mut self.group, reader, on);
+        self.on[usize::from(reader)] = on;
+    }
+
     /// Goes on with the keys of another ring, of the same key length (`ReaderGroup::renew`).
     pub fn renew(&mut self, _config: &Config, ring: Ring)
         requires { IsListening _config.now self.old }
@@ -70,5 +84,17 @@ impl Listening {
         ensures keys { GoesOnWith (map keys_in (key_sets ring)) self.old.group self.new.group }
     {
         self.group.renew(ring);
+    }
+}
+
+/// A reader that is switched off is cut.
+fn cut_unless(group: &mut ReaderGroup, reader: u8, on: bool)
+    requires { reader < reader_count group.old }
+    ensures gone_off { HasGoneOff reader on group.old group.new }
+    ensures made { (config : ConfigValue) → IsMadeOf config group.old → IsMadeOf config group.new }
+    ensures index { index_of group.new ≡ index_of group.old }
+{
+    if !on {
+        group.cut(reader, Why::Restarted);
     }
 }

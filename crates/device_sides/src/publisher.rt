@@ -6,11 +6,11 @@ ghost use Rattle.message_guard.specs.Senders.{IsSender};
 ghost use Rattle.ps_config.specs.Sound.{IsKeyGroup};
 ghost use Rattle.ps_config.specs.Reading.{configuration, IsEnd};
 ghost use Rattle.writer_group.specs.Standing.{IsGood, IsReserved, datagrams_in};
-ghost use Rattle.device_sides.specs.Sides.{HasRenewed, HasSet, HasSetWord, IsBehind, IsNoLower, IsPublisher, StandsAt};
+ghost use Rattle.device_sides.specs.Sides.{HasRenewed, HasSet, HasSetStatus, HasSetWord, HasWriterSwitched, IsBehind, IsNoLower, IsPublisher, StandsAt};
 
 use crate::asked::Next;
 use crate::making::{has_long_keys, rows_of, senders_of, sides_of};
-use crate::rows::{set_in, set_word_in};
+use crate::rows::{set_in, set_status_in, set_word_in};
 use crate::side::Side;
 use crate::sides::{turn_at, turn_senders};
 use group_keys::Ring;
@@ -21,7 +21,7 @@ use ua_base::NoMemory;
 use ua_values::{Kind, Value};
 use writer_group::{Datagrams, Sampled};
 
-/// The groups of a configuration (OPC 10000-14 6.2.6, WriterGroup) with a row of each of its data sets. All writers are on.
+/// The groups of a configuration (OPC 10000-14 6.2.6, WriterGroup) with a row of each of its data sets. All writers are on at first.
 #[derive(Drop)]
 pub struct Publisher {
     pub config: Config,
@@ -77,6 +77,19 @@ impl Publisher {
         set_word_in(metas, &mut self.rows, set, field, kind, word)
     }
 
+    /// Sets the status of a field, and leaves its value. False, and nothing is set, where there is no such field, or where its data
+    /// set has no quality and the status isn't Good.
+    pub fn set_status(&mut self, set: u8, field: u8, status: u32) -> bool
+        requires { IsPublisher self.old }
+        ensures publisher { IsPublisher self.new }
+        ensures set { OnTrue result (HasSetStatus set field status self.old self.new) }
+        ensures unset { OnFalse result (self.new.rows.items ≡ self.old.rows.items) }
+        ensures rest { self.new ≡ record self.old { rows = self.new.rows } }
+    {
+        let metas = self.config.dataset.as_slice();
+        set_status_in(metas, &mut self.rows, set, field, status)
+    }
+
     /// Whether there is a data set with this index, and a field with this index in it.
     pub fn has_field(&self, set: u8, field: u8) -> bool {
         let metas = self.config.dataset.as_slice();
@@ -116,6 +129,22 @@ impl Publisher {
         ensures handed { self.new ≡ record self.old { handed = self.old.handed + 1 } }
     {
         self.handed += 1;
+    }
+
+    /// Switches the writer with this index in the group with this index on or off. The next frame of one that is switched on is a key
+    /// frame. False, and nothing changes, where there is no such writer.
+    pub fn switch(&mut self, group: u8, writer: u8, on: bool) -> bool
+        requires { IsPublisher self.old }
+        ensures publisher { IsPublisher self.new }
+        ensures switched { OnTrue result (HasWriterSwitched group writer on self.old self.new) }
+        ensures not { OnFalse result (self.new ≡ self.old) }
+    {
+        let index = usize::from(group);
+        if index >= self.sides.len() || !self.sides[index].has_writer(&self.config, writer) {
+            return false;
+        }
+        self.sides[index].switch(&self.config, writer, on);
+        true
     }
 
     /// The token in use of the key group with this index, and the last number used under it (`Sender::standing`).

@@ -2,10 +2,10 @@
 ghost use Rattle.std.specs.Prelude.{◌≡◌, length, slice_set};
 ghost use Rattle.std.specs.Bool.{OnTrue, OnFalse};
 ghost use Rattle.row_words.specs.Belonging.{Belongs, row_in};
-ghost use Rattle.row_words.specs.Setting.{with_value};
+ghost use Rattle.row_words.specs.Setting.{with_status, with_value};
 ghost use Rattle.row_words.specs.Words.{scalar_in};
 ghost use Rattle.writer_group.specs.Standing.{AreRowsOf};
-ghost use Rattle.device_sides.specs.Sides.{HasRowSet, HasWordSet};
+ghost use Rattle.device_sides.specs.Sides.{HasRowSet, HasRowStatus, HasWordSet, MayHaveStatus};
 
 use crate::words::{is_scalar_at, is_word_of};
 use dataset_meta::Meta;
@@ -56,6 +56,21 @@ pub fn set_word_in(
     set_word_row(&metas[index], &mut rows[index], field, kind, word)
 }
 
+/// Sets the status of a field of the row of the data set with this index, and counts it.
+pub fn set_status_in(metas: &[Meta], rows: &mut [Sampled], set: u8, field: u8, status: u32) -> bool
+    requires rows { AreRowsOf metas.now rows.old }
+    requires count { length rows.old ≡ length metas.now }
+    ensures rows { AreRowsOf metas.now rows.new }
+    ensures set { OnTrue result (HasRowStatus metas.now set field status rows.old rows.new) }
+    ensures unset { OnFalse result (rows.new ≡ rows.old) }
+{
+    let index = usize::from(set);
+    if index >= metas.len() {
+        return false;
+    }
+    set_status_row(&metas[index], &mut rows[index], field, status)
+}
+
 /// Sets a field of the row, and counts it.
 fn set_row(meta: &Meta, sampled: &mut Sampled, field: u8, value: &Value, status: u32) -> bool
     requires { Belongs meta.now sampled.old.row.words }
@@ -86,4 +101,27 @@ fn set_word_row(meta: &Meta, sampled: &mut Sampled, field: u8, kind: Kind, word:
     sampled.row.set_word(meta, field, word);
     sampled.version = sampled.version.wrapping_add(1);
     true
+}
+
+/// Sets the status of a field of the row, and counts it.
+fn set_status_row(meta: &Meta, sampled: &mut Sampled, field: u8, status: u32) -> bool
+    requires { Belongs meta.now sampled.old.row.words }
+    ensures belongs { Belongs meta.now sampled.new.row.words }
+    ensures set { OnTrue result (row_in meta.now.fields sampled.new.row.words
+        ≡ with_status (row_in meta.now.fields sampled.old.row.words) field status) }
+    ensures unset { OnFalse result (sampled.new ≡ sampled.old) }
+{
+    if !may_have_status(meta, field, status) {
+        return false;
+    }
+    sampled.row.set_status(meta, field, status);
+    sampled.version = sampled.version.wrapping_add(1);
+    true
+}
+
+/// Whether the field is there, and may have this status: without quality it is Good (OPC 10000-14 6.2.4.2, DataSetFieldContentMask).
+fn may_have_status(meta: &Meta, field: u8, status: u32) -> bool
+    ensures { OnTrue result (MayHaveStatus meta.now field status) }
+{
+    usize::from(field) < meta.fields().len() && (meta.quality() || status == 0)
 }

@@ -1,8 +1,10 @@
 //! A group of writers, of a configuration that its publisher keeps.
 ghost use Rattle.std.specs.Prelude.{◌≡◌, ◌<◌, IfOk, IfSome, IfNone, Some, None, All, length, slice_index_or};
+ghost use Rattle.std.specs.Bool.{OnTrue};
 ghost use Rattle.message_guard.specs.Senders.{IsSender};
-ghost use Rattle.writer_group.specs.Standing.{AreRowsOf, IsFreshAt, IsGood, IsReserved, TellsDue, TellsMoment, index_of};
-ghost use Rattle.device_sides.specs.Sides.{IsSide, HasTurned, sender_for};
+ghost use Rattle.ps_config.specs.declared.parts.Config.{Config as ConfigValue};
+ghost use Rattle.writer_group.specs.Standing.{AreRowsOf, IsFreshAt, IsGood, IsReserved, KeepsTo, TellsDue, TellsMoment, index_of, writer_count};
+ghost use Rattle.device_sides.specs.Sides.{HasComeOn, HasSwitched, HasTurned, HasWriter, IsSide, sender_for};
 
 use message_guard::Sender;
 use ps_config::{Config, GroupPart};
@@ -13,7 +15,7 @@ use writer_group::{Datagrams, Group, Sampled};
 /// How many turns a group may have in its life: at one a millisecond, 146 million years.
 const TURNS: u64 = 4_611_686_018_427_387_904;
 
-/// A group of writers, which are all on, with its place in the configuration.
+/// A group of writers, which are all on at first, with its place in the configuration.
 #[derive(Drop)]
 pub struct Side {
     pub index: u8,
@@ -60,6 +62,26 @@ impl Side {
         for writer in 0..count.min(256) {
             self.group.refresh(writer as u8);
         }
+    }
+
+    /// Whether there is a writer with this index.
+    pub fn has_writer(&self, config: &Config, writer: u8) -> bool
+        requires { IsSide config.now self.now }
+        ensures { OnTrue result (HasWriter writer self.now) }
+    {
+        let index = usize::from(writer);
+        index < self.on.len() && index < part_of(config, self.index).writer.as_slice().len()
+    }
+
+    /// Switches the writer with this index on or off.
+    pub fn switch(&mut self, _config: &Config, writer: u8, on: bool)
+        requires side { IsSide _config.now self.old }
+        requires writer { HasWriter writer self.old }
+        ensures side { IsSide _config.now self.new }
+        ensures switched { HasSwitched writer on self.old self.new }
+    {
+        refresh_if(&mut self.group, writer, on);
+        self.on[usize::from(writer)] = on;
     }
 
     /// Whether the group's datagrams are secured with the keys of this key group.
@@ -171,4 +193,16 @@ fn part_of(config: &Config, index: u8) -> &GroupPart
     ensures { result.now ≡ slice_index_or config.now.group index result.now }
 {
     &config.group.as_slice()[usize::from(index)]
+}
+
+/// The next frame of a writer that is switched on is a key frame.
+fn refresh_if(group: &mut Group, writer: u8, on: bool)
+    requires { writer < writer_count group.old }
+    ensures come_on { HasComeOn writer on group.old group.new }
+    ensures index { index_of group.new ≡ index_of group.old }
+    ensures keeps_to { (config : ConfigValue) → KeepsTo config group.old → KeepsTo config group.new }
+{
+    if on {
+        group.refresh(writer);
+    }
 }

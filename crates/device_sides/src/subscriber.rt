@@ -1,13 +1,13 @@
 //! Subscribers.
 ghost use Rattle.std.specs.Prelude.{◌≡◌, ◌<◌, Ok, IfOk, IfErr, IfSome, IfNone, length};
-ghost use Rattle.std.specs.Bool.{OnFalse};
+ghost use Rattle.std.specs.Bool.{OnFalse, OnTrue};
 ghost use Rattle.group_keys.specs.Ring.{key_sets};
-ghost use Rattle.reader_group.specs.Members.{seat_at};
 ghost use Rattle.reader_group.specs.Groups as reads;
-ghost use Rattle.reader_group.specs.Settings.{seat_in, setting_of};
 ghost use Rattle.ps_config.specs.Reading.{configuration, IsEnd};
 ghost use Rattle.ps_config.specs.Sound.{IsSound};
 ghost use Rattle.writer_group.specs.Standing.{IsGood};
+ghost use Rattle.row_words.specs.Words.{scalar_in};
+ghost use Rattle.device_sides.specs.Readings.{HasFieldStatus, HasFieldValue, HasReaderSwitched, IsNoReader, IsOfKind, IsReaderAt, IsUntold, IsUntoldAt, Keeps, ReaderKeeps, meta_for};
 ghost use Rattle.device_sides.specs.Sides.{HasListened, IsListening, IsSubscriber};
 
 use crate::asked::NoValue;
@@ -22,7 +22,7 @@ use reader_group::{Refusal, Taken};
 use std::alloc::Global;
 use ua_values::{Kind, Value};
 
-/// The read groups of a configuration (OPC 10000-14 6.2.8, ReaderGroup). All readers are on.
+/// The read groups of a configuration (OPC 10000-14 6.2.8, ReaderGroup). All readers are on at first.
 #[derive(Drop)]
 pub struct Subscriber {
     pub config: Config,
@@ -79,6 +79,8 @@ impl Subscriber {
     /// The reader with this index in the read group with this index.
     pub fn reader(&self, group: u8, reader: u8) -> Option<&Reader>
         requires { IsSubscriber self.now }
+        ensures reader { IfSome result (λ value. IsReaderAt group reader self.now value.now) }
+        ensures none { IfNone result (IsNoReader group reader self.now) }
     {
         let index = usize::from(group);
         if index >= self.groups.len() {
@@ -94,6 +96,9 @@ impl Subscriber {
     /// The value and the status of a field of the row that a reader holds.
     pub fn field(&self, group: u8, reader: u8, field: u8) -> Result<(Value, u32), NoValue>
         requires { IsSubscriber self.now }
+        ensures value { IfOk result (λ x. Keeps group reader (HasFieldValue field x.0) self.now) }
+        ensures status { IfOk result (λ x. Keeps group reader (HasFieldStatus field x.1) self.now) }
+        ensures none { IfErr result (IsUntoldAt group reader field self.now) }
     {
         let index = usize::from(group);
         if index >= self.groups.len() {
@@ -105,12 +110,32 @@ impl Subscriber {
     /// The word of a field of this kind, which is a scalar's, of the row that a reader holds (`Row::word`).
     pub fn word(&self, group: u8, reader: u8, field: u8, kind: Kind) -> Result<u64, NoValue>
         requires { IsSubscriber self.now }
+        ensures word { IfOk result (λ word.
+            Keeps group reader (HasFieldValue field (scalar_in kind word)) self.now) }
+        ensures kind { IfOk result (λ word. Keeps group reader (IsOfKind field kind) self.now) }
+        ensures none { IfErr result (IsUntoldAt group reader field self.now) }
     {
         let index = usize::from(group);
         if index >= self.groups.len() {
             return Err(NoValue::NoField);
         }
         word_in(&self.config, &self.groups[index], reader, field, kind)
+    }
+
+    /// Switches the reader with this index in the read group with this index on or off. One that is switched off holds no row, and is
+    /// given nothing. False, and nothing changes, where there is no such reader.
+    pub fn switch(&mut self, group: u8, reader: u8, on: bool) -> bool
+        requires { IsSubscriber self.old }
+        ensures subscriber { IsSubscriber self.new }
+        ensures switched { OnTrue result (HasReaderSwitched group reader on self.old self.new) }
+        ensures not { OnFalse result (self.new ≡ self.old) }
+    {
+        let index = usize::from(group);
+        if index >= self.groups.len() || reader >= self.groups[index].group.count() {
+            return false;
+        }
+        self.groups[index].switch(&self.config, reader, on);
+        true
     }
 
     /// Whether the key group of the read group with this index has keys of AES-256. None where there is no such read group, or where it
@@ -150,6 +175,11 @@ fn field_in(
 ) -> Result<(Value, u32), NoValue>
     requires sound { IsSound config.now }
     requires listening { IsListening config.now listening.now }
+    ensures value { IfOk result (λ x.
+        ReaderKeeps config.now reader (HasFieldValue field x.0) listening.now) }
+    ensures status { IfOk result (λ x.
+        ReaderKeeps config.now reader (HasFieldStatus field x.1) listening.now) }
+    ensures none { IfErr result (λ none. IsUntold config.now reader field none listening.now) }
 {
     if reader >= listening.group.count() {
         return Err(NoValue::NoField);
@@ -158,10 +188,13 @@ fn field_in(
     if usize::from(field) >= meta.fields().len() {
         return Err(NoValue::NoField);
     }
-    let Some(row) = listening.group.reader(reader).row() else {
+    let holder = listening.group.reader(reader);
+    let Some(row) = holder.row() else {
         return Err(NoValue::NoRow);
     };
-    Ok((row.field(meta, field), row.status(meta, field)))
+    let value = row.field(meta, field);
+    let status = row.status(meta, field);
+    Ok((value, status))
 }
 
 /// The word of a scalar field of the row that a reader of the group holds.
@@ -174,6 +207,10 @@ fn word_in(
 ) -> Result<u64, NoValue>
     requires sound { IsSound config.now }
     requires listening { IsListening config.now listening.now }
+    ensures word { IfOk result (λ word.
+        ReaderKeeps config.now reader (HasFieldValue field (scalar_in kind word)) listening.now) }
+    ensures kind { IfOk result (λ word. ReaderKeeps config.now reader (IsOfKind field kind) listening.now) }
+    ensures none { IfErr result (λ none. IsUntold config.now reader field none listening.now) }
 {
     if reader >= listening.group.count() {
         return Err(NoValue::NoField);
@@ -185,7 +222,8 @@ fn word_in(
     if !is_scalar_at(meta, field, kind) {
         return Err(NoValue::Misfit);
     }
-    let Some(row) = listening.group.reader(reader).row() else {
+    let holder = listening.group.reader(reader);
+    let Some(row) = holder.row() else {
         return Err(NoValue::NoRow);
     };
     Ok(row.word(meta, field))
@@ -196,8 +234,7 @@ fn meta_of<'c>(config: &'c Config, listening: &Listening, reader: u8) -> &'c Met
     requires sound { IsSound config.now }
     requires listening { IsListening config.now listening.now }
     requires reader { reader < reads.reader_count listening.now.group }
-    ensures { result.now ≡ (seat_at
-        (setting_of config.now (reads.index_of listening.now.group)).seats reader).meta }
+    ensures { result.now ≡ meta_for config.now listening.now reader }
 {
     let part = &config.readgroup.as_slice()[usize::from(listening.index)];
     let reader = &part.reader.as_slice()[usize::from(reader)];

@@ -1,2 +1,3 @@
 pub mod LooseValues
 pub mod SlotValues
+pub mod Telling

@@ -1,2 +1,4 @@
+pub mod Getting
 pub mod Handles
 pub mod Holding
+pub mod Numbers

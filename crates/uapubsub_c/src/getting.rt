@@ -1,7 +1,10 @@
 //! Getting fields.
-ghost use Rattle.std.specs.Prelude.{◌≡◌};
-ghost use Rattle.uapubsub_c.specs.Handles.{IsReady, IsSound, Stays};
+ghost use Rattle.std.specs.Prelude.{◌≡◌, ◌≢◌, IfOk, IfErr};
+ghost use Rattle.device_sides.specs.Readings.{HasFieldStatus, HasFieldValue};
+ghost use Rattle.uapubsub_c.specs.Getting.{GetsBytes, GetsText, HasScalarAt, IsBlobLaid, IsLaidOut, IsTextLaid, IsUntoldIn, KeepsIn};
+ghost use Rattle.uapubsub_c.specs.Handles.{IsReady, IsSound, Stays, Tells};
 
+use crate::guid::GuidBytes;
 use crate::handle::Handle;
 use crate::kept::Kept;
 use crate::kinds::kind_numbered;
@@ -25,6 +28,10 @@ pub extern "C" fn uapubsub_get_scalar(
     requires { IsReady handle.old }
     ensures ready { IsReady handle.new }
     ensures stays { Stays handle.old handle.new }
+    ensures word { result ≡ OK → Tells handle.old (HasScalarAt group reader field kind word.new) }
+    ensures untold { result ≢ OK → word.new ≡ word.old }
+    ensures no_row { result ≡ NONE
+        → Tells handle.old (IsUntoldIn group reader field NoValue.NoRow) }
 {
     let Some(kept) = handle.take(alloc) else {
         return CLOSED;
@@ -36,6 +43,9 @@ pub extern "C" fn uapubsub_get_scalar(
 
 fn word_in(kept: &Kept, group: u8, reader: u8, field: u8, kind: u32, word: &mut u64) -> u32
     requires { IsSound kept.now }
+    ensures word { result ≡ OK → HasScalarAt group reader field kind word.new kept.now }
+    ensures untold { result ≢ OK → word.new ≡ word.old }
+    ensures no_row { result ≡ NONE → IsUntoldIn group reader field NoValue.NoRow kept.now }
 {
     let Kept::Subscriber(subscriber) = kept else {
         return OTHER_SIDE;
@@ -52,7 +62,10 @@ fn word_in(kept: &Kept, group: u8, reader: u8, field: u8, kind: u32, word: &mut 
     }
 }
 
-fn status_of(none: NoValue) -> u32 {
+fn status_of(none: NoValue) -> u32
+    ensures not_ok { result ≢ OK }
+    ensures no_row { result ≡ NONE → none ≡ NoValue.NoRow }
+{
     match none {
         NoValue::NoField => INDEX,
         NoValue::NoRow => NONE,
@@ -75,9 +88,14 @@ pub extern "C" fn uapubsub_get_text(
     requires { IsReady handle.old }
     ensures ready { IsReady handle.new }
     ensures stays { Stays handle.old handle.new }
+    ensures got { result ≡ OK
+        → GetsText group reader field handle.old buffer.old buffer.new count.new }
+    ensures rest { result ≢ OK → buffer.new ≡ buffer.old }
+    ensures no_row { result ≡ NONE
+        → Tells handle.old (IsUntoldIn group reader field NoValue.NoRow) }
 {
     match field_of(alloc, handle, group, reader, field) {
-        Ok(value) => lay_text(&value, buffer, count),
+        Ok((value, _)) => lay_text(&value, buffer, count),
         Err(status) => status,
     }
 }
@@ -96,15 +114,24 @@ pub extern "C" fn uapubsub_get_bytes(
     requires { IsReady handle.old }
     ensures ready { IsReady handle.new }
     ensures stays { Stays handle.old handle.new }
+    ensures got { result ≡ OK
+        → GetsBytes group reader field handle.old buffer.old buffer.new count.new }
+    ensures rest { result ≢ OK → buffer.new ≡ buffer.old }
+    ensures no_row { result ≡ NONE
+        → Tells handle.old (IsUntoldIn group reader field NoValue.NoRow) }
 {
     match field_of(alloc, handle, group, reader, field) {
-        Ok(value) => lay_blob(&value, buffer, count),
+        Ok((value, _)) => lay_blob(&value, buffer, count),
         Err(status) => status,
     }
 }
 
 /// Lays the bytes of a String.
-fn lay_text(value: &Value, buffer: &mut [u8], count: &mut usize) -> u32 {
+fn lay_text(value: &Value, buffer: &mut [u8], count: &mut usize) -> u32
+    ensures laid { result ≡ OK → IsTextLaid value.now buffer.old buffer.new count.new }
+    ensures rest { result ≢ OK → buffer.new ≡ buffer.old }
+    ensures not_none { result ≢ NONE }
+{
     match value {
         Value::String(text) => lay_in(text.as_bytes(), buffer, count),
         _ => MISFIT,
@@ -112,7 +139,11 @@ fn lay_text(value: &Value, buffer: &mut [u8], count: &mut usize) -> u32 {
 }
 
 /// Lays the bytes of a ByteString.
-fn lay_blob(value: &Value, buffer: &mut [u8], count: &mut usize) -> u32 {
+fn lay_blob(value: &Value, buffer: &mut [u8], count: &mut usize) -> u32
+    ensures laid { result ≡ OK → IsBlobLaid value.now buffer.old buffer.new count.new }
+    ensures rest { result ≢ OK → buffer.new ≡ buffer.old }
+    ensures not_none { result ≢ NONE }
+{
     match value {
         Value::ByteString(blob) => lay_in(blob.as_bytes(), buffer, count),
         _ => MISFIT,
@@ -120,7 +151,11 @@ fn lay_blob(value: &Value, buffer: &mut [u8], count: &mut usize) -> u32 {
 }
 
 /// Lays bytes at the front of the buffer, if it has room for them.
-fn lay_in(bytes: &[u8], buffer: &mut [u8], count: &mut usize) -> u32 {
+fn lay_in(bytes: &[u8], buffer: &mut [u8], count: &mut usize) -> u32
+    ensures laid { result ≡ OK → IsLaidOut bytes.now buffer.old buffer.new count.new }
+    ensures rest { result ≢ OK → buffer.new ≡ buffer.old }
+    ensures not_none { result ≢ NONE }
+{
     *count = bytes.len();
     if bytes.len() > buffer.len() {
         return ROOM;
@@ -129,17 +164,89 @@ fn lay_in(bytes: &[u8], buffer: &mut [u8], count: &mut usize) -> u32 {
     OK
 }
 
-/// The value of a field that a reader of the handle's subscriber holds, or the status that says why there is none.
+/// Gets a Guid of the row that a reader holds.
+#[unsafe(no_mangle)]
+pub extern "C" fn uapubsub_get_guid(
+    alloc: Global,
+    handle: &mut Handle,
+    group: u8,
+    reader: u8,
+    field: u8,
+    guid: &mut GuidBytes,
+) -> u32
+    requires { IsReady handle.old }
+    ensures ready { IsReady handle.new }
+    ensures stays { Stays handle.old handle.new }
+    ensures got { result ≡ OK → Tells handle.old
+        (KeepsIn group reader (HasFieldValue field (Value.Guid guid.new.bytes))) }
+    ensures no_row { result ≡ NONE
+        → Tells handle.old (IsUntoldIn group reader field NoValue.NoRow) }
+{
+    match field_of(alloc, handle, group, reader, field) {
+        Ok((value, _)) => guid_of(&value, guid),
+        Err(status) => status,
+    }
+}
+
+/// The bytes of a Guid.
+fn guid_of(value: &Value, guid: &mut GuidBytes) -> u32
+    ensures is { result ≡ OK → value.now ≡ Value.Guid guid.new.bytes }
+    ensures not_none { result ≢ NONE }
+{
+    match value {
+        Value::Guid(bytes) => {
+            guid.bytes = *bytes;
+            OK
+        }
+        _ => MISFIT,
+    }
+}
+
+/// Gets the status of a field of the row that a reader holds (OPC 10000-4, StatusCode): Good where its data set has no quality.
+#[unsafe(no_mangle)]
+pub extern "C" fn uapubsub_get_field_status(
+    alloc: Global,
+    handle: &mut Handle,
+    group: u8,
+    reader: u8,
+    field: u8,
+    status: &mut u32,
+) -> u32
+    requires { IsReady handle.old }
+    ensures ready { IsReady handle.new }
+    ensures stays { Stays handle.old handle.new }
+    ensures got { result ≡ OK → Tells handle.old
+        (KeepsIn group reader (HasFieldStatus field status.new)) }
+    ensures no_row { result ≡ NONE
+        → Tells handle.old (IsUntoldIn group reader field NoValue.NoRow) }
+{
+    match field_of(alloc, handle, group, reader, field) {
+        Ok((_, held)) => {
+            *status = held;
+            OK
+        }
+        Err(status) => status,
+    }
+}
+
+/// The value and the status of a field that a reader of the handle's subscriber holds, or the status that says why there is none.
 fn field_of(
     alloc: Global,
     handle: &mut Handle,
     group: u8,
     reader: u8,
     field: u8,
-) -> Result<Value, u32>
+) -> Result<(Value, u32), u32>
     requires { IsReady handle.old }
     ensures ready { IsReady handle.new }
     ensures stays { Stays handle.old handle.new }
+    ensures value { IfOk result (λ x. Tells handle.old
+        (KeepsIn group reader (HasFieldValue field x.0))) }
+    ensures status { IfOk result (λ x. Tells handle.old
+        (KeepsIn group reader (HasFieldStatus field x.1))) }
+    ensures not_ok { IfErr result (λ status. status ≢ OK) }
+    ensures no_row { IfErr result (λ status. status ≡ NONE
+        → Tells handle.old (IsUntoldIn group reader field NoValue.NoRow)) }
 {
     let Some(kept) = handle.take(alloc) else {
         return Err(CLOSED);
@@ -149,14 +256,19 @@ fn field_of(
     answer
 }
 
-fn field_in(kept: &Kept, group: u8, reader: u8, field: u8) -> Result<Value, u32>
+fn field_in(kept: &Kept, group: u8, reader: u8, field: u8) -> Result<(Value, u32), u32>
     requires { IsSound kept.now }
+    ensures value { IfOk result (λ x. KeepsIn group reader (HasFieldValue field x.0) kept.now) }
+    ensures status { IfOk result (λ x. KeepsIn group reader (HasFieldStatus field x.1) kept.now) }
+    ensures not_ok { IfErr result (λ status. status ≢ OK) }
+    ensures no_row { IfErr result (λ status. status ≡ NONE
+        → IsUntoldIn group reader field NoValue.NoRow kept.now) }
 {
     let Kept::Subscriber(subscriber) = kept else {
         return Err(OTHER_SIDE);
     };
     match subscriber.field(group, reader, field) {
-        Ok((value, _)) => Ok(value),
+        Ok(told) => Ok(told),
         Err(none) => Err(status_of(none)),
     }
 }

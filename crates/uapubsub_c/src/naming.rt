@@ -1,6 +1,7 @@
 //! Indexes by names.
 ghost use Rattle.std.specs.Prelude.{◌≡◌};
-ghost use Rattle.uapubsub_c.specs.Handles.{IsReady, Stays};
+ghost use Rattle.uapubsub_c.specs.Getting.{IsFieldNamed, IsSetNamed};
+ghost use Rattle.uapubsub_c.specs.Handles.{IsReady, Stays, Tells, config_in};
 
 use crate::handle::Handle;
 use crate::status::{BAD_TEXT, CLOSED, INDEX, OK};
@@ -19,6 +20,8 @@ pub extern "C" fn uapubsub_set_index(
     requires { IsReady handle.old }
     ensures ready { IsReady handle.new }
     ensures stays { Stays handle.old handle.new }
+    ensures named { result ≡ OK
+        → Tells handle.old (λ kept. IsSetNamed (config_in kept) name.now index.new) }
 {
     let Some(kept) = handle.take(alloc) else {
         return CLOSED;
@@ -28,7 +31,9 @@ pub extern "C" fn uapubsub_set_index(
     status
 }
 
-fn set_of(config: &Config, name: &[u8], index: &mut u8) -> u32 {
+fn set_of(config: &Config, name: &[u8], index: &mut u8) -> u32
+    ensures { result ≡ OK → IsSetNamed config.now name.now index.new }
+{
     let metas = config.dataset.as_slice();
     for set in 0..metas.len().min(256) {
         if metas[set].name().as_bytes() == name {
@@ -51,6 +56,8 @@ pub extern "C" fn uapubsub_field_index(
     requires { IsReady handle.old }
     ensures ready { IsReady handle.new }
     ensures stays { Stays handle.old handle.new }
+    ensures named { result ≡ OK
+        → Tells handle.old (λ kept. IsFieldNamed (config_in kept) set name.now index.new) }
 {
     let Some(kept) = handle.take(alloc) else {
         return CLOSED;
@@ -60,7 +67,9 @@ pub extern "C" fn uapubsub_field_index(
     status
 }
 
-fn field_of(config: &Config, set: u8, name: &[u8], index: &mut u8) -> u32 {
+fn field_of(config: &Config, set: u8, name: &[u8], index: &mut u8) -> u32
+    ensures { result ≡ OK → IsFieldNamed config.now set name.now index.new }
+{
     let metas = config.dataset.as_slice();
     if usize::from(set) >= metas.len() {
         return INDEX;

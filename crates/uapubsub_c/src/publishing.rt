@@ -1,6 +1,8 @@
 //! The publisher's calls, but those that set fields.
 ghost use Rattle.std.specs.Prelude.{◌≡◌, ◌≢◌};
-ghost use Rattle.uapubsub_c.specs.Handles.{HandsOver, HasOpened, IsReady, IsRefused, IsSound, Stays, StandsIn, Tells};
+ghost use Rattle.device_sides.specs.Sides.{IsBehind};
+ghost use Rattle.uapubsub_c.specs.Getting.{PublisherMoves};
+ghost use Rattle.uapubsub_c.specs.Handles.{HandsOver, HasOpened, IsReady, IsRefused, IsSound, Leaves, Stays, StandsIn, Tells};
 
 use crate::handle::Handle;
 use crate::kept::Kept;
@@ -130,6 +132,8 @@ pub extern "C" fn uapubsub_publisher_resume(
 ) -> u32
     requires { IsReady handle.old }
     ensures ready { IsReady handle.new }
+    ensures behind { result ≡ OK
+        → Leaves handle.old handle.new (PublisherMoves (IsBehind keygroup used)) }
     ensures not { result ≢ OK → Stays handle.old handle.new }
 {
     let Some(mut kept) = handle.take(alloc) else {
@@ -143,6 +147,7 @@ pub extern "C" fn uapubsub_publisher_resume(
 fn resume_in(kept: &mut Kept, keygroup: u8, now: u64, used: u32) -> u32
     requires { IsSound kept.old }
     ensures sound { IsSound kept.new }
+    ensures behind { result ≡ OK → PublisherMoves (IsBehind keygroup used) kept.old kept.new }
     ensures not { result ≢ OK → kept.new ≡ kept.old }
 {
     let Kept::Publisher(publisher) = kept else {

@@ -1,10 +1,16 @@
 //! Numbers of refusals.
+ghost use Rattle.std.specs.Prelude.{◌≡◌, ◌≤◌};
+ghost use Rattle.uapubsub_c.specs.Numbers.{guard_number, header_number, refusal_number};
+
 use message_guard::OpenFault;
 use reader_group::Refusal;
 use uadp_header::HeaderFault;
 
 /// The number by which C sees why a datagram is refused.
-pub fn number_of(refusal: &Refusal) -> u32 {
+pub fn number_of(refusal: &Refusal) -> u32
+    ensures number { result ≡ refusal_number refusal.now }
+    ensures large { 100 ≤ result }
+{
     match refusal {
         Refusal::Header(fault) => header_number(fault),
         Refusal::NotOurs => 110,
@@ -14,7 +20,10 @@ pub fn number_of(refusal: &Refusal) -> u32 {
     }
 }
 
-fn header_number(fault: &HeaderFault) -> u32 {
+fn header_number(fault: &HeaderFault) -> u32
+    ensures number { result ≡ header_number fault.now }
+    ensures large { 100 ≤ result }
+{
     match fault {
         HeaderFault::Short => 101,
         HeaderFault::Version { .. } => 102,
@@ -25,7 +34,10 @@ fn header_number(fault: &HeaderFault) -> u32 {
     }
 }
 
-fn guard_number(fault: &OpenFault) -> u32 {
+fn guard_number(fault: &OpenFault) -> u32
+    ensures number { result ≡ guard_number fault.now }
+    ensures large { 100 ≤ result }
+{
     match fault {
         OpenFault::ModeDiffers => 121,
         OpenFault::FooterOut => 122,

@@ -1,7 +1,10 @@
 //! Setting fields.
 ghost use Rattle.std.specs.Prelude.{◌≡◌};
+ghost use Rattle.device_sides.specs.Sides.{HasSetStatus};
+ghost use Rattle.uapubsub_c.specs.Getting.{PublisherMoves};
 ghost use Rattle.uapubsub_c.specs.Handles.{HasBytesIn, HasScalarIn, HasSetIn, HasTextIn, IsReady, IsSound, Leaves};
 
+use crate::guid::GuidBytes;
 use crate::handle::Handle;
 use crate::kept::Kept;
 use crate::kinds::kind_numbered;
@@ -91,6 +94,63 @@ pub extern "C" fn uapubsub_set_bytes(
     match Blob::from_bytes(bytes) {
         Ok(blob) => set_field(alloc, handle, set, field, &Value::ByteString(blob)),
         Err(_) => BAD_TEXT,
+    }
+}
+
+/// Sets a Guid, Good.
+#[unsafe(no_mangle)]
+pub extern "C" fn uapubsub_set_guid(
+    alloc: Global,
+    handle: &mut Handle,
+    set: u8,
+    field: u8,
+    guid: &GuidBytes,
+) -> u32
+    requires { IsReady handle.old }
+    ensures ready { IsReady handle.new }
+    ensures set { result ≡ OK
+        → Leaves handle.old handle.new (HasSetIn set field (Value.Guid guid.now.bytes) 0) }
+{
+    set_field(alloc, handle, set, field, &Value::Guid(guid.bytes))
+}
+
+/// Sets the status of a field, and leaves its value. Where the data set has no quality a field has none but Good, which is 0.
+#[unsafe(no_mangle)]
+pub extern "C" fn uapubsub_set_field_status(
+    alloc: Global,
+    handle: &mut Handle,
+    set: u8,
+    field: u8,
+    status: u32,
+) -> u32
+    requires { IsReady handle.old }
+    ensures ready { IsReady handle.new }
+    ensures set { result ≡ OK
+        → Leaves handle.old handle.new (PublisherMoves (HasSetStatus set field status)) }
+{
+    let Some(mut kept) = handle.take(alloc) else {
+        return CLOSED;
+    };
+    let answer = set_status_in(&mut kept, set, field, status);
+    handle.put(kept);
+    answer
+}
+
+fn set_status_in(kept: &mut Kept, set: u8, field: u8, status: u32) -> u32
+    requires { IsSound kept.old }
+    ensures sound { IsSound kept.new }
+    ensures set { result ≡ OK → PublisherMoves (HasSetStatus set field status) kept.old kept.new }
+{
+    let Kept::Publisher(publisher) = kept else {
+        return OTHER_SIDE;
+    };
+    if publisher.set_status(set, field, status) {
+        return OK;
+    }
+    if publisher.has_field(set, field) {
+        MISFIT
+    } else {
+        INDEX
     }
 }
 

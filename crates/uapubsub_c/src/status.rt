@@ -14,7 +14,7 @@ pub const OTHER_SIDE: u32 = 5;
 pub const MEMORY: u32 = 6;
 /// The configuration is refused.
 pub const REFUSED: u32 = 7;
-/// There is no such data set, field, key group, read group or reader.
+/// There is no such data set, field, key group, group, writer, read group or reader.
 pub const INDEX: u32 = 8;
 /// The field's kind, its cap or its data set doesn't have this value or this status.
 pub const MISFIT: u32 = 9;

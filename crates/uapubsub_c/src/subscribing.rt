@@ -1,6 +1,8 @@
 //! The subscriber's calls, but those that get fields.
-ghost use Rattle.std.specs.Prelude.{◌≡◌, ◌≢◌};
-ghost use Rattle.uapubsub_c.specs.Handles.{HasOpened, IsReady, IsRefused, IsSound, Stays};
+ghost use Rattle.std.specs.Prelude.{◌≡◌, ◌≢◌, ◌≤◌, ◌⊎◌, IfOk, IfErr};
+ghost use Rattle.uapubsub_c.specs.Getting.{HasNoNumber, HasNumber, HoldsAfter, IsReaderIn, IsRefusedFor, IsTaken, KeepsIn, SubscriberMoves, WaitsFor, taken_in};
+ghost use Rattle.uapubsub_c.specs.Handles.{HasOpened, IsReady, IsRefused, IsSound, Leaves, Stays, Tells};
+ghost use Rattle.uapubsub_c.specs.Numbers.{why_number};
 
 use crate::handle::Handle;
 use crate::kept::Kept;
@@ -58,6 +60,10 @@ pub extern "C" fn uapubsub_subscriber_datagram(
 ) -> u32
     requires { IsReady handle.old }
     ensures ready { IsReady handle.new }
+    ensures taken { result ≡ OK → Leaves handle.old handle.new
+        (SubscriberMoves (IsTaken group now bytes.old bytes.new taken.new)) }
+    ensures refused { 100 ≤ result → Leaves handle.old handle.new
+        (SubscriberMoves (IsRefusedFor group now bytes.old bytes.new result)) }
 {
     let Some(mut kept) = handle.take(alloc) else {
         return CLOSED;
@@ -75,7 +81,11 @@ fn datagram_in(
     taken: &mut TakenWords,
 ) -> u32
     requires { IsSound kept.old }
-    ensures { IsSound kept.new }
+    ensures sound { IsSound kept.new }
+    ensures taken { result ≡ OK → SubscriberMoves
+        (IsTaken group now bytes.old bytes.new taken.new) kept.old kept.new }
+    ensures refused { 100 ≤ result → SubscriberMoves
+        (IsRefusedFor group now bytes.old bytes.new result) kept.old kept.new }
 {
     let Kept::Subscriber(subscriber) = kept else {
         return OTHER_SIDE;
@@ -90,7 +100,9 @@ fn datagram_in(
     }
 }
 
-fn words_of(taken: Taken) -> TakenWords {
+fn words_of(taken: Taken) -> TakenWords
+    ensures { taken_in result ≡ taken }
+{
     TakenWords {
         parts: taken.parts,
         matched: taken.matched,
@@ -177,6 +189,8 @@ pub extern "C" fn uapubsub_reader_why(
     requires { IsReady handle.old }
     ensures ready { IsReady handle.new }
     ensures stays { Stays handle.old handle.new }
+    ensures held { result ≡ OK → Tells handle.old (KeepsIn group reader (HoldsAfter why.new)) }
+    ensures waits { result ≡ NONE → Tells handle.old (KeepsIn group reader (WaitsFor why.new)) }
 {
     let Some(kept) = handle.take(alloc) else {
         return CLOSED;
@@ -188,17 +202,24 @@ pub extern "C" fn uapubsub_reader_why(
 
 fn why_of(kept: &Kept, group: u8, reader: u8, why: &mut u32) -> u32
     requires { IsSound kept.now }
+    ensures held { result ≡ OK → KeepsIn group reader (HoldsAfter why.new) kept.now }
+    ensures waits { result ≡ NONE → KeepsIn group reader (WaitsFor why.new) kept.now }
 {
     match reader_of(kept, group, reader) {
         Err(status) => status,
-        Ok(reader) => {
-            *why = why_number(reader.why());
-            if reader.row().is_some() { OK } else { NONE }
+        Ok(holder) => {
+            *why = why_number(holder.why());
+            match holder.row() {
+                Some(_) => OK,
+                None => NONE,
+            }
         }
     }
 }
 
-fn why_number(why: Why) -> u32 {
+fn why_number(why: Why) -> u32
+    ensures { result ≡ why_number why }
+{
     match why {
         Why::Start => 0,
         Why::Gap => 1,
@@ -221,6 +242,8 @@ pub extern "C" fn uapubsub_reader_number(
     requires { IsReady handle.old }
     ensures ready { IsReady handle.new }
     ensures stays { Stays handle.old handle.new }
+    ensures number { result ≡ OK → Tells handle.old (KeepsIn group reader (HasNumber number.new)) }
+    ensures none { result ≡ NONE → Tells handle.old (KeepsIn group reader HasNoNumber) }
 {
     let Some(kept) = handle.take(alloc) else {
         return CLOSED;
@@ -232,10 +255,12 @@ pub extern "C" fn uapubsub_reader_number(
 
 fn message_number_of(kept: &Kept, group: u8, reader: u8, number: &mut u16) -> u32
     requires { IsSound kept.now }
+    ensures number { result ≡ OK → KeepsIn group reader (HasNumber number.new) kept.now }
+    ensures none { result ≡ NONE → KeepsIn group reader HasNoNumber kept.now }
 {
     match reader_of(kept, group, reader) {
         Err(status) => status,
-        Ok(reader) => match reader.number() {
+        Ok(holder) => match holder.number() {
             None => NONE,
             Some(last) => {
                 *number = last;
@@ -248,6 +273,8 @@ fn message_number_of(kept: &Kept, group: u8, reader: u8, number: &mut u16) -> u3
 /// A reader of the subscriber, or the status that says why there is none.
 fn reader_of(kept: &Kept, group: u8, reader: u8) -> Result<&Reader, u32>
     requires { IsSound kept.now }
+    ensures reader { IfOk result (λ value. IsReaderIn group reader value.now kept.now) }
+    ensures not { IfErr result (λ status. (status ≡ OTHER_SIDE) ⊎ (status ≡ INDEX)) }
 {
     let Kept::Subscriber(subscriber) = kept else {
         return Err(OTHER_SIDE);

@@ -1,0 +1,21 @@
+use Rattle.std.proofs.Common.{[], get_or, subst, sym, arith}
+use Rattle.dataset_meta.specs.Metas.{MetaData}
+use Rattle.row_words.specs.Belonging.{Belongs}
+use Rattle.writer_group.specs.declared.sampled.Sampled.{Sampled}
+use Rattle.device_sides.proofs.RowLists.{row-of, set-row, of-meta}
+use Rattle.device_sides.proofs.rows.set_status_in.Goals as goal
+
+pub set_status_row-requires : goal.set_status_row-requires
+set_status_row-requires c =
+    let i = c.from-index.result in
+    let meta = c.index-metas-index.result in
+    let none : Sampled = record { row = record { words = [] }; version = 0 } in
+    subst (λ (m : MetaData). Belongs m (get_or c.args.rows.now i none).row.words) (sym c.index-metas-index.is)
+    (row-of c.args.metas.now c.args.rows.now i none c.requires.rows (omega (arith, c.requires.count, c.if-index-metas.false)) meta)
+
+pub returns-clause-rows : goal.returns-clause-rows
+returns-clause-rows c =
+    let i = c.from-index.result in
+    let meta = c.index-metas-index.result in
+    set-row c.args.metas.now c.args.rows.now i c.set_status_row.new.sampled c.requires.rows
+    (of-meta c.args.metas.now i meta c.set_status_row.new.sampled (omega (arith, c.if-index-metas.false)) c.index-metas-index.is c.set_status_row.ensures.belongs)

@@ -1,0 +1,110 @@
+-- What calls tell of a subscriber's readers.
+use Rattle.std.specs.Prelude.{◌≡◌, ℕ, ◌<◌, ◌≤◌, Bool, true, false, List, length, slice_set, None, Some, ⊤}
+use Rattle.std.specs.List.{HoldsAt}
+use Rattle.ua_values.specs.declared.kind.Kind.{Kind}
+use Rattle.ua_values.specs.declared.value.Value.{Value}
+use Rattle.dataset_meta.specs.DataValues.{DataValue}
+use Rattle.dataset_meta.specs.Metas.{MetaData}
+use Rattle.row_words.specs.Setting.{HasStatus, HasValue}
+use Rattle.pubsub_model.specs.declared.reading.Why.TheVariants.{Restarted}
+use Rattle.dataset_reader.specs.declared.reader.Reader.{Reader}
+use Rattle.dataset_reader.specs.Kept.{Kept}
+use Rattle.dataset_reader.specs.Reader.{kept_by}
+use Rattle.ps_config.specs.declared.parts.Config.{Config}
+use Rattle.reader_group.specs.declared.group.ReaderGroup.{ReaderGroup}
+use Rattle.reader_group.specs.Groups as reads
+use Rattle.reader_group.specs.Members.{seat_at}
+use Rattle.reader_group.specs.Plain.{Setting, Stopped}
+use Rattle.reader_group.specs.Settings.{setting_of}
+use Rattle.device_sides.specs.declared.asked.NoValue.{NoValue}
+use Rattle.device_sides.specs.declared.asked.NoValue.TheVariants.{Misfit, NoField, NoRow}
+use Rattle.device_sides.specs.declared.listening.Listening.{Listening}
+use Rattle.device_sides.specs.declared.subscriber.Subscriber.{Subscriber}
+use Rattle.device_sides.specs.Sides.{IsScalarAt}
+
+-- the meta of the data set of the reader with this index
+abbrev pub meta_for : Config → Listening → ℕ → MetaData
+meta_for config listening reader = (seat_at (setting_of config (reads.index_of listening.group)).seats reader).meta
+
+-- what the reader with this index keeps, by the fields of its data set, is so
+pub record ReaderKeeps (config : Config) (reader : ℕ) (says : MetaData → Kept → Type 0) (listening : Listening) : Type 0 where
+  pub index : reader < reads.reader_count listening.group
+  pub value : Reader
+  pub is : reads.IsKeptAt listening.group reader value
+  pub so : says (meta_for config listening reader) (kept_by (meta_for config listening reader).fields value)
+
+-- the same of the reader with this index in the read group with this index
+pub record Keeps (group reader : ℕ) (says : MetaData → Kept → Type 0) (subscriber : Subscriber) : Type 0 where
+  pub within : group < length subscriber.groups.items
+  pub is : HoldsAt (ReaderKeeps subscriber.config reader says) subscriber.groups.items group
+
+-- this keeps what the reader with this index in the read group with this index keeps
+pub record IsReaderAt (group reader : ℕ) (subscriber : Subscriber) (value : Reader) : Type 0 where
+  pub within : group < length subscriber.groups.items
+  pub index : HoldsAt (λ listening. reader < reads.reader_count listening.group) subscriber.groups.items group
+  pub is : HoldsAt (λ listening. reads.IsKeptAt listening.group reader value) subscriber.groups.items group
+
+-- where there is a read group with this index, it has no reader with this index
+abbrev pub IsNoReader : ℕ → ℕ → Subscriber → Type 0
+IsNoReader group reader subscriber =
+    group < length subscriber.groups.items
+    → HoldsAt (λ listening. reads.reader_count listening.group ≤ reader) subscriber.groups.items group
+
+-- ---- what a reader keeps
+
+-- the row that is held has this value at the field
+pub record HasFieldValue (field : ℕ) (value : Value) (meta : MetaData) (kept : Kept) : Type 0 where
+  pub within : field < length meta.fields
+  pub row : List DataValue
+  pub held : kept.row ≡ Some row
+  pub value_is : HasValue row field value
+
+-- the row that is held has this status at the field
+pub record HasFieldStatus (field status : ℕ) (meta : MetaData) (kept : Kept) : Type 0 where
+  pub within : field < length meta.fields
+  pub row : List DataValue
+  pub held : kept.row ≡ Some row
+  pub status_is : HasStatus row field status
+
+-- the field is of this kind, which is a scalar's
+abbrev pub IsOfKind : ℕ → Kind → MetaData → Kept → Type 0
+IsOfKind field kind meta kept = IsScalarAt meta field kind
+
+-- no row is held
+abbrev pub HoldsNone : MetaData → Kept → Type 0
+HoldsNone meta kept = kept.row ≡ None
+
+-- ---- why nothing is told
+
+-- of a field of a reader of the read group: there is no such reader or field, or no row is held
+abbrev pub IsUntold : Config → ℕ → ℕ → NoValue → Listening → Type 0
+IsUntold config reader field NoField listening =
+    reader < reads.reader_count listening.group → length (meta_for config listening reader).fields ≤ field
+IsUntold config reader field NoRow listening = ReaderKeeps config reader HoldsNone listening
+IsUntold config reader field Misfit listening = ⊤
+
+-- the same where there is a read group with this index
+abbrev pub IsUntoldAt : ℕ → ℕ → ℕ → Subscriber → NoValue → Type 0
+IsUntoldAt group reader field subscriber none =
+    group < length subscriber.groups.items
+    → HoldsAt (IsUntold subscriber.config reader field none) subscriber.groups.items group
+
+-- ---- readers that are switched on and off
+
+-- a reader that is switched off is cut
+abbrev pub HasGoneOff : ℕ → Bool → ReaderGroup → ReaderGroup → Type 0
+HasGoneOff reader true old new = new ≡ old
+HasGoneOff reader false old new = (setting : Setting) → reads.TakesOn setting (Stopped reader Restarted) old new
+
+-- the reader with this index is on from now on, or off, and the others stay
+pub record HasSwitchedReader (reader : ℕ) (on : Bool) (old new : Listening) : Type 0 where
+  pub on_is : new.on.items ≡ slice_set old.on.items reader on
+  pub group : HasGoneOff reader on old.group new.group
+  pub index : new.index ≡ old.index
+
+-- the same of a reader of the read group with this index, and nothing else changed
+pub record HasReaderSwitched (group reader : ℕ) (on : Bool) (old new : Subscriber) : Type 0 where
+  pub within : group < length old.groups.items
+  pub is : HoldsAt (λ was. HoldsAt (λ is. HasSwitchedReader reader on was is) new.groups.items group) old.groups.items group
+  pub others : HoldsAt (λ is. new.groups.items ≡ slice_set old.groups.items group is) new.groups.items group
+  pub config : new.config ≡ old.config

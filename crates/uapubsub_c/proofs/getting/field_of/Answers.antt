@@ -1,0 +1,44 @@
+use Rattle.std.proofs.Common.{◌≡◌, ℕ, subst}
+use Rattle.std.proofs.lemmas.Result.{IfOk-weaker}
+use Rattle.ua_values.specs.declared.value.Value.{Value}
+use Rattle.device_sides.specs.Readings.{HasFieldStatus, HasFieldValue}
+use Rattle.device_sides.specs.declared.asked.NoValue.TheVariants.{NoRow}
+use Rattle.uapubsub_c.specs.Getting.{IsUntoldIn, KeepsIn}
+use Rattle.uapubsub_c.specs.Handles.{Tells}
+use Rattle.uapubsub_c.specs.declared.kept.Kept.{Kept}
+use Rattle.uapubsub_c.specs.declared.status.TheConstants.{NONE}
+use Rattle.uapubsub_c.proofs.Telling.{IfErr-weaker}
+use Rattle.uapubsub_c.proofs.getting.field_of.Goals as goal
+
+pub returns-clause-value : goal.returns-clause-value
+returns-clause-value c =
+    IfOk-weaker c.field_in-answer.result (λ (x : Value × ℕ). KeepsIn c.args.group c.args.reader (HasFieldValue c.args.field x.0) c.deref.result.now)
+    (λ (x : Value × ℕ). Tells c.args.handle.now (KeepsIn c.args.group c.args.reader (HasFieldValue c.args.field x.0)))
+    (λ x keeps. record {
+      kept = c.in-Some.kept.value;
+      holds = c.in-Some.ensures.held;
+      is = subst (λ (kept : Kept). KeepsIn c.args.group c.args.reader (HasFieldValue c.args.field x.0) kept) c.deref.ensures keeps;
+    })
+    c.field_in-answer.ensures.value
+
+pub returns-clause-status : goal.returns-clause-status
+returns-clause-status c =
+    IfOk-weaker c.field_in-answer.result (λ (x : Value × ℕ). KeepsIn c.args.group c.args.reader (HasFieldStatus c.args.field x.1) c.deref.result.now)
+    (λ (x : Value × ℕ). Tells c.args.handle.now (KeepsIn c.args.group c.args.reader (HasFieldStatus c.args.field x.1)))
+    (λ x keeps. record {
+      kept = c.in-Some.kept.value;
+      holds = c.in-Some.ensures.held;
+      is = subst (λ (kept : Kept). KeepsIn c.args.group c.args.reader (HasFieldStatus c.args.field x.1) kept) c.deref.ensures keeps;
+    })
+    c.field_in-answer.ensures.status
+
+pub returns-clause-no_row : goal.returns-clause-no_row
+returns-clause-no_row c =
+    IfErr-weaker c.field_in-answer.result (λ (status : ℕ). status ≡ NONE → IsUntoldIn c.args.group c.args.reader c.args.field NoRow c.deref.result.now)
+    (λ (status : ℕ). status ≡ NONE → Tells c.args.handle.now (IsUntoldIn c.args.group c.args.reader c.args.field NoRow))
+    (λ status untold none. record {
+      kept = c.in-Some.kept.value;
+      holds = c.in-Some.ensures.held;
+      is = subst (λ (kept : Kept). IsUntoldIn c.args.group c.args.reader c.args.field NoRow kept) c.deref.ensures (untold none);
+    })
+    c.field_in-answer.ensures.no_row

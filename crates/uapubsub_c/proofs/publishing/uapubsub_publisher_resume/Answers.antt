@@ -1,0 +1,15 @@
+use Rattle.std.proofs.Common.{subst}
+use Rattle.uapubsub_c.specs.declared.kept.Kept.{Kept}
+use Rattle.device_sides.specs.Sides.{IsBehind}
+use Rattle.uapubsub_c.specs.Getting.{PublisherMoves}
+use Rattle.uapubsub_c.proofs.publishing.uapubsub_publisher_resume.Goals as goal
+
+pub returns-clause-behind : goal.returns-clause-behind
+returns-clause-behind c = λ ok. record {
+  was = c.in-Some.kept.value;
+  is = c.resume_in-status.new.kept;
+  held = c.in-Some.ensures.held;
+  holds = c.put.ensures.held;
+  moved = subst (λ (kept : Kept). PublisherMoves (IsBehind c.args.keygroup c.args.used) kept c.resume_in-status.new.kept)
+      c.deref_mut.ensures.value (c.resume_in-status.ensures.behind ok);
+}

@@ -1,0 +1,15 @@
+use Rattle.std.proofs.Common.{subst}
+use Rattle.uapubsub_c.specs.declared.kept.Kept.{Kept}
+use Rattle.device_sides.specs.Sides.{HasSetStatus}
+use Rattle.uapubsub_c.specs.Getting.{PublisherMoves}
+use Rattle.uapubsub_c.proofs.setting.uapubsub_set_field_status.Goals as goal
+
+pub returns-clause-set : goal.returns-clause-set
+returns-clause-set c = λ ok. record {
+  was = c.in-Some.kept.value;
+  is = c.set_status_in-answer.new.kept;
+  held = c.in-Some.ensures.held;
+  holds = c.put.ensures.held;
+  moved = subst (λ (kept : Kept). PublisherMoves (HasSetStatus c.args.set c.args.field c.args.status) kept c.set_status_in-answer.new.kept)
+      c.deref_mut.ensures.value (c.set_status_in-answer.ensures.set ok);
+}

@@ -1,0 +1,24 @@
+use Rattle.std.proofs.Common.{subst}
+use Rattle.uapubsub_c.specs.declared.kept.Kept.{Kept}
+use Rattle.uapubsub_c.specs.Getting.{IsRefusedFor, IsTaken, SubscriberMoves}
+use Rattle.uapubsub_c.proofs.subscribing.uapubsub_subscriber_datagram.Goals as goal
+
+pub returns-clause-taken : goal.returns-clause-taken
+returns-clause-taken c = λ ok. record {
+  was = c.in-Some.kept.value;
+  is = c.datagram_in-status.new.kept;
+  held = c.in-Some.ensures.held;
+  holds = c.put.ensures.held;
+  moved = subst (λ (kept : Kept). SubscriberMoves (IsTaken c.args.group c.args.now c.args.bytes.now c.datagram_in-status.new.bytes c.datagram_in-status.new.taken) kept c.datagram_in-status.new.kept)
+      c.deref_mut.ensures.value (c.datagram_in-status.ensures.taken ok);
+}
+
+pub returns-clause-refused : goal.returns-clause-refused
+returns-clause-refused c = λ ok. record {
+  was = c.in-Some.kept.value;
+  is = c.datagram_in-status.new.kept;
+  held = c.in-Some.ensures.held;
+  holds = c.put.ensures.held;
+  moved = subst (λ (kept : Kept). SubscriberMoves (IsRefusedFor c.args.group c.args.now c.args.bytes.now c.datagram_in-status.new.bytes c.datagram_in-status.result) kept c.datagram_in-status.new.kept)
+      c.deref_mut.ensures.value (c.datagram_in-status.ensures.refused ok);
+}

@@ -1,0 +1,15 @@
+use Rattle.std.proofs.Common.{subst}
+use Rattle.uapubsub_c.specs.declared.kept.Kept.{Kept}
+use Rattle.device_sides.specs.Sides.{HasWriterSwitched}
+use Rattle.uapubsub_c.specs.Getting.{PublisherMoves}
+use Rattle.uapubsub_c.proofs.switching.switch_writer.Goals as goal
+
+pub returns-clause-switched : goal.returns-clause-switched
+returns-clause-switched c = λ ok. record {
+  was = c.in-Some.kept.value;
+  is = c.switch_writer_in-status.new.kept;
+  held = c.in-Some.ensures.held;
+  holds = c.put.ensures.held;
+  moved = subst (λ (kept : Kept). PublisherMoves (HasWriterSwitched c.args.group c.args.writer c.args.on) kept c.switch_writer_in-status.new.kept)
+      c.deref_mut.ensures.value (c.switch_writer_in-status.ensures.switched ok);
+}

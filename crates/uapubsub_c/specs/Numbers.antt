@@ -1,0 +1,47 @@
+-- The numbers by which C sees refusals and reasons to wait: those of include/uapubsub.h.
+use Rattle.std.specs.Prelude.{ℕ}
+use Rattle.pubsub_model.specs.declared.reading.Why.{Why}
+use Rattle.pubsub_model.specs.declared.reading.Why.TheVariants.{Gap, Jump, NewToken, Restarted, Start, Timeout}
+use Rattle.uadp_header.specs.declared.fault.HeaderFault.{HeaderFault}
+use Rattle.uadp_header.specs.declared.fault.HeaderFault.TheVariants as headers
+use Rattle.message_guard.specs.declared.open_fault.OpenFault.{OpenFault}
+use Rattle.message_guard.specs.declared.open_fault.OpenFault.TheVariants as guards
+use Rattle.reader_group.specs.declared.refusal.Refusal.{Refusal}
+use Rattle.reader_group.specs.declared.refusal.Refusal.TheVariants as refusals
+
+-- why a reader holds no row
+abbrev pub why_number : Why → ℕ
+why_number Start = 0
+why_number Gap = 1
+why_number Timeout = 2
+why_number NewToken = 3
+why_number Jump = 4
+why_number Restarted = 5
+
+abbrev pub header_number : HeaderFault → ℕ
+header_number headers.Short = 101
+header_number (headers.Version got) = 102
+header_number headers.DiscoveryOut = 103
+header_number headers.BadPublisherType = 104
+header_number headers.ReservedBits = 105
+header_number headers.BadId = 106
+
+abbrev pub guard_number : OpenFault → ℕ
+guard_number guards.ModeDiffers = 121
+guard_number guards.FooterOut = 122
+guard_number guards.KeyResetOut = 123
+guard_number (guards.BadNonceLength got) = 124
+guard_number guards.Short = 125
+guard_number (guards.UnknownToken got) = 126
+guard_number (guards.OldToken got high) = 127
+guard_number guards.BadSignature = 128
+guard_number guards.Repeated = 129
+guard_number (guards.TooOld high) = 130
+
+-- why a datagram is refused
+abbrev pub refusal_number : Refusal → ℕ
+refusal_number (refusals.Header fault) = header_number fault
+refusal_number refusals.NotOurs = 110
+refusal_number refusals.NoIds = 111
+refusal_number refusals.BadSizes = 112
+refusal_number (refusals.Guard fault) = guard_number fault
