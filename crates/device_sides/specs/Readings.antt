@@ -10,6 +10,7 @@ use Rattle.pubsub_model.specs.declared.reading.Why.TheVariants.{Restarted}
 use Rattle.dataset_reader.specs.declared.reader.Reader.{Reader}
 use Rattle.dataset_reader.specs.Kept.{Kept}
 use Rattle.dataset_reader.specs.Reader.{kept_by}
+use Rattle.message_guard.specs.declared.keys.TokenKeys.{TokenKeys}
 use Rattle.ps_config.specs.declared.parts.Config.{Config}
 use Rattle.reader_group.specs.declared.group.ReaderGroup.{ReaderGroup}
 use Rattle.reader_group.specs.Groups as reads
@@ -88,6 +89,21 @@ abbrev pub IsUntoldAt : ℕ → ℕ → ℕ → Subscriber → NoValue → Type 
 IsUntoldAt group reader field subscriber none =
     group < length subscriber.groups.items
     → HoldsAt (IsUntold subscriber.config reader field none) subscriber.groups.items group
+
+-- ---- keys that are renewed
+
+-- a read group goes on with these keys, and which of its readers are on stays
+pub record GoesOnWith (keys : List TokenKeys) (old new : Listening) : Type 0 where
+  pub group : reads.GoesOnWith keys old.group new.group
+  pub on : new.on ≡ old.on
+  pub index : new.index ≡ old.index
+
+-- the same of the read group with this index, and nothing else changed
+pub record HasKeysRenewed (group : ℕ) (keys : List TokenKeys) (old new : Subscriber) : Type 0 where
+  pub within : group < length old.groups.items
+  pub is : HoldsAt (λ was. HoldsAt (λ is. GoesOnWith keys was is) new.groups.items group) old.groups.items group
+  pub others : HoldsAt (λ is. new.groups.items ≡ slice_set old.groups.items group is) new.groups.items group
+  pub config : new.config ≡ old.config
 
 -- ---- readers that are switched on and off
 

@@ -82,6 +82,8 @@ impl Listening {
         requires { IsListening _config.now self.old }
         ensures listening { IsListening _config.now self.new }
         ensures keys { GoesOnWith (map keys_in (key_sets ring)) self.old.group self.new.group }
+        ensures on { self.new.on ≡ self.old.on }
+        ensures index { self.new.index ≡ self.old.index }
     {
         self.group.renew(ring);
     }

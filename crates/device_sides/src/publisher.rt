@@ -166,6 +166,7 @@ impl Publisher {
         ensures publisher { IsPublisher self.new }
         ensures renewed { OnTrue result (HasRenewed keygroup (key_sets ring) self.old self.new) }
         ensures not { OnFalse result (self.new ≡ self.old) }
+        ensures absent { OnFalse result (length self.old.senders.items ≤ keygroup) }
     {
         let index = usize::from(keygroup);
         if index >= self.senders.len() {

@@ -1,13 +1,14 @@
 //! Subscribers.
-ghost use Rattle.std.specs.Prelude.{◌≡◌, ◌<◌, Ok, IfOk, IfErr, IfSome, IfNone, length};
+ghost use Rattle.std.specs.Prelude.{◌≡◌, ◌<◌, ◌≤◌, Ok, IfOk, IfErr, IfSome, IfNone, length, map};
 ghost use Rattle.std.specs.Bool.{OnFalse, OnTrue};
 ghost use Rattle.group_keys.specs.Ring.{key_sets};
+ghost use Rattle.message_guard.specs.Protection.{keys_in};
 ghost use Rattle.reader_group.specs.Groups as reads;
 ghost use Rattle.ps_config.specs.Reading.{configuration, IsEnd};
 ghost use Rattle.ps_config.specs.Sound.{IsSound};
 ghost use Rattle.writer_group.specs.Standing.{IsGood};
 ghost use Rattle.row_words.specs.Words.{scalar_in};
-ghost use Rattle.device_sides.specs.Readings.{HasFieldStatus, HasFieldValue, HasReaderSwitched, IsNoReader, IsOfKind, IsReaderAt, IsUntold, IsUntoldAt, Keeps, ReaderKeeps, meta_for};
+ghost use Rattle.device_sides.specs.Readings.{HasFieldStatus, HasFieldValue, HasKeysRenewed, HasReaderSwitched, IsNoReader, IsOfKind, IsReaderAt, IsUntold, IsUntoldAt, Keeps, ReaderKeeps, meta_for};
 ghost use Rattle.device_sides.specs.Sides.{HasListened, IsListening, IsSubscriber};
 
 use crate::asked::NoValue;
@@ -155,7 +156,10 @@ impl Subscriber {
     pub fn renew(&mut self, group: u8, ring: Ring) -> bool
         requires { IsSubscriber self.old }
         ensures subscriber { IsSubscriber self.new }
+        ensures renewed { OnTrue result
+            (HasKeysRenewed group (map keys_in (key_sets ring)) self.old self.new) }
         ensures not { OnFalse result (self.new ≡ self.old) }
+        ensures absent { OnFalse result (length self.old.groups.items ≤ group) }
     {
         let index = usize::from(group);
         if index >= self.groups.len() {
