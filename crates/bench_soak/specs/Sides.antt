@@ -3,9 +3,9 @@ use Rattle.message_guard.specs.Senders.{IsSender}
 use Rattle.ps_config.specs.declared.parts.Config.{Config}
 use Rattle.reader_group.specs.Groups.{IsMadeOf}
 use Rattle.writer_group.specs.Standing.{IsGood, IsReserved, KeepsTo}
-use Rattle.soak.specs.declared.publisher.Publisher.{Publisher}
-use Rattle.soak.specs.declared.running.Run.{Run}
-use Rattle.soak.specs.declared.subscriber.Subscriber.{Subscriber}
+use Rattle.bench_soak.specs.declared.publisher.Publisher.{Publisher}
+use Rattle.bench_soak.specs.declared.running.Run.{Run}
+use Rattle.bench_soak.specs.declared.subscriber.Subscriber.{Subscriber}
 
 -- its group is of this configuration, and may have a turn as soon as what the turn is given is in order
 pub record IsPublisher (config : Config) (publisher : Publisher) : Type 0 where

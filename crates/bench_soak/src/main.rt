@@ -16,7 +16,7 @@ mod words;
 
 ghost use Rattle.std.specs.Prelude.{IfOk};
 ghost use Rattle.writer_group.specs.Standing.{IsGood};
-ghost use Rattle.soak.specs.Sides.{IsRun};
+ghost use Rattle.bench_soak.specs.Sides.{IsRun};
 
 use crate::configuration::CONFIGURATION;
 use crate::fault::Fault;

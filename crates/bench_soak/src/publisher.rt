@@ -1,7 +1,7 @@
 //! The publisher's side.
 ghost use Rattle.std.specs.Prelude.{◌≡◌, ◌<◌, ◌≤◌, ◌^◌, IfOk, length};
 ghost use Rattle.writer_group.specs.Standing.{AreRowsOf, IsGood, IsReserved, datagrams_in};
-ghost use Rattle.soak.specs.Sides.{IsPublisher};
+ghost use Rattle.bench_soak.specs.Sides.{IsPublisher};
 
 use crate::configuration::WRITERS;
 use crate::fault::Fault;

@@ -1,7 +1,7 @@
 //! Turns, whose datagrams are read at once.
 ghost use Rattle.std.specs.Prelude.{◌≡◌, ◌≤◌, ◌^◌, IfOk, length};
 ghost use Rattle.writer_group.specs.Standing.{IsGood, IsReserved, datagrams_in};
-ghost use Rattle.soak.specs.Sides.{IsRun};
+ghost use Rattle.bench_soak.specs.Sides.{IsRun};
 
 use crate::configuration::{INTERVAL, WRITERS};
 use crate::fault::{Fault, unwritten};

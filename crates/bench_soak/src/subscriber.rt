@@ -2,7 +2,7 @@
 ghost use Rattle.std.specs.Prelude.{◌<◌, IfOk, length};
 ghost use Rattle.ps_config.specs.Sound.{IsSound};
 ghost use Rattle.reader_group.specs.Groups.{IsMadeOf};
-ghost use Rattle.soak.specs.Sides.{IsSubscriber};
+ghost use Rattle.bench_soak.specs.Sides.{IsSubscriber};
 
 use crate::configuration::WRITERS;
 use crate::fault::Fault;

@@ -4,7 +4,7 @@ use Rattle.std.proofs.lemmas.List.{append-nil}
 use Rattle.ps_report.specs.declared.closed.WatchEnd.{WatchEnd}
 use Rattle.ps_report.specs.Conditions.{HoldsRow, HoldRows, writers_of, readers_of}
 use Rattle.ps_report.proofs.Pairs.{zip_length}
-use Rattle.benches.proofs.closing.closed_of.Goals as goal
+use Rattle.bench_parts.proofs.closing.closed_of.Goals as goal
 
 single : {A : Type 0} (xs : List A) (x : A) → length xs ≡ 1 → x ≡ get_or xs 0 x → xs ≡ x ∷ []
 single [] x one is = absurd (omega arith)

@@ -1,5 +1,5 @@
 use Rattle.std.proofs.Common.{◌≡◌, length}
-use Rattle.benches.proofs.closing.histories.Given as goal
+use Rattle.bench_parts.proofs.closing.histories.Given as goal
 
 -- one for each set so far
 abbrev pub invariant-loop-set : goal.invariant-loop-set

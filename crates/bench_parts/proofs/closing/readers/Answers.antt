@@ -1,7 +1,7 @@
 use Rattle.std.proofs.Common.{◌+◌, [], take, sym, subst, arith}
 use Rattle.ps_report.specs.Conditions.{HoldsRow, HoldRows}
 use Rattle.ps_report.proofs.Pairs.{zip_place_more}
-use Rattle.benches.proofs.closing.readers.Goals as goal
+use Rattle.bench_parts.proofs.closing.readers.Goals as goal
 
 pub loop-part-preserved : goal.loop-part-preserved
 loop-part-preserved c =

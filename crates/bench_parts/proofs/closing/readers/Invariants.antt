@@ -1,6 +1,6 @@
 use Rattle.std.proofs.Common.{take}
 use Rattle.ps_report.specs.Conditions.{HoldRows}
-use Rattle.benches.proofs.closing.readers.Given as goal
+use Rattle.bench_parts.proofs.closing.readers.Given as goal
 
 -- one for each part so far
 abbrev pub invariant-loop-part : goal.invariant-loop-part

@@ -1,5 +1,5 @@
 use Rattle.std.proofs.Common.{◌≡◌, length}
-use Rattle.benches.proofs.closing.writers.Given as goal
+use Rattle.bench_parts.proofs.closing.writers.Given as goal
 
 -- one for each part so far
 abbrev pub invariant-loop-part : goal.invariant-loop-part

@@ -1,4 +1,4 @@
-use Rattle.soak.proofs.subscriber.Subscriber.new.Goals as goal
+use Rattle.bench_soak.proofs.subscriber.Subscriber.new.Goals as goal
 
 -- a renewal leaves it a group of the configuration
 pub returns : goal.returns
