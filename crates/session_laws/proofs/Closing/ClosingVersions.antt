@@ -11,7 +11,7 @@ use Rattle.writer_group.specs.Parts.{group_at}
 use Rattle.writer_group.specs.Payloads.{writer_at}
 use Rattle.writer_group.specs.Turns.{GroupDeed, HadGroupTurn, TurnInput, no_sample, took_by, writer_past, writer_turn}
 use Rattle.session_model.specs.Deeds.{Deed, component_at, deeds, group_past, is_writer_below, is_writer_of, refreshed_where, turn_input, turn_of, writer_deeds, writer_indexes}
-use Rattle.session_model.specs.Keeping.{AreSteps, IsPlan}
+use Rattle.session_model.specs.Keeping.{AreStepsOf, IsPlan}
 use Rattle.session_model.specs.Sets.{AreRowsOf}
 use Rattle.session_model.specs.Steps.{Plan, Step, Enable, Disable, Append, Tick, Pump, moment_of}
 use Rattle.session_laws.specs.Sessions.{ClosesWith, pasts_at}
@@ -46,7 +46,7 @@ module _ (words : WordLaws) (p : Plan) (g w : ℕ) (plan : IsPlan p) (there : g 
   refreshed-past : (S : ℕ → Type 0) (test : ℕ → Bool) (past : List GroupDeed) (writers : List ℕ) → Past S past → Past S (refreshed_where test past writers)
   refreshed-past S test past writers h = refreshed-keeps (Past S) (λ writer past h. turns-if (IfClosing S) (writer == w) (writer_past w past) h) test past writers h
 
-  module _ (before : List Step) (are : AreSteps p before) (now : ℕ) (closing : Bool) (samples : List Sampled) (rows : AreRowsOf p.full samples) where
+  module _ {limit : ℕ} (before : List Step) (are : AreStepsOf limit p before) (now : ℕ) (closing : Bool) (samples : List Sampled) (rows : AreRowsOf p.full samples) where
     abbrev Now : ℕ → Type 0
     Now version = ((closing ≡ true) × ((slice_index_or samples index no_sample).version ≡ version)) ⊎ ClosesWith before index version
 
@@ -73,7 +73,7 @@ module _ (words : WordLaws) (p : Plan) (g w : ℕ) (plan : IsPlan p) (there : g 
       turn = λ other earlier lt has h. turn-on earlier other (other == g) (λ i. other == g) h;
     }
 
-  closings : (steps : List Step) → AreSteps p steps → Past (ClosesWith steps index) (pasts_at p steps g)
+  closings : {limit : ℕ} (steps : List Step) → AreStepsOf limit p steps → Past (ClosesWith steps index) (pasts_at p steps g)
   closings [] are = tt
   closings (Enable id ∷ before) are =
       refreshed-past (ClosesWith before index) (is_writer_below (component_at p.config id) g) (pasts_at p before g) (writer_indexes (group_at p.config g)) (closings before are.1)
@@ -88,7 +88,7 @@ module _ (words : WordLaws) (p : Plan) (g w : ℕ) (plan : IsPlan p) (there : g 
       (closings before are.1))
   closings (Pump entries ∷ before) are = closings before are.1
 
-pub closes-with : WordLaws → (p : Plan) (g w : ℕ) (steps : List Step) (later before : List WriterDeed) (turn : WriterTurn) → IsPlan p → AreSteps p steps → g < length p.config.group → w < length (group_at p.config g).writer
+pub closes-with : {limit : ℕ} → WordLaws → (p : Plan) (g w : ℕ) (steps : List Step) (later before : List WriterDeed) (turn : WriterTurn) → IsPlan p → AreStepsOf limit p steps → g < length p.config.group → w < length (group_at p.config g).writer
     → writer_deeds p g w steps ≡ later ++ HadTurn turn ∷ before → turn.closing ≡ true → ClosesWith steps (writer_at (group_at p.config g) w).dataset turn.version
 closes-with words p g w steps later before turn plan are there within split closes =
     let P = IfClosing (ClosesWith steps (writer_at (group_at p.config g) w).dataset) in

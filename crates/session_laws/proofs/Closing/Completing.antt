@@ -26,7 +26,7 @@ use Rattle.session_model.specs.Closing.{IsClosedAfter}
 use Rattle.session_model.specs.Counts.{is_closed}
 use Rattle.session_model.specs.Deeds.{log_at}
 use Rattle.session_model.specs.Events.{reader_at}
-use Rattle.session_model.specs.Keeping.{AreSteps}
+use Rattle.session_model.specs.Keeping.{AreStepsOf}
 use Rattle.session_model.specs.Steps.{Plan, Step, Enable, Disable, Append, Tick, Pump}
 use Rattle.session_laws.specs.Bare.{ClosingCameLast, ClosingGotLast, ClosingGotSinceLast, ClosingTookLast, IsBare}
 use Rattle.session_laws.specs.Complete.{Came, CameLast, ClosingComes, Got, GotLast, GotSecured, GotSinceLast, IsNewestTold, Took, TookLast}
@@ -55,7 +55,7 @@ closed-by (Pump entries ∷ before) index version closes = closed-by before inde
 runs-on : (steps : List Step) (index version : ℕ) → is_closed steps ≡ false → ClosesWith steps index version → ⊥
 runs-on steps index version running closes = let wrong : false ≡ true = sym running ∙ closed-by steps index version closes in cc
 
-pub closes-once : (p : Plan) (steps : List Step) (index one other : ℕ) → AreSteps p steps → ClosesWith steps index one → ClosesWith steps index other → one ≡ other
+pub closes-once : {limit : ℕ} (p : Plan) (steps : List Step) (index one other : ℕ) → AreStepsOf limit p steps → ClosesWith steps index one → ClosesWith steps index other → one ≡ other
 closes-once p [] index one other are a b = absurd a
 closes-once p (Enable id ∷ before) index one other are a b = closes-once p before index one other are.1 a b
 closes-once p (Disable id ∷ before) index one other are a b = closes-once p before index one other are.1 a b
@@ -66,7 +66,7 @@ closes-once p (Tick ms closing samples done ∷ before) index one other are (inr
 closes-once p (Pump entries ∷ before) index one other are a b = closes-once p before index one other are.1 a b
 
 -- and no tick sampled a later version
-pub closes-newest : (p : Plan) (steps : List Step) (index version : ℕ) (now : MetaData) (sample : Sampled) → AreSteps p steps → SamplesRise p steps → ClosesWith steps index version → HasSample p steps index now sample → sample.version ≤ version
+pub closes-newest : {limit : ℕ} (p : Plan) (steps : List Step) (index version : ℕ) (now : MetaData) (sample : Sampled) → AreStepsOf limit p steps → SamplesRise p steps → ClosesWith steps index version → HasSample p steps index now sample → sample.version ≤ version
 closes-newest p [] index version now sample are rise closes has = absurd closes
 closes-newest p (Enable id ∷ before) index version now sample are rise closes has = closes-newest p before index version now sample are.1 rise closes has
 closes-newest p (Disable id ∷ before) index version now sample are rise closes has = closes-newest p before index version now sample are.1 rise closes has

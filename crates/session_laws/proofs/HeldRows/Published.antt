@@ -19,7 +19,7 @@ use Rattle.session_model.specs.Sets.{metas_at, meta_in}
 use Rattle.session_model.specs.Deeds.{log_at, writer_deeds, deeds}
 use Rattle.writer_group.specs.Parts.{group_at, no_group}
 use Rattle.session_model.specs.Events.{events, reader_at}
-use Rattle.session_model.specs.Keeping.{AreSteps, IsPlan}
+use Rattle.session_model.specs.Keeping.{AreSteps, AreStepsOf, IsPlan}
 pub use Rattle.session_laws.specs.Below.{Laws}
 use Rattle.session_laws.specs.Reading.{ReadsByRecords, first_number_of}
 use Rattle.session_model.specs.Turns.{TurnsHold}
@@ -131,7 +131,7 @@ published laws p r i g w steps rows row is versions e =
     }
 
 -- and its versions never fall
-pub never-older : (words : WordLaws) (ring : RingLaw) (p : Plan) (g w : ℕ) (steps : List Step) → IsPlan p → AreSteps p steps → TurnsHold p steps → SamplesRise p steps → w < length (group_at p.config g).writer → IsNonDecreasingBy (λ (entry : ℕ × ℕ). entry.1) (log_at p g w steps)
+pub never-older : {limit : ℕ} (words : WordLaws) (ring : RingLaw) (p : Plan) (g w : ℕ) (steps : List Step) → IsPlan p → AreStepsOf limit p steps → TurnsHold p steps → SamplesRise p steps → w < length (group_at p.config g).writer → IsNonDecreasingBy (λ (entry : ℕ × ℕ). entry.1) (log_at p g w steps)
 never-older words ring p g w steps plan are hold rise within =
     log-rises (settings_at (group_at p.config g) w) (writer_past w (pasts_at p steps g)) ((past-of words ring p g steps plan are hold rise).lives w within).never
 
@@ -151,7 +151,7 @@ last-is : (turn : WriterTurn) (o : Option PlacedFrame) (before : List Answered) 
 last-is turn o before e = ap (λ (b : Bool). turn_of (if b then Some (record { turn = turn; answer = o }) else Rattle.std.specs.Prelude.find is_data before)) e
 
 -- each data frame publishes the row of its version, cut to the fields that the data set had at its turn
-pub publishes : (words : WordLaws) (ring : RingLaw) (p : Plan) (g w : ℕ) (steps : List Step) (rows : ℕ → ℕ → List DataValue) (later before : List WriterDeed) (turn : WriterTurn) → IsPlan p → AreSteps p steps → TurnsHold p steps → SamplesRise p steps
+pub publishes : {limit : ℕ} (words : WordLaws) (ring : RingLaw) (p : Plan) (g w : ℕ) (steps : List Step) (rows : ℕ → ℕ → List DataValue) (later before : List WriterDeed) (turn : WriterTurn) → IsPlan p → AreStepsOf limit p steps → TurnsHold p steps → SamplesRise p steps
     → AreVersions p steps rows → w < length (group_at p.config g).writer → writer_deeds p g w steps ≡ later ++ HadTurn turn ∷ before
     → is_data (answered_turn (settings_at (group_at p.config g) w) before turn) ≡ true
     → PublishesVersion p steps (settings_at (group_at p.config g) w) (writer_at (group_at p.config g) w).dataset rows before turn

@@ -28,7 +28,7 @@ use Rattle.session_model.specs.Steps.{Plan, Step, Enable, Disable, Append, Tick,
 use Rattle.session_model.specs.Sets.{metas_at, meta_in, AreRowsOf}
 use Rattle.session_model.specs.Deeds.{Deed, RefreshedBelow, RefreshedSet, CameTo, TookTurn, RenewedKeys, deeds, component_at, group_past, group_indexes, has_turn, is_writer_below, is_writer_of, refreshed_where, sender_after, tick_deeds, turn_input, turn_of, works, writer_indexes}
 use Rattle.writer_group.specs.Parts.{group_at, no_group}
-use Rattle.session_model.specs.Keeping.{AreSteps, IsPlan, MayGrow}
+use Rattle.session_model.specs.Keeping.{AreStepsOf, IsPlan, MayGrow}
 use Rattle.session_model.specs.Lives.{Lived, Stepped, Renewed, TurnsHoldIn, account_in, steps_in}
 use Rattle.session_model.specs.Turns.{HoldsIfTurned, HoldsTurn, TurnsHold, deeds_till}
 use Rattle.session_model.proofs.Deeds.{TickKeeps, refreshed-keeps, tick-keeps}
@@ -192,7 +192,7 @@ narrow-set metas index new there is all k = on (k == index) refl
         let differ : k ≢ index = grind (arith, nat_tests) in
         subst IsNarrow (sym (get_or-set_other metas index k new no_meta differ)) (all k)
 
-narrow-at : (p : Plan) (steps : List Step) → IsPlan p → AreSteps p steps → (k : ℕ) → IsNarrow (meta_in (metas_at p.config steps) k)
+narrow-at : {limit : ℕ} (p : Plan) (steps : List Step) → IsPlan p → AreStepsOf limit p steps → (k : ℕ) → IsNarrow (meta_in (metas_at p.config steps) k)
 narrow-at p [] plan are k = on (cases_lt k (length p.config.dataset))
   where
     on : (k < length p.config.dataset) ⊎ (length p.config.dataset ≤ k) → IsNarrow (meta_in p.config.dataset k)
@@ -219,7 +219,7 @@ may-give p earlier (Some k) b keyed h = giving-use p.config earlier k h keyed.th
 
 -- ---- a turn holds
 
-module _ (laws : TurnsLaws) (words : WordLaws) (p : Plan) (plan : IsPlan p) (before : List Step) (are : AreSteps p before) (now : ℕ) (closing : Bool) (samples : List Sampled) (rows : AreRowsOf p.full samples) (done : List Deed) where
+module _ {limit : ℕ} (laws : TurnsLaws) (words : WordLaws) (p : Plan) (plan : IsPlan p) (before : List Step) (are : AreStepsOf limit p before) (now : ℕ) (closing : Bool) (samples : List Sampled) (rows : AreRowsOf p.full samples) (done : List Deed) where
   abbrev Kept : List Deed → Type 0
   Kept earlier = AllGiving p.config earlier × AllPasts p.config (metas_at p.config before) earlier
 
@@ -339,7 +339,7 @@ kept-set p before index field done may h =
       subst (λ (l : List MetaData). AllPasts p.config l (RefreshedSet index ∷ done)) (sym (grown-is metas index field may.may.there)) (pasts-grown p.config metas index (grown (meta_in metas index) field) done h.1),
     )
 
-all-kept : (laws : TurnsLaws) (words : WordLaws) (p : Plan) (steps : List Step) → IsPlan p → AreSteps p steps → AllKept p steps (deeds p steps)
+all-kept : {limit : ℕ} (laws : TurnsLaws) (words : WordLaws) (p : Plan) (steps : List Step) → IsPlan p → AreStepsOf limit p steps → AllKept p steps (deeds p steps)
 all-kept laws words p [] plan are = kept-open p plan
 all-kept laws words p (Enable id ∷ before) plan are = kept-below p before id (deeds p before) (all-kept laws words p before plan are.1)
 all-kept laws words p (Disable id ∷ before) plan are = all-kept laws words p before plan are.1
@@ -348,7 +348,7 @@ all-kept laws words p (Tick ms closing samples done ∷ before) plan are =
     tick-kept laws words p plan before are.1 (moment_of before + ms) closing samples are.0.rows (deeds p before) (all-kept laws words p before plan are.1)
 all-kept laws words p (Pump entries ∷ before) plan are = all-kept laws words p before plan are.1
 
-pub turns-hold : (laws : TurnsLaws) (words : WordLaws) (p : Plan) (steps : List Step) → IsPlan p → AreSteps p steps → TurnsHold p steps
+pub turns-hold : {limit : ℕ} (laws : TurnsLaws) (words : WordLaws) (p : Plan) (steps : List Step) → IsPlan p → AreStepsOf limit p steps → TurnsHold p steps
 turns-hold laws words p [] plan are = tt
 turns-hold laws words p (Enable id ∷ before) plan are = turns-hold laws words p before plan are.1
 turns-hold laws words p (Disable id ∷ before) plan are = turns-hold laws words p before plan are.1
@@ -359,7 +359,7 @@ turns-hold laws words p (Pump entries ∷ before) plan are = turns-hold laws wor
 
 -- ---- over a life
 
-life-kept : (laws : TurnsLaws) (words : WordLaws) (p : Plan) (life : List Lived) → IsPlan p → AreSteps p (steps_in life) → HasShortTokens life → AllKept p (steps_in life) (account_in p life).deeds
+life-kept : {limit : ℕ} (laws : TurnsLaws) (words : WordLaws) (p : Plan) (life : List Lived) → IsPlan p → AreStepsOf limit p (steps_in life) → HasShortTokens life → AllKept p (steps_in life) (account_in p life).deeds
 life-kept laws words p [] plan are short = kept-open p plan
 life-kept laws words p (Stepped (Enable id) ∷ before) plan are short = kept-below p (steps_in before) id (account_in p before).deeds (life-kept laws words p before plan are.1 short)
 life-kept laws words p (Stepped (Disable id) ∷ before) plan are short = life-kept laws words p before plan are.1 short
@@ -374,7 +374,7 @@ life-kept laws words p (Renewed keygroup sets ∷ before) plan are short =
     let h = life-kept laws words p before plan are short.1 in
     (giving-renewed p.config keygroup sets done short.0 h.0, pasts-renewed p.config (metas_at p.config (steps_in before)) keygroup sets done h.1)
 
-pub life-holds : (laws : TurnsLaws) (words : WordLaws) (p : Plan) (life : List Lived) → IsPlan p → AreSteps p (steps_in life) → HasShortTokens life → TurnsHoldIn p life
+pub life-holds : {limit : ℕ} (laws : TurnsLaws) (words : WordLaws) (p : Plan) (life : List Lived) → IsPlan p → AreStepsOf limit p (steps_in life) → HasShortTokens life → TurnsHoldIn p life
 life-holds laws words p [] plan are short = tt
 life-holds laws words p (Stepped (Enable id) ∷ before) plan are short = (tt, life-holds laws words p before plan are.1 short)
 life-holds laws words p (Stepped (Disable id) ∷ before) plan are short = (tt, life-holds laws words p before plan are.1 short)

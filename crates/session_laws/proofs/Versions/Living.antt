@@ -22,7 +22,7 @@ use Rattle.session_model.specs.Steps.{Plan, Step, Enable, Disable, Append, Tick,
 use Rattle.session_model.specs.Sets.{metas_at, meta_in, AreRowsOf}
 use Rattle.session_model.specs.Deeds.{Deed, deeds, component_at, group_past, refreshed_where, is_writer_below, is_writer_of, writer_indexes, turn_input, turn_of}
 use Rattle.writer_group.specs.Parts.{group_at, no_group}
-use Rattle.session_model.specs.Keeping.{AreSteps, IsPlan}
+use Rattle.session_model.specs.Keeping.{AreStepsOf, IsPlan}
 use Rattle.pubsub_model.specs.Answers.{turn_versions, NeverFall}
 use Rattle.session_laws.specs.Pasts.{AreTurns}
 use Rattle.session_laws.specs.Sessions.{HasSample, SamplesRise, pasts_at}
@@ -119,7 +119,7 @@ grown-or : (writer : Rattle.ps_config.specs.declared.parts.WriterPart.WriterPart
 grown-or writer conf now (inl same) = inl same
 grown-or writer conf now (inr since) = inr since.fields
 
-module _ (laws : WordLaws) (p : Plan) (plan : IsPlan p) (before : List Step) (are : AreSteps p before) (now : ℕ) (closing : Bool) (samples : List Sampled) (rows : AreRowsOf p.full samples)
+module _ {limit : ℕ} (laws : WordLaws) (p : Plan) (plan : IsPlan p) (before : List Step) (are : AreStepsOf limit p before) (now : ℕ) (closing : Bool) (samples : List Sampled) (rows : AreRowsOf p.full samples)
     (rise : (index : ℕ) (at : MetaData) (sample : Sampled) → HasSample p before index at sample → sample.version ≤ (slice_index_or samples index no_sample).version) where
   abbrev S : ℕ → MetaData → Sampled → Type 0
   S index at sample = ((slice_index_or samples index no_sample ≡ sample) × (meta_in (metas_at p.config before) index ≡ at)) ⊎ HasSample p before index at sample
@@ -248,7 +248,7 @@ grow-past p S metas g set field past there h = record {
 
 -- ---- over all steps
 
-pub past-of : (laws : WordLaws) (law : RingLaw) (p : Plan) (g : ℕ) (steps : List Step) → IsPlan p → AreSteps p steps → TurnsHold p steps → SamplesRise p steps → IsPastOf p (HasSample p steps) (metas_at p.config steps) g (pasts_at p steps g)
+pub past-of : {limit : ℕ} (laws : WordLaws) (law : RingLaw) (p : Plan) (g : ℕ) (steps : List Step) → IsPlan p → AreStepsOf limit p steps → TurnsHold p steps → SamplesRise p steps → IsPastOf p (HasSample p steps) (metas_at p.config steps) g (pasts_at p steps g)
 past-of laws law p g [] plan are hold rise = record { turns = tt; lives = λ w within. record { rows = tt; turns = tt; never = tt } }
 past-of laws law p g (Enable id ∷ before) plan are hold rise =
     refreshed-past p (HasSample p before) (metas_at p.config before) g (is_writer_below (component_at p.config id) g) (pasts_at p before g) (writer_indexes (group_at p.config g)) (past-of laws law p g before plan are.1 hold rise)

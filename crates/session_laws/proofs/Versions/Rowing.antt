@@ -25,7 +25,7 @@ use Rattle.session_model.specs.Steps.{Plan, Step, Enable, Disable, Append, Tick,
 use Rattle.session_model.specs.Sets.{metas_at, meta_in, rows_at, rows_cut, cut_sample, AreFit, GrowTo, AreRowsOf}
 use Rattle.session_model.specs.Deeds.{Deed, group_past, turn_input, turn_of}
 use Rattle.writer_group.specs.Parts.{group_at, no_group}
-use Rattle.session_model.specs.Keeping.{AreSteps, IsPlan}
+use Rattle.session_model.specs.Keeping.{AreStepsOf, IsPlan}
 pub use Rattle.session_laws.specs.Below.{WordLaws}
 use Rattle.session_laws.specs.Pasts.{IsTurn}
 use Rattle.session_laws.proofs.Versions.Senders.{TurnHolds}
@@ -34,7 +34,7 @@ use Rattle.session_laws.proofs.Versions.Metas.{meta-of}
 
 -- ---- the data sets of a moment
 
-pub fit-at : (p : Plan) (steps : List Step) → IsPlan p → AreSteps p steps → AreFit p.config (metas_at p.config steps)
+pub fit-at : {limit : ℕ} (p : Plan) (steps : List Step) → IsPlan p → AreStepsOf limit p steps → AreFit p.config (metas_at p.config steps)
 fit-at p [] plan are = plan.fit
 fit-at p (Enable id ∷ before) plan are = fit-at p before plan are.1
 fit-at p (Disable id ∷ before) plan are = fit-at p before plan are.1
@@ -42,7 +42,7 @@ fit-at p (Append index field ∷ before) plan are = are.0.may.fit
 fit-at p (Tick ms closing samples done ∷ before) plan are = fit-at p before plan are.1
 fit-at p (Pump entries ∷ before) plan are = fit-at p before plan are.1
 
-pub grow-at : (p : Plan) (steps : List Step) → IsPlan p → AreSteps p steps → GrowTo (metas_at p.config steps) p.full
+pub grow-at : {limit : ℕ} (p : Plan) (steps : List Step) → IsPlan p → AreStepsOf limit p steps → GrowTo (metas_at p.config steps) p.full
 grow-at p [] plan are = plan.grow
 grow-at p (Enable id ∷ before) plan are = grow-at p before plan are.1
 grow-at p (Disable id ∷ before) plan are = grow-at p before plan are.1
@@ -50,7 +50,7 @@ grow-at p (Append index field ∷ before) plan are = are.0.grow
 grow-at p (Tick ms closing samples done ∷ before) plan are = grow-at p before plan are.1
 grow-at p (Pump entries ∷ before) plan are = grow-at p before plan are.1
 
-pub as-many : (p : Plan) (steps : List Step) → IsPlan p → AreSteps p steps → length (metas_at p.config steps) ≡ length p.config.dataset
+pub as-many : {limit : ℕ} (p : Plan) (steps : List Step) → IsPlan p → AreStepsOf limit p steps → length (metas_at p.config steps) ≡ length p.config.dataset
 as-many p steps plan are = length_all_zip HasGrown (metas_at p.config steps) p.full (grow-at p steps plan are) ∙ sym (length_all_zip HasGrown p.config.dataset p.full plan.grow)
 
 -- ---- a sampled row
@@ -84,7 +84,7 @@ pub record IsSampledTurn (p : Plan) (now : MetaData) (index : ℕ) (samples : Li
   pub row : turn.row ≡ row_cut now (row_in (meta_in p.full index).fields (slice_index_or samples index no_sample).row.words)
   pub version : turn.version ≡ (slice_index_or samples index no_sample).version
 
-module _ (laws : WordLaws) (p : Plan) (before : List Step) (plan : IsPlan p) (are : AreSteps p before) (g : ℕ) (group : GroupPart) (at : IsAt p.config g group) where
+module _ {limit : ℕ} (laws : WordLaws) (p : Plan) (before : List Step) (plan : IsPlan p) (are : AreStepsOf limit p before) (g : ℕ) (group : GroupPart) (at : IsAt p.config g group) where
   abbrev metas : List MetaData
   metas = metas_at p.config before
 
@@ -132,7 +132,7 @@ turns-at group told from zero (false ∷ on) turn e = absurd (none-some e)
 turns-at group told from (suc k) (b ∷ on) turn e = turns-at group told (from + 1) k on turn e ∙ ap (writer_turn group told) (omega arith)
 
 -- a turn that the writer had at a tick
-pub took-sampled : (laws : WordLaws) (p : Plan) (before : List Step) (now : ℕ) (closing : Bool) (samples : List Sampled) (earlier : List Deed) (g writer : ℕ) (turn : WriterTurn) → IsPlan p → AreSteps p before → AreRowsOf p.full samples
+pub took-sampled : {limit : ℕ} (laws : WordLaws) (p : Plan) (before : List Step) (now : ℕ) (closing : Bool) (samples : List Sampled) (earlier : List Deed) (g writer : ℕ) (turn : WriterTurn) → IsPlan p → AreStepsOf limit p before → AreRowsOf p.full samples
     → g < length p.config.group → writer < length (group_at p.config g).writer → took_by writer (turn_of p before now closing samples earlier g) ≡ Some turn
     → IsSampledTurn p (meta_at (group_at p.config g) (metas_at p.config before) writer) (writer_at (group_at p.config g) writer).dataset samples turn
 took-sampled laws p before now closing samples earlier g writer turn plan are rows there within e =
@@ -147,7 +147,7 @@ took-sampled laws p before now closing samples earlier g writer turn plan are ro
 fixed-is : (layout : Layout) → layout ≡ layouts.Fixed → is_fixed layout ≡ true
 fixed-is layout e = ap is_fixed e
 
-abbrev pub turn-is : (laws : WordLaws) (p : Plan) (before : List Step) (now : ℕ) (closing : Bool) (samples : List Sampled) (earlier : List Deed) (g : ℕ) → IsPlan p → AreSteps p before → g < length p.config.group
+abbrev pub turn-is : {limit : ℕ} (laws : WordLaws) (p : Plan) (before : List Step) (now : ℕ) (closing : Bool) (samples : List Sampled) (earlier : List Deed) (g : ℕ) → IsPlan p → AreStepsOf limit p before → g < length p.config.group
     → TurnHolds p.config (group_at p.config g) (group_past p.config g earlier) (turn_input p before now closing samples earlier g)
     → IsTurn p.config (group_at p.config g) (group_past p.config g earlier) (turn_of p before now closing samples earlier g)
 turn-is laws p before now closing samples earlier g plan are there holds =
