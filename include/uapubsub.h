@@ -5,7 +5,7 @@
  *   - A handle is used by one call at a time, on the thread that opened it, and by no signal handler.
  *   - Each pointer is to memory of the type and the length that stand beside it, which the call alone uses while it runs: an output
  *     doesn't overlap an input, another output or the handle.
- *   - malloc and free are those of one allocator, which aligns to 16.
+ *   - malloc, realloc and free are those of one allocator, which aligns to 16.
  *   - Moments are milliseconds of one clock of the program, for each handle, and don't fall.
  *
  * What a program doesn't owe: a null pointer, an index out of range, a call of a closed handle, of the other side, a second opening, a
@@ -506,7 +506,7 @@ static inline uint32_t uap_reader_number(struct uap_handle *handle, uint8_t grou
 }
 
 /* All datagrams that are due, laid one behind another into `buffer`, with their lengths, at most `most`. UAP_NONE where that was all;
- * UAP_ROOM where another waits, for which there was no room: call again with an empty buffer. */
+ * UAP_ROOM where another may wait, for which there was no room, or there were `most`: call again with an empty buffer. */
 static inline uint32_t uap_publisher_tick(struct uap_handle *handle, uint64_t now_ms, void *buffer, size_t room, size_t *lengths, size_t most,
                                          size_t *count) {
     if (handle == NULL || buffer == NULL || lengths == NULL || count == NULL) return UAP_NULL;
