@@ -1,16 +1,17 @@
 -- The lines of a gateway determine what they tell.
 use Rattle.std.proofs.Common.{◌≡◌, ℕ, ◌<◌, Bool, true, false, List, [], ◌∷◌, ◌++◌, length, Option, Some, None, refl, sym, ap, ◌∙◌, append_assoc, decimal, bytes_eq, arith}
-use Rattle.std.specs.Prelude.{codes, count_by, IfSome}
+use Rattle.std.specs.Prelude.{⊤, ◌==◌, ◌%◌, cond, codes, count_by, find, reverse, IfSome, option_and_then, option_map}
 use Rattle.std.specs.List.{AllByRecursion}
 use Rattle.std.proofs.lemmas.Bool.{true≢false}
 use Rattle.std.proofs.lemmas.List.{append_cancel_left}
-use Rattle.std.proofs.lemmas.List.Elements.{All-from_recursion, recursion_from_All}
+use Rattle.std.proofs.lemmas.List.Elements.{recursion_from_All}
 use Rattle.std.proofs.lemmas.Slice.Eq.{bytes_eq-Decides}
 use Rattle.dataset_meta.specs.declared.field.Field.{Field}
 use Rattle.dataset_meta.specs.DataValues.{DataValue}
 use Rattle.dataset_meta.specs.Metas.{MetaData}
 use Rattle.dataset_meta.specs.Rows.{IsRow}
 use Rattle.dataset_reader.specs.Kept.{Kept}
+use Rattle.pubsub_model.specs.Answers.{version_of}
 use Rattle.pubsub_model.specs.declared.reading.Why.{Why}
 use Rattle.pubsub_model.specs.WhyWords.{why_word}
 use Rattle.ps_config.specs.declared.parts.Config.{Config}
@@ -33,11 +34,14 @@ use Rattle.session_model.specs.Events.{reader_at}
 use Rattle.session_model.specs.Sends.{journal}
 use Rattle.session_model.specs.Steps.{Step}
 use Rattle.session_laws.specs.Reading.{IsMatchedIn}
+use Rattle.session_laws.proofs.Versions.Ends.{reader-place, writer-place}
+use Rattle.session_laws.proofs.Versions.Telling.{writer-index}
 use Rattle.gateway_core.specs.declared.collected.StoreVersion.{StoreVersion}
 use Rattle.gateway_core.specs.Lived.{plan_again}
 use Rattle.cmd_relay.specs.Telling.{seat_in}
 use Rattle.cmd_relay.specs.Texts.{IsReaderText, IsTextOf, IsWriterText, TextsOf, counts_text, gateway_line, held_as, link_line, link_text, reader_line, relayed_as, relayed_line, store_held, stored_text, version_held}
-use Rattle.text_laws.specs.Gateways.{AreGatewaysAlike, AreHeldAlike, AreRelayedAlike, AreStoredAlike, AreLogsAlike, GatewayHasNumbers, RelayedHasNumbers, RelayedHaveNumbers, GatewayLogHasNumbers}
+use Rattle.text_laws.specs.Gateways.{AreGatewaysAlike, AreHeldAlike, AreRelayedAlike, AreStoredAlike, GatewayHasNumbers}
+use Rattle.text_laws.proofs.Places.{all-at, all-back, everywhere, read-group-there, writers-all}
 
 -- ---- the line of a writer
 
@@ -172,18 +176,34 @@ link-cut a b c m n k s t in_a in_b in_c in_m in_n in_k same =
 counted-number : (n : ℕ) → IsNumber (counted n)
 counted-number n = omega arith
 
+-- ---- the store that a writer logged
+
+-- an entry that is found, or nothing
+either-number : (b : Bool) (entry : ℕ × ℕ) (rest : Option (ℕ × ℕ)) → EntryHasNumbers entry → IfSome (option_map (λ (e : ℕ × ℕ). e.1) rest) IsNumber
+    → IfSome (option_map (λ (e : ℕ × ℕ). e.1) (cond b (Some entry) rest)) IsNumber
+either-number true entry rest here later = here.1
+either-number false entry rest here later = later
+
+found-number : (test : ℕ × ℕ → Bool) (log : List (ℕ × ℕ)) → AllByRecursion EntryHasNumbers log → IfSome (option_map (λ (e : ℕ × ℕ). e.1) (find test log)) IsNumber
+found-number test [] all = tt
+found-number test (entry ∷ log) all = either-number (test entry) entry (find test log) all.0 (found-number test log all.1)
+
+store-number : (log : List (ℕ × ℕ)) (number : Option ℕ) → LogHasNumbers log → IfSome (option_and_then (version_of log) number) IsNumber
+store-number log None all = tt
+store-number log (Some n) all = found-number (λ entry. entry.0 % 65536 == n) (reverse log) (all-back EntryHasNumbers log (recursion_from_All EntryHasNumbers log all))
+
 -- ---- one text for each place
 
-texts-cut : (One Other : MemberPlace → List ℕ → Type 0) (Has Own Same : MemberPlace → Type 0)
-    → ((place : MemberPlace) (x y s t : List ℕ) → Has place → Own place → One place x → Other place y → x ++ s ≡ y ++ t → Same place × (s ≡ t))
-    → (places : List MemberPlace) (x y s t : List ℕ) → AllByRecursion Has places → AllByRecursion Own places → TextsOf One places x → TextsOf Other places y
+texts-cut : (One Other : MemberPlace → List ℕ → Type 0) (Has Same : MemberPlace → Type 0)
+    → ((place : MemberPlace) (x y s t : List ℕ) → Has place → One place x → Other place y → x ++ s ≡ y ++ t → Same place × (s ≡ t))
+    → (places : List MemberPlace) (x y s t : List ℕ) → AllByRecursion Has places → TextsOf One places x → TextsOf Other places y
     → x ++ s ≡ y ++ t → AllByRecursion Same places × (s ≡ t)
-texts-cut One Other Has Own Same tells [] x y s t has own is its same =
+texts-cut One Other Has Same tells [] x y s t has is its same =
     (tt, ap (λ (l : List ℕ). l ++ s) (sym is) ∙ same ∙ ap (λ (l : List ℕ). l ++ t) its)
-texts-cut One Other Has Own Same tells (place ∷ places) x y s t has own is its same =
-    let first = tells place is.0 its.0 (is.1 ++ s) (its.1 ++ t) has.0 own.0 is.2 its.2
+texts-cut One Other Has Same tells (place ∷ places) x y s t has is its same =
+    let first = tells place is.0 its.0 (is.1 ++ s) (its.1 ++ t) has.0 is.2 its.2
     (sym (append_assoc is.0 is.1 s) ∙ ap (λ (l : List ℕ). l ++ s) (sym is.4) ∙ same ∙ ap (λ (l : List ℕ). l ++ t) its.4 ∙ append_assoc its.0 its.1 t) in
-    let rest = texts-cut One Other Has Own Same tells places is.1 its.1 s t has.1 own.1 is.3 its.3 first.1 in
+    let rest = texts-cut One Other Has Same tells places is.1 its.1 s t has.1 is.3 its.3 first.1 in
     ((first.0, rest.0), rest.1)
 
 -- equal bytes can be told
@@ -194,21 +214,38 @@ by-decision s t hard = go (bytes_eq s t) refl
     go true e = (bytes_eq-Decides s t).0 e
     go false e = absurd (hard (λ same. true≢false (sym ((bytes_eq-Decides s t).1 same) ∙ e)))
 
-module _ (second : Config) (steps others : List Step) (kept stores : ℕ → List StoreVersion) where
-  writer-tells : (place : MemberPlace) (x y s t : List ℕ) → GatewayLogHasNumbers second steps place → GatewayLogHasNumbers second others place
-      → IsWriterText second steps place x → IsWriterText second others place y → x ++ s ≡ y ++ t → AreLogsAlike second steps others place × (s ≡ t)
-  writer-tells place x y s t has own is its same =
-      gateway-cut (writer_at (group_at second place.0) place.1).name (log_at (plan_again second) place.0 place.1 steps) (log_at (plan_again second) place.0 place.1 others) s t has own
+module _ (second : Config) (steps others : List Step) (kept stores : ℕ → List StoreVersion) (has : GatewayHasNumbers second steps kept) (own : GatewayHasNumbers second others stores) where
+  -- the writer at a place is there
+  abbrev IsThere : MemberPlace → Type 0
+  IsThere place = place.1 < length (group_at second place.0).writer
+
+  abbrev SameLog : MemberPlace → Type 0
+  SameLog place = log_at (plan_again second) place.0 place.1 steps ≡ log_at (plan_again second) place.0 place.1 others
+
+  abbrev SameReader : MemberPlace → Type 0
+  SameReader place = (g w : ℕ) → g < length second.group → IsMatchedIn second place.0 place.1 g w → AreRelayedAlike second steps others kept stores place.0 place.1 g w
+
+  abbrev Any : MemberPlace → Type 0
+  Any place = ⊤
+
+  writer-tells : (place : MemberPlace) (x y s t : List ℕ) → IsThere place → IsWriterText second steps place x → IsWriterText second others place y
+      → x ++ s ≡ y ++ t → SameLog place × (s ≡ t)
+  writer-tells place x y s t there is its same =
+      gateway-cut (writer_at (group_at second place.0) place.1).name (log_at (plan_again second) place.0 place.1 steps) (log_at (plan_again second) place.0 place.1 others) s t
+      (has.logs place.0 place.1 there) (own.logs place.0 place.1 there)
       (ap (λ (l : List ℕ). l ++ s) (sym is) ∙ same ∙ ap (λ (l : List ℕ). l ++ t) its)
 
-  held-alike : (r i g w : ℕ) (s t : List ℕ) → RelayedHasNumbers second steps kept r i g w → RelayedHasNumbers second others stores r i g w
-      → reader_line second steps kept r i g w ++ s ≡ reader_line second others stores r i g w ++ t
-      → AreHeldAlike (reader_at second r i steps).kept (reader_at second r i others).kept (store_held second steps r i g w) (store_held second others r i g w)
-      (version_held second steps kept r i g w) (version_held second others stores r i g w) × (s ≡ t)
-  held-alike r i g w s t has own same =
+  held-alike : (r i g w : ℕ) (s t : List ℕ) → g < length second.group → IsMatchedIn second r i g w
+      → reader_line second steps kept r i g w ++ s ≡ reader_line second others stores r i g w ++ t → AreRelayedAlike second steps others kept stores r i g w × (s ≡ t)
+  held-alike r i g w s t low matched same =
+      let mine = has.readers r i g w low matched in
+      let theirs = own.readers r i g w low matched in
       relayed-cut (seat_in second r i).part.name (seat_in second r i).meta (reader_at second r i steps).kept (reader_at second r i others).kept
       (store_held second steps r i g w) (store_held second others r i g w) (version_held second steps kept r i g w) (version_held second others stores r i g w) s t
-      has.number own.number has.store own.store has.version own.version has.row own.row same
+      mine.number theirs.number
+      (store-number (log_at (plan_again second) g w steps) (reader_at second r i steps).kept.number (has.logs g w matched.reads.within))
+      (store-number (log_at (plan_again second) g w others) (reader_at second r i others).kept.number (own.logs g w matched.reads.within))
+      mine.version theirs.version mine.row theirs.row same
 
   -- where the reader is matched to none, neither has a line
   unread : (place : MemberPlace) (x y s t : List ℕ) → IsReaderText second steps kept place x → IsReaderText second others stores place y → x ++ s ≡ y ++ t
@@ -217,22 +254,39 @@ module _ (second : Config) (steps others : List Step) (kept stores : ℕ → Lis
       ap (λ (l : List ℕ). l ++ s) (sym (is.unmatched none)) ∙ same ∙ ap (λ (l : List ℕ). l ++ t) (its.unmatched none)
 
   -- where it is matched, both have one
-  read : (place : MemberPlace) (g w : ℕ) (x y s t : List ℕ) → RelayedHaveNumbers second steps kept place → RelayedHaveNumbers second others stores place
-      → IsReaderText second steps kept place x → IsReaderText second others stores place y → x ++ s ≡ y ++ t
-      → g < length second.group → IsMatchedIn second place.0 place.1 g w
-      → AreHeldAlike (reader_at second place.0 place.1 steps).kept (reader_at second place.0 place.1 others).kept
-      (store_held second steps place.0 place.1 g w) (store_held second others place.0 place.1 g w)
-      (version_held second steps kept place.0 place.1 g w) (version_held second others stores place.0 place.1 g w) × (s ≡ t)
-  read place g w x y s t has own is its same low matched =
-      held-alike place.0 place.1 g w s t (has g w low matched) (own g w low matched)
+  read : (place : MemberPlace) (g w : ℕ) (x y s t : List ℕ) → IsReaderText second steps kept place x → IsReaderText second others stores place y → x ++ s ≡ y ++ t
+      → g < length second.group → IsMatchedIn second place.0 place.1 g w → AreRelayedAlike second steps others kept stores place.0 place.1 g w × (s ≡ t)
+  read place g w x y s t is its same low matched =
+      held-alike place.0 place.1 g w s t low matched
       (ap (λ (l : List ℕ). l ++ s) (sym (is.matched g w low matched)) ∙ same ∙ ap (λ (l : List ℕ). l ++ t) (its.matched g w low matched))
 
-  reader-tells : (place : MemberPlace) (x y s t : List ℕ) → RelayedHaveNumbers second steps kept place → RelayedHaveNumbers second others stores place
-      → IsReaderText second steps kept place x → IsReaderText second others stores place y → x ++ s ≡ y ++ t → AreRelayedAlike second steps others kept stores place × (s ≡ t)
-  reader-tells place x y s t has own is its same = (
-    λ g w low matched. (read place g w x y s t has own is its same low matched).0,
-    by-decision s t (λ apart. apart (unread place x y s t is its same (λ g w low matched. apart ((read place g w x y s t has own is its same low matched).1)))),
+  reader-tells : (place : MemberPlace) (x y s t : List ℕ) → Any place → IsReaderText second steps kept place x → IsReaderText second others stores place y
+      → x ++ s ≡ y ++ t → SameReader place × (s ≡ t)
+  reader-tells place x y s t any is its same = (
+    λ g w low matched. (read place g w x y s t is its same low matched).0,
+    by-decision s t (λ apart. apart (unread place x y s t is its same (λ g w low matched. apart ((read place g w x y s t is its same low matched).1)))),
   )
+
+  lines-tell : (writers theirs readers its back again : List ℕ) → TextsOf (IsWriterText second steps) (writer_places second) writers
+      → TextsOf (IsWriterText second others) (writer_places second) theirs → TextsOf (IsReaderText second steps kept) (reader_places second) readers
+      → TextsOf (IsReaderText second others stores) (reader_places second) its
+      → writers ++ (readers ++ back) ≡ theirs ++ (its ++ again) → (AllByRecursion SameLog (writer_places second) × AllByRecursion SameReader (reader_places second)) × (back ≡ again)
+  lines-tell writers theirs readers its back again written wrote told tells same =
+      let logs = texts-cut (IsWriterText second steps) (IsWriterText second others) IsThere SameLog writer-tells (writer_places second) writers theirs (readers ++ back) (its ++ again)
+      (writers-all second IsThere (λ g w within. within)) written wrote same in
+      let held = texts-cut (IsReaderText second steps kept) (IsReaderText second others stores) Any SameReader reader-tells (reader_places second) readers its back again
+      (everywhere Any (λ place. tt) (reader_places second)) told tells logs.1 in
+      ((logs.0, held.0), held.1)
+
+  same-log : AllByRecursion SameLog (writer_places second) → (g w : ℕ) → w < length (group_at second g).writer → log_at (plan_again second) g w steps ≡ log_at (plan_again second) g w others
+  same-log all g w within =
+      let at = writer-place second g w (writer-index second g w within) within in
+      all-at SameLog (writer_places second) at.0 (g, w) all at.1
+
+  same-reader : AllByRecursion SameReader (reader_places second) → (r i g w : ℕ) → g < length second.group → IsMatchedIn second r i g w → AreRelayedAlike second steps others kept stores r i g w
+  same-reader all r i g w low matched =
+      let at = reader-place second r i (read-group-there second r i matched.within) matched.within in
+      all-at SameReader (reader_places second) at.0 (r, i) all at.1 g w low matched
 
 -- ---- the whole
 
@@ -249,21 +303,14 @@ gateways-told first second one other steps others kept stores text in_one in_oth
     let again = link_text its_entries ++ end_line in
     let behind = begins_tell first one other is.report its.report (is.writers ++ (is.readers ++ back)) (its.writers ++ (its.readers ++ again)) in_one in_other is.report_is its.report_is
     (sym (five is.report is.writers is.readers (link_text entries) end_line) ∙ sym is.text_is ∙ its.text_is ∙ five its.report its.writers its.readers (link_text its_entries) end_line) in
-    let writers = texts-cut (IsWriterText second steps) (IsWriterText second others) (GatewayLogHasNumbers second steps) (GatewayLogHasNumbers second others) (AreLogsAlike second steps others)
-    (writer-tells second steps others kept stores) (writer_places second) is.writers its.writers (is.readers ++ back) (its.readers ++ again)
-    (recursion_from_All (GatewayLogHasNumbers second steps) (writer_places second) has.writers) (recursion_from_All (GatewayLogHasNumbers second others) (writer_places second) own.writers)
-    is.writers_are its.writers_are behind.1 in
-    let readers = texts-cut (IsReaderText second steps kept) (IsReaderText second others stores) (RelayedHaveNumbers second steps kept) (RelayedHaveNumbers second others stores)
-    (AreRelayedAlike second steps others kept stores) (reader-tells second steps others kept stores) (reader_places second) is.readers its.readers back again
-    (recursion_from_All (RelayedHaveNumbers second steps kept) (reader_places second) has.readers)
-    (recursion_from_All (RelayedHaveNumbers second others stores) (reader_places second) own.readers) is.readers_are its.readers_are writers.1 in
+    let told = lines-tell second steps others kept stores has own is.writers its.writers is.readers its.readers back again is.writers_are its.writers_are is.readers_are its.readers_are behind.1 in
     let link = link-cut (counted (count_by is_sent entries)) (counted (count_by is_send_failed entries)) (counted (count_by is_got entries))
     (counted (count_by is_sent its_entries)) (counted (count_by is_send_failed its_entries)) (counted (count_by is_got its_entries)) end_line end_line
     (counted-number (count_by is_sent entries)) (counted-number (count_by is_send_failed entries)) (counted-number (count_by is_got entries))
-    (counted-number (count_by is_sent its_entries)) (counted-number (count_by is_send_failed its_entries)) (counted-number (count_by is_got its_entries)) readers.1 in
+    (counted-number (count_by is_sent its_entries)) (counted-number (count_by is_send_failed its_entries)) (counted-number (count_by is_got its_entries)) told.1 in
     record {
-      writers = All-from_recursion (AreLogsAlike second steps others) (writer_places second) writers.0;
-      readers = All-from_recursion (AreRelayedAlike second steps others kept stores) (reader_places second) readers.0;
+      logs = same-log second steps others kept stores has own told.0.0;
+      readers = same-reader second steps others kept stores has own told.0.1;
       sent = link.0;
       failed = link.1;
       received = link.2;
