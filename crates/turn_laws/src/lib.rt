@@ -1,0 +1,6 @@
+//! Laws of the one sender of a key group, over all turns of its groups: what it gave their datagrams, and that it made what came signed.
+#![tactic(auto)]
+
+mod laws;
+
+pub use laws::numbers_of_a_group_rise_with_places;
