@@ -1,3 +1,5 @@
 pub mod Rising
 pub mod Places
 pub mod Alone
+pub mod Sharing
+pub mod Naming

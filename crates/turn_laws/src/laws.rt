@@ -1,15 +1,42 @@
 //! Laws of a key group's sender, each the contract of a function that does nothing.
-ghost use Rattle.std.specs.Prelude.{◌<◌, ℕ, List, length};
+ghost use Rattle.std.specs.Prelude.{◌≡◌, ◌<◌, ℕ, List, length};
+ghost use Rattle.seq_number.specs.Numbers.{number_of_place, place_from};
 ghost use Rattle.ps_config.specs.declared.parts.Config.{Config};
 ghost use Rattle.ps_config.specs.declared.parts.GroupPart.{GroupPart};
-ghost use Rattle.reader_group.specs.Agreeing.{RiseTogether};
+ghost use Rattle.reader_group.specs.Agreeing.{RiseTogether, SendsRise};
 ghost use Rattle.writer_group.specs.Turns.{GroupDeed};
+ghost use Rattle.session_model.specs.Deeds.{Deed, deeds};
+ghost use Rattle.session_model.specs.Keeping.{AreStepsOf, IsPlan};
+ghost use Rattle.session_model.specs.Lives.{Lived, account_in};
+ghost use Rattle.session_model.specs.Steps.{Plan, Step};
 ghost use Rattle.session_laws.specs.Pasts.{AreTurns};
-ghost use Rattle.turn_laws.specs.Sent.{numbered_in};
+ghost use Rattle.session_laws.specs.Reading.{first_number_of};
+ghost use Rattle.turn_laws.specs.Makers.{AreOwnTurns, IsWriterUnder};
+ghost use Rattle.turn_laws.specs.Sent.{NamesPlaces, numbered_in, place_near, sends_in};
 
 /// Of a group alone, all of whose datagrams are under one token: over its turns, of however many datagrams each, the numbers of those
 /// in which a writer answered rise with the places of its answers, which rise by at most as much.
 pub fn numbers_of_a_group_rise_with_places()
     ensures { (config : Config) (group : GroupPart) (w used : ℕ) (past : List GroupDeed) → AreTurns config group past
         → w < length group.writer → RiseTogether (numbered_in group w used past) }
+{}
+
+/// So do the numbers that the sender of a key group gives under each token, whichever of the key group's groups have turns in between
+/// and whichever moments it comes to: in a session of however many ticks (`session`), in a life with whichever rings (`life`), and
+/// behind any deeds whose turns are those of the definitions (`any`). Numbers that rise so name the places: in a datagram that was
+/// sent, its token and number and the 16 bits of the place tell it (`names`, `numbers`); in a session of fewer than 65,536 ticks the
+/// 16 bits alone do, from the writer's first number on (`first`).
+pub fn numbers_rise_with_places_over_all_turns()
+    ensures session { (p : Plan) (k g w : ℕ) (steps : List Step) → IsPlan p → IsWriterUnder p.config k g w
+        → SendsRise (sends_in p.config k g w (deeds p steps)) }
+    ensures life { (p : Plan) (k g w : ℕ) (life : List Lived) → IsPlan p → IsWriterUnder p.config k g w
+        → SendsRise (sends_in p.config k g w (account_in p life).deeds) }
+    ensures any { (config : Config) (k g w : ℕ) (list : List Deed) → IsWriterUnder config k g w → AreOwnTurns config list
+        → SendsRise (sends_in config k g w list) }
+    ensures names { (sent : ℕ → List (ℕ × ℕ)) → SendsRise sent → NamesPlaces (place_near sent) sent }
+    ensures numbers { (sent : ℕ → List (ℕ × ℕ)) (token number own : ℕ)
+        → number_of_place (place_near sent token number own) ≡ number_of_place own }
+    ensures first { (most : ℕ) (p : Plan) (k g w : ℕ) (steps : List Step) → IsPlan p → IsWriterUnder p.config k g w
+        → AreStepsOf most p steps → most < 65536
+        → NamesPlaces (λ token number. place_from (first_number_of p.config g w)) (sends_in p.config k g w (deeds p steps)) }
 {}

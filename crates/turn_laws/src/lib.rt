@@ -3,4 +3,4 @@
 
 mod laws;
 
-pub use laws::numbers_of_a_group_rise_with_places;
+pub use laws::{numbers_of_a_group_rise_with_places, numbers_rise_with_places_over_all_turns};
