@@ -3,3 +3,4 @@ pub mod Places
 pub mod Alone
 pub mod Sharing
 pub mod Naming
+pub mod Uses

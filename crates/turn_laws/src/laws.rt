@@ -7,12 +7,15 @@ ghost use Rattle.reader_group.specs.Agreeing.{RiseTogether, SendsRise};
 ghost use Rattle.writer_group.specs.Turns.{GroupDeed};
 ghost use Rattle.session_model.specs.Deeds.{Deed, deeds};
 ghost use Rattle.session_model.specs.Keeping.{AreStepsOf, IsPlan};
-ghost use Rattle.session_model.specs.Lives.{Lived, account_in};
+ghost use Rattle.session_model.specs.Lives.{Lived, TurnsHoldIn, account_in};
 ghost use Rattle.session_model.specs.Steps.{Plan, Step};
+ghost use Rattle.session_model.specs.Turns.{TurnsHold};
 ghost use Rattle.session_laws.specs.Pasts.{AreTurns};
 ghost use Rattle.session_laws.specs.Reading.{first_number_of};
-ghost use Rattle.turn_laws.specs.Makers.{AreOwnTurns, IsWriterUnder};
+ghost use Rattle.turn_laws.specs.Makers.{AreOwnTurns, HasOneSender, IsWriterUnder};
 ghost use Rattle.turn_laws.specs.Sent.{NamesPlaces, numbered_in, place_near, sends_in};
+
+use writer_group::no_token_and_number_come_twice_in_groups;
 
 /// Of a group alone, all of whose datagrams are under one token: over its turns, of however many datagrams each, the numbers of those
 /// in which a writer answered rise with the places of its answers, which rise by at most as much.
@@ -40,3 +43,15 @@ pub fn numbers_rise_with_places_over_all_turns()
         → AreStepsOf most p steps → most < 65536
         → NamesPlaces (λ token number. place_from (first_number_of p.config g w)) (sends_in p.config k g w (deeds p steps)) }
 {}
+
+/// All that the groups of a key group send is what its one sender makes of their turns, one after another, as it comes to the moments
+/// of ticks and whichever rings renew it: each use is allowed when it comes, and no token and number come twice. It is so in each
+/// session and each life whose turns hold, as those of a script do (`each_turn_of_a_session_holds`, `each_turn_of_a_life_holds`).
+pub fn one_sender_makes_what_a_key_group_sends()
+    ensures session { (p : Plan) (k : ℕ) (steps : List Step) → IsPlan p → TurnsHold p steps → k < length p.config.keygroup
+        → HasOneSender p.config k (deeds p steps) }
+    ensures life { (p : Plan) (k : ℕ) (life : List Lived) → IsPlan p → TurnsHoldIn p life → k < length p.config.keygroup
+        → HasOneSender p.config k (account_in p life).deeds }
+{
+    no_token_and_number_come_twice_in_groups();
+}
