@@ -10,3 +10,4 @@ pub mod Others
 pub mod Signed
 pub mod Turns
 pub mod Sessions
+pub mod Honest
