@@ -12,7 +12,7 @@ use Rattle.group_laws.specs.TurnReading.{IsSampled}
 use Rattle.writer_group.specs.declared.sampled.Sampled.{Sampled}
 use Rattle.writer_group.specs.Parts.{group_at, no_group}
 use Rattle.writer_group.specs.Payloads.{meta_at}
-use Rattle.session_model.specs.Counts.{is_closed}
+use Rattle.session_model.specs.Counts.{is_closed, most_ticks}
 use Rattle.session_model.specs.Deeds.{Deed, deeds, group_past, turn_input, turn_of, works}
 use Rattle.session_model.specs.Keeping.{AreSteps, AreStepsOf, IsPlan}
 use Rattle.session_model.specs.Sets.{AreFit, GrowTo, MayAppend, metas_at}
@@ -80,13 +80,13 @@ own-turn words most p before now closing samples earlier g plan are there holds 
     let kept_are = appends-are most p before are in
     let metas = metas_at p.config before in
     let same : metas_at p.config kept ≡ metas = same-metas p.config before in
-    let fit : AreFit p.config metas = subst (AreFit p.config) same (fit-at p kept plan kept_are) in
+    let fit : AreFit p.config metas = subst (AreFit p.config) same (fit-at most_ticks p kept plan kept_are) in
     let room : lacks_room p.config.publisher.id metas group ≡ false = fit.room g no_group there in
-    let many : length metas ≡ length p.config.dataset = subst (λ (l : List MetaData). length l ≡ length p.config.dataset) same (as-many p kept plan kept_are) in
+    let many : length metas ≡ length p.config.dataset = subst (λ (l : List MetaData). length l ≡ length p.config.dataset) same (as-many most_ticks p kept plan kept_are) in
     let is-meta : (writer : ℕ) → writer < length group.writer → IsMeta (meta_at group metas writer).fields =
-    λ writer within. subst (λ (l : List MetaData). IsMeta (meta_at group l writer).fields) same (meta-is words p kept plan kept_are g group at writer within) in
+    λ writer within. subst (λ (l : List MetaData). IsMeta (meta_at group l writer).fields) same (meta-is most_ticks words p kept plan kept_are g group at writer within) in
     let meta-was : (writer : ℕ) → writer < length group.writer → IsMetaOf p.config group writer metas =
-    λ writer within. subst (IsMetaOf p.config group writer) same (meta-of p g group writer kept kept_are at within) in
+    λ writer within. subst (IsMetaOf p.config group writer) same (meta-of most_ticks p g group writer kept kept_are at within) in
     let sampled : (writer : ℕ) → writer < length group.writer → IsSampled group (group_past p.config g earlier) input writer =
     λ writer within. record { meta = is-meta writer within; frame = holds.answers writer } in
     record {
