@@ -1,2 +1,5 @@
+pub mod Firsts
+pub mod Keys
+pub mod Places
 pub mod RowLists
 pub mod Telling

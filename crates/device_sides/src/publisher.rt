@@ -6,13 +6,14 @@ ghost use Rattle.message_guard.specs.Senders.{IsSender};
 ghost use Rattle.ps_config.specs.Sound.{IsKeyGroup};
 ghost use Rattle.ps_config.specs.Reading.{configuration, IsEnd};
 ghost use Rattle.writer_group.specs.Standing.{IsGood, IsReserved, datagrams_in};
-ghost use Rattle.device_sides.specs.Sides.{HasRenewed, HasSet, HasSetStatus, HasSetWord, HasWriterSwitched, IsBehind, IsNoLower, IsPublisher, StandsAt};
+ghost use Rattle.device_sides.specs.Sides.{HasField, HasLongKeys, HasNoField, HasRenewed, HasSet, HasSetStatus, HasSetWord, HasWriterSwitched, IsBehind, IsMisfit, IsNoLower, IsPublisher, IsResumed, IsStatusMisfit, IsWordMisfit, MayNotResume, StandsAt};
 
 use crate::asked::Next;
 use crate::making::{has_long_keys, rows_of, senders_of, sides_of};
 use crate::rows::{set_in, set_status_in, set_word_in};
 use crate::side::Side;
 use crate::sides::{turn_at, turn_senders};
+use crate::words::has_field_at;
 use group_keys::Ring;
 use message_guard::Sender;
 use ps_config::{Config, ConfigEnd, KeyGroupPart, read_config, ring_of};
@@ -58,6 +59,8 @@ impl Publisher {
         ensures publisher { IsPublisher self.new }
         ensures set { OnTrue result (HasSet set field value.now status self.old self.new) }
         ensures unset { OnFalse result (self.new.rows.items ≡ self.old.rows.items) }
+        ensures misfit { OnFalse result
+            (IsMisfit self.old.config.dataset set field value.now status) }
         ensures rest { self.new ≡ record self.old { rows = self.new.rows } }
     {
         let metas = self.config.dataset.as_slice();
@@ -71,6 +74,8 @@ impl Publisher {
         ensures publisher { IsPublisher self.new }
         ensures set { OnTrue result (HasSetWord set field kind word self.old self.new) }
         ensures unset { OnFalse result (self.new.rows.items ≡ self.old.rows.items) }
+        ensures misfit { OnFalse result
+            (IsWordMisfit self.old.config.dataset set field kind word) }
         ensures rest { self.new ≡ record self.old { rows = self.new.rows } }
     {
         let metas = self.config.dataset.as_slice();
@@ -84,6 +89,7 @@ impl Publisher {
         ensures publisher { IsPublisher self.new }
         ensures set { OnTrue result (HasSetStatus set field status self.old self.new) }
         ensures unset { OnFalse result (self.new.rows.items ≡ self.old.rows.items) }
+        ensures misfit { OnFalse result (IsStatusMisfit self.old.config.dataset set field status) }
         ensures rest { self.new ≡ record self.old { rows = self.new.rows } }
     {
         let metas = self.config.dataset.as_slice();
@@ -91,10 +97,16 @@ impl Publisher {
     }
 
     /// Whether there is a data set with this index, and a field with this index in it.
-    pub fn has_field(&self, set: u8, field: u8) -> bool {
+    pub fn has_field(&self, set: u8, field: u8) -> bool
+        ensures there { OnTrue result (HasField self.now.config.dataset set field) }
+        ensures not { OnFalse result (HasNoField self.now.config.dataset set field) }
+    {
         let metas = self.config.dataset.as_slice();
-        usize::from(set) < metas.len()
-            && usize::from(field) < metas[usize::from(set)].fields().len()
+        let index = usize::from(set);
+        if index >= metas.len() {
+            return false;
+        }
+        has_field_at(&metas[index], field)
     }
 
     /// What the publisher has at `now`, in milliseconds, which must not fall. Where no datagram waits, the senders turn to `now`, and
@@ -177,7 +189,10 @@ impl Publisher {
     }
 
     /// Whether the key group with this index has keys of AES-256. None where there is no such key group.
-    pub fn has_long_keys(&self, keygroup: u8) -> Option<bool> {
+    pub fn has_long_keys(&self, keygroup: u8) -> Option<bool>
+        ensures long { IfSome result (HasLongKeys self.now.config keygroup) }
+        ensures none { IfNone result (length self.now.config.keygroup ≤ keygroup) }
+    {
         has_long_keys(&self.config, keygroup)
     }
 
@@ -187,12 +202,16 @@ impl Publisher {
     pub fn resume(&mut self, keygroup: u8, now: u64, used: u32) -> bool
         requires { IsPublisher self.old }
         ensures publisher { IsPublisher self.new }
-        ensures behind { OnTrue result (IsBehind keygroup used self.old self.new) }
+        ensures behind { OnTrue result (IsBehind keygroup now used self.old self.new) }
         ensures not { OnFalse result (self.new ≡ self.old) }
+        ensures refused { OnFalse result (MayNotResume keygroup now used self.old) }
     {
         let index = usize::from(keygroup);
         let keygroups = self.config.keygroup.as_slice();
-        if index >= self.senders.len() || index >= keygroups.len() {
+        if index >= self.senders.len() {
+            return false;
+        }
+        if index >= keygroups.len() {
             return false;
         }
         let sender = sender_at(&keygroups[index], now, used);
@@ -277,7 +296,7 @@ fn publisher_of(alloc: Global, config: Config) -> Result<Publisher, NoMemory>
 fn sender_at(keygroup: &KeyGroupPart, now: u64, used: u32) -> Sender
     requires { IsKeyGroup keygroup.now }
     ensures sender { IsSender result }
-    ensures used { result.used ≡ used }
+    ensures resumed { IsResumed keygroup.now now used result }
 {
     Sender::resume(
         ring_of(keygroup),

@@ -1,4 +1,6 @@
 pub mod Getting
 pub mod Handles
 pub mod Holding
+pub mod Keys
 pub mod Numbers
+pub mod Setting

@@ -1,8 +1,9 @@
 //! The publisher's calls, but those that set fields.
 ghost use Rattle.std.specs.Prelude.{◌≡◌, ◌≢◌};
-ghost use Rattle.device_sides.specs.Sides.{IsBehind};
-ghost use Rattle.uapubsub_c.specs.Getting.{PublisherMoves};
+ghost use Rattle.device_sides.specs.Sides.{IsBehind, MayNotResume};
+ghost use Rattle.uapubsub_c.specs.Getting.{PublisherIs, PublisherMoves};
 ghost use Rattle.uapubsub_c.specs.Handles.{HandsOver, HasOpened, IsReady, IsRefused, IsSound, Leaves, Stays, StandsIn, Tells};
+ghost use Rattle.uapubsub_c.specs.Keys.{HasRenewedTo, MakesNoRing};
 
 use crate::handle::Handle;
 use crate::kept::Kept;
@@ -133,7 +134,9 @@ pub extern "C" fn uapubsub_publisher_resume(
     requires { IsReady handle.old }
     ensures ready { IsReady handle.new }
     ensures behind { result ≡ OK
-        → Leaves handle.old handle.new (PublisherMoves (IsBehind keygroup used)) }
+        → Leaves handle.old handle.new (PublisherMoves (IsBehind keygroup now used)) }
+    ensures bad_keys { result ≡ BAD_KEYS
+        → Tells handle.old (PublisherIs (MayNotResume keygroup now used)) }
     ensures not { result ≢ OK → Stays handle.old handle.new }
 {
     let Some(mut kept) = handle.take(alloc) else {
@@ -147,7 +150,8 @@ pub extern "C" fn uapubsub_publisher_resume(
 fn resume_in(kept: &mut Kept, keygroup: u8, now: u64, used: u32) -> u32
     requires { IsSound kept.old }
     ensures sound { IsSound kept.new }
-    ensures behind { result ≡ OK → PublisherMoves (IsBehind keygroup used) kept.old kept.new }
+    ensures behind { result ≡ OK → PublisherMoves (IsBehind keygroup now used) kept.old kept.new }
+    ensures bad_keys { result ≡ BAD_KEYS → PublisherIs (MayNotResume keygroup now used) kept.old }
     ensures not { result ≢ OK → kept.new ≡ kept.old }
 {
     let Kept::Publisher(publisher) = kept else {
@@ -174,6 +178,10 @@ pub extern "C" fn uapubsub_publisher_renew(
 ) -> u32
     requires { IsReady handle.old }
     ensures ready { IsReady handle.new }
+    ensures renewed { result ≡ OK
+        → Leaves handle.old handle.new (PublisherMoves (HasRenewedTo keygroup sets.now)) }
+    ensures bad_keys { result ≡ BAD_KEYS
+        → Tells handle.old (PublisherIs (MakesNoRing keygroup sets.now)) }
     ensures not { result ≢ OK → Stays handle.old handle.new }
 {
     let Some(mut kept) = handle.take(alloc) else {
@@ -187,6 +195,10 @@ pub extern "C" fn uapubsub_publisher_renew(
 fn renew_in(kept: &mut Kept, keygroup: u8, sets: &[KeySetWords]) -> u32
     requires { IsSound kept.old }
     ensures sound { IsSound kept.new }
+    ensures renewed { result ≡ OK
+        → PublisherMoves (HasRenewedTo keygroup sets.now) kept.old kept.new }
+    ensures bad_keys { result ≡ BAD_KEYS
+        → PublisherIs (MakesNoRing keygroup sets.now) kept.old }
     ensures not { result ≢ OK → kept.new ≡ kept.old }
 {
     let Kept::Publisher(publisher) = kept else {

@@ -1,7 +1,9 @@
 //! The subscriber's calls, but those that get fields.
 ghost use Rattle.std.specs.Prelude.{◌≡◌, ◌≢◌, ◌≤◌, ◌⊎◌, IfOk, IfErr};
-ghost use Rattle.uapubsub_c.specs.Getting.{HasNoNumber, HasNumber, HoldsAfter, IsReaderIn, IsRefusedFor, IsTaken, KeepsIn, SubscriberMoves, WaitsFor, taken_in};
+ghost use Rattle.device_sides.specs.Readings.{HaveExpired};
+ghost use Rattle.uapubsub_c.specs.Getting.{HasNoNumber, HasNumber, HoldsAfter, IsReaderIn, IsRefusedFor, IsTaken, KeepsIn, SubscriberIs, SubscriberMoves, WaitsFor, taken_in};
 ghost use Rattle.uapubsub_c.specs.Handles.{HasOpened, IsReady, IsRefused, IsSound, Leaves, Stays, Tells};
+ghost use Rattle.uapubsub_c.specs.Keys.{HasKeysRenewedTo, MakesNoRingRead};
 ghost use Rattle.uapubsub_c.specs.Numbers.{why_number};
 
 use crate::handle::Handle;
@@ -115,6 +117,8 @@ fn words_of(taken: Taken) -> TakenWords
 pub extern "C" fn uapubsub_subscriber_expire(alloc: Global, handle: &mut Handle, now: u64) -> u32
     requires { IsReady handle.old }
     ensures ready { IsReady handle.new }
+    ensures expired { result ≡ OK → Leaves handle.old handle.new (SubscriberMoves (HaveExpired now)) }
+    ensures not { result ≢ OK → Stays handle.old handle.new }
 {
     let Some(mut kept) = handle.take(alloc) else {
         return CLOSED;
@@ -126,7 +130,9 @@ pub extern "C" fn uapubsub_subscriber_expire(alloc: Global, handle: &mut Handle,
 
 fn expire_in(kept: &mut Kept, now: u64) -> u32
     requires { IsSound kept.old }
-    ensures { IsSound kept.new }
+    ensures sound { IsSound kept.new }
+    ensures expired { result ≡ OK → SubscriberMoves (HaveExpired now) kept.old kept.new }
+    ensures not { result ≢ OK → kept.new ≡ kept.old }
 {
     let Kept::Subscriber(subscriber) = kept else {
         return OTHER_SIDE;
@@ -145,6 +151,10 @@ pub extern "C" fn uapubsub_subscriber_renew(
 ) -> u32
     requires { IsReady handle.old }
     ensures ready { IsReady handle.new }
+    ensures renewed { result ≡ OK
+        → Leaves handle.old handle.new (SubscriberMoves (HasKeysRenewedTo group sets.now)) }
+    ensures bad_keys { result ≡ BAD_KEYS
+        → Tells handle.old (SubscriberIs (MakesNoRingRead group sets.now)) }
     ensures not { result ≢ OK → Stays handle.old handle.new }
 {
     let Some(mut kept) = handle.take(alloc) else {
@@ -158,6 +168,10 @@ pub extern "C" fn uapubsub_subscriber_renew(
 fn renew_in(kept: &mut Kept, group: u8, sets: &[KeySetWords]) -> u32
     requires { IsSound kept.old }
     ensures sound { IsSound kept.new }
+    ensures renewed { result ≡ OK
+        → SubscriberMoves (HasKeysRenewedTo group sets.now) kept.old kept.new }
+    ensures bad_keys { result ≡ BAD_KEYS
+        → SubscriberIs (MakesNoRingRead group sets.now) kept.old }
     ensures not { result ≢ OK → kept.new ≡ kept.old }
 {
     let Kept::Subscriber(subscriber) = kept else {
