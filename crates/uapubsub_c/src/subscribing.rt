@@ -117,7 +117,8 @@ fn words_of(taken: Taken) -> TakenWords
 pub extern "C" fn uapubsub_subscriber_expire(alloc: Global, handle: &mut Handle, now: u64) -> u32
     requires { IsReady handle.old }
     ensures ready { IsReady handle.new }
-    ensures expired { result ≡ OK → Leaves handle.old handle.new (SubscriberMoves (HaveExpired now)) }
+    ensures expired { result ≡ OK
+        → Leaves handle.old handle.new (SubscriberMoves (HaveExpired now)) }
     ensures not { result ≢ OK → Stays handle.old handle.new }
 {
     let Some(mut kept) = handle.take(alloc) else {
