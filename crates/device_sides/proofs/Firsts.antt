@@ -1,5 +1,5 @@
 -- Lists whose first elements were changed, one after another.
-use Rattle.std.proofs.Common.{◌≡◌, refl, sym, ap, ◌∙◌, subst, arith, ℕ, ◌+◌, ◌<◌, ◌≤◌, List, [], ◌∷◌, ◌++◌, length, get_or, set, take, drop}
+use Rattle.std.proofs.Common.{◌≡◌, refl, sym, ap, ◌∙◌, subst, arith, ℕ, ◌+◌, ◌<◌, ◌≤◌, List, [], ◌∷◌, ◌++◌, length, get_or, map, set, take, drop}
 use Rattle.std.specs.List.{AllZip}
 use Rattle.std.proofs.lemmas.List.{drop-drop, drop-set-lt, get_or-drop, length-drop, length-take, take_all, take_more_set}
 use Rattle.std.proofs.lemmas.List.Elements.{all_zip_more, length_all_zip}
@@ -41,3 +41,17 @@ first-all {X} R n old new all become =
     let all_new : length new ≤ n = omega (arith, all, first-count R n old new become) in
     subst (λ (l : List X). AllZip R old l) (take_all n new all_new)
     (subst (λ (l : List X). AllZip R l (take n new)) (take_all n old all) become.first)
+
+-- what follows of each pair
+pub zip-then : {X : Type 0} (R S : X → X → Type 0) → ((x y : X) → R x y → S x y) → (old new : List X) → AllZip R old new → AllZip S old new
+zip-then R S step [] [] zip = tt
+zip-then R S step [] (y ∷ new) zip = absurd zip
+zip-then R S step (x ∷ old) [] zip = absurd zip
+zip-then R S step (x ∷ old) (y ∷ new) zip = (step x y zip.0, zip-then R S step old new zip.1)
+
+-- where each became what a function makes of it, the list is the mapped one
+pub zip-map : {X : Type 0} (f : X → X) (old new : List X) → AllZip (λ x y. y ≡ f x) old new → new ≡ map f old
+zip-map f [] [] zip = refl
+zip-map f [] (y ∷ new) zip = absurd zip
+zip-map f (x ∷ old) [] zip = absurd zip
+zip-map {X} f (x ∷ old) (y ∷ new) zip = ap (λ (z : X). z ∷ new) zip.0 ∙ ap (λ (l : List X). f x ∷ l) (zip-map f old new zip.1)

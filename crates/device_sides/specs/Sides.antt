@@ -1,5 +1,5 @@
 -- The sides of a device, between two calls.
-use Rattle.std.specs.Prelude.{◌≡◌, ℕ, ◌<◌, ◌≤◌, Bool, true, false, List, length, map, slice_set, slice_index_or, [], ◌∷◌, ◌⊎◌, All, Option, Some, None, option_map, Result}
+use Rattle.std.specs.Prelude.{◌≡◌, ℕ, ◌<◌, ◌≤◌, Bool, true, false, List, length, map, slice_get, slice_set, ◌⊎◌, All, Option, Some, None, option_map, Result}
 use Rattle.std.specs.List.{HoldsAt}
 use Rattle.ua_values.specs.declared.value.Value.{Value}
 use Rattle.dataset_meta.specs.DataValues.{IsStatus}
@@ -25,7 +25,7 @@ use Rattle.writer_group.specs.declared.datagrams.Datagrams.{Datagrams}
 use Rattle.writer_group.specs.declared.group.Group.{Group}
 use Rattle.writer_group.specs.declared.sampled.Sampled.{Sampled}
 use Rattle.writer_group.specs.Parts.{group_at}
-use Rattle.writer_group.specs.Standing.{AreRowsOf, HasTickedAt, IsGood, IsRefreshed, IsReserved, KeepsTo, datagrams_in, index_of, input_of, writer_count}
+use Rattle.writer_group.specs.Standing.{AreRowsOf, HasTickedAt, IsGood, IsRefreshed, IsReserved, KeepsTo, MayTickAt, datagrams_in, index_of, input_of, writer_count}
 use Rattle.device_sides.specs.declared.listening.Listening.{Listening}
 use Rattle.device_sides.specs.declared.publisher.Publisher.{Publisher}
 use Rattle.device_sides.specs.declared.side.Side.{Side}
@@ -41,8 +41,7 @@ pub record IsSide (config : Config) (side : Side) : Type 0 where
 -- the sender at the place, if there is one
 abbrev pub nth_sender : List SenderState → Option ℕ → Option SenderState
 nth_sender senders None = None
-nth_sender [] (Some k) = None
-nth_sender (sender ∷ senders) (Some k) = Some (slice_index_or (sender ∷ senders) k sender)
+nth_sender senders (Some k) = slice_get senders k
 
 -- the sender of the group's key group, if it is secured
 abbrev pub sender_for : Config → List SenderState → ℕ → Option SenderState
@@ -53,6 +52,12 @@ pub record HasTurned (config : Config) (moment : ℕ) (rows : List Sampled) (sen
     (made : ℕ) : Type 0 where
   pub stands : HasTickedAt config (input_of moment false config.dataset rows old.on.items sender) old.group new.group out
   pub made_is : made ≡ length (datagrams_in out)
+  pub on : new.on ≡ old.on
+  pub index : new.index ≡ old.index
+
+-- the group may have no turn with these rows and this sender
+abbrev pub MayNotTurn : Config → List Sampled → Option SenderState → Side → Type 0
+MayNotTurn config rows sender side = ¬ MayTickAt config config.dataset rows side.on.items sender side.group
 
 -- the group has a writer with this index
 pub record HasWriter (writer : ℕ) (side : Side) : Type 0 where
@@ -77,6 +82,7 @@ pub record IsPublisher (publisher : Publisher) : Type 0 where
   pub rows_are : AreRowsOf publisher.config.dataset publisher.rows.items
   pub rows_count : length publisher.rows.items ≡ length publisher.config.dataset
   pub senders_are : All IsSender publisher.senders.items
+  pub senders_count : length publisher.senders.items ≡ length publisher.config.keygroup
   pub sides_are : All (IsSide publisher.config) publisher.sides.items
   pub reserved : IsReserved publisher.out
   pub made_is : publisher.made ≡ length (datagrams_in publisher.out)

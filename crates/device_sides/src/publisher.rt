@@ -1,18 +1,21 @@
 //! Publishers.
-ghost use Rattle.std.specs.Prelude.{◌≡◌, ◌↔◌, ◌<◌, ◌≤◌, ◌+◌, [], IsTrue, IfOk, IfErr, IfSome, IfNone, Ok, length, slice_index_or};
+ghost use Rattle.std.specs.Prelude.{◌≡◌, ◌↔◌, ◌<◌, ◌≤◌, ◌+◌, ◌||◌, [], IsTrue, IfOk, IfErr, IfSome, IfNone, Ok, length, slice_index_or};
 ghost use Rattle.std.specs.Bool.{OnTrue, OnFalse};
 ghost use Rattle.group_keys.specs.Ring.{key_sets};
 ghost use Rattle.message_guard.specs.Senders.{IsSender};
 ghost use Rattle.ps_config.specs.Sound.{IsKeyGroup};
 ghost use Rattle.ps_config.specs.Reading.{configuration, IsEnd};
 ghost use Rattle.writer_group.specs.Standing.{IsGood, IsReserved, datagrams_in};
+ghost use Rattle.device_sides.specs.Coming.{Comes, HasCome, IsWaiting};
+ghost use Rattle.device_sides.specs.Looking.{Counts, HasLooked};
 ghost use Rattle.device_sides.specs.Sides.{HasField, HasLongKeys, HasNoField, HasRenewed, HasSet, HasSetStatus, HasSetWord, HasWriterSwitched, IsBehind, IsMisfit, IsNoLower, IsPublisher, IsResumed, IsStatusMisfit, IsWordMisfit, MayNotResume, StandsAt};
 
 use crate::asked::Next;
+use crate::looking::{Looked, is_held, look};
 use crate::making::{has_long_keys, rows_of, senders_of, sides_of};
 use crate::rows::{set_in, set_status_in, set_word_in};
 use crate::side::Side;
-use crate::sides::{turn_at, turn_senders};
+use crate::sides::turn_senders;
 use crate::words::has_field_at;
 use group_keys::Ring;
 use message_guard::Sender;
@@ -116,12 +119,22 @@ impl Publisher {
         requires { IsPublisher self.old }
         ensures publisher { IsPublisher self.new }
         ensures waits { result ≡ Next.Datagram → self.new.handed < self.new.made }
+        ensures waited { self.old.handed < self.old.made → IsWaiting result self.old self.new }
+        ensures came { self.old.made ≤ self.old.handed → HasCome now result self.old self.new }
     {
-        if self.handed < self.made {
+        if self.is_waiting() {
             return Next::Datagram;
         }
         turn_senders(&self.config, &mut self.sides, &mut self.senders, now);
         self.turn_due(now)
+    }
+
+    /// Whether a datagram waits.
+    fn is_waiting(&self) -> bool
+        ensures there { OnTrue result (self.now.handed < self.now.made) }
+        ensures not { OnFalse result (self.now.made ≤ self.now.handed) }
+    {
+        self.handed < self.made
     }
 
     /// The datagram that waits.
@@ -224,51 +237,64 @@ impl Publisher {
 
     /// The turns of the groups that are due, until one makes a datagram.
     fn turn_due(&mut self, now: u64) -> Next
-        requires { IsPublisher self.old }
+        requires publisher { IsPublisher self.old }
+        requires none_waits { self.old.made ≤ self.old.handed }
         ensures publisher { IsPublisher self.new }
         ensures waits { result ≡ Next.Datagram → self.new.handed < self.new.made }
+        ensures config { self.new.config ≡ self.old.config }
+        ensures rows { self.new.rows.items ≡ self.old.rows.items }
+        ensures came { Comes now result self.old.senders.items self.old.sides.items self.new }
     {
-        let mut spent = false;
+        let mut held = false;
         for g in 0..self.sides.len() {
-            let is_spent = self.turn_if_due(g, now);
-            if self.handed < self.made {
+            let looked = self.look_at(g, now);
+            if self.is_waiting() {
                 return Next::Datagram;
             }
-            spent = spent || is_spent;
+            held = either(held, is_held(looked));
         }
-        if spent { Next::Spent } else { Next::Nothing }
+        if held { Next::Spent } else { Next::Nothing }
     }
 
-    /// The turn of the group at this index, if it is due. Whether it can have none.
-    fn turn_if_due(&mut self, index: usize, now: u64) -> bool
+    /// The turn of the group at this index, if it is due and may have one.
+    fn look_at(&mut self, index: usize, now: u64) -> Looked
         requires publisher { IsPublisher self.old }
         requires index { index < length self.old.sides.items }
         ensures publisher { IsPublisher self.new }
-        ensures sides { length self.new.sides.items ≡ length self.old.sides.items }
+        ensures looked { HasLooked index now result self.old self.new }
     {
-        if !self.sides[index].is_due(now) {
-            return false;
-        }
-        let out = &mut self.out;
-        let senders = &mut self.senders;
-        let rows = &self.rows;
-        match turn_at(
+        let looked = look(
             &self.config,
-            &mut self.sides,
-            index,
+            &mut self.sides[index],
             now,
-            rows,
-            senders,
-            out,
-        ) {
-            None => true,
-            Some(made) => {
+            &self.rows,
+            &mut self.senders,
+            &mut self.out,
+        );
+        self.count(looked);
+        looked
+    }
+
+    /// Counts the datagrams of a turn, of which none was handed over.
+    fn count(&mut self, looked: Looked)
+        ensures counts { Counts looked self.old self.new }
+        ensures rest { self.new ≡ record self.old { made = self.new.made; handed = self.new.handed } }
+    {
+        match looked {
+            Looked::Idle => {}
+            Looked::Held => {}
+            Looked::Made(made) => {
                 self.made = made;
                 self.handed = 0;
-                false
             }
         }
     }
+}
+
+fn either(one: bool, other: bool) -> bool
+    ensures { result ≡ (one || other) }
+{
+    one || other
 }
 
 /// The publisher of a configuration, with opening rows.

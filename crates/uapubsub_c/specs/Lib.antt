@@ -2,5 +2,6 @@ pub mod Getting
 pub mod Handles
 pub mod Holding
 pub mod Keys
+pub mod Nexts
 pub mod Numbers
 pub mod Setting

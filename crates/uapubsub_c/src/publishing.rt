@@ -1,9 +1,11 @@
 //! The publisher's calls, but those that set fields.
-ghost use Rattle.std.specs.Prelude.{◌≡◌, ◌≢◌};
+ghost use Rattle.std.specs.Prelude.{◌≡◌, ◌≢◌, ◌<◌, length};
+ghost use Rattle.device_sides.specs.Coming.{ComesTo};
 ghost use Rattle.device_sides.specs.Sides.{IsBehind, MayNotResume};
 ghost use Rattle.uapubsub_c.specs.Getting.{PublisherIs, PublisherMoves};
 ghost use Rattle.uapubsub_c.specs.Handles.{HandsOver, HasOpened, IsReady, IsRefused, IsSound, Leaves, Stays, StandsIn, Tells};
 ghost use Rattle.uapubsub_c.specs.Keys.{HasRenewedTo, MakesNoRing};
+ghost use Rattle.uapubsub_c.specs.Nexts.{HandsNext};
 
 use crate::handle::Handle;
 use crate::kept::Kept;
@@ -49,6 +51,14 @@ pub extern "C" fn uapubsub_publisher_next(
     ensures ready { IsReady handle.new }
     ensures laid { result ≡ OK → Tells handle.new (HandsOver buffer.old buffer.new count.new) }
     ensures rest { result ≢ OK → buffer.new ≡ buffer.old }
+    ensures came { result ≡ OK → Leaves handle.old handle.new (PublisherMoves (HandsNext now)) }
+    ensures none { result ≡ NONE
+        → Leaves handle.old handle.new (PublisherMoves (ComesTo now Next.Nothing)) }
+    ensures spent { result ≡ SPENT
+        → Leaves handle.old handle.new (PublisherMoves (ComesTo now Next.Spent)) }
+    ensures waits { result ≡ ROOM
+        → Leaves handle.old handle.new (PublisherMoves (ComesTo now Next.Datagram)) }
+    ensures room { result ≡ ROOM → length buffer.old < count.new }
 {
     *count = 0;
     let Some(mut kept) = handle.take(alloc) else {
@@ -64,6 +74,11 @@ fn next_of(kept: &mut Kept, now: u64, buffer: &mut [u8], count: &mut usize) -> u
     ensures sound { IsSound kept.new }
     ensures laid { result ≡ OK → HandsOver buffer.old buffer.new count.new kept.new }
     ensures rest { result ≢ OK → buffer.new ≡ buffer.old }
+    ensures came { result ≡ OK → PublisherMoves (HandsNext now) kept.old kept.new }
+    ensures none { result ≡ NONE → PublisherMoves (ComesTo now Next.Nothing) kept.old kept.new }
+    ensures spent { result ≡ SPENT → PublisherMoves (ComesTo now Next.Spent) kept.old kept.new }
+    ensures waits { result ≡ ROOM → PublisherMoves (ComesTo now Next.Datagram) kept.old kept.new }
+    ensures room { result ≡ ROOM → length buffer.old < count.new }
 {
     let Kept::Publisher(publisher) = kept else {
         return OTHER_SIDE;

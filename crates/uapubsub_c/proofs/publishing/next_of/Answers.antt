@@ -15,3 +15,19 @@ returns-else-datagram-buffer-clause-laid c = λ ok.
       laid = c.lay.ensures.laid ∙ ap (λ (d : List ℕ). d ++ drop (length datagram) c.args.buffer.now) (sym same)
           ∙ ap (λ (k : ℕ). last_handed c.hand_over.new.self ++ drop k c.args.buffer.now) (sym c.lay.ensures.length);
     }
+
+pub returns-else-datagram-buffer-clause-came : goal.returns-else-datagram-buffer-clause-came
+returns-else-datagram-buffer-clause-came c = λ ok. record {
+  mid = c.come_to.new.self;
+  comes = record { waited = c.in-Datagram.ensures.waited; came = c.in-Datagram.ensures.came };
+  handed = c.hand_over.ensures.handed;
+}
+
+pub returns-then-datagram-buffer-clause-waits : goal.returns-then-datagram-buffer-clause-waits
+returns-then-datagram-buffer-clause-waits c = λ is. record { waited = c.in-Datagram.ensures.waited; came = c.in-Datagram.ensures.came }
+
+pub returns-in-Nothing-clause-none : goal.returns-in-Nothing-clause-none
+returns-in-Nothing-clause-none c = λ is. record { waited = c.in-Nothing.ensures.waited; came = c.in-Nothing.ensures.came }
+
+pub returns-in-Spent-clause-spent : goal.returns-in-Spent-clause-spent
+returns-in-Spent-clause-spent c = λ is. record { waited = c.in-Spent.ensures.waited; came = c.in-Spent.ensures.came }

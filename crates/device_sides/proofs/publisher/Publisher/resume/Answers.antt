@@ -1,6 +1,7 @@
-use Rattle.std.proofs.Common.{◌≡◌, ℕ, ◌<◌, List, length, refl, set, sym, subst, ap, arith}
+use Rattle.std.proofs.Common.{◌≡◌, ℕ, ◌<◌, List, length, refl, set, sym, subst, ap, ◌∙◌, arith}
 use Rattle.std.specs.List.{HoldsAt}
 use Rattle.std.proofs.lemmas.Bool.{false≢true}
+use Rattle.std.proofs.lemmas.List.{length-set}
 use Rattle.std.proofs.lemmas.List.Elements.{All-set}
 use Rattle.message_guard.specs.Senders.{IsSender, SenderState}
 use Rattle.ps_config.specs.declared.parts.KeyGroupPart.{KeyGroupPart}
@@ -71,6 +72,7 @@ returns-clause-publisher c =
       rows_are = r.rows_are;
       rows_count = r.rows_count;
       senders_are = All-set IsSender c.args.self.now.senders.items c.from-index.result c.sender_at-sender.result c.sender_at-sender.ensures.sender r.senders_are;
+      senders_count = length-set c.args.self.now.senders.items c.from-index.result c.sender_at-sender.result ∙ r.senders_count;
       sides_are = r.sides_are;
       reserved = r.reserved;
       made_is = r.made_is;
