@@ -33,6 +33,7 @@ pub extern "C" fn uapubsub_get_scalar(
     ensures no_row { result ≡ NONE → Tells handle.old (KeepsIn group reader HoldsNone) }
     ensures misfit { result ≡ MISFIT → Tells handle.old (IsOtherKindIn group reader field kind) }
     ensures index { result ≡ INDEX → Tells handle.old (HasNoFieldIn group reader field) }
+    ensures closed { result ≡ CLOSED → handle.old.is_open ≡ 0 }
 {
     let Some(kept) = handle.take(alloc) else {
         return CLOSED;
@@ -49,6 +50,7 @@ fn word_in(kept: &Kept, group: u8, reader: u8, field: u8, kind: u32, word: &mut 
     ensures no_row { result ≡ NONE → KeepsIn group reader HoldsNone kept.now }
     ensures misfit { result ≡ MISFIT → IsOtherKindIn group reader field kind kept.now }
     ensures index { result ≡ INDEX → HasNoFieldIn group reader field kept.now }
+    ensures not_closed { result ≢ CLOSED }
 {
     let Kept::Subscriber(subscriber) = kept else {
         return OTHER_SIDE;
@@ -70,6 +72,7 @@ fn status_of(none: NoValue) -> u32
     ensures no_row { result ≡ NONE → none ≡ NoValue.NoRow }
     ensures misfit { result ≡ MISFIT → none ≡ NoValue.Misfit }
     ensures index { result ≡ INDEX → none ≡ NoValue.NoField }
+    ensures not_closed { result ≢ CLOSED }
 {
     match none {
         NoValue::NoField => INDEX,
@@ -100,6 +103,7 @@ pub extern "C" fn uapubsub_get_text(
     ensures misfit { result ≡ MISFIT
         → Tells handle.old (KeepsIn group reader (HasOther field IsNoText)) }
     ensures index { result ≡ INDEX → Tells handle.old (HasNoFieldIn group reader field) }
+    ensures closed { result ≡ CLOSED → handle.old.is_open ≡ 0 }
 {
     match field_of(alloc, handle, group, reader, field) {
         Ok((value, _)) => lay_text(&value, buffer, count),
@@ -128,6 +132,7 @@ pub extern "C" fn uapubsub_get_bytes(
     ensures misfit { result ≡ MISFIT
         → Tells handle.old (KeepsIn group reader (HasOther field IsNoBlob)) }
     ensures index { result ≡ INDEX → Tells handle.old (HasNoFieldIn group reader field) }
+    ensures closed { result ≡ CLOSED → handle.old.is_open ≡ 0 }
 {
     match field_of(alloc, handle, group, reader, field) {
         Ok((value, _)) => lay_blob(&value, buffer, count),
@@ -142,6 +147,7 @@ fn lay_text(value: &Value, buffer: &mut [u8], count: &mut usize) -> u32
     ensures misfit { result ≡ MISFIT → IsNoText value.now }
     ensures not_none { result ≢ NONE }
     ensures not_index { result ≢ INDEX }
+    ensures not_closed { result ≢ CLOSED }
 {
     match value {
         Value::String(text) => lay_in(text.as_bytes(), buffer, count),
@@ -156,6 +162,7 @@ fn lay_blob(value: &Value, buffer: &mut [u8], count: &mut usize) -> u32
     ensures misfit { result ≡ MISFIT → IsNoBlob value.now }
     ensures not_none { result ≢ NONE }
     ensures not_index { result ≢ INDEX }
+    ensures not_closed { result ≢ CLOSED }
 {
     match value {
         Value::ByteString(blob) => lay_in(blob.as_bytes(), buffer, count),
@@ -170,6 +177,7 @@ fn lay_in(bytes: &[u8], buffer: &mut [u8], count: &mut usize) -> u32
     ensures not_misfit { result ≢ MISFIT }
     ensures not_none { result ≢ NONE }
     ensures not_index { result ≢ INDEX }
+    ensures not_closed { result ≢ CLOSED }
 {
     *count = bytes.len();
     if bytes.len() > buffer.len() {
@@ -198,6 +206,7 @@ pub extern "C" fn uapubsub_get_guid(
     ensures misfit { result ≡ MISFIT
         → Tells handle.old (KeepsIn group reader (HasOther field IsNoGuid)) }
     ensures index { result ≡ INDEX → Tells handle.old (HasNoFieldIn group reader field) }
+    ensures closed { result ≡ CLOSED → handle.old.is_open ≡ 0 }
 {
     match field_of(alloc, handle, group, reader, field) {
         Ok((value, _)) => guid_of(&value, guid),
@@ -211,6 +220,7 @@ fn guid_of(value: &Value, guid: &mut GuidBytes) -> u32
     ensures misfit { result ≡ MISFIT → IsNoGuid value.now }
     ensures not_none { result ≢ NONE }
     ensures not_index { result ≢ INDEX }
+    ensures not_closed { result ≢ CLOSED }
 {
     match value {
         Value::Guid(bytes) => {
@@ -238,6 +248,7 @@ pub extern "C" fn uapubsub_get_field_status(
         (KeepsIn group reader (HasFieldStatus field status.new)) }
     ensures no_row { result ≡ NONE → Tells handle.old (KeepsIn group reader HoldsNone) }
     ensures index { result ≡ INDEX → Tells handle.old (HasNoFieldIn group reader field) }
+    ensures closed { result ≡ CLOSED → handle.old.is_open ≡ 0 }
 {
     match field_of(alloc, handle, group, reader, field) {
         Ok((_, held)) => {
@@ -269,6 +280,7 @@ fn field_of(
         → Tells handle.old (KeepsIn group reader HoldsNone)) }
     ensures index { IfErr result (λ status. status ≡ INDEX
         → Tells handle.old (HasNoFieldIn group reader field)) }
+    ensures closed { IfErr result (λ status. status ≡ CLOSED → handle.old.is_open ≡ 0) }
 {
     let Some(kept) = handle.take(alloc) else {
         return Err(CLOSED);
@@ -288,6 +300,7 @@ fn field_in(kept: &Kept, group: u8, reader: u8, field: u8) -> Result<(Value, u32
         → KeepsIn group reader HoldsNone kept.now) }
     ensures index { IfErr result (λ status. status ≡ INDEX
         → HasNoFieldIn group reader field kept.now) }
+    ensures not_closed { IfErr result (λ status. status ≢ CLOSED) }
 {
     let Kept::Subscriber(subscriber) = kept else {
         return Err(OTHER_SIDE);

@@ -59,6 +59,7 @@ pub extern "C" fn uapubsub_publisher_next(
     ensures waits { result ≡ ROOM
         → Leaves handle.old handle.new (PublisherMoves (ComesTo now Next.Datagram)) }
     ensures room { result ≡ ROOM → length buffer.old < count.new }
+    ensures closed { result ≡ CLOSED → handle.old.is_open ≡ 0 }
 {
     *count = 0;
     let Some(mut kept) = handle.take(alloc) else {
@@ -79,6 +80,7 @@ fn next_of(kept: &mut Kept, now: u64, buffer: &mut [u8], count: &mut usize) -> u
     ensures spent { result ≡ SPENT → PublisherMoves (ComesTo now Next.Spent) kept.old kept.new }
     ensures waits { result ≡ ROOM → PublisherMoves (ComesTo now Next.Datagram) kept.old kept.new }
     ensures room { result ≡ ROOM → length buffer.old < count.new }
+    ensures not_closed { result ≢ CLOSED }
 {
     let Kept::Publisher(publisher) = kept else {
         return OTHER_SIDE;
@@ -113,6 +115,7 @@ pub extern "C" fn uapubsub_publisher_standing(
     ensures ready { IsReady handle.new }
     ensures stays { Stays handle.old handle.new }
     ensures stands { result ≡ OK → Tells handle.old (StandsIn keygroup token.new used.new) }
+    ensures closed { result ≡ CLOSED → handle.old.is_open ≡ 0 }
 {
     let Some(kept) = handle.take(alloc) else {
         return CLOSED;
@@ -123,7 +126,8 @@ pub extern "C" fn uapubsub_publisher_standing(
 }
 
 fn standing_of(kept: &Kept, keygroup: u8, token: &mut u32, used: &mut u32) -> u32
-    ensures { result ≡ OK → StandsIn keygroup token.new used.new kept.now }
+    ensures stands { result ≡ OK → StandsIn keygroup token.new used.new kept.now }
+    ensures not_closed { result ≢ CLOSED }
 {
     let Kept::Publisher(publisher) = kept else {
         return OTHER_SIDE;
@@ -153,6 +157,7 @@ pub extern "C" fn uapubsub_publisher_resume(
     ensures bad_keys { result ≡ BAD_KEYS
         → Tells handle.old (PublisherIs (MayNotResume keygroup now used)) }
     ensures not { result ≢ OK → Stays handle.old handle.new }
+    ensures closed { result ≡ CLOSED → handle.old.is_open ≡ 0 }
 {
     let Some(mut kept) = handle.take(alloc) else {
         return CLOSED;
@@ -168,6 +173,7 @@ fn resume_in(kept: &mut Kept, keygroup: u8, now: u64, used: u32) -> u32
     ensures behind { result ≡ OK → PublisherMoves (IsBehind keygroup now used) kept.old kept.new }
     ensures bad_keys { result ≡ BAD_KEYS → PublisherIs (MayNotResume keygroup now used) kept.old }
     ensures not { result ≢ OK → kept.new ≡ kept.old }
+    ensures not_closed { result ≢ CLOSED }
 {
     let Kept::Publisher(publisher) = kept else {
         return OTHER_SIDE;
@@ -198,6 +204,7 @@ pub extern "C" fn uapubsub_publisher_renew(
     ensures bad_keys { result ≡ BAD_KEYS
         → Tells handle.old (PublisherIs (MakesNoRing keygroup sets.now)) }
     ensures not { result ≢ OK → Stays handle.old handle.new }
+    ensures closed { result ≡ CLOSED → handle.old.is_open ≡ 0 }
 {
     let Some(mut kept) = handle.take(alloc) else {
         return CLOSED;
@@ -215,6 +222,7 @@ fn renew_in(kept: &mut Kept, keygroup: u8, sets: &[KeySetWords]) -> u32
     ensures bad_keys { result ≡ BAD_KEYS
         → PublisherIs (MakesNoRing keygroup sets.now) kept.old }
     ensures not { result ≢ OK → kept.new ≡ kept.old }
+    ensures not_closed { result ≢ CLOSED }
 {
     let Kept::Publisher(publisher) = kept else {
         return OTHER_SIDE;

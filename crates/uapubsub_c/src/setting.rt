@@ -35,6 +35,7 @@ pub extern "C" fn uapubsub_set_scalar(
     ensures misfit { result ≡ MISFIT
         → Tells handle.old (PublisherIs (IsScalarMisfit set field kind word)) }
     ensures index { result ≡ INDEX → Tells handle.old (PublisherIs (SetsNoField set field)) }
+    ensures closed { result ≡ CLOSED → handle.old.is_open ≡ 0 }
 {
     let Some(mut kept) = handle.take(alloc) else {
         return CLOSED;
@@ -51,6 +52,7 @@ fn set_scalar_in(kept: &mut Kept, set: u8, field: u8, kind: u32, word: u64) -> u
     ensures misfit { result ≡ MISFIT
         → PublisherIs (IsScalarMisfit set field kind word) kept.old }
     ensures index { result ≡ INDEX → PublisherIs (SetsNoField set field) kept.old }
+    ensures not_closed { result ≢ CLOSED }
 {
     let Kept::Publisher(publisher) = kept else {
         return OTHER_SIDE;
@@ -84,6 +86,7 @@ pub extern "C" fn uapubsub_set_text(
         → Tells handle.old (PublisherIs (IsTextMisfit set field text.now)) }
     ensures index { result ≡ INDEX → Tells handle.old (PublisherIs (SetsNoField set field)) }
     ensures bad_text { result ≡ BAD_TEXT → IsErr (text_of text.now) }
+    ensures closed { result ≡ CLOSED → handle.old.is_open ≡ 0 }
 {
     match Text::from_bytes(text) {
         Ok(text) => set_field(alloc, handle, set, field, &Value::String(text)),
@@ -107,6 +110,7 @@ pub extern "C" fn uapubsub_set_bytes(
         → Tells handle.old (PublisherIs (IsBytesMisfit set field bytes.now)) }
     ensures index { result ≡ INDEX → Tells handle.old (PublisherIs (SetsNoField set field)) }
     ensures bad_text { result ≡ BAD_TEXT → IsErr (blob_of bytes.now) }
+    ensures closed { result ≡ CLOSED → handle.old.is_open ≡ 0 }
 {
     match Blob::from_bytes(bytes) {
         Ok(blob) => set_field(alloc, handle, set, field, &Value::ByteString(blob)),
@@ -130,6 +134,7 @@ pub extern "C" fn uapubsub_set_guid(
     ensures misfit { result ≡ MISFIT
         → Tells handle.old (PublisherIs (IsValueMisfit set field (Value.Guid guid.now.bytes))) }
     ensures index { result ≡ INDEX → Tells handle.old (PublisherIs (SetsNoField set field)) }
+    ensures closed { result ≡ CLOSED → handle.old.is_open ≡ 0 }
 {
     set_field(alloc, handle, set, field, &Value::Guid(guid.bytes))
 }
@@ -150,6 +155,7 @@ pub extern "C" fn uapubsub_set_field_status(
     ensures misfit { result ≡ MISFIT
         → Tells handle.old (PublisherIs (IsCodeMisfit set field status)) }
     ensures index { result ≡ INDEX → Tells handle.old (PublisherIs (SetsNoField set field)) }
+    ensures closed { result ≡ CLOSED → handle.old.is_open ≡ 0 }
 {
     let Some(mut kept) = handle.take(alloc) else {
         return CLOSED;
@@ -165,6 +171,7 @@ fn set_status_in(kept: &mut Kept, set: u8, field: u8, status: u32) -> u32
     ensures set { result ≡ OK → PublisherMoves (HasSetStatus set field status) kept.old kept.new }
     ensures misfit { result ≡ MISFIT → PublisherIs (IsCodeMisfit set field status) kept.old }
     ensures index { result ≡ INDEX → PublisherIs (SetsNoField set field) kept.old }
+    ensures not_closed { result ≢ CLOSED }
 {
     let Kept::Publisher(publisher) = kept else {
         return OTHER_SIDE;
@@ -188,6 +195,7 @@ fn set_field(alloc: Global, handle: &mut Handle, set: u8, field: u8, value: &Val
         → Tells handle.old (PublisherIs (IsValueMisfit set field value.now)) }
     ensures index { result ≡ INDEX → Tells handle.old (PublisherIs (SetsNoField set field)) }
     ensures not_text { result ≢ BAD_TEXT }
+    ensures closed { result ≡ CLOSED → handle.old.is_open ≡ 0 }
 {
     let Some(mut kept) = handle.take(alloc) else {
         return CLOSED;
@@ -204,6 +212,7 @@ fn set_in(kept: &mut Kept, set: u8, field: u8, value: &Value) -> u32
     ensures misfit { result ≡ MISFIT → PublisherIs (IsValueMisfit set field value.now) kept.old }
     ensures index { result ≡ INDEX → PublisherIs (SetsNoField set field) kept.old }
     ensures not_text { result ≢ BAD_TEXT }
+    ensures not_closed { result ≢ CLOSED }
 {
     let Kept::Publisher(publisher) = kept else {
         return OTHER_SIDE;

@@ -5,7 +5,7 @@ use Rattle.device_sides.specs.Readings.{HasFieldStatus, HasFieldValue, HoldsNone
 use Rattle.uapubsub_c.specs.Getting.{HasNoFieldIn, KeepsIn}
 use Rattle.uapubsub_c.specs.Handles.{Tells}
 use Rattle.uapubsub_c.specs.declared.kept.Kept.{Kept}
-use Rattle.uapubsub_c.specs.declared.status.TheConstants.{INDEX, NONE}
+use Rattle.uapubsub_c.specs.declared.status.TheConstants.{CLOSED, INDEX, NONE}
 use Rattle.uapubsub_c.proofs.getting.field_of.Goals as goal
 
 pub returns-clause-value : goal.returns-clause-value
@@ -51,3 +51,8 @@ returns-clause-index c =
       is = subst (λ (kept : Kept). HasNoFieldIn c.args.group c.args.reader c.args.field kept) c.deref.ensures (untold is);
     })
     c.field_in-answer.ensures.index
+
+pub returns-clause-closed : goal.returns-clause-closed
+returns-clause-closed c =
+    IfErr-weaker c.field_in-answer.result (λ (status : ℕ). status ≡ CLOSED → ⊥) (λ (status : ℕ). status ≡ CLOSED → c.args.handle.now.is_open ≡ 0)
+    (λ status not is. absurd (not is)) c.field_in-answer.ensures.not_closed
