@@ -278,7 +278,10 @@ impl Publisher {
     /// Counts the datagrams of a turn, of which none was handed over.
     fn count(&mut self, looked: Looked)
         ensures counts { Counts looked self.old self.new }
-        ensures rest { self.new ≡ record self.old { made = self.new.made; handed = self.new.handed } }
+        ensures rest { self.new ≡ record self.old {
+          made = self.new.made;
+          handed = self.new.handed;
+        } }
     {
         match looked {
             Looked::Idle => {}

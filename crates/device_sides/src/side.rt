@@ -216,7 +216,8 @@ impl Side {
         ensures not { IfNone result (self.new ≡ self.old) }
         ensures out_stays { IfNone result (out.new ≡ out.old) }
         ensures sender_stays { IfNone result (sender.new ≡ sender.old) }
-        ensures may_not { IfNone result (MayNotTurn config.now rows.now (Some sender.old) self.old) }
+        ensures may_not { IfNone result
+            (MayNotTurn config.now rows.now (Some sender.old) self.old) }
         ensures unsent { IfSome result (λ made. made ≡ 0 → sender.new ≡ sender.old) }
     {
         if !self.group.may_tick(config, rows, &self.on, Some(sender)) {

@@ -1,5 +1,5 @@
 //! Key sets that C gives.
-ghost use Rattle.std.specs.Prelude.{◌≡◌, ◌≤◌, IfNone, IfSome, length, map, take};
+ghost use Rattle.std.specs.Prelude.{◌≡◌, ◌≤◌, IfNone, IfSome, length, take};
 ghost use Rattle.group_keys.specs.KeySets.{encrypting_length};
 ghost use Rattle.group_keys.specs.Ring.{key_sets};
 ghost use Rattle.uapubsub_c.specs.Keys.{MakeNoRing, key_set_in, key_sets_in};
