@@ -1,6 +1,6 @@
 pub mod Firsts
 pub mod Keys
-pub mod Looking
+pub mod Looks
 pub mod Places
 pub mod Refreshing
 pub mod RowLists

@@ -1,4 +1,4 @@
-use Rattle.std.proofs.Common.{◌<◌, ◌≤◌, length, arith}
+use Rattle.std.proofs.Common.{◌<◌, ◌≤◌, length, sym, subst, arith}
 use Rattle.std.proofs.lemmas.List.Elements.{All-set}
 use Rattle.device_sides.specs.Coming.{IsRefreshedFor}
 use Rattle.device_sides.specs.Raising.{IsRefreshedIf, raised_in}
@@ -25,7 +25,9 @@ loop-g-preserved c =
     record {
       sides = All-set (IsSide config) mid c.loop-g.g c.refresh_if.new.side c.refresh_if.ensures.side c.loop-g.invariant.sides;
       each = first-more (λ (was is : Side). IsRefreshedIf config (raised_in config c.turn_each-raised.result was) was is) c.loop-g.g old mid c.index-sides-g.result c.refresh_if.new.side low
-          c.index-sides-g.is c.refresh_if.ensures.refreshed c.loop-g.invariant.each;
+          c.index-sides-g.is
+          (subst (λ (was : Side). IsRefreshedIf config (raised_in config c.turn_each-raised.result was) was c.refresh_if.new.side) (sym c.index-sides-g.is) c.refresh_if.ensures.refreshed)
+          c.loop-g.invariant.each;
     }
 
 pub returns-clause-refreshed : goal.returns-clause-refreshed

@@ -5,7 +5,7 @@ use Rattle.std.proofs.lemmas.List.{with_items_is}
 use Rattle.std.proofs.lemmas.List.Elements.{All-set}
 use Rattle.message_guard.specs.Senders.{IsSender, SenderState}
 use Rattle.device_sides.specs.Sides.{IsSide}
-use Rattle.device_sides.proofs.Looking.{looked-publisher, looked-so}
+use Rattle.device_sides.proofs.Looks.{looked-publisher, looked-so}
 use Rattle.device_sides.proofs.publisher.Publisher.look_at.Goals as goal
 use Rattle.device_sides.proofs.publisher.Publisher.look_at.Goals.{After-count}
 

@@ -1,7 +1,7 @@
 use Rattle.std.proofs.Common.{◌≡◌, ◌≤◌, length}
 use Rattle.device_sides.specs.Coming.{Does}
 use Rattle.device_sides.specs.Sides.{IsPublisher}
-use Rattle.device_sides.proofs.Looking.{SoFar}
+use Rattle.device_sides.proofs.Looks.{SoFar}
 use Rattle.device_sides.proofs.publisher.Publisher.turn_due.Given as goal
 
 abbrev pub invariant-loop-g : goal.invariant-loop-g

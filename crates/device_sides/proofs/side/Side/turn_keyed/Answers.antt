@@ -27,7 +27,8 @@ returns-clause-turned c =
     ap (λ (o : Option ℕ). nth_sender senders o) c.requires.keyed ∙ ap (λ (k : ℕ). slice_get senders k) (sym c.from-k.ensures)
     ∙ slice_get_read senders (length senders) c.from-k.result sender refl low c.index-senders-k.is in
     subst (λ (s : Option SenderState). IfSome c.turn_secured.result (HasTurned config c.args.moment c.args.rows.now s c.args.self.now c.turn_secured.new.self c.turn_secured.new.out)) (sym some)
-    c.turn_secured.ensures.turned
+    (subst (λ (s : SenderState). IfSome c.turn_secured.result (HasTurned config c.args.moment c.args.rows.now (Some s) c.args.self.now c.turn_secured.new.self c.turn_secured.new.out)) (sym c.index-senders-k.is)
+    c.turn_secured.ensures.turned)
 
 pub returns-clause-may_not : goal.returns-clause-may_not
 returns-clause-may_not c =
@@ -38,7 +39,8 @@ returns-clause-may_not c =
     let some : sender_for config senders c.args.self.now.index ≡ Some sender =
     ap (λ (o : Option ℕ). nth_sender senders o) c.requires.keyed ∙ ap (λ (k : ℕ). slice_get senders k) (sym c.from-k.ensures)
     ∙ slice_get_read senders (length senders) c.from-k.result sender refl low c.index-senders-k.is in
-    subst (λ (s : Option SenderState). IfNone c.turn_secured.result (MayNotTurn config c.args.rows.now s c.args.self.now)) (sym some) c.turn_secured.ensures.may_not
+    subst (λ (s : Option SenderState). IfNone c.turn_secured.result (MayNotTurn config c.args.rows.now s c.args.self.now)) (sym some)
+    (subst (λ (s : SenderState). IfNone c.turn_secured.result (MayNotTurn config c.args.rows.now (Some s) c.args.self.now)) (sym c.index-senders-k.is) c.turn_secured.ensures.may_not)
 
 pub returns-clause-senders_stay : goal.returns-clause-senders_stay
 returns-clause-senders_stay c =
@@ -46,7 +48,8 @@ returns-clause-senders_stay c =
     let k = c.from-k.result in
     let sender = c.index-senders-k.result in
     let new = c.turn_secured.new.sender in
-    none-then c.turn_secured.result (new ≡ sender) (set senders k new ≡ senders) (λ stays. same-set senders k sender new c.index-senders-k.is stays) c.turn_secured.ensures.sender_stays
+    none-then c.turn_secured.result (new ≡ sender) (set senders k new ≡ senders) (λ stays. same-set senders k sender new c.index-senders-k.is stays)
+    (subst (λ (s : SenderState). IfNone c.turn_secured.result (new ≡ s)) (sym c.index-senders-k.is) c.turn_secured.ensures.sender_stays)
 
 pub returns-clause-unsent : goal.returns-clause-unsent
 returns-clause-unsent c =
@@ -55,4 +58,5 @@ returns-clause-unsent c =
     let sender = c.index-senders-k.result in
     let new = c.turn_secured.new.sender in
     some-then c.turn_secured.result (λ (made : ℕ). made ≡ 0 → new ≡ sender) (λ (made : ℕ). made ≡ 0 → set senders k new ≡ senders)
-    (λ made stays zero. same-set senders k sender new c.index-senders-k.is (stays zero)) c.turn_secured.ensures.unsent
+    (λ made stays zero. same-set senders k sender new c.index-senders-k.is (stays zero))
+    (subst (λ (s : SenderState). IfSome c.turn_secured.result (λ (made : ℕ). made ≡ 0 → new ≡ s)) (sym c.index-senders-k.is) c.turn_secured.ensures.unsent)

@@ -186,11 +186,12 @@ so-far-looked now place held more next looked old mid new low low_mid either tel
     by_some : Side → (length new.sides.items ≡ length mid.sides.items) × SoFar (Does old.config now old.rows.items old.senders.items) (place + 1) next old.sides.items new.sides.items
     by_some d =
         let is = get_or new.sides.items place d in
-        let sides : new.sides.items ≡ set mid.sides.items place is = has.others d in
-        (ap (λ (l : List Side). length l) sides ∙ length-set mid.sides.items place is,
-        subst (λ (l : List Side). SoFar (Does old.config now old.rows.items old.senders.items) (place + 1) next old.sides.items l) (sym sides)
-        (so-far-more (Does old.config now old.rows.items old.senders.items) place held more next old.sides.items mid.sides.items looked is low either tells passed
-        (λ e. does-so now looked old mid new.out (get_or mid.sides.items place e) is config rows senders (has.did e d)) far))
+        let sides : new.sides.items ≡ set mid.sides.items place is = has.others d in (
+          ap (λ (l : List Side). length l) sides ∙ length-set mid.sides.items place is,
+          subst (λ (l : List Side). SoFar (Does old.config now old.rows.items old.senders.items) (place + 1) next old.sides.items l) (sym sides)
+              (so-far-more (Does old.config now old.rows.items old.senders.items) place held more next old.sides.items mid.sides.items looked is low either tells passed
+              (λ e. does-so now looked old mid new.out (get_or mid.sides.items place e) is config rows senders (has.did e d)) far),
+        )
 
 -- the groups by the publisher as it is left
 does-there : (now : ℕ) (senders : List SenderState) (old new : Publisher) (did : List Looked) (sides others : List Side) → new.config ≡ old.config → new.rows.items ≡ old.rows.items
