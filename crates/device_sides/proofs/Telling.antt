@@ -7,7 +7,9 @@ use Rattle.dataset_reader.specs.Kept.{Kept}
 use Rattle.dataset_reader.specs.Reader.{kept_by}
 use Rattle.ps_config.specs.declared.parts.Config.{Config}
 use Rattle.reader_group.specs.Groups as reads
-use Rattle.device_sides.specs.Readings.{Keeps, ReaderKeeps, meta_for}
+use Rattle.device_sides.specs.Readings.{HoldsNone, IsUntold, IsUntoldAt, Keeps, ReaderKeeps, ReadsNoField, meta_for}
+use Rattle.device_sides.specs.declared.asked.NoValue.{NoValue}
+use Rattle.device_sides.specs.declared.asked.NoValue.TheVariants.{Misfit, NoField, NoRow}
 use Rattle.device_sides.specs.declared.listening.Listening.{Listening}
 use Rattle.device_sides.specs.declared.subscriber.Subscriber.{Subscriber}
 
@@ -31,3 +33,12 @@ keeps-at subscriber group reader says listening low is keeps = record {
   is = λ d. subst (λ (l : Listening). ReaderKeeps subscriber.config reader says l)
       (is ∙ get_or_default subscriber.groups.items group listening d low) keeps;
 }
+
+-- why the group that stands at a place tells nothing
+pub untold-at : (subscriber : Subscriber) (group reader field : ℕ) (misfit : MetaData → Kept → Type 0) (listening : Listening) (none : NoValue)
+    → group < length subscriber.groups.items → listening ≡ get_or subscriber.groups.items group listening
+    → IsUntold misfit subscriber.config reader field none listening → IsUntoldAt misfit group reader field subscriber none
+untold-at subscriber group reader field misfit listening NoField low is untold =
+    λ within d. subst (λ (l : Listening). ReadsNoField subscriber.config reader field l) (is ∙ get_or_default subscriber.groups.items group listening d low) untold
+untold-at subscriber group reader field misfit listening NoRow low is untold = keeps-at subscriber group reader HoldsNone listening low is untold
+untold-at subscriber group reader field misfit listening Misfit low is untold = keeps-at subscriber group reader misfit listening low is untold

@@ -1,2 +1,5 @@
+pub mod Coming
+pub mod Looking
+pub mod Raising
 pub mod Readings
 pub mod Sides

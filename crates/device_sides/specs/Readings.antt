@@ -1,6 +1,6 @@
 -- What calls tell of a subscriber's readers.
-use Rattle.std.specs.Prelude.{◌≡◌, ℕ, ◌<◌, ◌≤◌, Bool, true, false, List, length, slice_set, None, Some, ⊤}
-use Rattle.std.specs.List.{HoldsAt}
+use Rattle.std.specs.Prelude.{◌≡◌, ℕ, ◌<◌, ◌≤◌, Bool, true, false, List, length, slice_set, None, Some}
+use Rattle.std.specs.List.{AllZip, HoldsAt}
 use Rattle.ua_values.specs.declared.kind.Kind.{Kind}
 use Rattle.ua_values.specs.declared.value.Value.{Value}
 use Rattle.dataset_meta.specs.DataValues.{DataValue}
@@ -15,7 +15,7 @@ use Rattle.ps_config.specs.declared.parts.Config.{Config}
 use Rattle.reader_group.specs.declared.group.ReaderGroup.{ReaderGroup}
 use Rattle.reader_group.specs.Groups as reads
 use Rattle.reader_group.specs.Members.{seat_at}
-use Rattle.reader_group.specs.Plain.{Setting, Stopped}
+use Rattle.reader_group.specs.Plain.{Expired, Setting, Stopped}
 use Rattle.reader_group.specs.Settings.{setting_of}
 use Rattle.device_sides.specs.declared.asked.NoValue.{NoValue}
 use Rattle.device_sides.specs.declared.asked.NoValue.TheVariants.{Misfit, NoField, NoRow}
@@ -71,24 +71,52 @@ pub record HasFieldStatus (field status : ℕ) (meta : MetaData) (kept : Kept) :
 abbrev pub IsOfKind : ℕ → Kind → MetaData → Kept → Type 0
 IsOfKind field kind meta kept = IsScalarAt meta field kind
 
+-- the field is there, and isn't of this kind, or this isn't a scalar's
+pub record IsOfOtherKind (field : ℕ) (kind : Kind) (meta : MetaData) (kept : Kept) : Type 0 where
+  pub within : field < length meta.fields
+  pub other : ¬ IsScalarAt meta field kind
+
+-- no kind is asked for, so none is another
+abbrev pub HasNoMisfit : MetaData → Kept → Type 0
+HasNoMisfit meta kept = ⊥
+
 -- no row is held
 abbrev pub HoldsNone : MetaData → Kept → Type 0
 HoldsNone meta kept = kept.row ≡ None
 
 -- ---- why nothing is told
 
--- of a field of a reader of the read group: there is no such reader or field, or no row is held
-abbrev pub IsUntold : Config → ℕ → ℕ → NoValue → Listening → Type 0
-IsUntold config reader field NoField listening =
+-- where the read group has a reader with this index, its data set has no such field
+abbrev pub ReadsNoField : Config → ℕ → ℕ → Listening → Type 0
+ReadsNoField config reader field listening =
     reader < reads.reader_count listening.group → length (meta_for config listening reader).fields ≤ field
-IsUntold config reader field NoRow listening = ReaderKeeps config reader HoldsNone listening
-IsUntold config reader field Misfit listening = ⊤
 
--- the same where there is a read group with this index
-abbrev pub IsUntoldAt : ℕ → ℕ → ℕ → Subscriber → NoValue → Type 0
-IsUntoldAt group reader field subscriber none =
+-- of a field of a reader of the read group: there is no such reader or field, no row is held, or it is a misfit
+abbrev pub IsUntold : (MetaData → Kept → Type 0) → Config → ℕ → ℕ → NoValue → Listening → Type 0
+IsUntold misfit config reader field NoField listening = ReadsNoField config reader field listening
+IsUntold misfit config reader field NoRow listening = ReaderKeeps config reader HoldsNone listening
+IsUntold misfit config reader field Misfit listening = ReaderKeeps config reader misfit listening
+
+-- the same of the read group with this index, or there is no such read group
+abbrev pub IsUntoldAt : (MetaData → Kept → Type 0) → ℕ → ℕ → ℕ → Subscriber → NoValue → Type 0
+IsUntoldAt misfit group reader field subscriber NoField =
     group < length subscriber.groups.items
-    → HoldsAt (IsUntold subscriber.config reader field none) subscriber.groups.items group
+    → HoldsAt (ReadsNoField subscriber.config reader field) subscriber.groups.items group
+IsUntoldAt misfit group reader field subscriber NoRow = Keeps group reader HoldsNone subscriber
+IsUntoldAt misfit group reader field subscriber Misfit = Keeps group reader misfit subscriber
+
+-- ---- time that goes on
+
+-- the timers of a read group were looked at at this moment, and which of its readers are on stays
+pub record HasExpired (now : ℕ) (old new : Listening) : Type 0 where
+  pub group : (setting : Setting) → reads.TakesOn setting (Expired now) old.group new.group
+  pub on : new.on ≡ old.on
+  pub index : new.index ≡ old.index
+
+-- the same of each read group, and nothing else changed
+pub record HaveExpired (now : ℕ) (old new : Subscriber) : Type 0 where
+  pub groups : AllZip (HasExpired now) old.groups.items new.groups.items
+  pub config : new.config ≡ old.config
 
 -- ---- keys that are renewed
 

@@ -1,16 +1,22 @@
 -- The sides of a device, between two calls.
-use Rattle.std.specs.Prelude.{◌≡◌, ℕ, ◌<◌, ◌≤◌, Bool, true, false, List, length, slice_set, slice_index_or, [], ◌∷◌, ◌⊎◌, All, Option, Some, None, Result}
+use Rattle.std.specs.Prelude.{◌≡◌, ℕ, ◌<◌, ◌≤◌, Bool, true, false, List, length, map, slice_get, slice_set, ◌⊎◌, All, Option, Some, None, option_map, Result}
 use Rattle.std.specs.List.{HoldsAt}
 use Rattle.ua_values.specs.declared.value.Value.{Value}
 use Rattle.dataset_meta.specs.DataValues.{IsStatus}
 use Rattle.dataset_meta.specs.Metas.{MetaData}
+use Rattle.dataset_meta.specs.Rows.{FitsAt}
 use Rattle.ua_values.specs.declared.kind.Kind.{Kind}
 use Rattle.row_words.specs.Belonging.{row_in}
 use Rattle.row_words.specs.Setting.{with_status, with_value}
-use Rattle.row_words.specs.Words.{is_scalar, scalar_in}
+use Rattle.row_words.specs.Words.{IsWordOf, is_scalar, scalar_in}
 use Rattle.group_keys.specs.declared.key_set.KeySet.{KeySet}
+use Rattle.group_keys.specs.KeySets.{current}
+use Rattle.message_guard.specs.Protection.{keys_in}
 use Rattle.message_guard.specs.Senders.{SenderState, IsSender, renewed}
 use Rattle.ps_config.specs.declared.parts.Config.{Config}
+use Rattle.ps_config.specs.declared.parts.KeyGroupPart.{KeyGroupPart}
+use Rattle.ps_config.specs.Configs.{is_long}
+use Rattle.ps_config.specs.Rings.{key_set}
 use Rattle.reader_group.specs.Groups as reads
 use Rattle.reader_group.specs.Plain.{Got}
 use Rattle.reader_group.specs.declared.refusal.Refusal.{Refusal}
@@ -19,7 +25,7 @@ use Rattle.writer_group.specs.declared.datagrams.Datagrams.{Datagrams}
 use Rattle.writer_group.specs.declared.group.Group.{Group}
 use Rattle.writer_group.specs.declared.sampled.Sampled.{Sampled}
 use Rattle.writer_group.specs.Parts.{group_at}
-use Rattle.writer_group.specs.Standing.{AreRowsOf, HasTickedAt, IsGood, IsRefreshed, IsReserved, KeepsTo, datagrams_in, index_of, input_of, writer_count}
+use Rattle.writer_group.specs.Standing.{AreRowsOf, HasTickedAt, IsGood, IsRefreshed, IsReserved, KeepsTo, MayTickAt, datagrams_in, index_of, input_of, writer_count}
 use Rattle.device_sides.specs.declared.listening.Listening.{Listening}
 use Rattle.device_sides.specs.declared.publisher.Publisher.{Publisher}
 use Rattle.device_sides.specs.declared.side.Side.{Side}
@@ -35,8 +41,7 @@ pub record IsSide (config : Config) (side : Side) : Type 0 where
 -- the sender at the place, if there is one
 abbrev pub nth_sender : List SenderState → Option ℕ → Option SenderState
 nth_sender senders None = None
-nth_sender [] (Some k) = None
-nth_sender (sender ∷ senders) (Some k) = Some (slice_index_or (sender ∷ senders) k sender)
+nth_sender senders (Some k) = slice_get senders k
 
 -- the sender of the group's key group, if it is secured
 abbrev pub sender_for : Config → List SenderState → ℕ → Option SenderState
@@ -47,6 +52,12 @@ pub record HasTurned (config : Config) (moment : ℕ) (rows : List Sampled) (sen
     (made : ℕ) : Type 0 where
   pub stands : HasTickedAt config (input_of moment false config.dataset rows old.on.items sender) old.group new.group out
   pub made_is : made ≡ length (datagrams_in out)
+  pub on : new.on ≡ old.on
+  pub index : new.index ≡ old.index
+
+-- the group may have no turn with these rows and this sender
+abbrev pub MayNotTurn : Config → List Sampled → Option SenderState → Side → Type 0
+MayNotTurn config rows sender side = ¬ MayTickAt config config.dataset rows side.on.items sender side.group
 
 -- the group has a writer with this index
 pub record HasWriter (writer : ℕ) (side : Side) : Type 0 where
@@ -71,6 +82,7 @@ pub record IsPublisher (publisher : Publisher) : Type 0 where
   pub rows_are : AreRowsOf publisher.config.dataset publisher.rows.items
   pub rows_count : length publisher.rows.items ≡ length publisher.config.dataset
   pub senders_are : All IsSender publisher.senders.items
+  pub senders_count : length publisher.senders.items ≡ length publisher.config.keygroup
   pub sides_are : All (IsSide publisher.config) publisher.sides.items
   pub reserved : IsReserved publisher.out
   pub made_is : publisher.made ≡ length (datagrams_in publisher.out)
@@ -95,9 +107,10 @@ pub record IsScalarAt (meta : MetaData) (field : ℕ) (kind : Kind) : Type 0 whe
   pub kind_is : HoldsAt (λ f. f.kind ≡ kind) meta.fields field
   pub scalar : is_scalar kind ≡ true
 
--- the row of the data set has at the field the scalar of this kind with this word, and the other data sets' rows stay
+-- the row of the data set has at the field, which is of this kind, the scalar with this word, and the other data sets' rows stay
 pub record HasWordSet (metas : List MetaData) (set field : ℕ) (kind : Kind) (word : ℕ) (old new : List Sampled) : Type 0 where
   pub within : set < length metas
+  pub kind_is : HoldsAt (λ meta. IsScalarAt meta field kind) metas set
   pub row : HoldsAt (λ meta. HoldsAt (λ was. HoldsAt (λ is. row_in meta.fields is.row.words
       ≡ with_value (row_in meta.fields was.row.words) field (scalar_in kind word))
       new set) old set) metas set
@@ -126,6 +139,34 @@ pub record MayHaveStatus (meta : MetaData) (field status : ℕ) : Type 0 where
   pub within : field < length meta.fields
   pub is_status : IsStatus meta.quality status
 
+-- ---- what isn't set
+
+-- there is a data set with this index, and a field with this index in it
+pub record HasField (metas : List MetaData) (set field : ℕ) : Type 0 where
+  pub within : set < length metas
+  pub has : HoldsAt (λ meta. field < length meta.fields) metas set
+
+-- where there is a data set with this index, it has no field with this index
+abbrev pub HasNoField : List MetaData → ℕ → ℕ → Type 0
+HasNoField metas set field = set < length metas → HoldsAt (λ meta. length meta.fields ≤ field) metas set
+
+-- where there is a data set with this index, its field isn't there, or may not have this value with this status
+abbrev pub IsMisfit : List MetaData → ℕ → ℕ → Value → ℕ → Type 0
+IsMisfit metas set field value status = set < length metas → HoldsAt (λ meta. ¬ FitsAt meta field value status) metas set
+
+-- the field is there, and of this kind, which is a scalar's that may have this word
+pub record MayHaveWord (meta : MetaData) (field : ℕ) (kind : Kind) (word : ℕ) : Type 0 where
+  pub kind_is : IsScalarAt meta field kind
+  pub word_is : IsWordOf kind word
+
+-- where there is a data set with this index, its field may not have the scalar of this kind with this word
+abbrev pub IsWordMisfit : List MetaData → ℕ → ℕ → Kind → ℕ → Type 0
+IsWordMisfit metas set field kind word = set < length metas → HoldsAt (λ meta. ¬ MayHaveWord meta field kind word) metas set
+
+-- where there is a data set with this index, its field may not have this status
+abbrev pub IsStatusMisfit : List MetaData → ℕ → ℕ → ℕ → Type 0
+IsStatusMisfit metas set field status = set < length metas → HoldsAt (λ meta. ¬ MayHaveStatus meta field status) metas set
+
 -- the writer of the group with this index is on from now on, or off, and nothing else changed
 pub record HasWriterSwitched (group writer : ℕ) (on : Bool) (old new : Publisher) : Type 0 where
   pub within : group < length old.sides.items
@@ -148,14 +189,64 @@ pub record HasRenewed (keygroup : ℕ) (sets : List KeySet) (old new : Publisher
 abbrev pub IsNoLower : ℕ × ℕ → ℕ × ℕ → Type 0
 IsNoLower old new = (old.0 < new.0) ⊎ ((old.0 ≡ new.0) × (old.1 ≤ new.1))
 
--- the sender of the key group goes on behind so many numbers, of which none comes twice, and nothing else changed
-pub record IsBehind (keygroup used : ℕ) (old new : Publisher) : Type 0 where
+-- the sender of this key group that goes on behind so many numbers of the last key set whose moment has come at this moment
+pub record IsResumed (part : KeyGroupPart) (now used : ℕ) (sender : SenderState) : Type 0 where
+  pub sets : sender.sets ≡ map key_set part.key
+  pub keys : option_map keys_in (current (map key_set part.key) now) ≡ Some sender.keys
+  pub random : sender.random ≡ part.random
+  pub first_block : sender.first_block ≡ part.first_block
+  pub used_is : sender.used ≡ used
+  pub unfronted : sender.fronted ≡ None
+
+-- the sender of the key group goes on so, no number comes twice, and nothing else changed
+pub record IsBehind (keygroup now used : ℕ) (old new : Publisher) : Type 0 where
   pub within : keygroup < length old.senders.items
-  pub used_is : HoldsAt (λ sender. sender.used ≡ used) new.senders.items keygroup
+  pub there : keygroup < length old.config.keygroup
+  pub is_resumed : HoldsAt (λ part. HoldsAt (IsResumed part now used) new.senders.items keygroup) old.config.keygroup keygroup
   pub no_lower : HoldsAt (λ was. HoldsAt (λ is. IsNoLower (was.keys.token, was.used) (is.keys.token, is.used))
       new.senders.items keygroup) old.senders.items keygroup
   pub others : HoldsAt (λ is. new.senders.items ≡ slice_set old.senders.items keygroup is) new.senders.items keygroup
   pub rest : new ≡ record old { senders = new.senders }
+
+-- with the sender of this key group that goes on so, numbers that this one used would come again
+pub record WouldRepeat (part : KeyGroupPart) (now used : ℕ) (sender : SenderState) : Type 0 where
+  pub resumed : SenderState
+  pub is : IsResumed part now used resumed
+  pub repeats : ¬ IsNoLower (sender.keys.token, sender.used) (resumed.keys.token, resumed.used)
+
+-- where there is a key group with this index, numbers of its sender would come again
+abbrev pub MayNotResume : ℕ → ℕ → ℕ → Publisher → Type 0
+MayNotResume keygroup now used publisher =
+    keygroup < length publisher.senders.items → keygroup < length publisher.config.keygroup
+    → HoldsAt (λ part. HoldsAt (WouldRepeat part now used) publisher.senders.items keygroup) publisher.config.keygroup keygroup
+
+-- ---- the lengths of keys
+
+-- whether the key group with this index has keys of AES-256
+pub record HasLongKeys (config : Config) (keygroup : ℕ) (long : Bool) : Type 0 where
+  pub within : keygroup < length config.keygroup
+  pub is : HoldsAt (λ part. long ≡ is_long part.policy) config.keygroup keygroup
+
+-- the read group with this index is secured with the keys of this key group
+pub record IsKeyedBy (config : Config) (group keygroup : ℕ) : Type 0 where
+  pub within : group < length config.readgroup
+  pub is : HoldsAt (λ part. part.keygroup ≡ Some keygroup) config.readgroup group
+
+-- where there is a read group with this index, it isn't secured
+abbrev pub IsUnkeyed : Config → ℕ → Type 0
+IsUnkeyed config group =
+    group < length config.readgroup → HoldsAt (λ part. part.keygroup ≡ None) config.readgroup group
+
+-- whether the read group with this index is secured with keys of AES-256
+pub record ReadsLongKeys (config : Config) (group : ℕ) (long : Bool) : Type 0 where
+  pub keygroup : ℕ
+  pub keyed : IsKeyedBy config group keygroup
+  pub is : HasLongKeys config keygroup long
+
+-- where there is a read group with this index, it isn't secured with the keys of a key group that is there
+abbrev pub ReadsNoKeys : Config → ℕ → Type 0
+ReadsNoKeys config group =
+    (keygroup : ℕ) → IsKeyedBy config group keygroup → length config.keygroup ≤ keygroup
 
 -- ---- a subscriber
 

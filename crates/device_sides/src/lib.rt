@@ -4,6 +4,7 @@
 
 mod asked;
 mod listening;
+mod looking;
 mod making;
 mod publisher;
 mod rows;

@@ -7,7 +7,7 @@ ghost use Rattle.ps_config.specs.Sound.{IsSound};
 ghost use Rattle.reader_group.specs.Groups.{AreLeft, IsAnswer, IsMadeOf, IsOpening, StepsBy, GoesOnWith, index_of, reader_count};
 ghost use Rattle.reader_group.specs.Plain.{Got};
 ghost use Rattle.ps_config.specs.declared.parts.Config.{Config as ConfigValue};
-ghost use Rattle.device_sides.specs.Readings.{HasGoneOff, HasSwitchedReader};
+ghost use Rattle.device_sides.specs.Readings.{HasExpired, HasGoneOff, HasSwitchedReader};
 ghost use Rattle.device_sides.specs.Sides.{IsListening};
 
 use dataset_reader::Reader;
@@ -61,7 +61,8 @@ impl Listening {
     /// Time goes on to this moment, in milliseconds (`ReaderGroup::expire`).
     pub fn expire(&mut self, _config: &Config, now: u64)
         requires { IsListening _config.now self.old }
-        ensures { IsListening _config.now self.new }
+        ensures listening { IsListening _config.now self.new }
+        ensures expired { HasExpired now self.old self.new }
     {
         self.group.expire(now);
     }

@@ -1,9 +1,10 @@
 //! The parts of a new publisher, and of a new subscriber.
-ghost use Rattle.std.specs.Prelude.{◌≡◌, IfOk, All, length};
+ghost use Rattle.std.specs.Prelude.{◌≡◌, ◌≤◌, IfNone, IfOk, IfSome, All, length};
 ghost use Rattle.message_guard.specs.Senders.{IsSender};
+ghost use Rattle.ps_config.specs.Configs.{is_long};
 ghost use Rattle.ps_config.specs.Sound.{IsKeyGroup};
 ghost use Rattle.writer_group.specs.Standing.{AreRowsOf, IsGood};
-ghost use Rattle.device_sides.specs.Sides.{IsListening, IsSide};
+ghost use Rattle.device_sides.specs.Sides.{HasLongKeys, IsKeyedBy, IsListening, IsSide, IsUnkeyed};
 
 use crate::listening::Listening;
 use crate::side::Side;
@@ -82,11 +83,34 @@ pub fn listenings_of(alloc: Global, config: &Config) -> Result<Vec<Listening>, N
 }
 
 /// Whether the key group with this index has keys of AES-256. None where there is no such key group.
-pub fn has_long_keys(config: &Config, keygroup: u8) -> Option<bool> {
+pub fn has_long_keys(config: &Config, keygroup: u8) -> Option<bool>
+    ensures long { IfSome result (HasLongKeys config.now keygroup) }
+    ensures none { IfNone result (length config.now.keygroup ≤ keygroup) }
+{
     let keygroups = config.keygroup.as_slice();
     let index = usize::from(keygroup);
     if index >= keygroups.len() {
         return None;
     }
-    Some(keygroups[index].policy == Policy::Aes256)
+    Some(is_long(keygroups[index].policy))
+}
+
+/// Whether keys of this policy are those of AES-256.
+fn is_long(policy: Policy) -> bool
+    ensures { result ≡ is_long policy }
+{
+    matches!(policy, Policy::Aes256)
+}
+
+/// The key group of the read group with this index. None where there is no such read group, or where it isn't secured.
+pub fn keygroup_of(config: &Config, group: u8) -> Option<u8>
+    ensures keyed { IfSome result (IsKeyedBy config.now group) }
+    ensures none { IfNone result (IsUnkeyed config.now group) }
+{
+    let groups = config.readgroup.as_slice();
+    let index = usize::from(group);
+    if index >= groups.len() {
+        return None;
+    }
+    groups[index].keygroup
 }

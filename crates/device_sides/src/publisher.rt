@@ -1,18 +1,22 @@
 //! Publishers.
-ghost use Rattle.std.specs.Prelude.{◌≡◌, ◌↔◌, ◌<◌, ◌≤◌, ◌+◌, [], IsTrue, IfOk, IfErr, IfSome, IfNone, Ok, length, slice_index_or};
+ghost use Rattle.std.specs.Prelude.{◌≡◌, ◌↔◌, ◌<◌, ◌≤◌, ◌+◌, ◌||◌, [], IsTrue, IfOk, IfErr, IfSome, IfNone, Ok, length, slice_index_or};
 ghost use Rattle.std.specs.Bool.{OnTrue, OnFalse};
 ghost use Rattle.group_keys.specs.Ring.{key_sets};
 ghost use Rattle.message_guard.specs.Senders.{IsSender};
 ghost use Rattle.ps_config.specs.Sound.{IsKeyGroup};
 ghost use Rattle.ps_config.specs.Reading.{configuration, IsEnd};
 ghost use Rattle.writer_group.specs.Standing.{IsGood, IsReserved, datagrams_in};
-ghost use Rattle.device_sides.specs.Sides.{HasRenewed, HasSet, HasSetStatus, HasSetWord, HasWriterSwitched, IsBehind, IsNoLower, IsPublisher, StandsAt};
+ghost use Rattle.device_sides.specs.Coming.{Comes, HasCome, IsWaiting};
+ghost use Rattle.device_sides.specs.Looking.{Counts, HasLooked};
+ghost use Rattle.device_sides.specs.Sides.{HasField, HasLongKeys, HasNoField, HasRenewed, HasSet, HasSetStatus, HasSetWord, HasWriterSwitched, IsBehind, IsMisfit, IsNoLower, IsPublisher, IsResumed, IsStatusMisfit, IsWordMisfit, MayNotResume, StandsAt};
 
 use crate::asked::Next;
+use crate::looking::{Looked, is_held, look};
 use crate::making::{has_long_keys, rows_of, senders_of, sides_of};
 use crate::rows::{set_in, set_status_in, set_word_in};
 use crate::side::Side;
-use crate::sides::{turn_at, turn_senders};
+use crate::sides::turn_senders;
+use crate::words::has_field_at;
 use group_keys::Ring;
 use message_guard::Sender;
 use ps_config::{Config, ConfigEnd, KeyGroupPart, read_config, ring_of};
@@ -58,6 +62,8 @@ impl Publisher {
         ensures publisher { IsPublisher self.new }
         ensures set { OnTrue result (HasSet set field value.now status self.old self.new) }
         ensures unset { OnFalse result (self.new.rows.items ≡ self.old.rows.items) }
+        ensures misfit { OnFalse result
+            (IsMisfit self.old.config.dataset set field value.now status) }
         ensures rest { self.new ≡ record self.old { rows = self.new.rows } }
     {
         let metas = self.config.dataset.as_slice();
@@ -71,6 +77,8 @@ impl Publisher {
         ensures publisher { IsPublisher self.new }
         ensures set { OnTrue result (HasSetWord set field kind word self.old self.new) }
         ensures unset { OnFalse result (self.new.rows.items ≡ self.old.rows.items) }
+        ensures misfit { OnFalse result
+            (IsWordMisfit self.old.config.dataset set field kind word) }
         ensures rest { self.new ≡ record self.old { rows = self.new.rows } }
     {
         let metas = self.config.dataset.as_slice();
@@ -84,6 +92,7 @@ impl Publisher {
         ensures publisher { IsPublisher self.new }
         ensures set { OnTrue result (HasSetStatus set field status self.old self.new) }
         ensures unset { OnFalse result (self.new.rows.items ≡ self.old.rows.items) }
+        ensures misfit { OnFalse result (IsStatusMisfit self.old.config.dataset set field status) }
         ensures rest { self.new ≡ record self.old { rows = self.new.rows } }
     {
         let metas = self.config.dataset.as_slice();
@@ -91,10 +100,16 @@ impl Publisher {
     }
 
     /// Whether there is a data set with this index, and a field with this index in it.
-    pub fn has_field(&self, set: u8, field: u8) -> bool {
+    pub fn has_field(&self, set: u8, field: u8) -> bool
+        ensures there { OnTrue result (HasField self.now.config.dataset set field) }
+        ensures not { OnFalse result (HasNoField self.now.config.dataset set field) }
+    {
         let metas = self.config.dataset.as_slice();
-        usize::from(set) < metas.len()
-            && usize::from(field) < metas[usize::from(set)].fields().len()
+        let index = usize::from(set);
+        if index >= metas.len() {
+            return false;
+        }
+        has_field_at(&metas[index], field)
     }
 
     /// What the publisher has at `now`, in milliseconds, which must not fall. Where no datagram waits, the senders turn to `now`, and
@@ -104,12 +119,22 @@ impl Publisher {
         requires { IsPublisher self.old }
         ensures publisher { IsPublisher self.new }
         ensures waits { result ≡ Next.Datagram → self.new.handed < self.new.made }
+        ensures waited { self.old.handed < self.old.made → IsWaiting result self.old self.new }
+        ensures came { self.old.made ≤ self.old.handed → HasCome now result self.old self.new }
     {
-        if self.handed < self.made {
+        if self.is_waiting() {
             return Next::Datagram;
         }
         turn_senders(&self.config, &mut self.sides, &mut self.senders, now);
         self.turn_due(now)
+    }
+
+    /// Whether a datagram waits.
+    fn is_waiting(&self) -> bool
+        ensures there { OnTrue result (self.now.handed < self.now.made) }
+        ensures not { OnFalse result (self.now.made ≤ self.now.handed) }
+    {
+        self.handed < self.made
     }
 
     /// The datagram that waits.
@@ -177,7 +202,10 @@ impl Publisher {
     }
 
     /// Whether the key group with this index has keys of AES-256. None where there is no such key group.
-    pub fn has_long_keys(&self, keygroup: u8) -> Option<bool> {
+    pub fn has_long_keys(&self, keygroup: u8) -> Option<bool>
+        ensures long { IfSome result (HasLongKeys self.now.config keygroup) }
+        ensures none { IfNone result (length self.now.config.keygroup ≤ keygroup) }
+    {
         has_long_keys(&self.config, keygroup)
     }
 
@@ -187,12 +215,16 @@ impl Publisher {
     pub fn resume(&mut self, keygroup: u8, now: u64, used: u32) -> bool
         requires { IsPublisher self.old }
         ensures publisher { IsPublisher self.new }
-        ensures behind { OnTrue result (IsBehind keygroup used self.old self.new) }
+        ensures behind { OnTrue result (IsBehind keygroup now used self.old self.new) }
         ensures not { OnFalse result (self.new ≡ self.old) }
+        ensures refused { OnFalse result (MayNotResume keygroup now used self.old) }
     {
         let index = usize::from(keygroup);
         let keygroups = self.config.keygroup.as_slice();
-        if index >= self.senders.len() || index >= keygroups.len() {
+        if index >= self.senders.len() {
+            return false;
+        }
+        if index >= keygroups.len() {
             return false;
         }
         let sender = sender_at(&keygroups[index], now, used);
@@ -205,51 +237,67 @@ impl Publisher {
 
     /// The turns of the groups that are due, until one makes a datagram.
     fn turn_due(&mut self, now: u64) -> Next
-        requires { IsPublisher self.old }
+        requires publisher { IsPublisher self.old }
+        requires none_waits { self.old.made ≤ self.old.handed }
         ensures publisher { IsPublisher self.new }
         ensures waits { result ≡ Next.Datagram → self.new.handed < self.new.made }
+        ensures config { self.new.config ≡ self.old.config }
+        ensures rows { self.new.rows.items ≡ self.old.rows.items }
+        ensures came { Comes now result self.old.senders.items self.old.sides.items self.new }
     {
-        let mut spent = false;
+        let mut held = false;
         for g in 0..self.sides.len() {
-            let is_spent = self.turn_if_due(g, now);
-            if self.handed < self.made {
+            let looked = self.look_at(g, now);
+            if self.is_waiting() {
                 return Next::Datagram;
             }
-            spent = spent || is_spent;
+            held = either(held, is_held(looked));
         }
-        if spent { Next::Spent } else { Next::Nothing }
+        if held { Next::Spent } else { Next::Nothing }
     }
 
-    /// The turn of the group at this index, if it is due. Whether it can have none.
-    fn turn_if_due(&mut self, index: usize, now: u64) -> bool
+    /// The turn of the group at this index, if it is due and may have one.
+    fn look_at(&mut self, index: usize, now: u64) -> Looked
         requires publisher { IsPublisher self.old }
         requires index { index < length self.old.sides.items }
         ensures publisher { IsPublisher self.new }
-        ensures sides { length self.new.sides.items ≡ length self.old.sides.items }
+        ensures looked { HasLooked index now result self.old self.new }
     {
-        if !self.sides[index].is_due(now) {
-            return false;
-        }
-        let out = &mut self.out;
-        let senders = &mut self.senders;
-        let rows = &self.rows;
-        match turn_at(
+        let looked = look(
             &self.config,
-            &mut self.sides,
-            index,
+            &mut self.sides[index],
             now,
-            rows,
-            senders,
-            out,
-        ) {
-            None => true,
-            Some(made) => {
+            &self.rows,
+            &mut self.senders,
+            &mut self.out,
+        );
+        self.count(looked);
+        looked
+    }
+
+    /// Counts the datagrams of a turn, of which none was handed over.
+    fn count(&mut self, looked: Looked)
+        ensures counts { Counts looked self.old self.new }
+        ensures rest { self.new ≡ record self.old {
+          made = self.new.made;
+          handed = self.new.handed;
+        } }
+    {
+        match looked {
+            Looked::Idle => {}
+            Looked::Held => {}
+            Looked::Made(made) => {
                 self.made = made;
                 self.handed = 0;
-                false
             }
         }
     }
+}
+
+fn either(one: bool, other: bool) -> bool
+    ensures { result ≡ (one || other) }
+{
+    one || other
 }
 
 /// The publisher of a configuration, with opening rows.
@@ -277,7 +325,7 @@ fn publisher_of(alloc: Global, config: Config) -> Result<Publisher, NoMemory>
 fn sender_at(keygroup: &KeyGroupPart, now: u64, used: u32) -> Sender
     requires { IsKeyGroup keygroup.now }
     ensures sender { IsSender result }
-    ensures used { result.used ≡ used }
+    ensures resumed { IsResumed keygroup.now now used result }
 {
     Sender::resume(
         ring_of(keygroup),

@@ -1,13 +1,14 @@
 //! The rows of data sets, set field by field.
 ghost use Rattle.std.specs.Prelude.{◌≡◌, length, slice_set};
 ghost use Rattle.std.specs.Bool.{OnTrue, OnFalse};
+ghost use Rattle.dataset_meta.specs.Rows.{FitsAt};
 ghost use Rattle.row_words.specs.Belonging.{Belongs, row_in};
 ghost use Rattle.row_words.specs.Setting.{with_status, with_value};
 ghost use Rattle.row_words.specs.Words.{scalar_in};
 ghost use Rattle.writer_group.specs.Standing.{AreRowsOf};
-ghost use Rattle.device_sides.specs.Sides.{HasRowSet, HasRowStatus, HasWordSet, MayHaveStatus};
+ghost use Rattle.device_sides.specs.Sides.{HasRowSet, HasRowStatus, HasWordSet, IsMisfit, IsScalarAt, IsStatusMisfit, IsWordMisfit, MayHaveStatus, MayHaveWord};
 
-use crate::words::{is_scalar_at, is_word_of};
+use crate::words::{has_field_at, is_scalar_at, is_word_of};
 use dataset_meta::Meta;
 use ua_values::{Kind, Value};
 use writer_group::Sampled;
@@ -26,6 +27,7 @@ pub fn set_in(
     ensures rows { AreRowsOf metas.now rows.new }
     ensures set { OnTrue result (HasRowSet metas.now set field value.now status rows.old rows.new) }
     ensures unset { OnFalse result (rows.new ≡ rows.old) }
+    ensures misfit { OnFalse result (IsMisfit metas.now set field value.now status) }
 {
     let index = usize::from(set);
     if index >= metas.len() {
@@ -48,6 +50,7 @@ pub fn set_word_in(
     ensures rows { AreRowsOf metas.now rows.new }
     ensures set { OnTrue result (HasWordSet metas.now set field kind word rows.old rows.new) }
     ensures unset { OnFalse result (rows.new ≡ rows.old) }
+    ensures misfit { OnFalse result (IsWordMisfit metas.now set field kind word) }
 {
     let index = usize::from(set);
     if index >= metas.len() {
@@ -63,6 +66,7 @@ pub fn set_status_in(metas: &[Meta], rows: &mut [Sampled], set: u8, field: u8, s
     ensures rows { AreRowsOf metas.now rows.new }
     ensures set { OnTrue result (HasRowStatus metas.now set field status rows.old rows.new) }
     ensures unset { OnFalse result (rows.new ≡ rows.old) }
+    ensures misfit { OnFalse result (IsStatusMisfit metas.now set field status) }
 {
     let index = usize::from(set);
     if index >= metas.len() {
@@ -79,6 +83,7 @@ fn set_row(meta: &Meta, sampled: &mut Sampled, field: u8, value: &Value, status:
         ≡ slice_set (row_in meta.now.fields sampled.old.row.words) field
         (record { value = value.now; status = status })) }
     ensures unset { OnFalse result (sampled.new ≡ sampled.old) }
+    ensures misfit { OnFalse result (¬ FitsAt meta.now field value.now status) }
 {
     let is_set = sampled.row.try_set(meta, field, value, status);
     if is_set {
@@ -93,9 +98,14 @@ fn set_word_row(meta: &Meta, sampled: &mut Sampled, field: u8, kind: Kind, word:
     ensures belongs { Belongs meta.now sampled.new.row.words }
     ensures set { OnTrue result (row_in meta.now.fields sampled.new.row.words
         ≡ with_value (row_in meta.now.fields sampled.old.row.words) field (scalar_in kind word)) }
+    ensures kind { OnTrue result (IsScalarAt meta.now field kind) }
     ensures unset { OnFalse result (sampled.new ≡ sampled.old) }
+    ensures misfit { OnFalse result (¬ MayHaveWord meta.now field kind word) }
 {
-    if !is_scalar_at(meta, field, kind) || !is_word_of(kind, word) {
+    if !is_scalar_at(meta, field, kind) {
+        return false;
+    }
+    if !is_word_of(kind, word) {
         return false;
     }
     sampled.row.set_word(meta, field, word);
@@ -110,6 +120,7 @@ fn set_status_row(meta: &Meta, sampled: &mut Sampled, field: u8, status: u32) ->
     ensures set { OnTrue result (row_in meta.now.fields sampled.new.row.words
         ≡ with_status (row_in meta.now.fields sampled.old.row.words) field status) }
     ensures unset { OnFalse result (sampled.new ≡ sampled.old) }
+    ensures misfit { OnFalse result (¬ MayHaveStatus meta.now field status) }
 {
     if !may_have_status(meta, field, status) {
         return false;
@@ -121,7 +132,14 @@ fn set_status_row(meta: &Meta, sampled: &mut Sampled, field: u8, status: u32) ->
 
 /// Whether the field is there, and may have this status: without quality it is Good (OPC 10000-14 6.2.4.2, DataSetFieldContentMask).
 fn may_have_status(meta: &Meta, field: u8, status: u32) -> bool
-    ensures { OnTrue result (MayHaveStatus meta.now field status) }
+    ensures may { OnTrue result (MayHaveStatus meta.now field status) }
+    ensures not { OnFalse result (¬ MayHaveStatus meta.now field status) }
 {
-    usize::from(field) < meta.fields().len() && (meta.quality() || status == 0)
+    if !has_field_at(meta, field) {
+        return false;
+    }
+    if meta.quality() {
+        return true;
+    }
+    status == 0
 }

@@ -1,10 +1,12 @@
 //! A group of writers, of a configuration that its publisher keeps.
-ghost use Rattle.std.specs.Prelude.{◌≡◌, ◌<◌, IfOk, IfSome, IfNone, Some, None, All, length, slice_index_or};
+ghost use Rattle.std.specs.Prelude.{◌≡◌, ◌<◌, IfOk, IfSome, IfNone, Some, None, All, length, min, slice_index_or};
 ghost use Rattle.std.specs.Bool.{OnTrue};
 ghost use Rattle.message_guard.specs.Senders.{IsSender};
 ghost use Rattle.ps_config.specs.declared.parts.Config.{Config as ConfigValue};
+ghost use Rattle.writer_group.specs.Parts.{group_at};
 ghost use Rattle.writer_group.specs.Standing.{AreRowsOf, IsFreshAt, IsGood, IsReserved, KeepsTo, TellsDue, TellsMoment, index_of, writer_count};
-ghost use Rattle.device_sides.specs.Sides.{HasComeOn, HasSwitched, HasTurned, HasWriter, IsSide, sender_for};
+ghost use Rattle.device_sides.specs.Coming.{AreRefreshed, all_writers};
+ghost use Rattle.device_sides.specs.Sides.{HasComeOn, HasSwitched, HasTurned, HasWriter, IsSide, MayNotTurn, sender_for};
 
 use message_guard::Sender;
 use ps_config::{Config, GroupPart};
@@ -56,10 +58,11 @@ impl Side {
     /// The next turn sends key frames.
     pub fn refresh(&mut self, config: &Config)
         requires { IsSide config.now self.old }
-        ensures { IsSide config.now self.new }
+        ensures side { IsSide config.now self.new }
+        ensures refreshed { AreRefreshed (all_writers config.now self.old) self.old self.new }
     {
-        let count = part_of(config, self.index).writer.as_slice().len();
-        for writer in 0..count.min(256) {
+        let count = writer_count_of(config, self.index);
+        for writer in 0..count {
             self.group.refresh(writer as u8);
         }
     }
@@ -84,11 +87,12 @@ impl Side {
         self.on[usize::from(writer)] = on;
     }
 
-    /// Whether the group's datagrams are secured with the keys of this key group.
-    pub fn is_keyed(&self, config: &Config, keygroup: u8) -> bool
+    /// The key group with whose keys the group's datagrams are secured. None where they aren't.
+    pub fn keygroup(&self, config: &Config) -> Option<u8>
         requires { IsSide config.now self.now }
+        ensures { result ≡ (group_at config.now self.now.index).keygroup }
     {
-        part_of(config, self.index).keygroup == Some(keygroup)
+        part_of(config, self.index).keygroup
     }
 
     /// A turn at this moment with these rows of the configuration's data sets, if the group may have one (`Group::may_tick`): its
@@ -114,13 +118,14 @@ impl Side {
             (sender_for config.now senders.old self.old.index) self.old self.new out.new) }
         ensures not { IfNone result (self.new ≡ self.old) }
         ensures out_stays { IfNone result (out.new ≡ out.old) }
+        ensures senders_stay { IfNone result (senders.new ≡ senders.old) }
+        ensures may_not { IfNone result (MayNotTurn config.now rows.now
+            (sender_for config.now senders.old self.old.index) self.old) }
+        ensures unsent { IfSome result (λ made. made ≡ 0 → senders.new ≡ senders.old) }
     {
-        match part_of(config, self.index).keygroup {
+        match self.keygroup(config) {
             None => self.turn_plain(config, moment, rows, out),
-            Some(k) if usize::from(k) < senders.len() => {
-                self.turn_secured(config, moment, rows, &mut senders[usize::from(k)], out)
-            }
-            Some(_) => None,
+            Some(keygroup) => self.turn_keyed(config, keygroup, moment, rows, senders, out),
         }
     }
 
@@ -142,6 +147,7 @@ impl Side {
             self.old self.new out.new) }
         ensures not { IfNone result (self.new ≡ self.old) }
         ensures out_stays { IfNone result (out.new ≡ out.old) }
+        ensures may_not { IfNone result (MayNotTurn config.now rows.now None self.old) }
     {
         if !self.group.may_tick(config, rows, &self.on, None) {
             return None;
@@ -151,6 +157,41 @@ impl Side {
             self.group
                 .tick(config, metas, moment, rows, &self.on, None, false, out),
         )
+    }
+
+    /// The turn of a group that is secured with the keys of this key group.
+    fn turn_keyed(
+        &mut self,
+        config: &Config,
+        keygroup: u8,
+        moment: u64,
+        rows: &[Sampled],
+        senders: &mut [Sender],
+        out: &mut Datagrams,
+    ) -> Option<u32>
+        requires good { IsGood config.now }
+        requires side { IsSide config.now self.old }
+        requires keyed { (group_at config.now self.old.index).keygroup ≡ Some keygroup }
+        requires rows { AreRowsOf config.now.dataset rows.now }
+        requires senders { All IsSender senders.old }
+        requires reserved { IsReserved out.old }
+        ensures side { IsSide config.now self.new }
+        ensures senders { All IsSender senders.new }
+        ensures reserved { IsReserved out.new }
+        ensures turned { IfSome result (HasTurned config.now moment rows.now
+            (sender_for config.now senders.old self.old.index) self.old self.new out.new) }
+        ensures not { IfNone result (self.new ≡ self.old) }
+        ensures out_stays { IfNone result (out.new ≡ out.old) }
+        ensures senders_stay { IfNone result (senders.new ≡ senders.old) }
+        ensures may_not { IfNone result (MayNotTurn config.now rows.now
+            (sender_for config.now senders.old self.old.index) self.old) }
+        ensures unsent { IfSome result (λ made. made ≡ 0 → senders.new ≡ senders.old) }
+    {
+        let k = usize::from(keygroup);
+        if k >= senders.len() {
+            return None;
+        }
+        self.turn_secured(config, moment, rows, &mut senders[k], out)
     }
 
     /// The turn of a secured group.
@@ -174,6 +215,10 @@ impl Side {
             self.old self.new out.new) }
         ensures not { IfNone result (self.new ≡ self.old) }
         ensures out_stays { IfNone result (out.new ≡ out.old) }
+        ensures sender_stays { IfNone result (sender.new ≡ sender.old) }
+        ensures may_not { IfNone result
+            (MayNotTurn config.now rows.now (Some sender.old) self.old) }
+        ensures unsent { IfSome result (λ made. made ≡ 0 → sender.new ≡ sender.old) }
     {
         if !self.group.may_tick(config, rows, &self.on, Some(sender)) {
             return None;
@@ -193,6 +238,14 @@ fn part_of(config: &Config, index: u8) -> &GroupPart
     ensures { result.now ≡ slice_index_or config.now.group index result.now }
 {
     &config.group.as_slice()[usize::from(index)]
+}
+
+/// How many writers the group has, as far as a byte has their indexes.
+fn writer_count_of(config: &Config, index: u8) -> usize
+    requires { index < length config.now.group }
+    ensures { result ≡ min (length (group_at config.now index).writer) 256 }
+{
+    part_of(config, index).writer.as_slice().len().min(256)
 }
 
 /// The next frame of a writer that is switched on is a key frame.

@@ -1,81 +1,82 @@
-//! The groups of a publisher, together.
-ghost use Rattle.std.specs.Prelude.{◌≡◌, ◌<◌, All, IfSome, IfNone, length};
-ghost use Rattle.message_guard.specs.Senders.{IsSender};
-ghost use Rattle.writer_group.specs.Standing.{AreRowsOf, IsGood, IsReserved, datagrams_in};
+//! The groups of a publisher, and their senders.
+ghost use Rattle.std.specs.Prelude.{◌≡◌, ◌≤◌, ◌↔◌, All, IsTrue, length};
+ghost use Rattle.std.specs.List.{AllZip};
+ghost use Rattle.message_guard.specs.Senders.{IsSender, turned};
+ghost use Rattle.device_sides.specs.Coming.{HasNewToken, IsRefreshedFor, turned_to};
+ghost use Rattle.device_sides.specs.Raising.{AreRaised, IsRefreshedIf, is_raised, raised_in};
 ghost use Rattle.device_sides.specs.Sides.{IsSide};
 
 use crate::side::Side;
 use message_guard::Sender;
 use ps_config::Config;
-use writer_group::{Datagrams, Sampled};
+
+/// How many key groups a configuration has at most.
+const MOST_KEYGROUPS: usize = 4;
 
 /// Each sender turns to the last key set whose moment has come. Where its token changed, its groups send key frames next.
 pub fn turn_senders(config: &Config, sides: &mut [Side], senders: &mut [Sender], now: u64)
+    requires few { length senders.old ≤ MOST_KEYGROUPS }
     requires sides { All (IsSide config.now) sides.old }
     requires senders { All IsSender senders.old }
     ensures sides { All (IsSide config.now) sides.new }
     ensures senders { All IsSender senders.new }
+    ensures state { senders.new ≡ turned_to now senders.old }
+    ensures refreshed { AllZip (IsRefreshedFor config.now now senders.old) sides.old sides.new }
 {
-    for k in 0..senders.len().min(256) {
-        turn_sender(config, sides, &mut senders[k], k as u8, now);
-    }
-}
-
-/// The sender of this key group turns to the last key set whose moment has come.
-fn turn_sender(config: &Config, sides: &mut [Side], sender: &mut Sender, keygroup: u8, now: u64)
-    requires sides { All (IsSide config.now) sides.old }
-    requires sender { IsSender sender.old }
-    ensures sides { All (IsSide config.now) sides.new }
-    ensures sender { IsSender sender.new }
-{
-    if sender.turn_to(now) {
-        refresh_keyed(config, sides, keygroup);
-    }
-}
-
-/// The groups that are secured with the keys of this key group send key frames next.
-fn refresh_keyed(config: &Config, sides: &mut [Side], keygroup: u8)
-    requires { All (IsSide config.now) sides.old }
-    ensures { All (IsSide config.now) sides.new }
-{
+    let raised = turn_each(senders, now);
     for g in 0..sides.len() {
-        refresh_if(config, &mut sides[g], keygroup);
+        refresh_if(config, &mut sides[g], &raised);
     }
 }
 
-/// The group sends key frames next, if it is secured with the keys of this key group.
-fn refresh_if(config: &Config, side: &mut Side, keygroup: u8)
-    requires { IsSide config.now side.old }
-    ensures { IsSide config.now side.new }
-{
-    if side.is_keyed(config, keygroup) {
-        side.refresh(config);
-    }
-}
-
-/// The turn of the group at this index that comes at `now`, if it may have one.
-pub fn turn_at(
-    config: &Config,
-    sides: &mut [Side],
-    index: usize,
-    now: u64,
-    rows: &[Sampled],
-    senders: &mut [Sender],
-    out: &mut Datagrams,
-) -> Option<u32>
-    requires index { index < length sides.old }
-    requires good { IsGood config.now }
-    requires sides { All (IsSide config.now) sides.old }
-    requires rows { AreRowsOf config.now.dataset rows.now }
+/// Each sender turns to the last key set whose moment has come. The answer is whose tokens changed.
+fn turn_each(senders: &mut [Sender], now: u64) -> [bool; 4]
+    requires few { length senders.old ≤ MOST_KEYGROUPS }
     requires senders { All IsSender senders.old }
-    requires reserved { IsReserved out.old }
-    ensures sides { All (IsSide config.now) sides.new }
     ensures senders { All IsSender senders.new }
-    ensures reserved { IsReserved out.new }
-    ensures made { IfSome result (λ made. made ≡ length (datagrams_in out.new)) }
-    ensures out_stays { IfNone result (out.new ≡ out.old) }
+    ensures state { senders.new ≡ turned_to now senders.old }
+    ensures raised { AreRaised now senders.old result }
 {
-    let side = &mut sides[index];
-    let moment = side.moment_of(now);
-    side.turn(config, moment, rows, senders, out)
+    let mut raised = [false; MOST_KEYGROUPS];
+    for k in 0..senders.len() {
+        raised[k] = turn_one(&mut senders[k], now);
+    }
+    raised
+}
+
+/// The sender turns to the last key set whose moment has come. Whether its token changed.
+fn turn_one(sender: &mut Sender, now: u64) -> bool
+    requires { IsSender sender.old }
+    ensures sender { IsSender sender.new }
+    ensures state { sender.new ≡ turned sender.old now }
+    ensures changed { IsTrue result ↔ HasNewToken now sender.old }
+{
+    sender.turn_to(now)
+}
+
+/// The group sends key frames next, if it is secured with the keys of a key group whose token changed.
+fn refresh_if(config: &Config, side: &mut Side, raised: &[bool; 4])
+    requires { IsSide config.now side.old }
+    ensures side { IsSide config.now side.new }
+    ensures refreshed { IsRefreshedIf config.now (raised_in config.now raised.now side.old)
+        side.old side.new }
+{
+    if !is_raised(side.keygroup(config), raised) {
+        return;
+    }
+    side.refresh(config);
+}
+
+/// Whether it is a key group whose token changed.
+fn is_raised(keygroup: Option<u8>, raised: &[bool; 4]) -> bool
+    ensures { result ≡ is_raised raised.now keygroup }
+{
+    let Some(keygroup) = keygroup else {
+        return false;
+    };
+    let k = usize::from(keygroup);
+    if k >= MOST_KEYGROUPS {
+        return false;
+    }
+    raised[k]
 }

@@ -8,12 +8,12 @@ ghost use Rattle.ps_config.specs.Reading.{configuration, IsEnd};
 ghost use Rattle.ps_config.specs.Sound.{IsSound};
 ghost use Rattle.writer_group.specs.Standing.{IsGood};
 ghost use Rattle.row_words.specs.Words.{scalar_in};
-ghost use Rattle.device_sides.specs.Readings.{HasFieldStatus, HasFieldValue, HasKeysRenewed, HasReaderSwitched, IsNoReader, IsOfKind, IsReaderAt, IsUntold, IsUntoldAt, Keeps, ReaderKeeps, meta_for};
-ghost use Rattle.device_sides.specs.Sides.{HasListened, IsListening, IsSubscriber};
+ghost use Rattle.device_sides.specs.Readings.{HasFieldStatus, HasFieldValue, HasKeysRenewed, HasNoMisfit, HasReaderSwitched, HaveExpired, IsNoReader, IsOfKind, IsOfOtherKind, IsReaderAt, IsUntold, IsUntoldAt, Keeps, ReaderKeeps, meta_for};
+ghost use Rattle.device_sides.specs.Sides.{HasListened, IsListening, IsSubscriber, ReadsLongKeys, ReadsNoKeys};
 
 use crate::asked::NoValue;
 use crate::listening::Listening;
-use crate::making::{has_long_keys, listenings_of};
+use crate::making::{has_long_keys, keygroup_of, listenings_of};
 use crate::words::is_scalar_at;
 use dataset_meta::Meta;
 use dataset_reader::Reader;
@@ -70,7 +70,8 @@ impl Subscriber {
     /// Time goes on to `now`, in milliseconds, for all readers (`ReaderGroup::expire`).
     pub fn expire(&mut self, now: u64)
         requires { IsSubscriber self.old }
-        ensures { IsSubscriber self.new }
+        ensures subscriber { IsSubscriber self.new }
+        ensures expired { HaveExpired now self.old self.new }
     {
         for g in 0..self.groups.len() {
             self.groups[g].expire(&self.config, now);
@@ -99,7 +100,7 @@ impl Subscriber {
         requires { IsSubscriber self.now }
         ensures value { IfOk result (λ x. Keeps group reader (HasFieldValue field x.0) self.now) }
         ensures status { IfOk result (λ x. Keeps group reader (HasFieldStatus field x.1) self.now) }
-        ensures none { IfErr result (IsUntoldAt group reader field self.now) }
+        ensures none { IfErr result (IsUntoldAt HasNoMisfit group reader field self.now) }
     {
         let index = usize::from(group);
         if index >= self.groups.len() {
@@ -114,7 +115,8 @@ impl Subscriber {
         ensures word { IfOk result (λ word.
             Keeps group reader (HasFieldValue field (scalar_in kind word)) self.now) }
         ensures kind { IfOk result (λ word. Keeps group reader (IsOfKind field kind) self.now) }
-        ensures none { IfErr result (IsUntoldAt group reader field self.now) }
+        ensures none { IfErr result
+            (IsUntoldAt (IsOfOtherKind field kind) group reader field self.now) }
     {
         let index = usize::from(group);
         if index >= self.groups.len() {
@@ -141,14 +143,14 @@ impl Subscriber {
 
     /// Whether the key group of the read group with this index has keys of AES-256. None where there is no such read group, or where it
     /// isn't secured.
-    pub fn has_long_keys(&self, group: u8) -> Option<bool> {
-        let groups = self.config.readgroup.as_slice();
-        let index = usize::from(group);
-        if index >= groups.len() {
-            return None;
+    pub fn has_long_keys(&self, group: u8) -> Option<bool>
+        ensures long { IfSome result (ReadsLongKeys self.now.config group) }
+        ensures none { IfNone result (ReadsNoKeys self.now.config group) }
+    {
+        match keygroup_of(&self.config, group) {
+            Some(keygroup) => has_long_keys(&self.config, keygroup),
+            None => None,
         }
-        let keygroup = groups[index].keygroup?;
-        has_long_keys(&self.config, keygroup)
     }
 
     /// The read group with this index goes on with another ring of the same key length (`ReaderGroup::renew`). False, and nothing
@@ -183,7 +185,8 @@ fn field_in(
         ReaderKeeps config.now reader (HasFieldValue field x.0) listening.now) }
     ensures status { IfOk result (λ x.
         ReaderKeeps config.now reader (HasFieldStatus field x.1) listening.now) }
-    ensures none { IfErr result (λ none. IsUntold config.now reader field none listening.now) }
+    ensures none { IfErr result (λ none.
+        IsUntold HasNoMisfit config.now reader field none listening.now) }
 {
     if reader >= listening.group.count() {
         return Err(NoValue::NoField);
@@ -214,7 +217,8 @@ fn word_in(
     ensures word { IfOk result (λ word.
         ReaderKeeps config.now reader (HasFieldValue field (scalar_in kind word)) listening.now) }
     ensures kind { IfOk result (λ word. ReaderKeeps config.now reader (IsOfKind field kind) listening.now) }
-    ensures none { IfErr result (λ none. IsUntold config.now reader field none listening.now) }
+    ensures none { IfErr result (λ none.
+        IsUntold (IsOfOtherKind field kind) config.now reader field none listening.now) }
 {
     if reader >= listening.group.count() {
         return Err(NoValue::NoField);
@@ -223,10 +227,10 @@ fn word_in(
     if usize::from(field) >= meta.fields().len() {
         return Err(NoValue::NoField);
     }
+    let holder = listening.group.reader(reader);
     if !is_scalar_at(meta, field, kind) {
         return Err(NoValue::Misfit);
     }
-    let holder = listening.group.reader(reader);
     let Some(row) = holder.row() else {
         return Err(NoValue::NoRow);
     };

@@ -1,15 +1,20 @@
 -- What a handle tells of a reader.
-use Rattle.std.proofs.Common.{ℕ, get_or}
-use Rattle.std.specs.Prelude.{Result, Ok, Err, IfErr}
+use Rattle.std.proofs.Common.{ℕ, ◌<◌, List, [], ◌∷◌, length, get_or, arith}
 use Rattle.dataset_meta.specs.Metas.{MetaData}
 use Rattle.dataset_reader.specs.declared.reader.Reader.{Reader}
 use Rattle.dataset_reader.specs.Kept.{Kept as ReaderKept}
 use Rattle.dataset_reader.specs.Reader.{kept_by}
-use Rattle.device_sides.specs.Readings.{IsReaderAt, Keeps, meta_for}
+use Rattle.device_sides.specs.Readings.{HasNoMisfit, IsReaderAt, Keeps, meta_for}
+use Rattle.device_sides.specs.declared.publisher.Publisher.{Publisher as PublisherValue}
 use Rattle.device_sides.specs.declared.subscriber.Subscriber.{Subscriber as SubscriberValue}
-use Rattle.uapubsub_c.specs.Getting.{IsReaderIn, KeepsIn}
+use Rattle.uapubsub_c.specs.Getting.{IsReaderIn, KeepsIn, PublisherIs}
 use Rattle.uapubsub_c.specs.declared.kept.Kept.{Kept}
 use Rattle.uapubsub_c.specs.declared.kept.Kept.TheVariants.{Publisher, Subscriber}
+
+-- an element of a list that isn't empty
+some-of : {X : Type 0} (list : List X) (place : ℕ) → place < length list → X
+some-of [] place low = absurd (omega (arith, low))
+some-of (x ∷ list) place low = x
 
 keeps-so : (group reader : ℕ) (subscriber : SubscriberValue) (value : Reader) (says : MetaData → ReaderKept → Type 0)
     → IsReaderAt group reader subscriber value → ((meta : MetaData) → says meta (kept_by meta.fields value)) → Keeps group reader says subscriber
@@ -29,7 +34,23 @@ pub kept-so : (group reader : ℕ) (kept : Kept) (value : Reader) (says : MetaDa
 kept-so group reader (Subscriber subscriber) value says is so = keeps-so group reader subscriber value says is so
 kept-so group reader (Publisher publisher) value says is so = absurd is
 
--- what follows from it holds of the error too
-pub IfErr-weaker : {T E : Type 0} (r : Result T E) (P Q : E → Type 0) → ((e : E) → P e → Q e) → IfErr r P → IfErr r Q
-IfErr-weaker (Ok x) P Q f p = tt
-IfErr-weaker (Err e) P Q f p = f e p
+-- what follows from what a reader of the handle's subscriber keeps, it keeps too
+pub kept-too : (group reader : ℕ) (kept : Kept) (says more : MetaData → ReaderKept → Type 0) → ((meta : MetaData) (keeps : ReaderKept) → says meta keeps → more meta keeps)
+    → KeepsIn group reader says kept → KeepsIn group reader more kept
+kept-too group reader (Subscriber subscriber) says more step keeps = record {
+  within = keeps.within;
+  is = λ d.
+      let at = keeps.is d in
+      let meta = meta_for subscriber.config (get_or subscriber.groups.items group d) reader in
+      record { index = at.index; value = at.value; is = at.is; so = step meta (kept_by meta.fields at.value) at.so };
+}
+kept-too group reader (Publisher publisher) says more step keeps = absurd keeps
+
+-- no field is a misfit where no kind is asked for
+pub never-misfit : (group reader : ℕ) (subscriber : SubscriberValue) → Keeps group reader HasNoMisfit subscriber → ⊥
+never-misfit group reader subscriber keeps = (keeps.is (some-of subscriber.groups.items group keeps.within)).so
+
+-- what follows of the handle's publisher
+pub publisher-too : (kept : Kept) (says more : PublisherValue → Type 0) → ((publisher : PublisherValue) → says publisher → more publisher) → PublisherIs says kept → PublisherIs more kept
+publisher-too (Publisher publisher) says more step is = step publisher is
+publisher-too (Subscriber subscriber) says more step is = absurd is

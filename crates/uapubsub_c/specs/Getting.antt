@@ -1,10 +1,10 @@
 -- What calls tell C of a subscriber, and what a datagram does to it.
-use Rattle.std.specs.Prelude.{◌≡◌, ℕ, ◌<◌, ◌++◌, List, drop, length, Ok, Err, None, Some, IsSome}
+use Rattle.std.specs.Prelude.{◌≡◌, ◌≢◌, ℕ, ◌<◌, ◌++◌, List, drop, length, Ok, Err, None, Some, IsSome}
 use Rattle.std.specs.List.{HoldsAt}
 use Rattle.ua_values.specs.declared.kind.Kind.{Kind}
 use Rattle.ua_values.specs.declared.value.Value.{Value}
-use Rattle.ua_values.specs.declared.value.Value.TheVariants.{ByteString, String}
-use Rattle.ua_binary.specs.Types.{type_of}
+use Rattle.ua_values.specs.declared.value.Value.TheVariants.{ByteString, Guid, String}
+use Rattle.ua_binary.specs.Types.{kind_with, type_of}
 use Rattle.dataset_meta.specs.Metas.{IsPlaceOf, MetaData}
 use Rattle.row_words.specs.Words.{scalar_in}
 use Rattle.dataset_reader.specs.Kept.{Kept as ReaderKept}
@@ -12,9 +12,9 @@ use Rattle.dataset_reader.specs.declared.reader.Reader.{Reader}
 use Rattle.ps_config.specs.declared.parts.Config.{Config}
 use Rattle.reader_group.specs.declared.refusal.Refusal.{Refusal}
 use Rattle.reader_group.specs.declared.refusal.Taken.{Taken}
-use Rattle.device_sides.specs.Readings.{HasFieldValue, IsOfKind, IsReaderAt, IsUntoldAt, Keeps}
+use Rattle.device_sides.specs.Readings.{HasFieldValue, HasNoMisfit, IsOfKind, IsOfOtherKind, IsReaderAt, IsUntoldAt, Keeps}
 use Rattle.device_sides.specs.Sides.{HasListened}
-use Rattle.device_sides.specs.declared.asked.NoValue.{NoValue}
+use Rattle.device_sides.specs.declared.asked.NoValue.TheVariants.{NoField}
 use Rattle.device_sides.specs.declared.publisher.Publisher.{Publisher as PublisherValue}
 use Rattle.device_sides.specs.declared.subscriber.Subscriber.{Subscriber as SubscriberValue}
 use Rattle.uapubsub_c.specs.Handles.{Tells}
@@ -34,10 +34,15 @@ abbrev pub IsReaderIn : ℕ → ℕ → Reader → Kept → Type 0
 IsReaderIn group reader value (Subscriber subscriber) = IsReaderAt group reader subscriber value
 IsReaderIn group reader value (Publisher publisher) = ⊥
 
--- for this reason the subscriber tells nothing of a field of a reader
-abbrev pub IsUntoldIn : ℕ → ℕ → ℕ → NoValue → Kept → Type 0
-IsUntoldIn group reader field none (Subscriber subscriber) = IsUntoldAt group reader field subscriber none
-IsUntoldIn group reader field none (Publisher publisher) = ⊥
+-- the subscriber has no such read group, reader or field
+abbrev pub HasNoFieldIn : ℕ → ℕ → ℕ → Kept → Type 0
+HasNoFieldIn group reader field (Subscriber subscriber) = IsUntoldAt HasNoMisfit group reader field subscriber NoField
+HasNoFieldIn group reader field (Publisher publisher) = ⊥
+
+-- the field isn't of the kind with this number, or that isn't a scalar's
+abbrev pub IsOtherKindIn : ℕ → ℕ → ℕ → ℕ → Kept → Type 0
+IsOtherKindIn group reader field number kept =
+    (kind : Kind) → kind_with number ≡ Some kind → KeepsIn group reader (IsOfOtherKind field kind) kept
 
 -- the row that is held has at the field the scalar with this word, of the field's own kind, which has this number
 pub record HasScalarAt (group reader field number word : ℕ) (kept : Kept) : Type 0 where
@@ -45,6 +50,22 @@ pub record HasScalarAt (group reader field number word : ℕ) (kept : Kept) : Ty
   pub number_is : type_of kind ≡ number
   pub is_of : KeepsIn group reader (IsOfKind field kind) kept
   pub value_is : KeepsIn group reader (HasFieldValue field (scalar_in kind word)) kept
+
+-- values that aren't a String, a ByteString or a Guid
+abbrev pub IsNoText : Value → Type 0
+IsNoText value = (text : List ℕ) → value ≢ String text
+
+abbrev pub IsNoBlob : Value → Type 0
+IsNoBlob value = (blob : List ℕ) → value ≢ ByteString blob
+
+abbrev pub IsNoGuid : Value → Type 0
+IsNoGuid value = (bytes : List ℕ) → value ≢ Guid bytes
+
+-- the row that is held has at the field another value
+pub record HasOther (field : ℕ) (other : Value → Type 0) (meta : MetaData) (kept : ReaderKept) : Type 0 where
+  pub value : Value
+  pub has : HasFieldValue field value meta kept
+  pub is : other value
 
 -- the bytes stand at the front of the buffer, which keeps its rest, and there are so many
 pub record IsLaidOut (bytes old new : List ℕ) (count : ℕ) : Type 0 where
@@ -105,7 +126,17 @@ pub record IsFieldNamed (config : Config) (set : ℕ) (name : List ℕ) (index :
   pub within : set < length config.dataset
   pub named : HoldsAt (λ meta. IsPlaceOf meta.fields name index) config.dataset set
 
--- ---- what befalls a side
+-- ---- a side, and what befalls it
+
+-- it is a publisher, and is so
+abbrev pub PublisherIs : (PublisherValue → Type 0) → Kept → Type 0
+PublisherIs says (Publisher publisher) = says publisher
+PublisherIs says (Subscriber subscriber) = ⊥
+
+-- it is a subscriber, and is so
+abbrev pub SubscriberIs : (SubscriberValue → Type 0) → Kept → Type 0
+SubscriberIs says (Subscriber subscriber) = says subscriber
+SubscriberIs says (Publisher publisher) = ⊥
 
 -- the publisher moved so
 abbrev pub PublisherMoves : (PublisherValue → PublisherValue → Type 0) → Kept → Kept → Type 0

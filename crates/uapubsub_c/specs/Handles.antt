@@ -5,6 +5,7 @@ use Rattle.ua_values.specs.declared.value.Value.{Value}
 use Rattle.ua_values.specs.declared.value.Value.TheVariants.{ByteString, String}
 use Rattle.ua_values.specs.Blobs.{blob_of}
 use Rattle.ua_values.specs.Texts.{text_of}
+use Rattle.ua_binary.specs.Types.{type_of}
 use Rattle.ps_config.specs.declared.parts.Config.{Config}
 use Rattle.ps_config.specs.declared.read.ConfigEnd.{ConfigEnd}
 use Rattle.ps_config.specs.declared.read.ConfigEnd.TheVariants.{Memory, Refused}
@@ -67,9 +68,10 @@ IsRefusal (Refused code path) = Unit {0}
 abbrev pub HasOpened : List ℕ → Handle → Type 0
 HasOpened text handle = Tells handle (λ kept. configuration text ≡ Ok (config_in kept))
 
--- a kind is there with which the publisher had the field set to this word
-pub record SetsWord (set field word : ℕ) (old new : PublisherValue) : Type 0 where
+-- the publisher had the field, which is of the kind with this number, set to this word
+pub record SetsWord (set field number word : ℕ) (old new : PublisherValue) : Type 0 where
   pub kind : Kind
+  pub number_is : type_of kind ≡ number
   pub is : HasSetWord set field kind word old new
 
 -- the field of a publisher's data set has this value and this status from now on (HasSet)
@@ -90,11 +92,11 @@ pub record HasBytesIn (set field : ℕ) (bytes : List ℕ) (old new : Kept) : Ty
   pub read : Ok blob ≡ blob_of bytes
   pub is : HasSetIn set field (ByteString blob) 0 old new
 
--- the same for a scalar field, by its word: its kind is the field's own
-abbrev pub HasScalarIn : ℕ → ℕ → ℕ → Kept → Kept → Type 0
-HasScalarIn set field word (Publisher old) (Publisher new) = SetsWord set field word old new
-HasScalarIn set field word (Publisher old) (Subscriber new) = ⊥
-HasScalarIn set field word (Subscriber old) new = ⊥
+-- the same for a scalar field, by the number of its kind, which is the field's own, and its word
+abbrev pub HasScalarIn : ℕ → ℕ → ℕ → ℕ → Kept → Kept → Type 0
+HasScalarIn set field number word (Publisher old) (Publisher new) = SetsWord set field number word old new
+HasScalarIn set field number word (Publisher old) (Subscriber new) = ⊥
+HasScalarIn set field number word (Subscriber old) new = ⊥
 
 -- the sender of a publisher's key group is at this token, with this number used last
 abbrev pub StandsIn : ℕ → ℕ → ℕ → Kept → Type 0

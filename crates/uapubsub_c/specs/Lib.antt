@@ -1,4 +1,7 @@
 pub mod Getting
 pub mod Handles
 pub mod Holding
+pub mod Keys
+pub mod Nexts
 pub mod Numbers
+pub mod Setting

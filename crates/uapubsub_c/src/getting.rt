@@ -1,7 +1,7 @@
 //! Getting fields.
 ghost use Rattle.std.specs.Prelude.{◌≡◌, ◌≢◌, IfOk, IfErr};
-ghost use Rattle.device_sides.specs.Readings.{HasFieldStatus, HasFieldValue};
-ghost use Rattle.uapubsub_c.specs.Getting.{GetsBytes, GetsText, HasScalarAt, IsBlobLaid, IsLaidOut, IsTextLaid, IsUntoldIn, KeepsIn};
+ghost use Rattle.device_sides.specs.Readings.{HasFieldStatus, HasFieldValue, HoldsNone};
+ghost use Rattle.uapubsub_c.specs.Getting.{GetsBytes, GetsText, HasNoFieldIn, HasOther, HasScalarAt, IsBlobLaid, IsLaidOut, IsNoBlob, IsNoGuid, IsNoText, IsOtherKindIn, IsTextLaid, KeepsIn};
 ghost use Rattle.uapubsub_c.specs.Handles.{IsReady, IsSound, Stays, Tells};
 
 use crate::guid::GuidBytes;
@@ -30,8 +30,10 @@ pub extern "C" fn uapubsub_get_scalar(
     ensures stays { Stays handle.old handle.new }
     ensures word { result ≡ OK → Tells handle.old (HasScalarAt group reader field kind word.new) }
     ensures untold { result ≢ OK → word.new ≡ word.old }
-    ensures no_row { result ≡ NONE
-        → Tells handle.old (IsUntoldIn group reader field NoValue.NoRow) }
+    ensures no_row { result ≡ NONE → Tells handle.old (KeepsIn group reader HoldsNone) }
+    ensures misfit { result ≡ MISFIT → Tells handle.old (IsOtherKindIn group reader field kind) }
+    ensures index { result ≡ INDEX → Tells handle.old (HasNoFieldIn group reader field) }
+    ensures closed { result ≡ CLOSED → handle.old.is_open ≡ 0 }
 {
     let Some(kept) = handle.take(alloc) else {
         return CLOSED;
@@ -45,7 +47,10 @@ fn word_in(kept: &Kept, group: u8, reader: u8, field: u8, kind: u32, word: &mut 
     requires { IsSound kept.now }
     ensures word { result ≡ OK → HasScalarAt group reader field kind word.new kept.now }
     ensures untold { result ≢ OK → word.new ≡ word.old }
-    ensures no_row { result ≡ NONE → IsUntoldIn group reader field NoValue.NoRow kept.now }
+    ensures no_row { result ≡ NONE → KeepsIn group reader HoldsNone kept.now }
+    ensures misfit { result ≡ MISFIT → IsOtherKindIn group reader field kind kept.now }
+    ensures index { result ≡ INDEX → HasNoFieldIn group reader field kept.now }
+    ensures not_closed { result ≢ CLOSED }
 {
     let Kept::Subscriber(subscriber) = kept else {
         return OTHER_SIDE;
@@ -65,6 +70,9 @@ fn word_in(kept: &Kept, group: u8, reader: u8, field: u8, kind: u32, word: &mut 
 fn status_of(none: NoValue) -> u32
     ensures not_ok { result ≢ OK }
     ensures no_row { result ≡ NONE → none ≡ NoValue.NoRow }
+    ensures misfit { result ≡ MISFIT → none ≡ NoValue.Misfit }
+    ensures index { result ≡ INDEX → none ≡ NoValue.NoField }
+    ensures not_closed { result ≢ CLOSED }
 {
     match none {
         NoValue::NoField => INDEX,
@@ -91,8 +99,11 @@ pub extern "C" fn uapubsub_get_text(
     ensures got { result ≡ OK
         → GetsText group reader field handle.old buffer.old buffer.new count.new }
     ensures rest { result ≢ OK → buffer.new ≡ buffer.old }
-    ensures no_row { result ≡ NONE
-        → Tells handle.old (IsUntoldIn group reader field NoValue.NoRow) }
+    ensures no_row { result ≡ NONE → Tells handle.old (KeepsIn group reader HoldsNone) }
+    ensures misfit { result ≡ MISFIT
+        → Tells handle.old (KeepsIn group reader (HasOther field IsNoText)) }
+    ensures index { result ≡ INDEX → Tells handle.old (HasNoFieldIn group reader field) }
+    ensures closed { result ≡ CLOSED → handle.old.is_open ≡ 0 }
 {
     match field_of(alloc, handle, group, reader, field) {
         Ok((value, _)) => lay_text(&value, buffer, count),
@@ -117,8 +128,11 @@ pub extern "C" fn uapubsub_get_bytes(
     ensures got { result ≡ OK
         → GetsBytes group reader field handle.old buffer.old buffer.new count.new }
     ensures rest { result ≢ OK → buffer.new ≡ buffer.old }
-    ensures no_row { result ≡ NONE
-        → Tells handle.old (IsUntoldIn group reader field NoValue.NoRow) }
+    ensures no_row { result ≡ NONE → Tells handle.old (KeepsIn group reader HoldsNone) }
+    ensures misfit { result ≡ MISFIT
+        → Tells handle.old (KeepsIn group reader (HasOther field IsNoBlob)) }
+    ensures index { result ≡ INDEX → Tells handle.old (HasNoFieldIn group reader field) }
+    ensures closed { result ≡ CLOSED → handle.old.is_open ≡ 0 }
 {
     match field_of(alloc, handle, group, reader, field) {
         Ok((value, _)) => lay_blob(&value, buffer, count),
@@ -130,7 +144,10 @@ pub extern "C" fn uapubsub_get_bytes(
 fn lay_text(value: &Value, buffer: &mut [u8], count: &mut usize) -> u32
     ensures laid { result ≡ OK → IsTextLaid value.now buffer.old buffer.new count.new }
     ensures rest { result ≢ OK → buffer.new ≡ buffer.old }
+    ensures misfit { result ≡ MISFIT → IsNoText value.now }
     ensures not_none { result ≢ NONE }
+    ensures not_index { result ≢ INDEX }
+    ensures not_closed { result ≢ CLOSED }
 {
     match value {
         Value::String(text) => lay_in(text.as_bytes(), buffer, count),
@@ -142,7 +159,10 @@ fn lay_text(value: &Value, buffer: &mut [u8], count: &mut usize) -> u32
 fn lay_blob(value: &Value, buffer: &mut [u8], count: &mut usize) -> u32
     ensures laid { result ≡ OK → IsBlobLaid value.now buffer.old buffer.new count.new }
     ensures rest { result ≢ OK → buffer.new ≡ buffer.old }
+    ensures misfit { result ≡ MISFIT → IsNoBlob value.now }
     ensures not_none { result ≢ NONE }
+    ensures not_index { result ≢ INDEX }
+    ensures not_closed { result ≢ CLOSED }
 {
     match value {
         Value::ByteString(blob) => lay_in(blob.as_bytes(), buffer, count),
@@ -154,7 +174,10 @@ fn lay_blob(value: &Value, buffer: &mut [u8], count: &mut usize) -> u32
 fn lay_in(bytes: &[u8], buffer: &mut [u8], count: &mut usize) -> u32
     ensures laid { result ≡ OK → IsLaidOut bytes.now buffer.old buffer.new count.new }
     ensures rest { result ≢ OK → buffer.new ≡ buffer.old }
+    ensures not_misfit { result ≢ MISFIT }
     ensures not_none { result ≢ NONE }
+    ensures not_index { result ≢ INDEX }
+    ensures not_closed { result ≢ CLOSED }
 {
     *count = bytes.len();
     if bytes.len() > buffer.len() {
@@ -179,8 +202,11 @@ pub extern "C" fn uapubsub_get_guid(
     ensures stays { Stays handle.old handle.new }
     ensures got { result ≡ OK → Tells handle.old
         (KeepsIn group reader (HasFieldValue field (Value.Guid guid.new.bytes))) }
-    ensures no_row { result ≡ NONE
-        → Tells handle.old (IsUntoldIn group reader field NoValue.NoRow) }
+    ensures no_row { result ≡ NONE → Tells handle.old (KeepsIn group reader HoldsNone) }
+    ensures misfit { result ≡ MISFIT
+        → Tells handle.old (KeepsIn group reader (HasOther field IsNoGuid)) }
+    ensures index { result ≡ INDEX → Tells handle.old (HasNoFieldIn group reader field) }
+    ensures closed { result ≡ CLOSED → handle.old.is_open ≡ 0 }
 {
     match field_of(alloc, handle, group, reader, field) {
         Ok((value, _)) => guid_of(&value, guid),
@@ -191,7 +217,10 @@ pub extern "C" fn uapubsub_get_guid(
 /// The bytes of a Guid.
 fn guid_of(value: &Value, guid: &mut GuidBytes) -> u32
     ensures is { result ≡ OK → value.now ≡ Value.Guid guid.new.bytes }
+    ensures misfit { result ≡ MISFIT → IsNoGuid value.now }
     ensures not_none { result ≢ NONE }
+    ensures not_index { result ≢ INDEX }
+    ensures not_closed { result ≢ CLOSED }
 {
     match value {
         Value::Guid(bytes) => {
@@ -217,8 +246,9 @@ pub extern "C" fn uapubsub_get_field_status(
     ensures stays { Stays handle.old handle.new }
     ensures got { result ≡ OK → Tells handle.old
         (KeepsIn group reader (HasFieldStatus field status.new)) }
-    ensures no_row { result ≡ NONE
-        → Tells handle.old (IsUntoldIn group reader field NoValue.NoRow) }
+    ensures no_row { result ≡ NONE → Tells handle.old (KeepsIn group reader HoldsNone) }
+    ensures index { result ≡ INDEX → Tells handle.old (HasNoFieldIn group reader field) }
+    ensures closed { result ≡ CLOSED → handle.old.is_open ≡ 0 }
 {
     match field_of(alloc, handle, group, reader, field) {
         Ok((_, held)) => {
@@ -245,8 +275,12 @@ fn field_of(
     ensures status { IfOk result (λ x. Tells handle.old
         (KeepsIn group reader (HasFieldStatus field x.1))) }
     ensures not_ok { IfErr result (λ status. status ≢ OK) }
+    ensures not_misfit { IfErr result (λ status. status ≢ MISFIT) }
     ensures no_row { IfErr result (λ status. status ≡ NONE
-        → Tells handle.old (IsUntoldIn group reader field NoValue.NoRow)) }
+        → Tells handle.old (KeepsIn group reader HoldsNone)) }
+    ensures index { IfErr result (λ status. status ≡ INDEX
+        → Tells handle.old (HasNoFieldIn group reader field)) }
+    ensures closed { IfErr result (λ status. status ≡ CLOSED → handle.old.is_open ≡ 0) }
 {
     let Some(kept) = handle.take(alloc) else {
         return Err(CLOSED);
@@ -261,8 +295,12 @@ fn field_in(kept: &Kept, group: u8, reader: u8, field: u8) -> Result<(Value, u32
     ensures value { IfOk result (λ x. KeepsIn group reader (HasFieldValue field x.0) kept.now) }
     ensures status { IfOk result (λ x. KeepsIn group reader (HasFieldStatus field x.1) kept.now) }
     ensures not_ok { IfErr result (λ status. status ≢ OK) }
+    ensures not_misfit { IfErr result (λ status. status ≢ MISFIT) }
     ensures no_row { IfErr result (λ status. status ≡ NONE
-        → IsUntoldIn group reader field NoValue.NoRow kept.now) }
+        → KeepsIn group reader HoldsNone kept.now) }
+    ensures index { IfErr result (λ status. status ≡ INDEX
+        → HasNoFieldIn group reader field kept.now) }
+    ensures not_closed { IfErr result (λ status. status ≢ CLOSED) }
 {
     let Kept::Subscriber(subscriber) = kept else {
         return Err(OTHER_SIDE);

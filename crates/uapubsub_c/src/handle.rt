@@ -26,6 +26,7 @@ impl Handle {
         ensures ready { IsReady self.new }
         ensures closed { self.new.is_open ≡ 0 }
         ensures none { IfNone result (self.new ≡ self.old) }
+        ensures was_closed { IfNone result (self.old.is_open ≡ 0) }
     {
         if self.is_open == 0 {
             return None;

@@ -1,4 +1,9 @@
 //! Key sets that C gives.
+ghost use Rattle.std.specs.Prelude.{◌≡◌, ◌≤◌, IfNone, IfSome, length, take};
+ghost use Rattle.group_keys.specs.KeySets.{encrypting_length};
+ghost use Rattle.group_keys.specs.Ring.{key_sets};
+ghost use Rattle.uapubsub_c.specs.Keys.{MakeNoRing, key_set_in, key_sets_in};
+
 use arrayvec::ArrayVec;
 use group_keys::{KeySet, Ring};
 use ps_config::KeyBytes;
@@ -22,26 +27,54 @@ pub struct KeySetWords {
 }
 
 /// The ring of these sets, if they make one. A long ring has keys of AES-256.
-pub fn ring_of_words(long: bool, sets: &[KeySetWords]) -> Option<Ring> {
+pub fn ring_of_words(long: bool, sets: &[KeySetWords]) -> Option<Ring>
+    ensures sets { IfSome result (λ ring. key_sets ring ≡ key_sets_in long sets.now) }
+    ensures none { IfNone result (MakeNoRing long sets.now) }
+{
     if sets.len() > MOST_SETS {
         return None;
     }
-    let mut room = ArrayVec::new();
-    for set in sets {
-        if room.try_push(key_set(long, set)).is_err() {
-            return None;
-        }
+    match Ring::new(long, key_sets_of(long, sets)) {
+        Ok(ring) => Some(ring),
+        Err(_) => None,
     }
-    Ring::new(long, room).ok()
 }
 
-fn key_set(long: bool, words: &KeySetWords) -> KeySet {
-    let count = if long { 32 } else { 16 };
+fn key_sets_of(long: bool, words: &[KeySetWords]) -> ArrayVec<KeySet, 16>
+    requires { length words.now ≤ MOST_SETS }
+    ensures { result.items ≡ key_sets_in long words.now }
+{
+    let mut sets = ArrayVec::new();
+    for set in words {
+        sets.push(key_set_of(long, set));
+    }
+    sets
+}
+
+fn key_set_of(long: bool, words: &KeySetWords) -> KeySet
+    ensures { result ≡ key_set_in long words.now }
+{
     KeySet {
         token: words.token,
         from: words.from,
         signing: words.signing,
-        encrypting: KeyBytes::new(&words.encrypting[..count]).to_array(),
+        encrypting: encrypting_of(long, words),
         nonce: words.nonce,
     }
+}
+
+/// The encrypting key: all bytes of a long one, else the first 16.
+fn encrypting_of(long: bool, words: &KeySetWords) -> ArrayVec<u8, 32>
+    ensures { result.items ≡ take (encrypting_length long) words.now.encrypting }
+{
+    let count = encrypting_length(long);
+    KeyBytes::new(&words.encrypting[..count]).to_array()
+}
+
+/// How many bytes an encrypting key has.
+fn encrypting_length(long: bool) -> usize
+    ensures length { result ≡ encrypting_length long }
+    ensures most { result ≤ 32 }
+{
+    if long { 32 } else { 16 }
 }

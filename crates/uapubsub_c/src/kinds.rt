@@ -1,12 +1,13 @@
 //! Kinds by their numbers.
 ghost use Rattle.std.specs.Prelude.{◌≡◌, IfSome};
-ghost use Rattle.ua_binary.specs.Types.{type_of};
+ghost use Rattle.ua_binary.specs.Types.{kind_with, type_of};
 
 use ua_values::Kind;
 
 /// The kind of the built-in type with this number (OPC 10000-6 section 5.1.2).
 pub fn kind_numbered(number: u32) -> Option<Kind>
-    ensures { IfSome result (λ kind. type_of kind ≡ number) }
+    ensures number { IfSome result (λ kind. type_of kind ≡ number) }
+    ensures kind { result ≡ kind_with number }
 {
     match number {
         1 => Some(Kind::Boolean),

@@ -1,5 +1,5 @@
 //! Indexes by names.
-ghost use Rattle.std.specs.Prelude.{◌≡◌};
+ghost use Rattle.std.specs.Prelude.{◌≡◌, ◌≢◌};
 ghost use Rattle.uapubsub_c.specs.Getting.{IsFieldNamed, IsSetNamed};
 ghost use Rattle.uapubsub_c.specs.Handles.{IsReady, Stays, Tells, config_in};
 
@@ -22,6 +22,7 @@ pub extern "C" fn uapubsub_set_index(
     ensures stays { Stays handle.old handle.new }
     ensures named { result ≡ OK
         → Tells handle.old (λ kept. IsSetNamed (config_in kept) name.now index.new) }
+    ensures closed { result ≡ CLOSED → handle.old.is_open ≡ 0 }
 {
     let Some(kept) = handle.take(alloc) else {
         return CLOSED;
@@ -32,7 +33,8 @@ pub extern "C" fn uapubsub_set_index(
 }
 
 fn set_of(config: &Config, name: &[u8], index: &mut u8) -> u32
-    ensures { result ≡ OK → IsSetNamed config.now name.now index.new }
+    ensures named { result ≡ OK → IsSetNamed config.now name.now index.new }
+    ensures not_closed { result ≢ CLOSED }
 {
     let metas = config.dataset.as_slice();
     for set in 0..metas.len().min(256) {
@@ -58,6 +60,7 @@ pub extern "C" fn uapubsub_field_index(
     ensures stays { Stays handle.old handle.new }
     ensures named { result ≡ OK
         → Tells handle.old (λ kept. IsFieldNamed (config_in kept) set name.now index.new) }
+    ensures closed { result ≡ CLOSED → handle.old.is_open ≡ 0 }
 {
     let Some(kept) = handle.take(alloc) else {
         return CLOSED;
@@ -68,7 +71,8 @@ pub extern "C" fn uapubsub_field_index(
 }
 
 fn field_of(config: &Config, set: u8, name: &[u8], index: &mut u8) -> u32
-    ensures { result ≡ OK → IsFieldNamed config.now set name.now index.new }
+    ensures named { result ≡ OK → IsFieldNamed config.now set name.now index.new }
+    ensures not_closed { result ≢ CLOSED }
 {
     let metas = config.dataset.as_slice();
     if usize::from(set) >= metas.len() {

@@ -1,8 +1,11 @@
 //! The publisher's calls, but those that set fields.
-ghost use Rattle.std.specs.Prelude.{◌≡◌, ◌≢◌};
-ghost use Rattle.device_sides.specs.Sides.{IsBehind};
-ghost use Rattle.uapubsub_c.specs.Getting.{PublisherMoves};
+ghost use Rattle.std.specs.Prelude.{◌≡◌, ◌≢◌, ◌<◌, length};
+ghost use Rattle.device_sides.specs.Coming.{ComesTo};
+ghost use Rattle.device_sides.specs.Sides.{IsBehind, MayNotResume};
+ghost use Rattle.uapubsub_c.specs.Getting.{PublisherIs, PublisherMoves};
 ghost use Rattle.uapubsub_c.specs.Handles.{HandsOver, HasOpened, IsReady, IsRefused, IsSound, Leaves, Stays, StandsIn, Tells};
+ghost use Rattle.uapubsub_c.specs.Keys.{HasRenewedTo, MakesNoRing};
+ghost use Rattle.uapubsub_c.specs.Nexts.{HandsNext};
 
 use crate::handle::Handle;
 use crate::kept::Kept;
@@ -48,6 +51,15 @@ pub extern "C" fn uapubsub_publisher_next(
     ensures ready { IsReady handle.new }
     ensures laid { result ≡ OK → Tells handle.new (HandsOver buffer.old buffer.new count.new) }
     ensures rest { result ≢ OK → buffer.new ≡ buffer.old }
+    ensures came { result ≡ OK → Leaves handle.old handle.new (PublisherMoves (HandsNext now)) }
+    ensures none { result ≡ NONE
+        → Leaves handle.old handle.new (PublisherMoves (ComesTo now Next.Nothing)) }
+    ensures spent { result ≡ SPENT
+        → Leaves handle.old handle.new (PublisherMoves (ComesTo now Next.Spent)) }
+    ensures waits { result ≡ ROOM
+        → Leaves handle.old handle.new (PublisherMoves (ComesTo now Next.Datagram)) }
+    ensures room { result ≡ ROOM → length buffer.old < count.new }
+    ensures closed { result ≡ CLOSED → handle.old.is_open ≡ 0 }
 {
     *count = 0;
     let Some(mut kept) = handle.take(alloc) else {
@@ -63,6 +75,12 @@ fn next_of(kept: &mut Kept, now: u64, buffer: &mut [u8], count: &mut usize) -> u
     ensures sound { IsSound kept.new }
     ensures laid { result ≡ OK → HandsOver buffer.old buffer.new count.new kept.new }
     ensures rest { result ≢ OK → buffer.new ≡ buffer.old }
+    ensures came { result ≡ OK → PublisherMoves (HandsNext now) kept.old kept.new }
+    ensures none { result ≡ NONE → PublisherMoves (ComesTo now Next.Nothing) kept.old kept.new }
+    ensures spent { result ≡ SPENT → PublisherMoves (ComesTo now Next.Spent) kept.old kept.new }
+    ensures waits { result ≡ ROOM → PublisherMoves (ComesTo now Next.Datagram) kept.old kept.new }
+    ensures room { result ≡ ROOM → length buffer.old < count.new }
+    ensures not_closed { result ≢ CLOSED }
 {
     let Kept::Publisher(publisher) = kept else {
         return OTHER_SIDE;
@@ -97,6 +115,7 @@ pub extern "C" fn uapubsub_publisher_standing(
     ensures ready { IsReady handle.new }
     ensures stays { Stays handle.old handle.new }
     ensures stands { result ≡ OK → Tells handle.old (StandsIn keygroup token.new used.new) }
+    ensures closed { result ≡ CLOSED → handle.old.is_open ≡ 0 }
 {
     let Some(kept) = handle.take(alloc) else {
         return CLOSED;
@@ -107,7 +126,8 @@ pub extern "C" fn uapubsub_publisher_standing(
 }
 
 fn standing_of(kept: &Kept, keygroup: u8, token: &mut u32, used: &mut u32) -> u32
-    ensures { result ≡ OK → StandsIn keygroup token.new used.new kept.now }
+    ensures stands { result ≡ OK → StandsIn keygroup token.new used.new kept.now }
+    ensures not_closed { result ≢ CLOSED }
 {
     let Kept::Publisher(publisher) = kept else {
         return OTHER_SIDE;
@@ -133,8 +153,11 @@ pub extern "C" fn uapubsub_publisher_resume(
     requires { IsReady handle.old }
     ensures ready { IsReady handle.new }
     ensures behind { result ≡ OK
-        → Leaves handle.old handle.new (PublisherMoves (IsBehind keygroup used)) }
+        → Leaves handle.old handle.new (PublisherMoves (IsBehind keygroup now used)) }
+    ensures bad_keys { result ≡ BAD_KEYS
+        → Tells handle.old (PublisherIs (MayNotResume keygroup now used)) }
     ensures not { result ≢ OK → Stays handle.old handle.new }
+    ensures closed { result ≡ CLOSED → handle.old.is_open ≡ 0 }
 {
     let Some(mut kept) = handle.take(alloc) else {
         return CLOSED;
@@ -147,8 +170,10 @@ pub extern "C" fn uapubsub_publisher_resume(
 fn resume_in(kept: &mut Kept, keygroup: u8, now: u64, used: u32) -> u32
     requires { IsSound kept.old }
     ensures sound { IsSound kept.new }
-    ensures behind { result ≡ OK → PublisherMoves (IsBehind keygroup used) kept.old kept.new }
+    ensures behind { result ≡ OK → PublisherMoves (IsBehind keygroup now used) kept.old kept.new }
+    ensures bad_keys { result ≡ BAD_KEYS → PublisherIs (MayNotResume keygroup now used) kept.old }
     ensures not { result ≢ OK → kept.new ≡ kept.old }
+    ensures not_closed { result ≢ CLOSED }
 {
     let Kept::Publisher(publisher) = kept else {
         return OTHER_SIDE;
@@ -174,7 +199,12 @@ pub extern "C" fn uapubsub_publisher_renew(
 ) -> u32
     requires { IsReady handle.old }
     ensures ready { IsReady handle.new }
+    ensures renewed { result ≡ OK
+        → Leaves handle.old handle.new (PublisherMoves (HasRenewedTo keygroup sets.now)) }
+    ensures bad_keys { result ≡ BAD_KEYS
+        → Tells handle.old (PublisherIs (MakesNoRing keygroup sets.now)) }
     ensures not { result ≢ OK → Stays handle.old handle.new }
+    ensures closed { result ≡ CLOSED → handle.old.is_open ≡ 0 }
 {
     let Some(mut kept) = handle.take(alloc) else {
         return CLOSED;
@@ -187,7 +217,12 @@ pub extern "C" fn uapubsub_publisher_renew(
 fn renew_in(kept: &mut Kept, keygroup: u8, sets: &[KeySetWords]) -> u32
     requires { IsSound kept.old }
     ensures sound { IsSound kept.new }
+    ensures renewed { result ≡ OK
+        → PublisherMoves (HasRenewedTo keygroup sets.now) kept.old kept.new }
+    ensures bad_keys { result ≡ BAD_KEYS
+        → PublisherIs (MakesNoRing keygroup sets.now) kept.old }
     ensures not { result ≢ OK → kept.new ≡ kept.old }
+    ensures not_closed { result ≢ CLOSED }
 {
     let Kept::Publisher(publisher) = kept else {
         return OTHER_SIDE;

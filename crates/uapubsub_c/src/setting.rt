@@ -1,8 +1,11 @@
 //! Setting fields.
-ghost use Rattle.std.specs.Prelude.{◌≡◌};
+ghost use Rattle.std.specs.Prelude.{◌≡◌, ◌≢◌, IsErr};
+ghost use Rattle.ua_values.specs.Blobs.{blob_of};
+ghost use Rattle.ua_values.specs.Texts.{text_of};
 ghost use Rattle.device_sides.specs.Sides.{HasSetStatus};
-ghost use Rattle.uapubsub_c.specs.Getting.{PublisherMoves};
-ghost use Rattle.uapubsub_c.specs.Handles.{HasBytesIn, HasScalarIn, HasSetIn, HasTextIn, IsReady, IsSound, Leaves};
+ghost use Rattle.uapubsub_c.specs.Getting.{PublisherIs, PublisherMoves};
+ghost use Rattle.uapubsub_c.specs.Handles.{HasBytesIn, HasScalarIn, HasSetIn, HasTextIn, IsReady, IsSound, Leaves, Tells};
+ghost use Rattle.uapubsub_c.specs.Setting.{IsBytesMisfit, IsCodeMisfit, IsScalarMisfit, IsTextMisfit, IsValueMisfit, SetsNoField};
 
 use crate::guid::GuidBytes;
 use crate::handle::Handle;
@@ -28,7 +31,11 @@ pub extern "C" fn uapubsub_set_scalar(
 ) -> u32
     requires { IsReady handle.old }
     ensures ready { IsReady handle.new }
-    ensures set { result ≡ OK → Leaves handle.old handle.new (HasScalarIn set field word) }
+    ensures set { result ≡ OK → Leaves handle.old handle.new (HasScalarIn set field kind word) }
+    ensures misfit { result ≡ MISFIT
+        → Tells handle.old (PublisherIs (IsScalarMisfit set field kind word)) }
+    ensures index { result ≡ INDEX → Tells handle.old (PublisherIs (SetsNoField set field)) }
+    ensures closed { result ≡ CLOSED → handle.old.is_open ≡ 0 }
 {
     let Some(mut kept) = handle.take(alloc) else {
         return CLOSED;
@@ -41,7 +48,11 @@ pub extern "C" fn uapubsub_set_scalar(
 fn set_scalar_in(kept: &mut Kept, set: u8, field: u8, kind: u32, word: u64) -> u32
     requires { IsSound kept.old }
     ensures sound { IsSound kept.new }
-    ensures set { result ≡ OK → HasScalarIn set field word kept.old kept.new }
+    ensures set { result ≡ OK → HasScalarIn set field kind word kept.old kept.new }
+    ensures misfit { result ≡ MISFIT
+        → PublisherIs (IsScalarMisfit set field kind word) kept.old }
+    ensures index { result ≡ INDEX → PublisherIs (SetsNoField set field) kept.old }
+    ensures not_closed { result ≢ CLOSED }
 {
     let Kept::Publisher(publisher) = kept else {
         return OTHER_SIDE;
@@ -71,6 +82,11 @@ pub extern "C" fn uapubsub_set_text(
     requires { IsReady handle.old }
     ensures ready { IsReady handle.new }
     ensures set { result ≡ OK → Leaves handle.old handle.new (HasTextIn set field text.now) }
+    ensures misfit { result ≡ MISFIT
+        → Tells handle.old (PublisherIs (IsTextMisfit set field text.now)) }
+    ensures index { result ≡ INDEX → Tells handle.old (PublisherIs (SetsNoField set field)) }
+    ensures bad_text { result ≡ BAD_TEXT → IsErr (text_of text.now) }
+    ensures closed { result ≡ CLOSED → handle.old.is_open ≡ 0 }
 {
     match Text::from_bytes(text) {
         Ok(text) => set_field(alloc, handle, set, field, &Value::String(text)),
@@ -90,6 +106,11 @@ pub extern "C" fn uapubsub_set_bytes(
     requires { IsReady handle.old }
     ensures ready { IsReady handle.new }
     ensures set { result ≡ OK → Leaves handle.old handle.new (HasBytesIn set field bytes.now) }
+    ensures misfit { result ≡ MISFIT
+        → Tells handle.old (PublisherIs (IsBytesMisfit set field bytes.now)) }
+    ensures index { result ≡ INDEX → Tells handle.old (PublisherIs (SetsNoField set field)) }
+    ensures bad_text { result ≡ BAD_TEXT → IsErr (blob_of bytes.now) }
+    ensures closed { result ≡ CLOSED → handle.old.is_open ≡ 0 }
 {
     match Blob::from_bytes(bytes) {
         Ok(blob) => set_field(alloc, handle, set, field, &Value::ByteString(blob)),
@@ -110,6 +131,10 @@ pub extern "C" fn uapubsub_set_guid(
     ensures ready { IsReady handle.new }
     ensures set { result ≡ OK
         → Leaves handle.old handle.new (HasSetIn set field (Value.Guid guid.now.bytes) 0) }
+    ensures misfit { result ≡ MISFIT
+        → Tells handle.old (PublisherIs (IsValueMisfit set field (Value.Guid guid.now.bytes))) }
+    ensures index { result ≡ INDEX → Tells handle.old (PublisherIs (SetsNoField set field)) }
+    ensures closed { result ≡ CLOSED → handle.old.is_open ≡ 0 }
 {
     set_field(alloc, handle, set, field, &Value::Guid(guid.bytes))
 }
@@ -127,6 +152,10 @@ pub extern "C" fn uapubsub_set_field_status(
     ensures ready { IsReady handle.new }
     ensures set { result ≡ OK
         → Leaves handle.old handle.new (PublisherMoves (HasSetStatus set field status)) }
+    ensures misfit { result ≡ MISFIT
+        → Tells handle.old (PublisherIs (IsCodeMisfit set field status)) }
+    ensures index { result ≡ INDEX → Tells handle.old (PublisherIs (SetsNoField set field)) }
+    ensures closed { result ≡ CLOSED → handle.old.is_open ≡ 0 }
 {
     let Some(mut kept) = handle.take(alloc) else {
         return CLOSED;
@@ -140,6 +169,9 @@ fn set_status_in(kept: &mut Kept, set: u8, field: u8, status: u32) -> u32
     requires { IsSound kept.old }
     ensures sound { IsSound kept.new }
     ensures set { result ≡ OK → PublisherMoves (HasSetStatus set field status) kept.old kept.new }
+    ensures misfit { result ≡ MISFIT → PublisherIs (IsCodeMisfit set field status) kept.old }
+    ensures index { result ≡ INDEX → PublisherIs (SetsNoField set field) kept.old }
+    ensures not_closed { result ≢ CLOSED }
 {
     let Kept::Publisher(publisher) = kept else {
         return OTHER_SIDE;
@@ -159,6 +191,11 @@ fn set_field(alloc: Global, handle: &mut Handle, set: u8, field: u8, value: &Val
     requires { IsReady handle.old }
     ensures ready { IsReady handle.new }
     ensures set { result ≡ OK → Leaves handle.old handle.new (HasSetIn set field value.now 0) }
+    ensures misfit { result ≡ MISFIT
+        → Tells handle.old (PublisherIs (IsValueMisfit set field value.now)) }
+    ensures index { result ≡ INDEX → Tells handle.old (PublisherIs (SetsNoField set field)) }
+    ensures not_text { result ≢ BAD_TEXT }
+    ensures closed { result ≡ CLOSED → handle.old.is_open ≡ 0 }
 {
     let Some(mut kept) = handle.take(alloc) else {
         return CLOSED;
@@ -172,6 +209,10 @@ fn set_in(kept: &mut Kept, set: u8, field: u8, value: &Value) -> u32
     requires { IsSound kept.old }
     ensures sound { IsSound kept.new }
     ensures set { result ≡ OK → HasSetIn set field value.now 0 kept.old kept.new }
+    ensures misfit { result ≡ MISFIT → PublisherIs (IsValueMisfit set field value.now) kept.old }
+    ensures index { result ≡ INDEX → PublisherIs (SetsNoField set field) kept.old }
+    ensures not_text { result ≢ BAD_TEXT }
+    ensures not_closed { result ≢ CLOSED }
 {
     let Kept::Publisher(publisher) = kept else {
         return OTHER_SIDE;

@@ -1,7 +1,9 @@
 //! The subscriber's calls, but those that get fields.
 ghost use Rattle.std.specs.Prelude.{◌≡◌, ◌≢◌, ◌≤◌, ◌⊎◌, IfOk, IfErr};
-ghost use Rattle.uapubsub_c.specs.Getting.{HasNoNumber, HasNumber, HoldsAfter, IsReaderIn, IsRefusedFor, IsTaken, KeepsIn, SubscriberMoves, WaitsFor, taken_in};
+ghost use Rattle.device_sides.specs.Readings.{HaveExpired};
+ghost use Rattle.uapubsub_c.specs.Getting.{HasNoNumber, HasNumber, HoldsAfter, IsReaderIn, IsRefusedFor, IsTaken, KeepsIn, SubscriberIs, SubscriberMoves, WaitsFor, taken_in};
 ghost use Rattle.uapubsub_c.specs.Handles.{HasOpened, IsReady, IsRefused, IsSound, Leaves, Stays, Tells};
+ghost use Rattle.uapubsub_c.specs.Keys.{HasKeysRenewedTo, MakesNoRingRead};
 ghost use Rattle.uapubsub_c.specs.Numbers.{why_number};
 
 use crate::handle::Handle;
@@ -64,6 +66,7 @@ pub extern "C" fn uapubsub_subscriber_datagram(
         (SubscriberMoves (IsTaken group now bytes.old bytes.new taken.new)) }
     ensures refused { 100 ≤ result → Leaves handle.old handle.new
         (SubscriberMoves (IsRefusedFor group now bytes.old bytes.new result)) }
+    ensures closed { result ≡ CLOSED → handle.old.is_open ≡ 0 }
 {
     let Some(mut kept) = handle.take(alloc) else {
         return CLOSED;
@@ -86,6 +89,7 @@ fn datagram_in(
         (IsTaken group now bytes.old bytes.new taken.new) kept.old kept.new }
     ensures refused { 100 ≤ result → SubscriberMoves
         (IsRefusedFor group now bytes.old bytes.new result) kept.old kept.new }
+    ensures not_closed { result ≢ CLOSED }
 {
     let Kept::Subscriber(subscriber) = kept else {
         return OTHER_SIDE;
@@ -115,6 +119,10 @@ fn words_of(taken: Taken) -> TakenWords
 pub extern "C" fn uapubsub_subscriber_expire(alloc: Global, handle: &mut Handle, now: u64) -> u32
     requires { IsReady handle.old }
     ensures ready { IsReady handle.new }
+    ensures expired { result ≡ OK
+        → Leaves handle.old handle.new (SubscriberMoves (HaveExpired now)) }
+    ensures not { result ≢ OK → Stays handle.old handle.new }
+    ensures closed { result ≡ CLOSED → handle.old.is_open ≡ 0 }
 {
     let Some(mut kept) = handle.take(alloc) else {
         return CLOSED;
@@ -126,7 +134,10 @@ pub extern "C" fn uapubsub_subscriber_expire(alloc: Global, handle: &mut Handle,
 
 fn expire_in(kept: &mut Kept, now: u64) -> u32
     requires { IsSound kept.old }
-    ensures { IsSound kept.new }
+    ensures sound { IsSound kept.new }
+    ensures expired { result ≡ OK → SubscriberMoves (HaveExpired now) kept.old kept.new }
+    ensures not { result ≢ OK → kept.new ≡ kept.old }
+    ensures not_closed { result ≢ CLOSED }
 {
     let Kept::Subscriber(subscriber) = kept else {
         return OTHER_SIDE;
@@ -145,7 +156,12 @@ pub extern "C" fn uapubsub_subscriber_renew(
 ) -> u32
     requires { IsReady handle.old }
     ensures ready { IsReady handle.new }
+    ensures renewed { result ≡ OK
+        → Leaves handle.old handle.new (SubscriberMoves (HasKeysRenewedTo group sets.now)) }
+    ensures bad_keys { result ≡ BAD_KEYS
+        → Tells handle.old (SubscriberIs (MakesNoRingRead group sets.now)) }
     ensures not { result ≢ OK → Stays handle.old handle.new }
+    ensures closed { result ≡ CLOSED → handle.old.is_open ≡ 0 }
 {
     let Some(mut kept) = handle.take(alloc) else {
         return CLOSED;
@@ -158,7 +174,12 @@ pub extern "C" fn uapubsub_subscriber_renew(
 fn renew_in(kept: &mut Kept, group: u8, sets: &[KeySetWords]) -> u32
     requires { IsSound kept.old }
     ensures sound { IsSound kept.new }
+    ensures renewed { result ≡ OK
+        → SubscriberMoves (HasKeysRenewedTo group sets.now) kept.old kept.new }
+    ensures bad_keys { result ≡ BAD_KEYS
+        → SubscriberIs (MakesNoRingRead group sets.now) kept.old }
     ensures not { result ≢ OK → kept.new ≡ kept.old }
+    ensures not_closed { result ≢ CLOSED }
 {
     let Kept::Subscriber(subscriber) = kept else {
         return OTHER_SIDE;
@@ -191,6 +212,7 @@ pub extern "C" fn uapubsub_reader_why(
     ensures stays { Stays handle.old handle.new }
     ensures held { result ≡ OK → Tells handle.old (KeepsIn group reader (HoldsAfter why.new)) }
     ensures waits { result ≡ NONE → Tells handle.old (KeepsIn group reader (WaitsFor why.new)) }
+    ensures closed { result ≡ CLOSED → handle.old.is_open ≡ 0 }
 {
     let Some(kept) = handle.take(alloc) else {
         return CLOSED;
@@ -204,6 +226,7 @@ fn why_of(kept: &Kept, group: u8, reader: u8, why: &mut u32) -> u32
     requires { IsSound kept.now }
     ensures held { result ≡ OK → KeepsIn group reader (HoldsAfter why.new) kept.now }
     ensures waits { result ≡ NONE → KeepsIn group reader (WaitsFor why.new) kept.now }
+    ensures not_closed { result ≢ CLOSED }
 {
     match reader_of(kept, group, reader) {
         Err(status) => status,
@@ -244,6 +267,7 @@ pub extern "C" fn uapubsub_reader_number(
     ensures stays { Stays handle.old handle.new }
     ensures number { result ≡ OK → Tells handle.old (KeepsIn group reader (HasNumber number.new)) }
     ensures none { result ≡ NONE → Tells handle.old (KeepsIn group reader HasNoNumber) }
+    ensures closed { result ≡ CLOSED → handle.old.is_open ≡ 0 }
 {
     let Some(kept) = handle.take(alloc) else {
         return CLOSED;
@@ -257,6 +281,7 @@ fn message_number_of(kept: &Kept, group: u8, reader: u8, number: &mut u16) -> u3
     requires { IsSound kept.now }
     ensures number { result ≡ OK → KeepsIn group reader (HasNumber number.new) kept.now }
     ensures none { result ≡ NONE → KeepsIn group reader HasNoNumber kept.now }
+    ensures not_closed { result ≢ CLOSED }
 {
     match reader_of(kept, group, reader) {
         Err(status) => status,
@@ -275,6 +300,7 @@ fn reader_of(kept: &Kept, group: u8, reader: u8) -> Result<&Reader, u32>
     requires { IsSound kept.now }
     ensures reader { IfOk result (λ value. IsReaderIn group reader value.now kept.now) }
     ensures not { IfErr result (λ status. (status ≡ OTHER_SIDE) ⊎ (status ≡ INDEX)) }
+    ensures not_closed { IfErr result (λ status. status ≢ CLOSED) }
 {
     let Kept::Subscriber(subscriber) = kept else {
         return Err(OTHER_SIDE);

@@ -23,6 +23,7 @@ pub extern "C" fn uapubsub_writer_enable(
     ensures switched { result ≡ OK
         → Leaves handle.old handle.new (PublisherMoves (HasWriterSwitched group writer true)) }
     ensures not { result ≢ OK → Stays handle.old handle.new }
+    ensures closed { result ≡ CLOSED → handle.old.is_open ≡ 0 }
 {
     switch_writer(alloc, handle, group, writer, true)
 }
@@ -40,6 +41,7 @@ pub extern "C" fn uapubsub_writer_disable(
     ensures switched { result ≡ OK
         → Leaves handle.old handle.new (PublisherMoves (HasWriterSwitched group writer false)) }
     ensures not { result ≢ OK → Stays handle.old handle.new }
+    ensures closed { result ≡ CLOSED → handle.old.is_open ≡ 0 }
 {
     switch_writer(alloc, handle, group, writer, false)
 }
@@ -50,6 +52,7 @@ fn switch_writer(alloc: Global, handle: &mut Handle, group: u8, writer: u8, on: 
     ensures switched { result ≡ OK
         → Leaves handle.old handle.new (PublisherMoves (HasWriterSwitched group writer on)) }
     ensures not { result ≢ OK → Stays handle.old handle.new }
+    ensures closed { result ≡ CLOSED → handle.old.is_open ≡ 0 }
 {
     let Some(mut kept) = handle.take(alloc) else {
         return CLOSED;
@@ -65,6 +68,7 @@ fn switch_writer_in(kept: &mut Kept, group: u8, writer: u8, on: bool) -> u32
     ensures switched { result ≡ OK
         → PublisherMoves (HasWriterSwitched group writer on) kept.old kept.new }
     ensures not { result ≢ OK → kept.new ≡ kept.old }
+    ensures not_closed { result ≢ CLOSED }
 {
     let Kept::Publisher(publisher) = kept else {
         return OTHER_SIDE;
@@ -89,6 +93,7 @@ pub extern "C" fn uapubsub_reader_enable(
     ensures switched { result ≡ OK
         → Leaves handle.old handle.new (SubscriberMoves (HasReaderSwitched group reader true)) }
     ensures not { result ≢ OK → Stays handle.old handle.new }
+    ensures closed { result ≡ CLOSED → handle.old.is_open ≡ 0 }
 {
     switch_reader(alloc, handle, group, reader, true)
 }
@@ -106,6 +111,7 @@ pub extern "C" fn uapubsub_reader_disable(
     ensures switched { result ≡ OK
         → Leaves handle.old handle.new (SubscriberMoves (HasReaderSwitched group reader false)) }
     ensures not { result ≢ OK → Stays handle.old handle.new }
+    ensures closed { result ≡ CLOSED → handle.old.is_open ≡ 0 }
 {
     switch_reader(alloc, handle, group, reader, false)
 }
@@ -116,6 +122,7 @@ fn switch_reader(alloc: Global, handle: &mut Handle, group: u8, reader: u8, on: 
     ensures switched { result ≡ OK
         → Leaves handle.old handle.new (SubscriberMoves (HasReaderSwitched group reader on)) }
     ensures not { result ≢ OK → Stays handle.old handle.new }
+    ensures closed { result ≡ CLOSED → handle.old.is_open ≡ 0 }
 {
     let Some(mut kept) = handle.take(alloc) else {
         return CLOSED;
@@ -131,6 +138,7 @@ fn switch_reader_in(kept: &mut Kept, group: u8, reader: u8, on: bool) -> u32
     ensures switched { result ≡ OK
         → SubscriberMoves (HasReaderSwitched group reader on) kept.old kept.new }
     ensures not { result ≢ OK → kept.new ≡ kept.old }
+    ensures not_closed { result ≢ CLOSED }
 {
     let Kept::Subscriber(subscriber) = kept else {
         return OTHER_SIDE;

@@ -1,7 +1,10 @@
-use Rattle.std.proofs.Common.{[], get_or, subst, sym, arith}
+use Rattle.std.proofs.Common.{◌<◌, [], length, get_or, refl, subst, sym, arith}
+use Rattle.std.proofs.lemmas.Bool.{OnFalse_at, OnFalse_from}
 use Rattle.dataset_meta.specs.Metas.{MetaData}
 use Rattle.row_words.specs.Belonging.{Belongs}
 use Rattle.writer_group.specs.declared.sampled.Sampled.{Sampled}
+use Rattle.device_sides.specs.Sides.{IsWordMisfit, MayHaveWord}
+use Rattle.device_sides.proofs.Places.{holds-at}
 use Rattle.device_sides.proofs.RowLists.{row-of, set-row, of-meta}
 use Rattle.device_sides.proofs.rows.set_word_in.Goals as goal
 
@@ -19,3 +22,14 @@ returns-clause-rows c =
     let meta = c.index-metas-index.result in
     set-row c.args.metas.now c.args.rows.now i c.set_word_row.new.sampled c.requires.rows
     (of-meta c.args.metas.now i meta c.set_word_row.new.sampled (omega (arith, c.if-index-metas.false)) c.index-metas-index.is c.set_word_row.ensures.belongs)
+
+pub returns-then-index-metas-clause-misfit : goal.returns-then-index-metas-clause-misfit
+returns-then-index-metas-clause-misfit c = λ within. absurd (omega (arith, within, c.if-index-metas.true, c.from-index.ensures))
+
+pub returns-clause-misfit : goal.returns-clause-misfit
+returns-clause-misfit c =
+    let metas = c.args.metas.now in
+    let low : c.from-index.result < length metas = omega (arith, c.if-index-metas.false) in
+    OnFalse_from c.set_word_row.result (IsWordMisfit c.args.metas.now c.args.set c.args.field c.args.kind c.args.word) (λ no within.
+    holds-at (λ (m : MetaData). ¬ MayHaveWord m c.args.field c.args.kind c.args.word) metas metas c.from-index.result c.args.set c.index-metas-index.result refl c.from-index.ensures low c.index-metas-index.is
+    (OnFalse_at no c.set_word_row.ensures.misfit))

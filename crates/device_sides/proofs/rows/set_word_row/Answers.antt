@@ -10,7 +10,13 @@ use Rattle.device_sides.proofs.rows.set_word_row.Goals as goal
 pub returns-clause-set : goal.returns-clause-set
 returns-clause-set c =
     let d : Field = record { name = []; kind = Boolean; cap = 0 } in
-    let is = c.if-not-is_scalar_at.ensures in
+    let is = c.if-not-is_scalar_at.ensures.there in
     subst (λ (k : Kind). row_in c.args.meta.now.fields c.set_word.new.self.words
     ≡ with_value (row_in c.args.meta.now.fields c.args.sampled.now.row.words) c.args.field (scalar_in k c.args.word))
     (is.kind_is d) (c.set_word.ensures.set d)
+
+pub returns-then-not-is_scalar_at-clause-misfit : goal.returns-then-not-is_scalar_at-clause-misfit
+returns-then-not-is_scalar_at-clause-misfit c = λ may. c.if-not-is_scalar_at.ensures.not may.kind_is
+
+pub returns-then-not-is_word_of-clause-misfit : goal.returns-then-not-is_word_of-clause-misfit
+returns-then-not-is_word_of-clause-misfit c = λ may. c.if-not-is_word_of.ensures.no may.word_is

@@ -5,7 +5,7 @@ use Rattle.dataset_meta.specs.declared.field.Field.{Field}
 use Rattle.row_words.specs.Belonging.{row_in}
 use Rattle.row_words.specs.Setting.{HasValue}
 use Rattle.row_words.specs.Words.{scalar_in}
-use Rattle.device_sides.specs.Readings.{HasFieldValue, HoldsNone, IsOfKind}
+use Rattle.device_sides.specs.Readings.{HasFieldValue, HoldsNone, IsOfKind, IsOfOtherKind}
 use Rattle.device_sides.proofs.Telling.{reader-keeps}
 use Rattle.device_sides.proofs.subscriber.word_in.Goals as goal
 
@@ -20,7 +20,7 @@ returns-clause-word c =
       row = row_in meta.fields c.in-Some.row.now.words;
       held = sym (c.in-Some.ensures.row meta.fields);
       value_is = subst (λ (kind : Kind). HasValue (row_in meta.fields c.in-Some.row.now.words) c.args.field (scalar_in kind c.word.result))
-          (c.if-not-is_scalar_at.ensures.kind_is none) (c.word.ensures.value none);
+          (c.if-not-is_scalar_at.ensures.there.kind_is none) (c.word.ensures.value none);
     })
 
 pub returns-clause-kind : goal.returns-clause-kind
@@ -28,7 +28,7 @@ returns-clause-kind c =
     let meta = c.meta_of-meta.result.now in
     reader-keeps c.args.config.now c.args.listening.now c.args.reader (IsOfKind c.args.field c.args.kind) c.reader-holder.result.now meta
     (omega (arith, c.count.ensures, c.if-reader-count.false)) c.reader-holder.ensures.kept c.meta_of-meta.ensures
-    c.if-not-is_scalar_at.ensures
+    c.if-not-is_scalar_at.ensures.there
 
 pub returns-in_default-clause-none : goal.returns-in_default-clause-none
 returns-in_default-clause-none c =
@@ -36,3 +36,13 @@ returns-in_default-clause-none c =
     reader-keeps c.args.config.now c.args.listening.now c.args.reader HoldsNone c.reader-holder.result.now meta
     (omega (arith, c.count.ensures, c.if-reader-count.false)) c.reader-holder.ensures.kept c.meta_of-meta.ensures
     (sym (c.in_default.ensures.row meta.fields))
+
+pub returns-then-not-is_scalar_at-clause-none : goal.returns-then-not-is_scalar_at-clause-none
+returns-then-not-is_scalar_at-clause-none c =
+    let meta = c.meta_of-meta.result.now in
+    reader-keeps c.args.config.now c.args.listening.now c.args.reader (IsOfOtherKind c.args.field c.args.kind) c.reader-holder.result.now meta
+    (omega (arith, c.count.ensures, c.if-reader-count.false)) c.reader-holder.ensures.kept c.meta_of-meta.ensures
+    (record {
+      within = subst (λ (fields : List Field). c.args.field < length fields) c.fields.ensures.fields (omega (arith, c.from.ensures, c.if-from-fields.false));
+      other = c.if-not-is_scalar_at.ensures.not;
+    })

@@ -1,13 +1,11 @@
 use Rattle.std.proofs.Common.{◌≡◌, ℕ, subst}
-use Rattle.std.proofs.lemmas.Result.{IfOk-weaker}
+use Rattle.std.proofs.lemmas.Result.{IfErr-weaker, IfOk-weaker}
 use Rattle.ua_values.specs.declared.value.Value.{Value}
-use Rattle.device_sides.specs.Readings.{HasFieldStatus, HasFieldValue}
-use Rattle.device_sides.specs.declared.asked.NoValue.TheVariants.{NoRow}
-use Rattle.uapubsub_c.specs.Getting.{IsUntoldIn, KeepsIn}
+use Rattle.device_sides.specs.Readings.{HasFieldStatus, HasFieldValue, HoldsNone}
+use Rattle.uapubsub_c.specs.Getting.{HasNoFieldIn, KeepsIn}
 use Rattle.uapubsub_c.specs.Handles.{Tells}
 use Rattle.uapubsub_c.specs.declared.kept.Kept.{Kept}
-use Rattle.uapubsub_c.specs.declared.status.TheConstants.{NONE}
-use Rattle.uapubsub_c.proofs.Telling.{IfErr-weaker}
+use Rattle.uapubsub_c.specs.declared.status.TheConstants.{CLOSED, INDEX, NONE}
 use Rattle.uapubsub_c.proofs.getting.field_of.Goals as goal
 
 pub returns-clause-value : goal.returns-clause-value
@@ -34,11 +32,27 @@ returns-clause-status c =
 
 pub returns-clause-no_row : goal.returns-clause-no_row
 returns-clause-no_row c =
-    IfErr-weaker c.field_in-answer.result (λ (status : ℕ). status ≡ NONE → IsUntoldIn c.args.group c.args.reader c.args.field NoRow c.deref.result.now)
-    (λ (status : ℕ). status ≡ NONE → Tells c.args.handle.now (IsUntoldIn c.args.group c.args.reader c.args.field NoRow))
-    (λ status untold none. record {
+    IfErr-weaker c.field_in-answer.result (λ (status : ℕ). status ≡ NONE → KeepsIn c.args.group c.args.reader HoldsNone c.deref.result.now)
+    (λ (status : ℕ). status ≡ NONE → Tells c.args.handle.now (KeepsIn c.args.group c.args.reader HoldsNone))
+    (λ status untold is. record {
       kept = c.in-Some.kept.value;
       holds = c.in-Some.ensures.held;
-      is = subst (λ (kept : Kept). IsUntoldIn c.args.group c.args.reader c.args.field NoRow kept) c.deref.ensures (untold none);
+      is = subst (λ (kept : Kept). KeepsIn c.args.group c.args.reader HoldsNone kept) c.deref.ensures (untold is);
     })
     c.field_in-answer.ensures.no_row
+
+pub returns-clause-index : goal.returns-clause-index
+returns-clause-index c =
+    IfErr-weaker c.field_in-answer.result (λ (status : ℕ). status ≡ INDEX → HasNoFieldIn c.args.group c.args.reader c.args.field c.deref.result.now)
+    (λ (status : ℕ). status ≡ INDEX → Tells c.args.handle.now (HasNoFieldIn c.args.group c.args.reader c.args.field))
+    (λ status untold is. record {
+      kept = c.in-Some.kept.value;
+      holds = c.in-Some.ensures.held;
+      is = subst (λ (kept : Kept). HasNoFieldIn c.args.group c.args.reader c.args.field kept) c.deref.ensures (untold is);
+    })
+    c.field_in-answer.ensures.index
+
+pub returns-clause-closed : goal.returns-clause-closed
+returns-clause-closed c =
+    IfErr-weaker c.field_in-answer.result (λ (status : ℕ). status ≡ CLOSED → ⊥) (λ (status : ℕ). status ≡ CLOSED → c.args.handle.now.is_open ≡ 0)
+    (λ status not is. absurd (not is)) c.field_in-answer.ensures.not_closed

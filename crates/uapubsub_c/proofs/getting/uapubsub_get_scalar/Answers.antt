@@ -1,7 +1,7 @@
 use Rattle.std.proofs.Common.{subst}
 use Rattle.uapubsub_c.specs.declared.kept.Kept.{Kept}
-use Rattle.device_sides.specs.declared.asked.NoValue.TheVariants.{NoRow}
-use Rattle.uapubsub_c.specs.Getting.{HasScalarAt, IsUntoldIn}
+use Rattle.device_sides.specs.Readings.{HoldsNone}
+use Rattle.uapubsub_c.specs.Getting.{HasNoFieldIn, HasScalarAt, IsOtherKindIn, KeepsIn}
 use Rattle.uapubsub_c.proofs.getting.uapubsub_get_scalar.Goals as goal
 
 pub returns-clause-word : goal.returns-clause-word
@@ -12,8 +12,22 @@ returns-clause-word c = λ ok. record {
 }
 
 pub returns-clause-no_row : goal.returns-clause-no_row
-returns-clause-no_row c = λ ok. record {
+returns-clause-no_row c = λ is. record {
   kept = c.in-Some.kept.value;
   holds = c.in-Some.ensures.held;
-  is = subst (λ (kept : Kept). IsUntoldIn c.args.group c.args.reader c.args.field NoRow kept) c.deref.ensures (c.word_in-status.ensures.no_row ok);
+  is = subst (λ (kept : Kept). KeepsIn c.args.group c.args.reader HoldsNone kept) c.deref.ensures (c.word_in-status.ensures.no_row is);
+}
+
+pub returns-clause-misfit : goal.returns-clause-misfit
+returns-clause-misfit c = λ is. record {
+  kept = c.in-Some.kept.value;
+  holds = c.in-Some.ensures.held;
+  is = subst (λ (kept : Kept). IsOtherKindIn c.args.group c.args.reader c.args.field c.args.kind kept) c.deref.ensures (c.word_in-status.ensures.misfit is);
+}
+
+pub returns-clause-index : goal.returns-clause-index
+returns-clause-index c = λ is. record {
+  kept = c.in-Some.kept.value;
+  holds = c.in-Some.ensures.held;
+  is = subst (λ (kept : Kept). HasNoFieldIn c.args.group c.args.reader c.args.field kept) c.deref.ensures (c.word_in-status.ensures.index is);
 }

@@ -1,8 +1,9 @@
 use Rattle.std.proofs.Common.{subst}
 use Rattle.ua_values.specs.declared.value.Value.{Value}
 use Rattle.device_sides.specs.Readings.{HasFieldValue}
-use Rattle.uapubsub_c.specs.Getting.{KeepsIn}
+use Rattle.uapubsub_c.specs.Getting.{HasOther, IsNoText, KeepsIn}
 use Rattle.uapubsub_c.specs.Handles.{Tells}
+use Rattle.uapubsub_c.proofs.Telling.{kept-too}
 use Rattle.uapubsub_c.proofs.getting.uapubsub_get_text.Goals as goal
 
 pub returns-in-Ok-clause-got : goal.returns-in-Ok-clause-got
@@ -13,4 +14,14 @@ returns-in-Ok-clause-got c = λ ok.
       held = subst (λ (value : Value). Tells c.args.handle.now (KeepsIn c.args.group c.args.reader (HasFieldValue c.args.field value)))
           laid.is c.in-Ok.ensures.value;
       laid = laid.laid;
+    }
+
+pub returns-in-Ok-clause-misfit : goal.returns-in-Ok-clause-misfit
+returns-in-Ok-clause-misfit c = λ misfit.
+    let told = c.in-Ok.ensures.value in
+    record {
+      kept = told.kept;
+      holds = told.holds;
+      is = kept-too c.args.group c.args.reader told.kept (HasFieldValue c.args.field c.in-Ok.value) (HasOther c.args.field IsNoText)
+          (λ meta keeps has. record { value = c.in-Ok.value; has = has; is = c.lay_text.ensures.misfit misfit }) told.is;
     }

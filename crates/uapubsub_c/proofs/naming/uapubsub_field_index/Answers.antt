@@ -8,5 +8,5 @@ pub returns-clause-named : goal.returns-clause-named
 returns-clause-named c = λ ok. record {
   kept = c.in-Some.kept.value;
   holds = c.in-Some.ensures.held;
-  is = subst (λ (config : Config). IsFieldNamed config c.args.set c.args.name.now c.field_of-status.new.index) (c.config.ensures ∙ ap config_in c.deref.ensures) (c.field_of-status.ensures ok);
+  is = subst (λ (config : Config). IsFieldNamed config c.args.set c.args.name.now c.field_of-status.new.index) (c.config.ensures ∙ ap config_in c.deref.ensures) (c.field_of-status.ensures.named ok);
 }

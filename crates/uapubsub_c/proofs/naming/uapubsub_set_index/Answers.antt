@@ -8,5 +8,5 @@ pub returns-clause-named : goal.returns-clause-named
 returns-clause-named c = λ ok. record {
   kept = c.in-Some.kept.value;
   holds = c.in-Some.ensures.held;
-  is = subst (λ (config : Config). IsSetNamed config c.args.name.now c.set_of-status.new.index) (c.config.ensures ∙ ap config_in c.deref.ensures) (c.set_of-status.ensures ok);
+  is = subst (λ (config : Config). IsSetNamed config c.args.name.now c.set_of-status.new.index) (c.config.ensures ∙ ap config_in c.deref.ensures) (c.set_of-status.ensures.named ok);
 }

@@ -1,7 +1,7 @@
 use Rattle.std.proofs.Common.{subst}
 use Rattle.uapubsub_c.specs.declared.kept.Kept.{Kept}
-use Rattle.device_sides.specs.Sides.{IsBehind}
-use Rattle.uapubsub_c.specs.Getting.{PublisherMoves}
+use Rattle.device_sides.specs.Sides.{IsBehind, MayNotResume}
+use Rattle.uapubsub_c.specs.Getting.{PublisherIs, PublisherMoves}
 use Rattle.uapubsub_c.proofs.publishing.uapubsub_publisher_resume.Goals as goal
 
 pub returns-clause-behind : goal.returns-clause-behind
@@ -10,6 +10,13 @@ returns-clause-behind c = λ ok. record {
   is = c.resume_in-status.new.kept;
   held = c.in-Some.ensures.held;
   holds = c.put.ensures.held;
-  moved = subst (λ (kept : Kept). PublisherMoves (IsBehind c.args.keygroup c.args.used) kept c.resume_in-status.new.kept)
+  moved = subst (λ (kept : Kept). PublisherMoves (IsBehind c.args.keygroup c.args.now c.args.used) kept c.resume_in-status.new.kept)
       c.deref_mut.ensures.value (c.resume_in-status.ensures.behind ok);
+}
+
+pub returns-clause-bad_keys : goal.returns-clause-bad_keys
+returns-clause-bad_keys c = λ bad. record {
+  kept = c.in-Some.kept.value;
+  holds = c.in-Some.ensures.held;
+  is = subst (λ (kept : Kept). PublisherIs (MayNotResume c.args.keygroup c.args.now c.args.used) kept) c.deref_mut.ensures.value (c.resume_in-status.ensures.bad_keys bad);
 }

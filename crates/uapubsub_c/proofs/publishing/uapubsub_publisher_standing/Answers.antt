@@ -8,5 +8,5 @@ returns-clause-stands c = λ ok. record {
   kept = c.in-Some.kept.value;
   holds = c.in-Some.ensures.held;
   is = subst (λ (kept : Kept). StandsIn c.args.keygroup c.standing_of-status.new.token c.standing_of-status.new.used kept)
-      c.deref.ensures (c.standing_of-status.ensures ok);
+      c.deref.ensures (c.standing_of-status.ensures.stands ok);
 }

@@ -1,6 +1,8 @@
 use Rattle.std.proofs.Common.{subst}
 use Rattle.uapubsub_c.specs.declared.kept.Kept.{Kept}
+use Rattle.uapubsub_c.specs.Getting.{PublisherIs}
 use Rattle.uapubsub_c.specs.Handles.{HasSetIn}
+use Rattle.uapubsub_c.specs.Setting.{IsValueMisfit, SetsNoField}
 use Rattle.uapubsub_c.proofs.setting.set_field.Goals as goal
 
 pub returns-clause-set : goal.returns-clause-set
@@ -10,4 +12,18 @@ returns-clause-set c = λ ok. record {
   held = c.in-Some.ensures.held;
   holds = c.put.ensures.held;
   moved = subst (λ (kept : Kept). HasSetIn c.args.set c.args.field c.args.value.now 0 kept c.set_in-answer.new.kept) c.deref_mut.ensures.value (c.set_in-answer.ensures.set ok);
+}
+
+pub returns-clause-misfit : goal.returns-clause-misfit
+returns-clause-misfit c = λ is. record {
+  kept = c.in-Some.kept.value;
+  holds = c.in-Some.ensures.held;
+  is = subst (λ (kept : Kept). PublisherIs (IsValueMisfit c.args.set c.args.field c.args.value.now) kept) c.deref_mut.ensures.value (c.set_in-answer.ensures.misfit is);
+}
+
+pub returns-clause-index : goal.returns-clause-index
+returns-clause-index c = λ is. record {
+  kept = c.in-Some.kept.value;
+  holds = c.in-Some.ensures.held;
+  is = subst (λ (kept : Kept). PublisherIs (SetsNoField c.args.set c.args.field) kept) c.deref_mut.ensures.value (c.set_in-answer.ensures.index is);
 }

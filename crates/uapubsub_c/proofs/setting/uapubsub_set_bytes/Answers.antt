@@ -1,3 +1,7 @@
+use Rattle.std.proofs.Common.{refl}
+use Rattle.ua_values.specs.declared.value.Value.TheVariants.{ByteString}
+use Rattle.uapubsub_c.specs.Setting.{IsBytesMisfit, IsValueMisfit}
+use Rattle.uapubsub_c.proofs.Telling.{publisher-too}
 use Rattle.uapubsub_c.proofs.setting.uapubsub_set_bytes.Goals as goal
 
 pub returns-in-Ok-clause-set : goal.returns-in-Ok-clause-set
@@ -10,3 +14,19 @@ returns-in-Ok-clause-set c = λ ok.
       holds = leaves.holds;
       moved = record { blob = c.in-Ok.blob; read = c.in-Ok.ensures; is = leaves.moved };
     }
+
+pub returns-in-Ok-clause-misfit : goal.returns-in-Ok-clause-misfit
+returns-in-Ok-clause-misfit c = λ misfit.
+    let told = c.set_field.ensures.misfit misfit in
+    record {
+      kept = told.kept;
+      holds = told.holds;
+      is = publisher-too told.kept (IsValueMisfit c.args.set c.args.field (ByteString c.in-Ok.blob)) (IsBytesMisfit c.args.set c.args.field c.args.bytes.now)
+          (λ publisher is. record { blob = c.in-Ok.blob; read = c.in-Ok.ensures; is = is }) told.is;
+    }
+
+pub returns-in-Ok-clause-bad_text : goal.returns-in-Ok-clause-bad_text
+returns-in-Ok-clause-bad_text c = λ bad. absurd (c.set_field.ensures.not_text bad)
+
+pub returns-in-Err-clause-bad_text : goal.returns-in-Err-clause-bad_text
+returns-in-Err-clause-bad_text c = λ bad. rw (← c.in-Err.ensures) refl

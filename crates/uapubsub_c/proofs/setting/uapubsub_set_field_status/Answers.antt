@@ -1,7 +1,8 @@
 use Rattle.std.proofs.Common.{subst}
 use Rattle.uapubsub_c.specs.declared.kept.Kept.{Kept}
 use Rattle.device_sides.specs.Sides.{HasSetStatus}
-use Rattle.uapubsub_c.specs.Getting.{PublisherMoves}
+use Rattle.uapubsub_c.specs.Getting.{PublisherIs, PublisherMoves}
+use Rattle.uapubsub_c.specs.Setting.{IsCodeMisfit, SetsNoField}
 use Rattle.uapubsub_c.proofs.setting.uapubsub_set_field_status.Goals as goal
 
 pub returns-clause-set : goal.returns-clause-set
@@ -12,4 +13,18 @@ returns-clause-set c = λ ok. record {
   holds = c.put.ensures.held;
   moved = subst (λ (kept : Kept). PublisherMoves (HasSetStatus c.args.set c.args.field c.args.status) kept c.set_status_in-answer.new.kept)
       c.deref_mut.ensures.value (c.set_status_in-answer.ensures.set ok);
+}
+
+pub returns-clause-misfit : goal.returns-clause-misfit
+returns-clause-misfit c = λ is. record {
+  kept = c.in-Some.kept.value;
+  holds = c.in-Some.ensures.held;
+  is = subst (λ (kept : Kept). PublisherIs (IsCodeMisfit c.args.set c.args.field c.args.status) kept) c.deref_mut.ensures.value (c.set_status_in-answer.ensures.misfit is);
+}
+
+pub returns-clause-index : goal.returns-clause-index
+returns-clause-index c = λ is. record {
+  kept = c.in-Some.kept.value;
+  holds = c.in-Some.ensures.held;
+  is = subst (λ (kept : Kept). PublisherIs (SetsNoField c.args.set c.args.field) kept) c.deref_mut.ensures.value (c.set_status_in-answer.ensures.index is);
 }

@@ -1,6 +1,8 @@
 use Rattle.std.proofs.Common.{subst}
 use Rattle.uapubsub_c.specs.declared.kept.Kept.{Kept}
+use Rattle.uapubsub_c.specs.Getting.{PublisherIs}
 use Rattle.uapubsub_c.specs.Handles.{HasScalarIn}
+use Rattle.uapubsub_c.specs.Setting.{IsScalarMisfit, SetsNoField}
 use Rattle.uapubsub_c.proofs.setting.uapubsub_set_scalar.Goals as goal
 
 pub returns-clause-set : goal.returns-clause-set
@@ -9,5 +11,19 @@ returns-clause-set c = λ ok. record {
   is = c.set_scalar_in-answer.new.kept;
   held = c.in-Some.ensures.held;
   holds = c.put.ensures.held;
-  moved = subst (λ (kept : Kept). HasScalarIn c.args.set c.args.field c.args.word kept c.set_scalar_in-answer.new.kept) c.deref_mut.ensures.value (c.set_scalar_in-answer.ensures.set ok);
+  moved = subst (λ (kept : Kept). HasScalarIn c.args.set c.args.field c.args.kind c.args.word kept c.set_scalar_in-answer.new.kept) c.deref_mut.ensures.value (c.set_scalar_in-answer.ensures.set ok);
+}
+
+pub returns-clause-misfit : goal.returns-clause-misfit
+returns-clause-misfit c = λ is. record {
+  kept = c.in-Some.kept.value;
+  holds = c.in-Some.ensures.held;
+  is = subst (λ (kept : Kept). PublisherIs (IsScalarMisfit c.args.set c.args.field c.args.kind c.args.word) kept) c.deref_mut.ensures.value (c.set_scalar_in-answer.ensures.misfit is);
+}
+
+pub returns-clause-index : goal.returns-clause-index
+returns-clause-index c = λ is. record {
+  kept = c.in-Some.kept.value;
+  holds = c.in-Some.ensures.held;
+  is = subst (λ (kept : Kept). PublisherIs (SetsNoField c.args.set c.args.field) kept) c.deref_mut.ensures.value (c.set_scalar_in-answer.ensures.index is);
 }

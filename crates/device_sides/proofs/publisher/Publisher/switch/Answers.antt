@@ -10,6 +10,7 @@ returns-clause-publisher c =
       rows_are = r.rows_are;
       rows_count = r.rows_count;
       senders_are = r.senders_are;
+      senders_count = r.senders_count;
       sides_are = All-set (IsSide c.args.self.now.config) c.args.self.now.sides.items c.from-index.result c.switch.new.self c.switch.ensures.side r.sides_are;
       reserved = r.reserved;
       made_is = r.made_is;

@@ -1,6 +1,16 @@
-use Rattle.std.proofs.Common.{◌≡◌, length}
+use Rattle.std.proofs.Common.{◌≡◌, ◌≤◌, length}
+use Rattle.device_sides.specs.Coming.{Does}
 use Rattle.device_sides.specs.Sides.{IsPublisher}
+use Rattle.device_sides.proofs.Looks.{SoFar}
 use Rattle.device_sides.proofs.publisher.Publisher.turn_due.Given as goal
 
 abbrev pub invariant-loop-g : goal.invariant-loop-g
-invariant-loop-g l = record { publisher : IsPublisher l.self; count : length l.self.sides.items ≡ length l.fn.self.sides.items }
+invariant-loop-g l = record {
+  publisher : IsPublisher l.self;
+  none_waits : l.self.made ≤ l.self.handed;
+  config : l.self.config ≡ l.fn.self.config;
+  rows : l.self.rows.items ≡ l.fn.self.rows.items;
+  senders : l.self.senders.items ≡ l.fn.self.senders.items;
+  count : length l.self.sides.items ≡ length l.fn.self.sides.items;
+  far : SoFar (Does l.fn.self.config l.now l.fn.self.rows.items l.fn.self.senders.items) l.g l.held l.fn.self.sides.items l.self.sides.items;
+}

@@ -1,6 +1,11 @@
 use Rattle.std.proofs.Common.{◌≡◌}
+use Rattle.device_sides.specs.Coming.{AreRefreshed}
 use Rattle.device_sides.specs.Sides.{IsSide}
 use Rattle.device_sides.proofs.side.Side.refresh.Given as goal
 
 abbrev pub invariant-loop-writer : goal.invariant-loop-writer
-invariant-loop-writer l = record { side : IsSide l.config l.self; index : l.self.index ≡ l.fn.self.index }
+invariant-loop-writer l = record {
+  side : IsSide l.config l.self;
+  index : l.self.index ≡ l.fn.self.index;
+  refreshed : AreRefreshed l.writer l.fn.self l.self;
+}

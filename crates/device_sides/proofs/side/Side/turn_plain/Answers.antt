@@ -1,7 +1,8 @@
-use Rattle.std.proofs.Common.{List, subst}
+use Rattle.std.proofs.Common.{List, refl, subst, sym}
 use Rattle.std.specs.Prelude.{Bool, false, None}
 use Rattle.dataset_meta.specs.Metas.{MetaData}
-use Rattle.writer_group.specs.Standing.{HasTickedAt, input_of}
+use Rattle.writer_group.specs.Standing.{HasTickedAt, MayTickAt, input_of}
+use Rattle.std.proofs.lemmas.Bool.{false≢true}
 use Rattle.device_sides.proofs.side.Side.turn_plain.Goals as goal
 
 pub returns-clause-turned : goal.returns-clause-turned
@@ -16,4 +17,12 @@ returns-clause-turned c =
       stands = subst (λ (metas : List MetaData). HasTickedAt config (input_of moment false metas rows c.args.self.now.on.items None) old c.tick.new.self c.tick.new.out)
           c.as_slice-metas.ensures by_on;
       made_is = c.tick.ensures.count;
+      on = refl;
+      index = refl;
     }
+
+pub returns-then-not-may_tick-clause-may_not : goal.returns-then-not-may_tick-clause-may_not
+returns-then-not-may_tick-clause-may_not c =
+    let config = c.args.config.now in
+    λ may. false≢true (c.if-not-may_tick.ensures.1
+    (subst (λ (on : List Bool). MayTickAt config config.dataset c.args.rows.now on None c.args.self.now.group) (sym c.deref.ensures.value) may))

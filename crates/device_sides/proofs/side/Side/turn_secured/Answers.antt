@@ -1,7 +1,12 @@
-use Rattle.std.proofs.Common.{List, subst}
+use Rattle.std.proofs.Common.{◌≡◌, ℕ, List, refl, subst, sym, ap, ◌∙◌}
 use Rattle.std.specs.Prelude.{Bool, false, Some}
 use Rattle.dataset_meta.specs.Metas.{MetaData}
-use Rattle.writer_group.specs.Standing.{HasTickedAt, input_of}
+use Rattle.writer_group.specs.Standing.{HasTickedAt, MayTickAt, index_of, input_of}
+use Rattle.std.proofs.lemmas.Bool.{false≢true}
+use Rattle.std.proofs.lemmas.Option.{same_Some}
+use Rattle.ps_config.specs.Headers.{mode_of}
+use Rattle.writer_group.specs.Parts.{group_at, no_group}
+use Rattle.writer_group.specs.Sealing.{advanced_by}
 use Rattle.device_sides.proofs.side.Side.turn_secured.Goals as goal
 
 pub returns-clause-turned : goal.returns-clause-turned
@@ -16,4 +21,19 @@ returns-clause-turned c =
       stands = subst (λ (metas : List MetaData). HasTickedAt config (input_of moment false metas rows c.args.self.now.on.items (Some c.args.sender.now)) old c.tick.new.self c.tick.new.out)
           c.as_slice-metas.ensures by_on;
       made_is = c.tick.ensures.count;
+      on = refl;
+      index = refl;
     }
+
+pub returns-then-not-may_tick-clause-may_not : goal.returns-then-not-may_tick-clause-may_not
+returns-then-not-may_tick-clause-may_not c =
+    let config = c.args.config.now in
+    λ may. false≢true (c.if-not-may_tick.ensures.1
+    (subst (λ (on : List Bool). MayTickAt config config.dataset c.args.rows.now on (Some c.args.sender.now) c.args.self.now.group) (sym c.deref.ensures.value) may))
+
+pub returns-clause-unsent : goal.returns-clause-unsent
+returns-clause-unsent c =
+    let mode = mode_of (group_at c.args.config.now (index_of c.args.self.now.group)).security in
+    let sender = c.args.sender.now in
+    let is : Some c.tick.new.sender.0 ≡ Some (advanced_by mode sender c.tick.result) = c.tick.ensures.sender no_group in
+    λ zero. same_Some c.tick.new.sender.0 sender (is ∙ ap (λ (made : ℕ). Some (advanced_by mode sender made)) zero)

@@ -1,6 +1,13 @@
 use Rattle.std.proofs.Common.{◌≡◌, length}
+use Rattle.device_sides.specs.Readings.{HasExpired}
 use Rattle.device_sides.specs.Sides.{IsSubscriber}
+use Rattle.device_sides.proofs.Firsts.{FirstBecome}
 use Rattle.device_sides.proofs.subscriber.Subscriber.expire.Given as goal
 
 abbrev pub invariant-loop-g : goal.invariant-loop-g
-invariant-loop-g l = record { subscriber : IsSubscriber l.self; count : length l.self.groups.items ≡ length l.fn.self.groups.items }
+invariant-loop-g l = record {
+  subscriber : IsSubscriber l.self;
+  config : l.self.config ≡ l.fn.self.config;
+  count : length l.self.groups.items ≡ length l.fn.self.groups.items;
+  each : FirstBecome (HasExpired l.now) l.g l.fn.self.groups.items l.self.groups.items;
+}

@@ -1,8 +1,9 @@
 use Rattle.std.proofs.Common.{ℕ, get_or, ap, ◌∙◌, arith}
-use Rattle.std.proofs.lemmas.Result.{IfOk-weaker}
+use Rattle.std.proofs.lemmas.Result.{IfErr-weaker, IfOk-weaker}
 use Rattle.row_words.specs.Words.{scalar_in}
-use Rattle.device_sides.specs.Readings.{HasFieldValue, IsOfKind, Keeps, ReaderKeeps}
-use Rattle.device_sides.proofs.Telling.{keeps-at}
+use Rattle.device_sides.specs.Readings.{HasFieldValue, IsOfKind, IsOfOtherKind, IsUntold, IsUntoldAt, Keeps, ReaderKeeps}
+use Rattle.device_sides.specs.declared.asked.NoValue.{NoValue}
+use Rattle.device_sides.proofs.Telling.{keeps-at, untold-at}
 use Rattle.device_sides.proofs.subscriber.Subscriber.word.Goals as goal
 
 pub returns-clause-word : goal.returns-clause-word
@@ -28,3 +29,15 @@ returns-clause-kind c =
     (omega (arith, c.from-index.ensures, c.len.ensures, c.if-index-len.false))
     (c.index.ensures ∙ ap (λ (n : ℕ). get_or subscriber.groups.items n listening) c.from-index.ensures))
     c.word_in.ensures.kind
+
+pub returns-clause-none : goal.returns-clause-none
+returns-clause-none c =
+    let subscriber = c.args.self.now in
+    let listening = c.index.result.now in
+    IfErr-weaker c.word_in.result
+    (λ (none : NoValue). IsUntold (IsOfOtherKind c.args.field c.args.kind) subscriber.config c.args.reader c.args.field none listening)
+    (λ (none : NoValue). IsUntoldAt (IsOfOtherKind c.args.field c.args.kind) c.args.group c.args.reader c.args.field subscriber none)
+    (λ none. untold-at subscriber c.args.group c.args.reader c.args.field (IsOfOtherKind c.args.field c.args.kind) listening none
+    (omega (arith, c.from-index.ensures, c.len.ensures, c.if-index-len.false))
+    (c.index.ensures ∙ ap (λ (n : ℕ). get_or subscriber.groups.items n listening) c.from-index.ensures))
+    c.word_in.ensures.none

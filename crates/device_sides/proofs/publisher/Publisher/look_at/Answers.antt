@@ -1,0 +1,35 @@
+use Rattle.std.proofs.Common.{◌≡◌, ◌<◌, List, length, refl, sym, subst, ap, ◌∙◌, arith}
+use Rattle.std.specs.Prelude.{All}
+use Rattle.std.specs.Vec.{with_item, with_items}
+use Rattle.std.proofs.lemmas.List.{with_items_is}
+use Rattle.std.proofs.lemmas.List.Elements.{All-set}
+use Rattle.message_guard.specs.Senders.{IsSender, SenderState}
+use Rattle.device_sides.specs.Sides.{IsSide}
+use Rattle.device_sides.proofs.Looks.{looked-publisher, looked-so}
+use Rattle.device_sides.proofs.publisher.Publisher.look_at.Goals as goal
+use Rattle.device_sides.proofs.publisher.Publisher.look_at.Goals.{After-count}
+
+-- the senders behind the look
+kept : (c : After-count) → (with_items c.args.self.now.senders c.look-looked.new.senders).items ≡ c.look-looked.new.senders
+kept c =
+    with_items_is c.args.self.now.senders c.look-looked.new.senders
+    (omega (arith, c.look-looked.auto.senders, c.args.self.now.senders.ok.0, ap (λ (l : List SenderState). length l) c.deref_mut.ensures.value))
+
+pub returns-clause-looked : goal.returns-clause-looked
+returns-clause-looked c =
+    let self = c.args.self.now in
+    let look = c.look-looked in
+    looked-so c.args.index c.args.now look.result self (record self { sides = with_item self.sides c.args.index look.new.side; senders = with_items self.senders look.new.senders; out = look.new.out })
+    c.count.new.self c.index_mut.result.now look.new.side c.deref.result.now c.deref_mut.result.now look.new.senders refl c.count.ensures.rest c.count.ensures.counts c.requires.index
+    c.index_mut.ensures.value c.deref.ensures.value c.deref_mut.ensures.value refl (kept (goal.at.returns-clause-looked c).After-count) look.ensures.did look.ensures.unsent
+
+pub returns-clause-publisher : goal.returns-clause-publisher
+returns-clause-publisher c =
+    let self = c.args.self.now in
+    let look = c.look-looked in
+    let senders = kept (goal.at.returns-clause-publisher c).After-count in
+    looked-publisher look.result self (record self { sides = with_item self.sides c.args.index look.new.side; senders = with_items self.senders look.new.senders; out = look.new.out })
+    c.count.new.self c.requires.publisher refl c.count.ensures.rest c.count.ensures.counts look.ensures.out
+    (subst (λ (l : List SenderState). All IsSender l) (sym senders) look.ensures.senders)
+    (ap (λ (l : List SenderState). length l) senders ∙ look.auto.senders ∙ ap (λ (l : List SenderState). length l) c.deref_mut.ensures.value)
+    (All-set (IsSide self.config) self.sides.items c.args.index look.new.side look.ensures.side c.requires.publisher.sides_are) look.ensures.reserved

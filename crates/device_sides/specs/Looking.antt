@@ -1,0 +1,35 @@
+-- What one look at a group leaves of its publisher.
+use Rattle.std.specs.Prelude.{◌≡◌, ℕ, Bool, true, false, length, slice_set}
+use Rattle.std.specs.List.{HoldsAt}
+use Rattle.writer_group.specs.Standing.{datagrams_in}
+use Rattle.writer_group.specs.declared.datagrams.Datagrams.{Datagrams}
+use Rattle.device_sides.specs.declared.looking.Looked.{Looked}
+use Rattle.device_sides.specs.declared.looking.Looked.TheVariants.{Held, Idle, Made}
+use Rattle.device_sides.specs.declared.publisher.Publisher.{Publisher}
+use Rattle.device_sides.specs.Coming.{Did, IsPassed}
+
+abbrev pub is_held : Looked → Bool
+is_held Idle = false
+is_held Held = true
+is_held (Made made) = false
+
+-- a turn leaves its datagrams, so many, and else those of the turn before stay
+abbrev pub LeavesOut : Looked → Datagrams → Datagrams → Type 0
+LeavesOut Idle old new = new ≡ old
+LeavesOut Held old new = new ≡ old
+LeavesOut (Made made) old new = made ≡ length (datagrams_in new)
+
+-- the datagrams of a turn are counted, and none of them was handed over
+abbrev pub Counts : Looked → Publisher → Publisher → Type 0
+Counts Idle old new = (new.made ≡ old.made) × (new.handed ≡ old.handed)
+Counts Held old new = (new.made ≡ old.made) × (new.handed ≡ old.handed)
+Counts (Made made) old new = (new.made ≡ made) × (new.handed ≡ 0)
+
+-- the group at this place was looked at at the moment, and the others stay
+pub record HasLooked (place now : ℕ) (looked : Looked) (old new : Publisher) : Type 0 where
+  pub config : new.config ≡ old.config
+  pub rows : new.rows.items ≡ old.rows.items
+  pub did : HoldsAt (λ was. HoldsAt (Did old.config now old.rows.items old.senders.items new.out looked was) new.sides.items place) old.sides.items place
+  pub others : HoldsAt (λ is. new.sides.items ≡ slice_set old.sides.items place is) new.sides.items place
+  pub senders : IsPassed looked → new.senders.items ≡ old.senders.items
+  pub counts : Counts looked old new

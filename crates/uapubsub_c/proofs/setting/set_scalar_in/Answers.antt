@@ -1,0 +1,27 @@
+use Rattle.std.proofs.Common.{List, ap, subst, sym, ◌∙◌}
+use Rattle.std.proofs.lemmas.Option.{none-some, same_Some}
+use Rattle.ua_values.specs.declared.kind.Kind.{Kind}
+use Rattle.dataset_meta.specs.Metas.{MetaData}
+use Rattle.device_sides.specs.Sides.{HasNoField, IsWordMisfit}
+use Rattle.device_sides.specs.declared.publisher.Publisher.{Publisher}
+use Rattle.uapubsub_c.specs.Getting.{PublisherIs}
+use Rattle.uapubsub_c.specs.Setting.{IsScalarMisfit, SetsNoField}
+use Rattle.uapubsub_c.specs.declared.kept.Kept.{Kept}
+use Rattle.uapubsub_c.proofs.setting.set_scalar_in.Goals as goal
+
+pub returns-in_default-kind_numbered-clause-misfit : goal.returns-in_default-kind_numbered-clause-misfit
+returns-in_default-kind_numbered-clause-misfit c = λ misfit.
+    subst (λ (kept : Kept). PublisherIs (IsScalarMisfit c.args.set c.args.field c.args.kind c.args.word) kept) (sym c.in-Publisher.is)
+    (λ kind is. absurd (none-some kind (c.in_default-kind_numbered.ensures.kind ∙ is)))
+
+pub returns-then-has_field-clause-misfit : goal.returns-then-has_field-clause-misfit
+returns-then-has_field-clause-misfit c = λ misfit.
+    subst (λ (kept : Kept). PublisherIs (IsScalarMisfit c.args.set c.args.field c.args.kind c.args.word) kept) (sym c.in-Publisher.is)
+    (λ kind is.
+    subst (λ (k : Kind). IsWordMisfit c.in-Publisher.publisher.config.dataset c.args.set c.args.field k c.args.word) (same_Some c.in-Some.kind kind (c.in-Some.ensures.kind ∙ is))
+    c.if-set_word.ensures.misfit)
+
+pub returns-else-has_field-clause-index : goal.returns-else-has_field-clause-index
+returns-else-has_field-clause-index c = λ index.
+    subst (λ (kept : Kept). PublisherIs (SetsNoField c.args.set c.args.field) kept) (sym c.in-Publisher.is)
+    (subst (λ (metas : List MetaData). HasNoField metas c.args.set c.args.field) (ap (λ (publisher : Publisher). publisher.config.dataset) c.set_word.ensures.rest) c.if-has_field.ensures.not)

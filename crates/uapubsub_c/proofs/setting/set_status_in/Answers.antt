@@ -1,0 +1,16 @@
+use Rattle.std.proofs.Common.{List, ap, subst, sym}
+use Rattle.dataset_meta.specs.Metas.{MetaData}
+use Rattle.device_sides.specs.Sides.{HasNoField}
+use Rattle.device_sides.specs.declared.publisher.Publisher.{Publisher}
+use Rattle.uapubsub_c.specs.Getting.{PublisherIs}
+use Rattle.uapubsub_c.specs.Setting.{IsCodeMisfit, SetsNoField}
+use Rattle.uapubsub_c.specs.declared.kept.Kept.{Kept}
+use Rattle.uapubsub_c.proofs.setting.set_status_in.Goals as goal
+
+pub returns-then-has_field-clause-misfit : goal.returns-then-has_field-clause-misfit
+returns-then-has_field-clause-misfit c = λ misfit. subst (λ (kept : Kept). PublisherIs (IsCodeMisfit c.args.set c.args.field c.args.status) kept) (sym c.in-Publisher.is) c.if-set_status.ensures.misfit
+
+pub returns-else-has_field-clause-index : goal.returns-else-has_field-clause-index
+returns-else-has_field-clause-index c = λ index.
+    subst (λ (kept : Kept). PublisherIs (SetsNoField c.args.set c.args.field) kept) (sym c.in-Publisher.is)
+    (subst (λ (metas : List MetaData). HasNoField metas c.args.set c.args.field) (ap (λ (publisher : Publisher). publisher.config.dataset) c.set_status.ensures.rest) c.if-has_field.ensures.not)

@@ -1,0 +1,27 @@
+use Rattle.std.proofs.Common.{List, map, subst, sym}
+use Rattle.group_keys.specs.declared.key_set.KeySet.{KeySet}
+use Rattle.message_guard.specs.Protection.{keys_in}
+use Rattle.device_sides.specs.Readings.{HasKeysRenewed}
+use Rattle.uapubsub_c.specs.Getting.{SubscriberIs, SubscriberMoves}
+use Rattle.uapubsub_c.specs.Keys.{HasKeysRenewedTo, MakesNoRingRead}
+use Rattle.uapubsub_c.specs.declared.kept.Kept.{Kept}
+use Rattle.uapubsub_c.specs.declared.kept.Kept.TheVariants.{Subscriber}
+use Rattle.uapubsub_c.proofs.subscribing.renew_in.Goals as goal
+
+pub returns-then-renew-clause-renewed : goal.returns-then-renew-clause-renewed
+returns-then-renew-clause-renewed c = λ ok.
+    subst (λ (kept : Kept). SubscriberMoves (HasKeysRenewedTo c.args.group c.args.sets.now) kept (Subscriber c.renew.new.self)) (sym c.in-Subscriber.is)
+    (record {
+      long = c.in-Some.long;
+      is_long = c.in-Some.ensures.long;
+      is = subst (λ (sets : List KeySet). HasKeysRenewed c.args.group (map keys_in sets) c.in-Subscriber.subscriber c.renew.new.self) c.in-Some-ring_of_words.ensures.sets c.if-renew.ensures.renewed;
+    })
+
+pub returns-in_default-ring_of_words-clause-bad_keys : goal.returns-in_default-ring_of_words-clause-bad_keys
+returns-in_default-ring_of_words-clause-bad_keys c = λ bad.
+    subst (λ (kept : Kept). SubscriberIs (MakesNoRingRead c.args.group c.args.sets.now) kept) (sym c.in-Subscriber.is)
+    (record {
+      long = c.in-Some.long;
+      is_long = c.in-Some.ensures.long;
+      none = c.in_default-ring_of_words.ensures.none;
+    })

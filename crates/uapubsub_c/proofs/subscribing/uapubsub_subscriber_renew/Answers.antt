@@ -1,0 +1,22 @@
+use Rattle.std.proofs.Common.{subst}
+use Rattle.uapubsub_c.specs.declared.kept.Kept.{Kept}
+use Rattle.uapubsub_c.specs.Getting.{SubscriberIs, SubscriberMoves}
+use Rattle.uapubsub_c.specs.Keys.{HasKeysRenewedTo, MakesNoRingRead}
+use Rattle.uapubsub_c.proofs.subscribing.uapubsub_subscriber_renew.Goals as goal
+
+pub returns-clause-renewed : goal.returns-clause-renewed
+returns-clause-renewed c = λ ok. record {
+  was = c.in-Some.kept.value;
+  is = c.renew_in-status.new.kept;
+  held = c.in-Some.ensures.held;
+  holds = c.put.ensures.held;
+  moved = subst (λ (kept : Kept). SubscriberMoves (HasKeysRenewedTo c.args.group c.args.sets.now) kept c.renew_in-status.new.kept)
+      c.deref_mut.ensures.value (c.renew_in-status.ensures.renewed ok);
+}
+
+pub returns-clause-bad_keys : goal.returns-clause-bad_keys
+returns-clause-bad_keys c = λ bad. record {
+  kept = c.in-Some.kept.value;
+  holds = c.in-Some.ensures.held;
+  is = subst (λ (kept : Kept). SubscriberIs (MakesNoRingRead c.args.group c.args.sets.now) kept) c.deref_mut.ensures.value (c.renew_in-status.ensures.bad_keys bad);
+}

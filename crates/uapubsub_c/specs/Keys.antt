@@ -1,0 +1,53 @@
+-- Key sets that C gives, and what a renewal with them does.
+use Rattle.std.specs.Prelude.{◌⊎◌, ℕ, ◌<◌, Bool, List, length, map, take}
+use Rattle.group_keys.specs.Faults.{IsAccepted}
+use Rattle.group_keys.specs.KeySets.{encrypting_length}
+use Rattle.group_keys.specs.declared.key_set.KeySet.{KeySet}
+use Rattle.message_guard.specs.Protection.{keys_in}
+use Rattle.device_sides.specs.Readings.{HasKeysRenewed}
+use Rattle.device_sides.specs.Sides.{HasLongKeys, HasRenewed, ReadsLongKeys}
+use Rattle.device_sides.specs.declared.publisher.Publisher.{Publisher}
+use Rattle.device_sides.specs.declared.subscriber.Subscriber.{Subscriber}
+use Rattle.uapubsub_c.specs.declared.keys.KeySetWords.{KeySetWords}
+use Rattle.uapubsub_c.specs.declared.keys.TheConstants.{MOST_SETS}
+
+-- the set of these words: its encrypting key has all 32 bytes where it is long, else the first 16
+abbrev pub key_set_in : Bool → KeySetWords → KeySet
+key_set_in long words = record {
+  token = words.token;
+  from = words.from;
+  signing = words.signing;
+  encrypting = record { items = take (encrypting_length long) words.encrypting };
+  nonce = words.nonce;
+}
+
+abbrev pub key_sets_in : Bool → List KeySetWords → List KeySet
+key_sets_in long sets = map (key_set_in long) sets
+
+-- they are too many, or make no ring
+abbrev pub MakeNoRing : Bool → List KeySetWords → Type 0
+MakeNoRing long sets = (MOST_SETS < length sets) ⊎ (¬ IsAccepted long (key_sets_in long sets))
+
+-- the publisher's key group goes on with these key sets, of the length of its own keys, and nothing else changed
+pub record HasRenewedTo (keygroup : ℕ) (sets : List KeySetWords) (old new : Publisher) : Type 0 where
+  pub long : Bool
+  pub is_long : HasLongKeys old.config keygroup long
+  pub is : HasRenewed keygroup (key_sets_in long sets) old new
+
+-- the subscriber's read group goes on with these key sets, of the length of its key group's keys, and nothing else changed
+pub record HasKeysRenewedTo (group : ℕ) (sets : List KeySetWords) (old new : Subscriber) : Type 0 where
+  pub long : Bool
+  pub is_long : ReadsLongKeys old.config group long
+  pub is : HasKeysRenewed group (map keys_in (key_sets_in long sets)) old new
+
+-- of the length of the publisher's key group's keys the key sets make no ring
+pub record MakesNoRing (keygroup : ℕ) (sets : List KeySetWords) (publisher : Publisher) : Type 0 where
+  pub long : Bool
+  pub is_long : HasLongKeys publisher.config keygroup long
+  pub none : MakeNoRing long sets
+
+-- of the length of the keys of the subscriber's read group the key sets make no ring
+pub record MakesNoRingRead (group : ℕ) (sets : List KeySetWords) (subscriber : Subscriber) : Type 0 where
+  pub long : Bool
+  pub is_long : ReadsLongKeys subscriber.config group long
+  pub none : MakeNoRing long sets
