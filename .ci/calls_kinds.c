@@ -172,13 +172,26 @@ static void check_short_buffers(struct uap_handle *publisher, struct uap_handle 
     DEMAND(uap_get_bytes(subscriber, 0, 0, BYTE_STRING, text, 3, &length) == UAP_OK && length == 3 && memcmp(text, bytes, 3) == 0 && text[3] == 'r');
 }
 
+// A publisher begins with zeros and empty texts.
+static void check_opening(struct uap_handle *publisher, struct uap_handle *subscriber, uint64_t now) {
+    const struct values opening = {.text = "", .bytes = (const uint8_t[]){0}};
+    struct datagram datagram;
+    uint32_t status = 1;
+    DEMAND(next(publisher, now, &datagram) == UAP_OK && takes(subscriber, 0, now, &datagram));
+    for (uint8_t field = 0; field < KINDS; field++) {
+        DEMAND(get_as(subscriber, field, field, &opening) == UAP_OK);
+        DEMAND(uap_get_field_status(subscriber, 0, 0, field, &status) == UAP_OK && status == 0);
+    }
+}
+
 void check_kinds(void) {
     struct uap_handle publisher = UAP_CLOSED_HANDLE, subscriber = UAP_CLOSED_HANDLE;
     open_sides(&publisher, &subscriber, kinds);
-    check_values(&publisher, &subscriber, 10, &samples[0], &samples[1]);
-    check_values(&publisher, &subscriber, 30, &samples[1], &samples[2]);
-    check_values(&publisher, &subscriber, 50, &samples[2], &samples[0]);
-    check_bounds(&publisher, &subscriber, 70);
-    check_short_buffers(&publisher, &subscriber, 90);
+    check_opening(&publisher, &subscriber, 10);
+    check_values(&publisher, &subscriber, 20, &samples[0], &samples[1]);
+    check_values(&publisher, &subscriber, 40, &samples[1], &samples[2]);
+    check_values(&publisher, &subscriber, 60, &samples[2], &samples[0]);
+    check_bounds(&publisher, &subscriber, 80);
+    check_short_buffers(&publisher, &subscriber, 100);
     close_sides(&publisher, &subscriber);
 }
