@@ -1,20 +1,11 @@
 // The calls of include/uapubsub.h: what each answers to what a program may get wrong, and 100,000 damaged datagrams. With a seed as its
-// word it damages by that one. It ends with status 1 at the first answer that is another.
+// word it damages by that one. It ends with status 1 at the first answer that is another. Parts with a subject of their own stand in
+// .ci/calls_*.c. What is expected is what the header and docs/ say.
 //
 // usage: calls LEFT RIGHT [SEED [TURNS]]     (the configurations examples/c/left.toml and right.toml; ten damaged datagrams a turn)
-#include "uapubsub.h"
-#include <stdio.h>
-#include <stdlib.h>
+#include "calls.h"
 
-enum { TURNS = 10000, COPIES = 10, DATAGRAM_BYTES = 2048, EXTRA = 64 };
-
-#define DEMAND(holds)                                                                       \
-    do {                                                                                    \
-        if (!(holds)) {                                                                     \
-            fprintf(stderr, "calls.c:%d: not so: %s\n", __LINE__, #holds);                  \
-            exit(1);                                                                        \
-        }                                                                                   \
-    } while (0)
+enum { TURNS = 10000, COPIES = 10, EXTRA = 64 };
 
 static char left[1 << 16], right[1 << 16];
 static size_t left_length, right_length;
@@ -123,11 +114,9 @@ enum { UNCERTAIN = 0x40000000 };
 
 // What the turn at this moment sends is taken; the answer says how often a message was given to a reader.
 static uint32_t carry(struct uap_handle *publisher, struct uap_handle *subscriber, uint64_t now) {
-    uint8_t bytes[DATAGRAM_BYTES];
-    size_t length;
-    struct uap_taken taken;
-    DEMAND(uap_publisher_next(publisher, now, bytes, sizeof bytes, &length) == UAP_OK);
-    DEMAND(uap_subscriber_datagram(subscriber, 0, now, bytes, length, &taken) == UAP_OK);
+    struct datagram datagram;
+    struct uap_taken taken = {0, 0, 0};
+    DEMAND(next(publisher, now, &datagram) == UAP_OK && give(subscriber, 0, now, &datagram, &taken) == UAP_OK);
     return taken.matched;
 }
 
@@ -205,35 +194,27 @@ static size_t damage(uint8_t *bytes, size_t length) {
     }
 }
 
-// Gives a damaged copy, in memory of just its length, so that a sanitizer sees a byte too far.
-static void give_damaged(struct uap_handle *subscriber, uint64_t now, const uint8_t *datagram, size_t length) {
-    uint8_t copy[DATAGRAM_BYTES + EXTRA];
-    struct uap_taken taken = {0, 0, 0};
-    memcpy(copy, datagram, length);
-    size_t count = damage(copy, length);
-    uint8_t *bytes = malloc(count + (count == 0));
-    DEMAND(bytes != NULL);
-    memcpy(bytes, copy, count);
-    uint32_t status = uap_subscriber_datagram(subscriber, 0, now, bytes, count, &taken);
-    free(bytes);
-    if (count == length && memcmp(copy, datagram, length) == 0) DEMAND(status == UAP_OK || status == UAP_REPEATED);
+// Gives a damaged copy.
+static void give_damaged(struct uap_handle *subscriber, uint64_t now, const struct datagram *datagram) {
+    struct datagram copy = *datagram;
+    copy.length = damage(copy.bytes, copy.length);
+    uint32_t status = answer(subscriber, 0, now, &copy);
+    if (copy.length == datagram->length && memcmp(copy.bytes, datagram->bytes, copy.length) == 0) DEMAND(status == UAP_OK || status == UAP_REPEATED);
     else DEMAND(status >= UAP_HEADER_SHORT && status <= UAP_TOO_OLD);
 }
 
 static void check_damaged(void) {
     struct uap_handle publisher = UAP_CLOSED_HANDLE, subscriber = UAP_CLOSED_HANDLE;
-    uint8_t datagram[DATAGRAM_BYTES];
-    struct uap_taken taken;
-    size_t length;
+    struct datagram datagram;
     uint32_t value;
     DEMAND(uap_publisher_open(&publisher, left, left_length) == UAP_OK);
     DEMAND(uap_subscriber_open(&subscriber, right, right_length) == UAP_OK);
     DEMAND(uap_get_u32(&subscriber, 0, 0, 0, &value) == UAP_NONE);
     for (uint32_t turn = 1; turn <= turns; turn++) {
         DEMAND(uap_set_u32(&publisher, 0, 0, turn) == UAP_OK);
-        DEMAND(uap_publisher_next(&publisher, turn * 100, datagram, sizeof datagram, &length) == UAP_OK);
-        for (int copy = 0; copy < COPIES; copy++) give_damaged(&subscriber, turn * 100, datagram, length);
-        uint32_t status = uap_subscriber_datagram(&subscriber, 0, turn * 100, datagram, length, &taken);
+        DEMAND(next(&publisher, turn * 100, &datagram) == UAP_OK);
+        for (int copy = 0; copy < COPIES; copy++) give_damaged(&subscriber, turn * 100, &datagram);
+        uint32_t status = answer(&subscriber, 0, turn * 100, &datagram);
         DEMAND(status == UAP_OK || status == UAP_REPEATED);
         DEMAND(uap_get_u32(&subscriber, 0, 0, 0, &value) == UAP_OK && value == turn);
     }
@@ -255,6 +236,12 @@ int main(int count, char **words) {
     check_handles();
     check_publisher();
     check_mixed();
+    check_answers();
+    check_groups();
+    check_keys();
+    check_kinds();
+    check_memory();
+    check_refusals();
     check_damaged();
     printf("calls: ok, %u damaged datagrams\n", turns * COPIES);
     return 0;
