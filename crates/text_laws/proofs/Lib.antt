@@ -1,0 +1,5 @@
+pub mod OneLine
+pub mod Lines
+pub mod Places
+pub mod Gateways
+pub mod Small
