@@ -48,6 +48,7 @@ use Rattle.reader_group.proofs.KeptParts.{IsPieceOf, OfRead}
 use Rattle.group_laws.specs.Matching.{IsMatchedTo}
 use Rattle.group_laws.proofs.PayloadsGood.{IsGood}
 use Rattle.group_laws.proofs.Taking.{rest_of, sent-split, taken-open}
+use Rattle.session_model.specs.Counts.{most_ticks}
 use Rattle.session_model.specs.Deeds.{answered_at, deeds}
 use Rattle.session_model.specs.Keeping.{AreSteps, IsPlan}
 use Rattle.session_model.specs.Sends.{IsRun, TellsRun, journal}
@@ -359,7 +360,7 @@ module _ (config : Config) (g w : ℕ) (answered : List Answered) where
 module _ (laws : Laws) (p : Plan) (steps : List Step) (plan : IsPlan p) (are : AreSteps p steps) (run : IsRun p steps) (rise : SamplesRise p steps) where
   is-past : (h : ℕ) → IsPast p.config (group_at p.config h) (pasts_at p steps h)
   is-past h =
-      let past = past-of laws.words laws.ring p h steps plan are (laws.hold p steps plan are) rise in
+      let past = past-of most_ticks laws.words laws.ring p h steps plan are (laws.hold p steps plan are) rise in
       record { turns = past.turns; rows = λ w within. (meta_of_writer (group_at p.config h) (metas_at p.config steps) w, (past.lives w within).rows) }
 
   are-pasts : (h : ℕ) (part : GroupPart) → IsAt p.config h part → IsPast p.config part (pasts_at p steps h)

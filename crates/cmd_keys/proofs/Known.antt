@@ -4,7 +4,7 @@ use Rattle.std.specs.Prelude.{All}
 use Rattle.group_keys.specs.declared.key_set.KeySet.{KeySet}
 use Rattle.key_service.specs.declared.service.Keys.{Keys}
 use Rattle.key_service.specs.Laws.{AreSets, IsReply}
-use Rattle.key_service.specs.Pulled.{as_read, from_moment, moment_of, pulled_sets, timed_from}
+use Rattle.key_service.specs.Pulled.{as_read, from_moment, moment_of, timed_from}
 use Rattle.key_service.proofs.Looking.{not_equal}
 use Rattle.message_guard.specs.declared.mode.Mode.TheVariants.{Encrypt}
 use Rattle.message_guard.specs.Guards.{Setup}

@@ -1,37 +1,16 @@
--- How long requests and replies are.
-use Rattle.std.proofs.Common.{◌≡◌, ℕ, ◌+◌, ◌*◌, ◌≤◌, Bool, true, false, ◌&&◌, nat_le, List, [], ◌∷◌, ◌++◌, length, refl, sym, leb-true, arith}
-use Rattle.std.specs.Prelude.{IsTrue}
+-- How long replies are.
+use Rattle.std.proofs.Common.{◌≡◌, ℕ, ◌+◌, ◌*◌, ◌≤◌, Bool, true, false, List, [], ◌∷◌, ◌++◌, length, refl, arith}
 use Rattle.std.specs.Int.{w32, w64, to_le_bytes}
-use Rattle.std.specs.List.{list_all}
-use Rattle.std.proofs.lemmas.Bool.{true≢false}
 use Rattle.std.proofs.lemmas.List.{length-append}
-use Rattle.dataset_meta.specs.Names.{is_name, is_name_byte, begins_with_letter}
 use Rattle.ua_binary.specs.Spelling.{block}
 use Rattle.group_keys.specs.declared.key_set.KeySet.{KeySet}
 use Rattle.group_keys.specs.KeySets.{encrypting_length}
 use Rattle.key_service.specs.declared.service.Keys.{Keys}
 use Rattle.key_service.specs.Laws.{AreSets, IsReply, IsSetOf}
-use Rattle.key_service.specs.Spelling.{key_data, policy_of, reply_bytes, request_bytes, set_bytes, sets_bytes}
+use Rattle.key_service.specs.Spelling.{key_data, policy_of, reply_bytes, set_bytes, sets_bytes}
 
 length-block : (bytes : List ℕ) → length (block bytes) ≡ 4 + length bytes
 length-block bytes = length-append (to_le_bytes w32 (length bytes)) bytes
-
--- a name has at most 32 bytes
-middle : (a b c : Bool) → (a && b && c) ≡ true → b ≡ true
-middle true true c holds = refl
-middle true false c holds = holds
-middle false b c holds = absurd (true≢false (sym holds))
-
-name_short : (name : List ℕ) → IsTrue (is_name name) → length name ≤ 32
-name_short name named = leb-true (length name) 32 (middle (begins_with_letter name) (nat_le (length name) 32) (list_all is_name_byte name) named)
-
-pub request_short : (group : List ℕ) (start count : ℕ) → IsTrue (is_name group) → length (request_bytes group start count) ≤ 44
-request_short group start count named =
-    let a = to_le_bytes w32 start in
-    let b = to_le_bytes w32 count in
-    let first : length a ≡ 4 = refl in
-    let second : length b ≡ 4 = refl in
-    omega (arith, length-append (block group ++ a) b, length-append (block group) a, length-block group, name_short group named, first, second)
 
 key_short : (long : Bool) → encrypting_length long ≤ 32
 key_short true = omega arith

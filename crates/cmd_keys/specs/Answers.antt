@@ -15,9 +15,9 @@ use Rattle.cmd_keys.specs.declared.refusal.Refusal.{Refusal}
 use Rattle.cmd_keys.specs.declared.refusal.Refusal.TheVariants.{NotFound, Unserved}
 use Rattle.cmd_keys.specs.declared.words.Asked.{Asked}
 
--- a request of this group, from this token on, of so many keys
-abbrev pub request_for : List ℕ → ℕ → ℕ → Request
-request_for group start count = record { group = group; start = start; count = count }
+-- what a request asks for at a moment
+abbrev pub asked_by : Request → ℕ → Asked
+asked_by request moment = record { group = Some request.group; start = request.start; count = request.count; moment = moment }
 
 -- the key group of this name, if there is one
 abbrev pub group_named : List KeyGroupPart → List ℕ → Option KeyGroupPart

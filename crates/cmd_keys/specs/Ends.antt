@@ -16,13 +16,14 @@ use Rattle.cmd_keys.specs.declared.refusal.Refusal.{Refusal}
 use Rattle.cmd_keys.specs.declared.words.Asked.{Asked}
 use Rattle.cmd_keys.specs.Answers.{IsAnswer}
 use Rattle.cmd_keys.specs.declared.trial.Exchange.{Exchange}
+use Rattle.cmd_keys.specs.declared.trial.Refused.{Refused}
 use Rattle.cmd_keys.specs.Trials.{IsExchange}
 use Rattle.cmd_keys.specs.Texts.{exchange_text, keys_text}
 
 -- the text tells what passed between the service of the configuration and the puller, and nothing else
 abbrev pub TellsExchange : Config → Asked → List ℕ → Type 0
 TellsExchange config asked text =
-    (made : Result Exchange Refusal) × IsExchange config asked made × (text ≡ exchange_text made)
+    (made : Result Exchange Refused) × IsExchange config asked made × (text ≡ exchange_text made)
 
 -- the text tells what is answered of the configuration
 abbrev pub TellsAnswer : Config → Asked → List ℕ → Type 0

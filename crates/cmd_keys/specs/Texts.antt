@@ -11,6 +11,7 @@ use Rattle.ps_report.specs.Reports.{end_line}
 use Rattle.cmd_keys.specs.declared.refusal.Refusal.{Refusal}
 use Rattle.cmd_keys.specs.declared.refusal.Refusal.TheVariants.{NotFound, Unserved}
 use Rattle.cmd_keys.specs.declared.trial.Exchange.{Exchange}
+use Rattle.cmd_keys.specs.declared.trial.Refused.{Refused}
 use Rattle.cmd_keys.specs.declared.trial.Trial.{Trial}
 use Rattle.cmd_keys.specs.Trials.{has_opened}
 
@@ -49,9 +50,9 @@ abbrev pub refused_text : Refusal → List ℕ
 refused_text refusal = codes "refused " ++ refusal_name refusal ++ feed ++ end_line
 
 -- what is written of what passed between the service and the puller: the policy and the keys, or the refusal
-abbrev pub exchange_text : Result Exchange Refusal → List ℕ
+abbrev pub exchange_text : Result Exchange Refused → List ℕ
 exchange_text (Ok made) = policy_line made.read ++ exchange_lines made made.trials ++ end_line
-exchange_text (Err refusal) = refused_text refusal
+exchange_text (Err refused) = refused_text refused.refusal
 
 -- what so comes to be written of an answer to this START: of keys the policy and each key, which opens where START is 0; else the refusal
 abbrev pub keys_text : ℕ → Result Keys Refusal → List ℕ

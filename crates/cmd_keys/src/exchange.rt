@@ -1,16 +1,14 @@
-//! Requests and replies that are written and read back.
-ghost use Rattle.std.specs.Prelude.{◌≡◌, ◌≤◌, IsTrue, length, take};
+//! The bytes of requests and replies, and what is read of them.
+ghost use Rattle.std.specs.Prelude.{◌≡◌, ◌≤◌, IsOk, IsTrue, Ok, length, take};
 ghost use Rattle.dataset_meta.specs.Names.{is_name};
-ghost use Rattle.key_service.specs.Laws.{IsReply};
-ghost use Rattle.key_service.specs.Pulled.{as_read};
+ghost use Rattle.key_service.specs.Laws.{IsReply, IsRequest};
+ghost use Rattle.key_service.specs.Reading.{reply_in, request_in};
 ghost use Rattle.key_service.specs.Spelling.{reply_bytes, request_bytes};
-ghost use Rattle.cmd_keys.specs.Answers.{request_for};
 
+use crate::copying::copied;
+use arrayvec::ArrayVec;
 use dataset_meta::Name32;
-use key_service::{
-    Keys, Request, a_written_reply_is_read, a_written_request_is_read, read_reply, read_request,
-    write_reply, write_request,
-};
+use key_service::{Keys, Request, read_reply, read_request, write_reply, write_request};
 use ua_binary::Pen;
 
 /// No request is longer: the longest name, its length, and two numbers of four bytes.
@@ -19,17 +17,14 @@ const REQUEST_BYTES: usize = 44;
 /// No reply is longer: the policy, two numbers of four bytes, 16 keys of 68 bytes with their lengths, and two spans.
 const REPLY_BYTES: usize = 1197;
 
-/// The request, as the service reads it.
-pub(crate) fn request_back(group: &Name32, start: u32, count: u32) -> Request
-    ensures { result ≡ request_for group.now start count }
+/// The bytes of the request.
+pub(crate) fn request_of(group: &Name32, start: u32, count: u32) -> ArrayVec<u8, 44>
+    ensures request { IsRequest group.now start count }
+    ensures spelled { result.items ≡ request_bytes group.now start count }
 {
-    a_written_request_is_read();
     let mut room = [0; REQUEST_BYTES];
     let end = written_request(group, start, count, &mut room);
-    match read_request(&room[..end]) {
-        Ok(request) => request,
-        Err(_) => unreachable!(),
-    }
+    copied(&room[..end])
 }
 
 /// Writes the request at the begin of the room, and gives its end.
@@ -48,18 +43,25 @@ fn written_request(group: &Name32, start: u32, count: u32, room: &mut [u8]) -> u
     }
 }
 
-/// The reply of these keys, as the puller reads it.
-pub(crate) fn reply_back(keys: &Keys) -> Keys
-    requires { IsReply keys.now }
-    ensures { result ≡ as_read keys.now }
+/// The request, as the service reads it in the bytes.
+pub(crate) fn request_back(bytes: &[u8]) -> Request
+    requires { IsOk (request_in bytes.now) }
+    ensures { Ok result ≡ request_in bytes.now }
 {
-    a_written_reply_is_read();
-    let mut room = [0; REPLY_BYTES];
-    let end = written_reply(keys, &mut room);
-    match read_reply(&room[..end]) {
-        Ok(back) => back,
+    match read_request(bytes) {
+        Ok(request) => request,
         Err(_) => unreachable!(),
     }
+}
+
+/// The bytes of the reply of these keys.
+pub(crate) fn reply_of(keys: &Keys) -> ArrayVec<u8, 1197>
+    requires { IsReply keys.now }
+    ensures { result.items ≡ reply_bytes keys.now }
+{
+    let mut room = [0; REPLY_BYTES];
+    let end = written_reply(keys, &mut room);
+    copied(&room[..end])
 }
 
 /// Writes the reply at the begin of the room, and gives its end.
@@ -72,6 +74,17 @@ fn written_reply(keys: &Keys, room: &mut [u8]) -> usize
     let mut pen = Pen { bytes: room, at: 0 };
     match write_reply(&mut pen, keys) {
         Ok(()) => pen.at,
+        Err(_) => unreachable!(),
+    }
+}
+
+/// The keys, as the puller reads them in the bytes of a reply.
+pub(crate) fn reply_back(bytes: &[u8]) -> Keys
+    requires { IsOk (reply_in bytes.now) }
+    ensures { Ok result ≡ reply_in bytes.now }
+{
+    match read_reply(bytes) {
+        Ok(keys) => keys,
         Err(_) => unreachable!(),
     }
 }

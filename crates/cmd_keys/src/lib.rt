@@ -4,6 +4,7 @@
 
 mod answering;
 mod command;
+mod copying;
 mod exchange;
 mod laws;
 mod opening;
@@ -19,5 +20,5 @@ pub use laws::{
     a_configuration_has_one_text, each_key_that_is_tried_opens, what_is_protected_is_found,
 };
 pub use refusal::Refusal;
-pub use trial::{Exchange, Trial};
+pub use trial::{Exchange, Refused, Trial};
 pub use words::{Asked, keys_in};

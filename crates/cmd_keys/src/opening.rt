@@ -6,6 +6,7 @@ ghost use Rattle.message_guard.specs.Guards.{IsGuardOf, setup_of};
 ghost use Rattle.cmd_keys.specs.Opening.{Finds, HasLength};
 ghost use Rattle.cmd_keys.specs.Trials.{AreTrials, IsTrial, puller_setup};
 
+use crate::copying::copied;
 use crate::protecting::{FIRST_BLOCK, protect_zeros};
 use crate::trial::Trial;
 use arrayvec::ArrayVec;
@@ -65,15 +66,6 @@ fn trial_of(guard: &Guard, long: bool, set: &KeySet) -> Trial
         sent,
         found,
     }
-}
-
-fn copied(bytes: &[u8]) -> ArrayVec<u8, 64>
-    requires { length bytes.now ≤ 64 }
-    ensures { result.items ≡ bytes.now }
-{
-    let mut copy = ArrayVec::new();
-    let _ = copy.try_extend_from_slice(bytes);
-    copy
 }
 
 /// What the guard decrypts of the datagram, where it passes it.

@@ -9,7 +9,7 @@ use crate::answering::exchange;
 use crate::protecting::ZEROS;
 use crate::put::{put_key, put_policy};
 use crate::refusal::Refusal;
-use crate::trial::{Exchange, Trial};
+use crate::trial::{Exchange, Refused, Trial};
 use crate::words::Asked;
 use group_keys::KeySet;
 use ps_config::Config;
@@ -31,12 +31,12 @@ pub(crate) fn answer_text(
 }
 
 /// The lines of what passed, and of nothing else.
-fn exchange_text(alloc: Global, made: Result<Exchange, Refusal>) -> Result<Vec<u8>, NoMemory>
+fn exchange_text(alloc: Global, made: Result<Exchange, Refused>) -> Result<Vec<u8>, NoMemory>
     ensures { IfOk result (λ text. text.items ≡ exchange_text made) }
 {
     match made {
         Ok(made) => made_text(alloc, &made),
-        Err(refusal) => refused_text(alloc, refusal),
+        Err(refused) => refused_text(alloc, refused.refusal),
     }
 }
 

@@ -67,29 +67,51 @@ pub(crate) fn relayed_text<R: Wait, A: Link, B: Link>(
     ensures lab_counts { A.faults lab.old ≤ A.faults lab.new }
     ensures wire_counts { B.faults wire.old ≤ B.faults wire.new }
 {
-    histories_are_the_models();
-    a_closed_session_tells_the_headline();
-    passes_show_what_is_collected();
-    the_lines_of_a_gateway_tell_stores();
-    let Accepted {
-        first,
-        second,
-        script,
-    } = accepted;
-    let mut relay = Relay::open(rt, alloc, first, second, script)?;
-    open_link(lab, first.publisher.port, &script.fates(alloc)?)?;
-    open_again(wire, second)?;
-    relay.play(rt, alloc, script, lab, wire)?;
-    relay.end(rt, lab, wire)?;
-    let Relay {
-        player,
-        gateway,
-        ..
-    } = relay;
-    let closed = player.close(alloc)?;
-    readers_are_told_by_their_names(first);
-    closed_sessions_have_numbers(&closed);
-    Ok(text_of(alloc, first, &closed, second, &gateway)?)
+    let relay = Relay::open(
+        rt,
+        alloc,
+        &accepted.first,
+        &accepted.second,
+        &accepted.script,
+    )?;
+    open_both(alloc, accepted, lab, wire)?;
+    Ok(relay.text(rt, alloc, accepted, lab, wire)?)
+}
+
+/// Opens the link of the first configuration, with the fates of the script, and then that of the second, without.
+fn open_both<A: Link, B: Link>(
+    alloc: Global,
+    accepted: &Accepted,
+    lab: &mut A,
+    wire: &mut B,
+) -> Result<(), PlayEnd>
+    requires { IsScript accepted.now.first accepted.now.script }
+    ensures lab_opened { OnOk result (A.opened_with lab.new
+        ≡ Some (opening_of accepted.now.first accepted.now.script)) }
+    ensures wire_opened { OnOk result
+        (B.opened_with wire.new ≡ Some (opening_again accepted.now.second)) }
+    ensures lab_empty { OnOk result (IsUntold (A.told lab.new)) }
+    ensures wire_empty { OnOk result (IsUntold (B.told wire.new)) }
+    ensures lab_opens { OpensSo (Some (opening_of accepted.now.first accepted.now.script))
+        (wire_of A.told A.faults A.opened_with A.made A.openings lab.old)
+        (wire_of A.told A.faults A.opened_with A.made A.openings lab.new) }
+    ensures wire_opens { OpensSo (Some (opening_again accepted.now.second))
+        (wire_of B.told B.faults B.opened_with B.made B.openings wire.old)
+        (wire_of B.told B.faults B.opened_with B.made B.openings wire.new) }
+    ensures unopened { result ≡ Err PlayEnd.Unopened → LeavesUnopened
+        (wire_of A.told A.faults A.opened_with A.made A.openings lab.old)
+        (wire_of A.told A.faults A.opened_with A.made A.openings lab.new)
+        (wire_of B.told B.faults B.opened_with B.made B.openings wire.old)
+        (wire_of B.told B.faults B.opened_with B.made B.openings wire.new) }
+    ensures lab_once { OpensOnce A.made A.openings (IsOk result) lab.old lab.new }
+    ensures wire_once { OpensOnce B.made B.openings (IsOk result) wire.old wire.new }
+    ensures lab_counts { A.faults lab.old ≤ A.faults lab.new }
+    ensures wire_counts { B.faults wire.old ≤ B.faults wire.new }
+{
+    let port = accepted.first.publisher.port;
+    open_link(lab, port, &accepted.script.fates(alloc)?)?;
+    open_again(wire, &accepted.second)?;
+    Ok(())
 }
 
 /// Opens the link of the second configuration, with its port and without fates.
@@ -155,6 +177,44 @@ impl<'c> Relay<'c> {
             gateway: Gateway::open(alloc, first, second, size.ticks + 1, size.logged)?,
             origins: origins_of(alloc, first)?,
         })
+    }
+
+    /// What is written of both, once the script is played to its end and the first session closed.
+    fn text<R: Wait, A: Link, B: Link>(
+        mut self,
+        rt: &R,
+        alloc: Global,
+        accepted: &Accepted,
+        lab: &mut A,
+        wire: &mut B,
+    ) -> Result<Vec<u8>, NoMemory>
+        requires second { IsGood accepted.now.second × HasTypes accepted.now.second }
+        requires script { IsScript accepted.now.first accepted.now.script }
+        requires new { IsNewRelay accepted.now.first accepted.now.second accepted.now.script self }
+        requires lab { IsSome (A.opened_with lab.old) }
+        requires wire { IsSome (B.opened_with wire.old) }
+        requires lab_empty { IsUntold (A.told lab.old) }
+        requires wire_empty { IsUntold (B.told wire.old) }
+        ensures text { IfOk result (λ text. IsRelayOf accepted.now.first accepted.now.second
+            accepted.now.script (A.told lab.new) (B.told wire.new) text.items) }
+        ensures lab { KeepsLink A.opened_with A.faults A.made A.openings lab.old lab.new }
+        ensures wire { KeepsLink B.opened_with B.faults B.made B.openings wire.old wire.new }
+    {
+        histories_are_the_models();
+        a_closed_session_tells_the_headline();
+        passes_show_what_is_collected();
+        the_lines_of_a_gateway_tell_stores();
+        self.play(rt, alloc, &accepted.script, lab, wire)?;
+        self.end(rt, lab, wire)?;
+        let Relay {
+            player,
+            gateway,
+            ..
+        } = self;
+        let closed = player.close(alloc)?;
+        readers_are_told_by_their_names(&accepted.first);
+        closed_sessions_have_numbers(&closed);
+        text_of(alloc, &accepted.first, &closed, &accepted.second, &gateway)
     }
 
     /// Plays the lines of the script in order. Behind each tick comes one of the gateway.

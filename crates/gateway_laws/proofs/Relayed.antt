@@ -18,6 +18,7 @@ use Rattle.group_laws.specs.Matching.{IsMatchedTo}
 use Rattle.reader_group.specs.Members.{seat_at}
 use Rattle.reader_group.specs.Settings.{group_at as read_group_at, setting_by, setting_of}
 use Rattle.writer_group.specs.Payloads.{meta_at, writer_at, no_writer}
+use Rattle.session_model.specs.Counts.{most_ticks}
 use Rattle.session_model.specs.Steps.{Plan}
 use Rattle.session_model.specs.Sets.{meta_in}
 use Rattle.session_model.specs.Deeds.{log_at, writer_deeds}
@@ -75,7 +76,7 @@ stored-turn laws p second sources relay r i g w store is matched there honest nu
     let set = set_of second g w in
     let session = in-second p second sources relay r i g w is matched there honest in
     let h = holds-at laws q r i g w (seconds relay) store session numbering holds in
-    let life = (past-of laws.words laws.ring q g (seconds relay) session.plan session.steps_are (laws.turns q (seconds relay) session.plan session.steps_are) session.rise).lives w session.matched.reads.within in
+    let life = (past-of most_ticks laws.words laws.ring q g (seconds relay) session.plan session.steps_are (laws.turns q (seconds relay) session.plan session.steps_are) session.rise).lives w session.matched.reads.within in
     let turn = turn-in (IsVersionTurn q (HasSample q (seconds relay)) (meta_at (group_at second g) second.dataset w) set) (settings_at (group_at second g) w) (writer_deeds q g w (seconds relay)) h.turn life.turns h.has in
     let stored = sampled p.config second sources relay set turn.now turn.sample is.collects turn.sampled in
     let same : store ≡ turn.sample.version = h.version_is ∙ turn.version in (

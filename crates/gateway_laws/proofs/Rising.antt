@@ -262,7 +262,7 @@ holds-turn laws p r i g w now number is numbering number_is =
     let past = writer_deeds p g w now in
     let word = (seat_at (setting_of p.config r).seats i).part.numbering in
     let kept = kept-held word arrivals (reader_at p.config r i now).kept number numbering (laws.reads p r i g w now is).keeps number_is in
-    let life = (past-of laws.words laws.ring p g now is.plan is.steps_are (laws.turns p now is.plan is.steps_are) is.rise).lives w is.matched.reads.within in
+    let life = (past-of most_ticks laws.words laws.ring p g now is.plan is.steps_are (laws.turns p now is.plan is.steps_are) is.rise).lives w is.matched.reads.within in
     let sent = laws.sent _ (meta_of p r i) s past arrivals kept.at life.rows (cut-by word (meta_of p r i) (cadence s past) arrivals numbering (laws.comes p r i g w now is)) kept.is in
     let span = span-of s past sent.turn kept.at.place sent.one_of sent.place in
     let few : next_place s (cadence s past) ≤ s.first_number + 65536 =
@@ -292,7 +292,7 @@ never-older-held laws p r i g w later now one other is numbering uncut old new =
     let after = holds-at laws p r i g w (later ++ now) other is numbering new in
     let first = first_number_of p.config g w in
     let rise = places-rise (arrivals_at p.config r i first now) (arrivals_at p.config r i first (later ++ now)) before.at after.at uncut before.is after.is in
-    let life = (past-of laws.words laws.ring p g (later ++ now) is.plan is.steps_are (laws.turns p (later ++ now) is.plan is.steps_are) is.rise).lives w is.matched.reads.within in
+    let life = (past-of most_ticks laws.words laws.ring p g (later ++ now) is.plan is.steps_are (laws.turns p (later ++ now) is.plan is.steps_are) is.rise).lives w is.matched.reads.within in
     let le = older-below (settings_at (group_at p.config g) w) (writer_deeds p g w (later ++ now)) before.at.place after.at.place before.turn after.turn life.never (turn-stays p g w before.turn later now before.has) before.place after.has after.place rise in
     let a = before.version_is in let b = after.version_is in
     omega (arith, le, a, b)

@@ -12,6 +12,7 @@ use Rattle.writer_group.specs.declared.sampled.Sampled.{Sampled}
 use Rattle.writer_group.specs.Parts.{group_at}
 use Rattle.writer_group.specs.Payloads.{writer_at}
 use Rattle.writer_group.specs.Turns.{GroupDeed, GroupTurn, HadGroupTurn, no_sample, took_by, writer_past}
+use Rattle.session_model.specs.Counts.{most_ticks}
 use Rattle.session_model.specs.Steps as steps
 use Rattle.session_model.specs.Steps.{Plan, Step, moment_of}
 use Rattle.session_model.specs.Sets.{AreRowsOf}
@@ -56,7 +57,7 @@ module _ (words : WordLaws) (p : Plan) (plan : IsPlan p) (before : List Step) (a
   own-turn : (earlier : List Deed) → g < length p.config.group → Kept (group_past p.config g earlier) → Kept (HadGroupTurn (turn_of p before now closing samples earlier g) ∷ group_past p.config g earlier)
   own-turn earlier there h =
       since-turn version_now (writer_deeds p g w before) (writer_past w (group_past p.config g earlier)) (took_by w (turn_of p before now closing samples earlier g))
-      (λ turn e. (took-sampled words p before now closing samples earlier g w turn plan are rows there within e).version) h
+      (λ turn e. (took-sampled most_ticks words p before now closing samples earlier g w turn plan are rows there within e).version) h
 
   turn-if : (earlier : List Deed) (k : ℕ) (b : Bool) → (k == g) ≡ b → k < length p.config.group → Kept (group_past p.config g earlier)
       → Kept (cons_if b (HadGroupTurn (turn_of p before now closing samples earlier k)) (group_past p.config g earlier))

@@ -1,10 +1,10 @@
 -- A session's journal has few answers Nothing.
 use Rattle.std.proofs.Common.{◌≡◌, refl, ap, ◌∙◌, arith, ℕ, zero, suc, ◌+◌, ◌≤◌, Bool, true, false, List, [], ◌∷◌, ◌++◌}
-use Rattle.std.specs.Prelude.{replicate}
+use Rattle.std.specs.Prelude.{◌^◌, replicate}
 use Rattle.ua_base.specs.Journal.{Entry, Sent, SendFailed, Got, Empty, Long, ReceiveFailed}
 use Rattle.mem_edge.specs.Marks.{EndsInNothings}
-use Rattle.session_model.specs.Counts.{most_ticks, pumps_in, ticks_in}
-use Rattle.session_model.specs.Keeping.{AreSteps}
+use Rattle.session_model.specs.Counts.{pumps_in, ticks_in}
+use Rattle.session_model.specs.Keeping.{AreStepsOf}
 use Rattle.session_model.specs.Sends.{IsPump, IsRun, Send, journal, send_entries, sends_of}
 use Rattle.session_model.specs.Steps.{Plan, Step, Enable, Disable, Append, Tick, Pump}
 use Rattle.session_model.proofs.Lasting.{ticks-few}
@@ -66,21 +66,21 @@ all-nothings p (Pump entries ∷ before) run =
     let rest = all-nothings p before run.1 in
     omega (arith, both, one, rest)
 
-pumps-few : (p : Plan) (steps : List Step) → AreSteps p steps → pumps_in steps ≤ ticks_in steps
-pumps-few p [] are = omega arith
-pumps-few p (Enable id ∷ before) are = pumps-few p before are.1
-pumps-few p (Disable id ∷ before) are = pumps-few p before are.1
-pumps-few p (Append set field ∷ before) are = pumps-few p before are.1
-pumps-few p (Tick ms closing samples done ∷ before) are = let rest = pumps-few p before are.1 in omega (arith, rest)
-pumps-few p (Pump entries ∷ before) are = let less = are.0 in omega (arith, less)
+pumps-few : (limit : ℕ) (p : Plan) (steps : List Step) → AreStepsOf limit p steps → pumps_in steps ≤ ticks_in steps
+pumps-few limit p [] are = omega arith
+pumps-few limit p (Enable id ∷ before) are = pumps-few limit p before are.1
+pumps-few limit p (Disable id ∷ before) are = pumps-few limit p before are.1
+pumps-few limit p (Append set field ∷ before) are = pumps-few limit p before are.1
+pumps-few limit p (Tick ms closing samples done ∷ before) are = let rest = pumps-few limit p before are.1 in omega (arith, rest)
+pumps-few limit p (Pump entries ∷ before) are = let less = are.0 in omega (arith, less)
 
-pub few-nothings : (p : Plan) (steps : List Step) (first rest : List Entry) → AreSteps p steps → IsRun p steps → journal p steps ≡ first ++ rest → EndsInNothings first → ⊥
-few-nothings p steps first rest are run e ends =
+pub few-nothings : (limit : ℕ) (p : Plan) (steps : List Step) (first rest : List Entry) → limit ≤ 2 ^ 42 → AreStepsOf limit p steps → IsRun p steps → journal p steps ≡ first ++ rest → EndsInNothings first → ⊥
+few-nothings limit p steps first rest le are run e ends =
     let total = all-nothings p steps run in
-    let pumps = pumps-few p steps are in
-    let ticks = ticks-few most_ticks p steps are in
+    let pumps = pumps-few limit p steps are in
+    let ticks = ticks-few limit p steps are in
     let split : nothings (journal p steps) ≡ nothings first + nothings rest = ap nothings e ∙ append-nothings first rest in
     let own : nothings first ≡ nothings ends.1 + nothings (replicate ends.0 Empty) = ap nothings ends.3 ∙ append-nothings ends.1 (replicate ends.0 Empty) in
     let many = replicated ends.0 in
     let count = ends.2 in
-    omega (arith, total, pumps, ticks, split, own, many, count)
+    omega (arith, le, total, pumps, ticks, split, own, many, count)

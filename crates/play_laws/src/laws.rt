@@ -1,9 +1,9 @@
 //! What a session receives over a link in memory, each law the contract of a function that does nothing.
-ghost use Rattle.std.specs.Prelude.{◌≡◌, ◌++◌, ℕ, List};
+ghost use Rattle.std.specs.Prelude.{◌≡◌, ◌≤◌, ◌^◌, ◌++◌, ℕ, List};
 ghost use Rattle.ua_base.specs.Journal.{Entry};
 ghost use Rattle.mem_edge.specs.Marks.{EndsInNothings};
 ghost use Rattle.mem_edge.specs.Standings.{Settings};
-ghost use Rattle.session_model.specs.Keeping.{AreSteps};
+ghost use Rattle.session_model.specs.Keeping.{AreStepsOf};
 ghost use Rattle.session_model.specs.Sends.{IsPump, IsRun, journal};
 ghost use Rattle.session_model.specs.Steps.{Plan, Step};
 ghost use Rattle.play_laws.specs.Taking.{IsOfItsCalls, MayTakeAll, TakesAll};
@@ -16,10 +16,10 @@ pub fn a_pump_takes_all_that_waits()
         → TakesAll settings before entries }
 {}
 
-/// No beginning of a session's journal ends in 2^64 - 1 answers Nothing, since a session has 4,097 pumps at most, each of which
-/// ends with its first such answer. A link in memory that tells its journal tells it until so many stand in a row and one more comes
+/// No beginning of a session's journal ends in 2^64 - 1 answers Nothing, since a session has 2^42 ticks at most beside the closing
+/// one, each with one pump at most, which ends with its first such answer. A link in memory that tells its journal tells it until so many stand in a row and one more comes
 /// (`tells` of its `receive`); so no receive of a session silences it.
 pub fn a_memory_link_tells_of_each_session()
-    ensures { (p : Plan) (steps : List Step) (first rest : List Entry) → AreSteps p steps → IsRun p steps
-        → journal p steps ≡ first ++ rest → ¬ EndsInNothings first }
+    ensures { (limit : ℕ) (p : Plan) (steps : List Step) (first rest : List Entry) → limit ≤ 2 ^ 42
+        → AreStepsOf limit p steps → IsRun p steps → journal p steps ≡ first ++ rest → ¬ EndsInNothings first }
 {}

@@ -7,5 +7,6 @@ pub mod Noisy
 pub mod OneTick
 pub mod Quiet
 pub mod Reaching
+pub mod Renewing
 pub mod SinceCut
 pub mod ThreeGroups

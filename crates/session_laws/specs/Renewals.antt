@@ -1,10 +1,13 @@
 -- Lives, in which rings renew a session's keys: what a key group protected, under which token it protects, and what a read group took.
-use Rattle.std.specs.Prelude.{◌<◌, ◌≤◌, ◌≢◌, ◌^◌, ⊤, ℕ, List, [], ◌∷◌, All, AllPairs}
+use Rattle.std.specs.Prelude.{◌<◌, ◌≤◌, ◌≢◌, ◌^◌, ⊤, ℕ, List, [], ◌∷◌, map, All, AllPairs}
 use Rattle.group_keys.specs.declared.key_set.KeySet.{KeySet}
 use Rattle.message_guard.specs.Acceptance.{Accepted}
+use Rattle.ps_config.specs.Rings.{key_set}
+use Rattle.group_laws.specs.Witness.{three_keys}
 use Rattle.session_model.specs.Lives.{Lived, Stepped, Renewed, account_in}
 use Rattle.session_model.specs.Steps.{Plan}
 use Rattle.session_laws.specs.Fresh.{protected_in, token_after}
+use Rattle.session_laws.specs.Witness.{three_session}
 
 -- each token has 32 bits, as those of each ring in memory
 abbrev pub HaveShortTokens : List KeySet → Type 0
@@ -35,3 +38,7 @@ AreDistinctPairs taken = AllPairs (λ pair earlier. pair ≢ earlier) taken
 -- no pair has a lower token than an earlier one
 abbrev pub TokensRise : Accepted → Type 0
 TokensRise taken = AllPairs (λ pair earlier. earlier.0 ≤ pair.0) taken
+
+-- the small session of a signed group, which a ring with the keys of its configuration renews at its end
+abbrev pub renewed_life : List Lived
+renewed_life = Renewed 0 (map key_set three_keys.key) ∷ map Stepped three_session

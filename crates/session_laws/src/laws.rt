@@ -19,7 +19,7 @@ ghost use Rattle.writer_group.specs.Parts.{group_at};
 ghost use Rattle.session_model.specs.Answers.{answers_at, taken_by};
 ghost use Rattle.session_model.specs.Events.{reader_at};
 ghost use Rattle.session_model.specs.Counts.{most_ticks, ticks_in};
-ghost use Rattle.session_model.specs.Keeping.{AreSteps, IsPlan};
+ghost use Rattle.session_model.specs.Keeping.{AreSteps, AreStepsOf, IsPlan};
 ghost use Rattle.session_laws.specs.Reading.{ReadsByRecords, first_number_of};
 ghost use Rattle.session_model.specs.Sends.{IsRun, journal, sent_by};
 ghost use Rattle.session_model.specs.States.{state_at};
@@ -80,15 +80,16 @@ pub fn matched_readers_hold_published_versions()
 
 /// Every data message of a writer stands for one whole version of its data set's single history, and never an older one than its
 /// last: up to each turn with a data frame the writer's frames publish the row of the turn's version, cut to the fields that the
-/// data set had then, and the versions of its log never fall, where those that are sampled of a data set don't.
+/// data set had then, and the versions of its log never fall, where those that are sampled of a data set don't; however many ticks
+/// come.
 pub fn data_messages_stand_for_versions()
-    ensures publish { (p : Plan) (g w : ℕ) (steps : List Step) (rows : ℕ → ℕ → List DataValue)
-        (later before : List WriterDeed) (turn : WriterTurn) → IsPlan p → AreSteps p steps
+    ensures publish { (limit : ℕ) (p : Plan) (g w : ℕ) (steps : List Step) (rows : ℕ → ℕ → List DataValue)
+        (later before : List WriterDeed) (turn : WriterTurn) → IsPlan p → AreStepsOf limit p steps
         → SamplesRise p steps → AreVersions p steps rows → w < length (group_at p.config g).writer
         → writer_deeds p g w steps ≡ later ++ HadTurn turn ∷ before
         → let part = writer_at (group_at p.config g) w in let s = settings_at (group_at p.config g) w in
         is_data (answered_turn s before turn) ≡ true → PublishesVersion p steps s part.dataset rows before turn }
-    ensures never_older { (p : Plan) (g w : ℕ) (steps : List Step) → IsPlan p → AreSteps p steps
+    ensures never_older { (limit : ℕ) (p : Plan) (g w : ℕ) (steps : List Step) → IsPlan p → AreStepsOf limit p steps
         → SamplesRise p steps → w < length (group_at p.config g).writer
         → IsNonDecreasingBy (λ entry. entry.1) (log_at p g w steps) }
 {
@@ -165,8 +166,8 @@ pub fn a_closing_frame_that_came_is_held()
     ensures came_last { (p : Plan) (r i g w : ℕ) (steps : List Step) (rows : ℕ → ℕ → List DataValue)
         (before : List WriterDeed) (turn : WriterTurn) → InSession p r i g w steps → AreVersions p steps rows
         → ClosingCameLast p r i g w steps before turn → HoldsClosingRow p r i g w steps rows turn.version }
-    ensures sampled { (p : Plan) (g w : ℕ) (steps : List Step) (later before : List WriterDeed) (turn : WriterTurn)
-        → IsPlan p → AreSteps p steps → g < length p.config.group → w < length (group_at p.config g).writer
+    ensures sampled { (limit : ℕ) (p : Plan) (g w : ℕ) (steps : List Step) (later before : List WriterDeed) (turn : WriterTurn)
+        → IsPlan p → AreStepsOf limit p steps → g < length p.config.group → w < length (group_at p.config g).writer
         → writer_deeds p g w steps ≡ later ++ HadTurn turn ∷ before → turn.closing ≡ true
         → ClosesWith steps (writer_at (group_at p.config g) w).dataset turn.version }
 {
@@ -180,10 +181,10 @@ pub fn a_session_has_at_most_4097_ticks()
     ensures { (p : Plan) (steps : List Step) → AreSteps p steps → ticks_in steps ≤ most_ticks + 1 }
 {}
 
-/// No two datagrams of a session that one key group protects have the same token and number, over any link.
+/// No two datagrams of a session that one key group protects have the same token and number, over any link, however long it lasts.
 pub fn no_token_and_number_come_twice_in_a_session()
-    ensures { (p : Plan) (k : ℕ) (steps : List Step) → IsPlan p → AreSteps p steps → k < length p.config.keygroup
-        → AllPairs HaveOtherNumbers (protected_by p k steps) }
+    ensures { (limit : ℕ) (p : Plan) (k : ℕ) (steps : List Step) → IsPlan p → AreStepsOf limit p steps
+        → k < length p.config.keygroup → AllPairs HaveOtherNumbers (protected_by p k steps) }
 {
     no_token_and_number_come_twice_in_groups();
     each_turn_of_a_session_holds();

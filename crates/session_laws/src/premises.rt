@@ -2,7 +2,7 @@
 ghost use Rattle.std.specs.Prelude.{◌≡◌, ◌≤◌, ℕ, List};
 ghost use Rattle.dataset_meta.specs.Metas.{MetaData};
 ghost use Rattle.reader_group.specs.Settings.{setting_of};
-ghost use Rattle.session_model.specs.Keeping.{AreSteps};
+ghost use Rattle.session_model.specs.Keeping.{AreStepsOf};
 ghost use Rattle.session_model.specs.Sends.{IsRun, journal};
 ghost use Rattle.session_model.specs.Steps.{Plan, Step};
 ghost use Rattle.session_laws.specs.Sessions.{ClosesWith, HasSample, IsHonestFor, SamplesRise, TakesWhatWasSent};
@@ -21,9 +21,9 @@ pub fn an_honest_link_delivers_what_was_sent()
 
 /// A session has one closing tick at most, whose sample of a data set is of one version; no tick sampled a later one.
 pub fn a_session_closes_once_with_its_newest_versions()
-    ensures once { (p : Plan) (steps : List Step) (index one other : ℕ) → AreSteps p steps
+    ensures once { (limit : ℕ) (p : Plan) (steps : List Step) (index one other : ℕ) → AreStepsOf limit p steps
         → ClosesWith steps index one → ClosesWith steps index other → one ≡ other }
-    ensures newest { (p : Plan) (steps : List Step) (index version : ℕ) (now : MetaData) (sample : Sampled)
-        → AreSteps p steps → SamplesRise p steps → ClosesWith steps index version
+    ensures newest { (limit : ℕ) (p : Plan) (steps : List Step) (index version : ℕ) (now : MetaData) (sample : Sampled)
+        → AreStepsOf limit p steps → SamplesRise p steps → ClosesWith steps index version
         → HasSample p steps index now sample → sample.version ≤ version }
 {}

@@ -17,6 +17,7 @@ use Rattle.dataset_reader.specs.Kept.{Kept}
 use Rattle.reader_group.specs.Members.{numbering_of}
 use Rattle.reader_group.specs.Settings.{setting_of}
 use Rattle.writer_group.specs.Parts.{group_at}
+use Rattle.session_model.specs.Counts.{most_ticks}
 use Rattle.session_model.specs.Deeds.{answered_at}
 use Rattle.session_model.specs.Events.{reader_at}
 use Rattle.session_model.specs.Steps.{Plan, Step}
@@ -117,5 +118,5 @@ closing-held rows_law spans comes reads holds p r i g w steps rows before turn i
     let number : kept.number ≡ Some (place % 65536) = keeps.over.number ∙ ap (λ (o : Option Held). option_map (λ (h : Held). number_of_place h.place) o) held-row in
     record {
       newest = holds-logged holds p r i g w steps rows (row_cut (meta_of p r i) turn.row) place turn.version is versions row number (closing-logged p g w steps before turn c.last c.closing);
-      sampled = closes-with rows_law p g w steps [] before turn is.plan is.steps_are is.there is.matched.reads.within c.last c.closing;
+      sampled = closes-with most_ticks rows_law p g w steps [] before turn is.plan is.steps_are is.there is.matched.reads.within c.last c.closing;
     }

@@ -10,6 +10,7 @@ use Rattle.reader_group.specs.Settings.{setting_of}
 use Rattle.writer_group.specs.declared.sampled.Sampled.{Sampled}
 use Rattle.writer_group.specs.Parts.{group_at}
 use Rattle.writer_group.specs.Turns.{GroupTurn, HadGroupTurn, took_by}
+use Rattle.session_model.specs.Counts.{most_ticks}
 use Rattle.session_model.specs.Steps.{Plan, Step, Pump, Tick, moment_of}
 use Rattle.session_laws.specs.Headline.{InSession}
 use Rattle.session_laws.specs.Pasts.{answered_by, settings_at}
@@ -135,7 +136,7 @@ module _ (laws : Laws) (p : Plan) (r i g w ms : ℕ) (samples : List Sampled) (d
     turn = closing_turn p start ms samples g;
     before = group_past config g earlier;
     past_is = past-is;
-    of = turn-is laws.words p start at_tick true samples earlier g is.plan in-start.steps_are is.there
+    of = turn-is most_ticks laws.words p start at_tick true samples earlier g is.plan in-start.steps_are is.there
         (turn-at laws.ring p start at_tick true samples g is.there is.plan holds-tick had (send-to laws.ring p start at_tick true samples (λ l. ⊤) g (let there = is.there in omega (arith, there)) is.plan nothing-asked holds-tick holds-start tt).0);
   }
 

@@ -11,7 +11,7 @@ use Rattle.writer_group.specs.Parts.{group_at}
 use Rattle.writer_group.specs.Payloads.{writer_at}
 use Rattle.writer_group.specs.Turns.{GroupDeed, HadGroupTurn, TurnInput, no_sample, took_by, writer_past, writer_turn}
 use Rattle.session_model.specs.Deeds.{Deed, component_at, deeds, group_past, is_writer_below, is_writer_of, refreshed_where, turn_input, turn_of, writer_deeds, writer_indexes}
-use Rattle.session_model.specs.Keeping.{AreSteps, IsPlan}
+use Rattle.session_model.specs.Keeping.{AreStepsOf, IsPlan}
 use Rattle.session_model.specs.Sets.{AreRowsOf}
 use Rattle.session_model.specs.Steps.{Plan, Step, Enable, Disable, Append, Tick, Pump, moment_of}
 use Rattle.session_laws.specs.Sessions.{ClosesWith, pasts_at}
@@ -46,13 +46,13 @@ module _ (words : WordLaws) (p : Plan) (g w : ℕ) (plan : IsPlan p) (there : g 
   refreshed-past : (S : ℕ → Type 0) (test : ℕ → Bool) (past : List GroupDeed) (writers : List ℕ) → Past S past → Past S (refreshed_where test past writers)
   refreshed-past S test past writers h = refreshed-keeps (Past S) (λ writer past h. turns-if (IfClosing S) (writer == w) (writer_past w past) h) test past writers h
 
-  module _ (before : List Step) (are : AreSteps p before) (now : ℕ) (closing : Bool) (samples : List Sampled) (rows : AreRowsOf p.full samples) where
+  module _ (limit : ℕ) (before : List Step) (are : AreStepsOf limit p before) (now : ℕ) (closing : Bool) (samples : List Sampled) (rows : AreRowsOf p.full samples) where
     abbrev Now : ℕ → Type 0
     Now version = ((closing ≡ true) × ((slice_index_or samples index no_sample).version ≡ version)) ⊎ ClosesWith before index version
 
     new-turn : (earlier : List Deed) (t : WriterTurn) → took_by w (turn_of p before now closing samples earlier g) ≡ Some t → IfClosing Now t
     new-turn earlier t e closes =
-        let is = took-sampled words p before now closing samples earlier g w t plan are rows there within e in
+        let is = took-sampled limit words p before now closing samples earlier g w t plan are rows there within e in
         let input : TurnInput = turn_input p before now closing samples earlier g in
         let same : t ≡ writer_turn (group_at p.config g) input.told w =
         turns-at (group_at p.config g) input.told 0 w input.on t e ∙ ap (writer_turn (group_at p.config g) input.told) (omega arith) in
@@ -73,23 +73,23 @@ module _ (words : WordLaws) (p : Plan) (g w : ℕ) (plan : IsPlan p) (there : g 
       turn = λ other earlier lt has h. turn-on earlier other (other == g) (λ i. other == g) h;
     }
 
-  closings : (steps : List Step) → AreSteps p steps → Past (ClosesWith steps index) (pasts_at p steps g)
-  closings [] are = tt
-  closings (Enable id ∷ before) are =
-      refreshed-past (ClosesWith before index) (is_writer_below (component_at p.config id) g) (pasts_at p before g) (writer_indexes (group_at p.config g)) (closings before are.1)
-  closings (Disable id ∷ before) are = closings before are.1
-  closings (Append set field ∷ before) are =
-      refreshed-past (ClosesWith before index) (is_writer_of (group_at p.config g) set) (pasts_at p before g) (writer_indexes (group_at p.config g)) (closings before are.1)
-  closings (Tick ms closing samples done ∷ before) are =
+  closings : (limit : ℕ) (steps : List Step) → AreStepsOf limit p steps → Past (ClosesWith steps index) (pasts_at p steps g)
+  closings limit [] are = tt
+  closings limit (Enable id ∷ before) are =
+      refreshed-past (ClosesWith before index) (is_writer_below (component_at p.config id) g) (pasts_at p before g) (writer_indexes (group_at p.config g)) (closings limit before are.1)
+  closings limit (Disable id ∷ before) are = closings limit before are.1
+  closings limit (Append set field ∷ before) are =
+      refreshed-past (ClosesWith before index) (is_writer_of (group_at p.config g) set) (pasts_at p before g) (writer_indexes (group_at p.config g)) (closings limit before are.1)
+  closings limit (Tick ms closing samples done ∷ before) are =
       let now = moment_of before + ms in
       tick-keeps p before now closing samples (deeds p before) (λ earlier. Past (ClosesWith (Tick ms closing samples done ∷ before) index) (group_past p.config g earlier))
-      (tick before are.1 now closing samples are.0.rows)
+      (tick limit before are.1 now closing samples are.0.rows)
       (turns-more (IfClosing (ClosesWith before index)) (IfClosing (ClosesWith (Tick ms closing samples done ∷ before) index)) (λ turn had closes. inr (had closes)) (writer_past w (pasts_at p before g))
-      (closings before are.1))
-  closings (Pump entries ∷ before) are = closings before are.1
+      (closings limit before are.1))
+  closings limit (Pump entries ∷ before) are = closings limit before are.1
 
-pub closes-with : WordLaws → (p : Plan) (g w : ℕ) (steps : List Step) (later before : List WriterDeed) (turn : WriterTurn) → IsPlan p → AreSteps p steps → g < length p.config.group → w < length (group_at p.config g).writer
+pub closes-with : (limit : ℕ) → WordLaws → (p : Plan) (g w : ℕ) (steps : List Step) (later before : List WriterDeed) (turn : WriterTurn) → IsPlan p → AreStepsOf limit p steps → g < length p.config.group → w < length (group_at p.config g).writer
     → writer_deeds p g w steps ≡ later ++ HadTurn turn ∷ before → turn.closing ≡ true → ClosesWith steps (writer_at (group_at p.config g) w).dataset turn.version
-closes-with words p g w steps later before turn plan are there within split closes =
+closes-with limit words p g w steps later before turn plan are there within split closes =
     let P = IfClosing (ClosesWith steps (writer_at (group_at p.config g) w).dataset) in
-    turn-there P later before turn (subst (TurnsAre P) split (closings words p g w plan there within steps are)) closes
+    turn-there P later before turn (subst (TurnsAre P) split (closings words p g w plan there within limit steps are)) closes

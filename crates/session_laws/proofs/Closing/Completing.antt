@@ -23,10 +23,10 @@ use Rattle.writer_group.specs.Parts.{group_at}
 use Rattle.writer_group.specs.Payloads.{writer_at}
 use Rattle.writer_group.specs.Turns.{GroupDeed, GroupTurn, no_sample}
 use Rattle.session_model.specs.Closing.{IsClosedAfter}
-use Rattle.session_model.specs.Counts.{is_closed}
+use Rattle.session_model.specs.Counts.{is_closed, most_ticks}
 use Rattle.session_model.specs.Deeds.{log_at}
 use Rattle.session_model.specs.Events.{reader_at}
-use Rattle.session_model.specs.Keeping.{AreSteps}
+use Rattle.session_model.specs.Keeping.{AreStepsOf}
 use Rattle.session_model.specs.Steps.{Plan, Step, Enable, Disable, Append, Tick, Pump}
 use Rattle.session_laws.specs.Bare.{ClosingCameLast, ClosingGotLast, ClosingGotSinceLast, ClosingTookLast, IsBare}
 use Rattle.session_laws.specs.Complete.{Came, CameLast, ClosingComes, Got, GotLast, GotSecured, GotSinceLast, IsNewestTold, Took, TookLast}
@@ -55,32 +55,32 @@ closed-by (Pump entries ∷ before) index version closes = closed-by before inde
 runs-on : (steps : List Step) (index version : ℕ) → is_closed steps ≡ false → ClosesWith steps index version → ⊥
 runs-on steps index version running closes = let wrong : false ≡ true = sym running ∙ closed-by steps index version closes in cc
 
-pub closes-once : (p : Plan) (steps : List Step) (index one other : ℕ) → AreSteps p steps → ClosesWith steps index one → ClosesWith steps index other → one ≡ other
-closes-once p [] index one other are a b = absurd a
-closes-once p (Enable id ∷ before) index one other are a b = closes-once p before index one other are.1 a b
-closes-once p (Disable id ∷ before) index one other are a b = closes-once p before index one other are.1 a b
-closes-once p (Append set field ∷ before) index one other are a b = closes-once p before index one other are.1 a b
-closes-once p (Tick ms closing samples done ∷ before) index one other are (inl a) (inl b) = sym a.1 ∙ b.1
-closes-once p (Tick ms closing samples done ∷ before) index one other are (inl a) (inr b) = absurd (runs-on before index other are.0.running b)
-closes-once p (Tick ms closing samples done ∷ before) index one other are (inr a) b = absurd (runs-on before index one are.0.running a)
-closes-once p (Pump entries ∷ before) index one other are a b = closes-once p before index one other are.1 a b
+pub closes-once : (limit : ℕ) (p : Plan) (steps : List Step) (index one other : ℕ) → AreStepsOf limit p steps → ClosesWith steps index one → ClosesWith steps index other → one ≡ other
+closes-once limit p [] index one other are a b = absurd a
+closes-once limit p (Enable id ∷ before) index one other are a b = closes-once limit p before index one other are.1 a b
+closes-once limit p (Disable id ∷ before) index one other are a b = closes-once limit p before index one other are.1 a b
+closes-once limit p (Append set field ∷ before) index one other are a b = closes-once limit p before index one other are.1 a b
+closes-once limit p (Tick ms closing samples done ∷ before) index one other are (inl a) (inl b) = sym a.1 ∙ b.1
+closes-once limit p (Tick ms closing samples done ∷ before) index one other are (inl a) (inr b) = absurd (runs-on before index other are.0.running b)
+closes-once limit p (Tick ms closing samples done ∷ before) index one other are (inr a) b = absurd (runs-on before index one are.0.running a)
+closes-once limit p (Pump entries ∷ before) index one other are a b = closes-once limit p before index one other are.1 a b
 
 -- and no tick sampled a later version
-pub closes-newest : (p : Plan) (steps : List Step) (index version : ℕ) (now : MetaData) (sample : Sampled) → AreSteps p steps → SamplesRise p steps → ClosesWith steps index version → HasSample p steps index now sample → sample.version ≤ version
-closes-newest p [] index version now sample are rise closes has = absurd closes
-closes-newest p (Enable id ∷ before) index version now sample are rise closes has = closes-newest p before index version now sample are.1 rise closes has
-closes-newest p (Disable id ∷ before) index version now sample are rise closes has = closes-newest p before index version now sample are.1 rise closes has
-closes-newest p (Append set field ∷ before) index version now sample are rise closes has = closes-newest p before index version now sample are.1 rise closes has
-closes-newest p (Tick ms closing samples done ∷ before) index version now sample are rise (inl closes) (inl has) =
+pub closes-newest : (limit : ℕ) (p : Plan) (steps : List Step) (index version : ℕ) (now : MetaData) (sample : Sampled) → AreStepsOf limit p steps → SamplesRise p steps → ClosesWith steps index version → HasSample p steps index now sample → sample.version ≤ version
+closes-newest limit p [] index version now sample are rise closes has = absurd closes
+closes-newest limit p (Enable id ∷ before) index version now sample are rise closes has = closes-newest limit p before index version now sample are.1 rise closes has
+closes-newest limit p (Disable id ∷ before) index version now sample are rise closes has = closes-newest limit p before index version now sample are.1 rise closes has
+closes-newest limit p (Append set field ∷ before) index version now sample are rise closes has = closes-newest limit p before index version now sample are.1 rise closes has
+closes-newest limit p (Tick ms closing samples done ∷ before) index version now sample are rise (inl closes) (inl has) =
     let same : (slice_index_or samples index no_sample).version ≡ sample.version = ap (λ (s : Sampled). s.version) has.0 in
     let own = closes.1 in
     omega (arith, same, own)
-closes-newest p (Tick ms closing samples done ∷ before) index version now sample are rise (inl closes) (inr has) =
+closes-newest limit p (Tick ms closing samples done ∷ before) index version now sample are rise (inl closes) (inr has) =
     let le = rise.0 index now sample has in
     let own = closes.1 in
     omega (arith, le, own)
-closes-newest p (Tick ms closing samples done ∷ before) index version now sample are rise (inr closes) has = absurd (runs-on before index version are.0.running closes)
-closes-newest p (Pump entries ∷ before) index version now sample are rise closes has = closes-newest p before index version now sample are.1 rise closes has
+closes-newest limit p (Tick ms closing samples done ∷ before) index version now sample are rise (inr closes) has = absurd (runs-on before index version are.0.running closes)
+closes-newest limit p (Pump entries ∷ before) index version now sample are rise closes has = closes-newest limit p before index version now sample are.1 rise closes has
 
 -- ---- what the reader holds
 
@@ -160,10 +160,10 @@ module _ (laws : ClosingLaws) (p : Plan) (r i g w : ℕ) (steps : List Step) (ro
     newest-so : (version : ℕ) → ClosesWith steps (writer_at (group_at p.config g) w).dataset version → HoldsClosing p r i g w steps rows own.version ⊎ (IsBare p r i × HoldsClosingRow p r i g w steps rows own.version)
         → IsNewestTold p r i g w rows closed version
     newest-so version closes (inl h) =
-        subst (IsNewestTold p r i g w rows closed) (closes-once p steps (writer_at (group_at p.config g) w).dataset own.version version is.steps_are h.sampled closes)
+        subst (IsNewestTold p r i g w rows closed) (closes-once most_ticks p steps (writer_at (group_at p.config g) w).dataset own.version version is.steps_are h.sampled closes)
         (told-so own.version h.newest.row (λ message. (h.newest.place, h.newest.logged, h.newest.number)))
     newest-so version closes (inr h) =
-        subst (IsNewestTold p r i g w rows closed) (closes-once p steps (writer_at (group_at p.config g) w).dataset own.version version is.steps_are h.1.sampled closes)
+        subst (IsNewestTold p r i g w rows closed) (closes-once most_ticks p steps (writer_at (group_at p.config g) w).dataset own.version version is.steps_are h.1.sampled closes)
         (told-so own.version h.1.row (λ message. absurd (let wrong : words.None ≡ words.Message = sym h.0 ∙ message in cc)))
 
 -- the reader is told to hold the version that the closing tick sampled

@@ -11,6 +11,7 @@ use Rattle.pubsub_model.specs.Frames.{PlacedFrame, Whole, is_whole, published}
 use Rattle.pubsub_model.specs.Records.{Arrival, Came, Item, row_alone, since_cut}
 use Rattle.dataset_reader.specs.Keeping.{KeepsBy}
 use Rattle.reader_group.specs.Members.{numbering_of}
+use Rattle.session_model.specs.Counts.{most_ticks}
 use Rattle.session_model.specs.Events.{reader_at}
 use Rattle.session_model.specs.Steps.{Plan, Step}
 use Rattle.session_laws.specs.Bare.{ClosingCameLast, IsNoOtherKey}
@@ -52,5 +53,5 @@ bare-held laws reads p r i g w steps rows before turn is versions c =
     record {
       row = keeps.row ∙ ap row_in c.came.since ∙ key-last row c.came.later c.came.item c.came.earlier c.came.frame_is c.came.behind
           ∙ ap (λ (l : List DataValue). Some l) (turn-published laws p r i g w steps rows before turn is versions c.last);
-      sampled = closes-with laws.words p g w steps [] before turn is.plan is.steps_are is.there is.matched.reads.within c.last c.closing;
+      sampled = closes-with most_ticks laws.words p g w steps [] before turn is.plan is.steps_are is.there is.matched.reads.within c.last c.closing;
     }

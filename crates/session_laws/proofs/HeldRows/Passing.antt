@@ -28,6 +28,7 @@ use Rattle.writer_group.specs.Turns.{GroupDeed, HadGroupTurn, RefreshedWriter, e
 use Rattle.group_laws.specs.Matching.{IsGroupTurn, IsMatchedTo}
 use Rattle.group_laws.specs.TurnOpened.{opened_at, opened_from, turn_opened}
 use Rattle.group_laws.proofs.TurnTaken.{advanced-keys, advanced-used}
+use Rattle.session_model.specs.Counts.{most_ticks}
 use Rattle.session_model.specs.Deeds.{Deed, RefreshedBelow, RefreshedSet, CameTo, TookTurn, advanced_if, component_at, deeds, group_past, is_writer_below, is_writer_of, refreshed_where, sender_after, shares, turn_input, turn_of, writer_indexes}
 use Rattle.session_model.specs.Keeping.{AreSteps, IsPlan}
 use Rattle.session_model.specs.Steps.{Plan, Step, Enable, Disable, Append, Tick, Pump, moment_of}
@@ -213,7 +214,7 @@ module _ (laws : TurnLaws) (p : Plan) (k g : ℕ) (readers : ReadGroupPart) (rea
     came = λ earlier h. came-under older now earlier h;
     fresh = λ other earlier h. below-under older (Group other) earlier h;
     turn = λ other earlier there holds h.
-        turn-under older before now closing samples other earlier (other == g) refl (turn-is words p before now closing samples earlier other plan are there holds).may h;
+        turn-under older before now closing samples other earlier (other == g) refl (turn-is most_ticks words p before now closing samples earlier other plan are there holds).may h;
   }
 
   none-under : AreUnder [] []

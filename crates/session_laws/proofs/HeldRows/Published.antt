@@ -14,12 +14,13 @@ use Rattle.ps_config.specs.declared.parts.GroupPart.{GroupPart}
 use Rattle.writer_group.specs.Payloads.{meta_at, writer_at}
 use Rattle.writer_group.specs.Turns.{writer_past}
 use Rattle.reader_group.specs.Settings.{group_at as read_group_at, setting_of}
+use Rattle.session_model.specs.Counts.{most_ticks}
 use Rattle.session_model.specs.Steps.{Plan, Step}
 use Rattle.session_model.specs.Sets.{metas_at, meta_in}
 use Rattle.session_model.specs.Deeds.{log_at, writer_deeds, deeds}
 use Rattle.writer_group.specs.Parts.{group_at, no_group}
 use Rattle.session_model.specs.Events.{events, reader_at}
-use Rattle.session_model.specs.Keeping.{AreSteps, IsPlan}
+use Rattle.session_model.specs.Keeping.{AreSteps, AreStepsOf, IsPlan}
 pub use Rattle.session_laws.specs.Below.{Laws}
 use Rattle.session_laws.specs.Reading.{ReadsByRecords, first_number_of}
 use Rattle.session_model.specs.Turns.{TurnsHold}
@@ -52,7 +53,7 @@ play_of p r i g w steps = record {
 
 is-past : (laws : Laws) (p : Plan) (steps : List Step) (g : ℕ) → IsPlan p → AreSteps p steps → TurnsHold p steps → SamplesRise p steps → IsPast p.config (group_at p.config g) (pasts_at p steps g)
 is-past laws p steps g plan are hold rise =
-    let h = past-of laws.words laws.ring p g steps plan are hold rise in
+    let h = past-of most_ticks laws.words laws.ring p g steps plan are hold rise in
     record { turns = h.turns; rows = λ w within. (meta_at (group_at p.config g) (metas_at p.config steps) w, (h.lives w within).rows) }
 
 pasts-are : (laws : Laws) (p : Plan) (steps : List Step) → IsPlan p → AreSteps p steps → TurnsHold p steps → SamplesRise p steps → (g : ℕ) (group : GroupPart) → IsAt p.config g group → IsPast p.config group (pasts_at p steps g)
@@ -102,7 +103,7 @@ turn-row laws p r i g w steps rows turn is versions of =
 
 life-of : (laws : Laws) (p : Plan) (r i g w : ℕ) (steps : List Step) → InSession p r i g w steps
     → TurnsAre (IsVersionTurn p (HasSample p steps) (meta_at (group_at p.config g) p.config.dataset w) (writer_at (group_at p.config g) w).dataset) (writer_past w (pasts_at p steps g))
-life-of laws p r i g w steps is = ((past-of laws.words laws.ring p g steps is.plan is.steps_are (laws.hold p steps is.plan is.steps_are) is.rise).lives w is.matched.reads.within).turns
+life-of laws p r i g w steps is = ((past-of most_ticks laws.words laws.ring p g steps is.plan is.steps_are (laws.hold p steps is.plan is.steps_are) is.rise).lives w is.matched.reads.within).turns
 
 -- also that of the last turn
 pub turn-published : (laws : Laws) (p : Plan) (r i g w : ℕ) (steps : List Step) (rows : ℕ → ℕ → List DataValue) (before : List WriterDeed) (turn : WriterTurn) → InSession p r i g w steps → AreVersions p steps rows
@@ -131,9 +132,9 @@ published laws p r i g w steps rows row is versions e =
     }
 
 -- and its versions never fall
-pub never-older : (words : WordLaws) (ring : RingLaw) (p : Plan) (g w : ℕ) (steps : List Step) → IsPlan p → AreSteps p steps → TurnsHold p steps → SamplesRise p steps → w < length (group_at p.config g).writer → IsNonDecreasingBy (λ (entry : ℕ × ℕ). entry.1) (log_at p g w steps)
-never-older words ring p g w steps plan are hold rise within =
-    log-rises (settings_at (group_at p.config g) w) (writer_past w (pasts_at p steps g)) ((past-of words ring p g steps plan are hold rise).lives w within).never
+pub never-older : (limit : ℕ) (words : WordLaws) (ring : RingLaw) (p : Plan) (g w : ℕ) (steps : List Step) → IsPlan p → AreStepsOf limit p steps → TurnsHold p steps → SamplesRise p steps → w < length (group_at p.config g).writer → IsNonDecreasingBy (λ (entry : ℕ × ℕ). entry.1) (log_at p g w steps)
+never-older limit words ring p g w steps plan are hold rise within =
+    log-rises (settings_at (group_at p.config g) w) (writer_past w (pasts_at p steps g)) ((past-of limit words ring p g steps plan are hold rise).lives w within).never
 
 -- ---- published rows
 
@@ -151,16 +152,16 @@ last-is : (turn : WriterTurn) (o : Option PlacedFrame) (before : List Answered) 
 last-is turn o before e = ap (λ (b : Bool). turn_of (if b then Some (record { turn = turn; answer = o }) else Rattle.std.specs.Prelude.find is_data before)) e
 
 -- each data frame publishes the row of its version, cut to the fields that the data set had at its turn
-pub publishes : (words : WordLaws) (ring : RingLaw) (p : Plan) (g w : ℕ) (steps : List Step) (rows : ℕ → ℕ → List DataValue) (later before : List WriterDeed) (turn : WriterTurn) → IsPlan p → AreSteps p steps → TurnsHold p steps → SamplesRise p steps
+pub publishes : (limit : ℕ) (words : WordLaws) (ring : RingLaw) (p : Plan) (g w : ℕ) (steps : List Step) (rows : ℕ → ℕ → List DataValue) (later before : List WriterDeed) (turn : WriterTurn) → IsPlan p → AreStepsOf limit p steps → TurnsHold p steps → SamplesRise p steps
     → AreVersions p steps rows → w < length (group_at p.config g).writer → writer_deeds p g w steps ≡ later ++ HadTurn turn ∷ before
     → is_data (answered_turn (settings_at (group_at p.config g) w) before turn) ≡ true
     → PublishesVersion p steps (settings_at (group_at p.config g) w) (writer_at (group_at p.config g) w).dataset rows before turn
-publishes words ring p g w steps rows later before turn plan are hold rise versions within split e =
+publishes limit words ring p g w steps rows later before turn plan are hold rise versions within split e =
     let group = group_at p.config g in
     let s = settings_at group w in
     let index = (writer_at group w).dataset in
     let P = IsVersionTurn p (HasSample p steps) (meta_at group p.config.dataset w) index in
-    let life = (past-of words ring p g steps plan are hold rise).lives w within in
+    let life = (past-of limit words ring p g steps plan are hold rise).lives w within in
     let own = rows-behind (meta_at group (metas_at p.config steps) w) later (HadTurn turn ∷ before) (subst (HasRowsOf (meta_at group (metas_at p.config steps) w)) split life.rows) in
     let is = (turns-behind P later (HadTurn turn ∷ before) (subst (TurnsAre P) split life.turns)).0 in
     let last = last-is turn (answer s (is_fresh before) (cadence s before) turn) (cadence s before) e in

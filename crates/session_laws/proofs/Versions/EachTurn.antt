@@ -28,7 +28,7 @@ use Rattle.session_model.specs.Steps.{Plan, Step, Enable, Disable, Append, Tick,
 use Rattle.session_model.specs.Sets.{metas_at, meta_in, AreRowsOf}
 use Rattle.session_model.specs.Deeds.{Deed, RefreshedBelow, RefreshedSet, CameTo, TookTurn, RenewedKeys, deeds, component_at, group_past, group_indexes, has_turn, is_writer_below, is_writer_of, refreshed_where, sender_after, tick_deeds, turn_input, turn_of, works, writer_indexes}
 use Rattle.writer_group.specs.Parts.{group_at, no_group}
-use Rattle.session_model.specs.Keeping.{AreSteps, IsPlan, MayGrow}
+use Rattle.session_model.specs.Keeping.{AreStepsOf, IsPlan, MayGrow}
 use Rattle.session_model.specs.Lives.{Lived, Stepped, Renewed, TurnsHoldIn, account_in, steps_in}
 use Rattle.session_model.specs.Turns.{HoldsIfTurned, HoldsTurn, TurnsHold, deeds_till}
 use Rattle.session_model.proofs.Deeds.{TickKeeps, refreshed-keeps, tick-keeps}
@@ -192,24 +192,24 @@ narrow-set metas index new there is all k = on (k == index) refl
         let differ : k ≢ index = grind (arith, nat_tests) in
         subst IsNarrow (sym (get_or-set_other metas index k new no_meta differ)) (all k)
 
-narrow-at : (p : Plan) (steps : List Step) → IsPlan p → AreSteps p steps → (k : ℕ) → IsNarrow (meta_in (metas_at p.config steps) k)
-narrow-at p [] plan are k = on (cases_lt k (length p.config.dataset))
+narrow-at : (limit : ℕ) (p : Plan) (steps : List Step) → IsPlan p → AreStepsOf limit p steps → (k : ℕ) → IsNarrow (meta_in (metas_at p.config steps) k)
+narrow-at limit p [] plan are k = on (cases_lt k (length p.config.dataset))
   where
     on : (k < length p.config.dataset) ⊎ (length p.config.dataset ≤ k) → IsNarrow (meta_in p.config.dataset k)
     on (inl less) = let is = plan.types.metas k no_meta less in record { major = is.major; minor = is.minor }
     on (inr past) = subst IsNarrow (sym (get_or_past p.config.dataset k no_meta past)) (record { major = omega arith; minor = omega arith })
-narrow-at p (Enable id ∷ before) plan are k = narrow-at p before plan are.1 k
-narrow-at p (Disable id ∷ before) plan are k = narrow-at p before plan are.1 k
-narrow-at p (Append index field ∷ before) plan are k =
+narrow-at limit p (Enable id ∷ before) plan are k = narrow-at limit p before plan are.1 k
+narrow-at limit p (Disable id ∷ before) plan are k = narrow-at limit p before plan are.1 k
+narrow-at limit p (Append index field ∷ before) plan are k =
     let metas = metas_at p.config before in
     let new = grown (meta_in metas index) field in
     let grown_is = grown-is metas index field are.0.may.there in
     let own : meta_in (metas_at p.config (Append index field ∷ before)) index ≡ new = ap (λ (l : List MetaData). meta_in l index) grown_is ∙ get_or-set_same metas index new no_meta are.0.may.there in
     let minor : new.minor < 2 ^ 32 = subst (λ (m : MetaData). m.minor < 2 ^ 32) own are.0.may.minor in
-    let major : new.major < 2 ^ 32 = (narrow-at p before plan are.1 index).major in
-    subst (λ (l : List MetaData). IsNarrow (meta_in l k)) (sym grown_is) (narrow-set metas index new are.0.may.there (record { major = major; minor = minor }) (λ n. narrow-at p before plan are.1 n) k)
-narrow-at p (Tick ms closing samples done ∷ before) plan are k = narrow-at p before plan are.1 k
-narrow-at p (Pump entries ∷ before) plan are k = narrow-at p before plan are.1 k
+    let major : new.major < 2 ^ 32 = (narrow-at limit p before plan are.1 index).major in
+    subst (λ (l : List MetaData). IsNarrow (meta_in l k)) (sym grown_is) (narrow-set metas index new are.0.may.there (record { major = major; minor = minor }) (λ n. narrow-at limit p before plan are.1 n) k)
+narrow-at limit p (Tick ms closing samples done ∷ before) plan are k = narrow-at limit p before plan are.1 k
+narrow-at limit p (Pump entries ∷ before) plan are k = narrow-at limit p before plan are.1 k
 
 -- ---- a sender can give fronts
 
@@ -219,13 +219,13 @@ may-give p earlier (Some k) b keyed h = giving-use p.config earlier k h keyed.th
 
 -- ---- a turn holds
 
-module _ (laws : TurnsLaws) (words : WordLaws) (p : Plan) (plan : IsPlan p) (before : List Step) (are : AreSteps p before) (now : ℕ) (closing : Bool) (samples : List Sampled) (rows : AreRowsOf p.full samples) (done : List Deed) where
+module _ (limit : ℕ) (laws : TurnsLaws) (words : WordLaws) (p : Plan) (plan : IsPlan p) (before : List Step) (are : AreStepsOf limit p before) (now : ℕ) (closing : Bool) (samples : List Sampled) (rows : AreRowsOf p.full samples) (done : List Deed) where
   abbrev Kept : List Deed → Type 0
   Kept earlier = AllGiving p.config earlier × AllPasts p.config (metas_at p.config before) earlier
 
   row-of : (earlier : List Deed) (g w : ℕ) → g < length p.config.group → w < length (group_at p.config g).writer → (t : WriterTurn) → took_by w (turn_of p before now closing samples earlier g) ≡ Some t
       → IsRow (meta_at (group_at p.config g) (metas_at p.config before) w) t.row
-  row-of earlier g w there within t took = (took-sampled words p before now closing samples earlier g w t plan are rows there within took).fits
+  row-of earlier g w there within t took = (took-sampled limit words p before now closing samples earlier g w t plan are rows there within took).fits
 
   on-many : (earlier : List Deed) (g : ℕ) → length (turn_input p before now closing samples earlier g).on ≡ length (group_at p.config g).writer
   on-many earlier g = length-map-range_with_len (λ w. works p.config before earlier (Writer g w)) 0 (length (group_at p.config g).writer)
@@ -248,7 +248,7 @@ module _ (laws : TurnsLaws) (words : WordLaws) (p : Plan) (plan : IsPlan p) (bef
           → IsFrameIf (writer_at (group_at p.config g) writer) (meta_at (group_at p.config g) (metas_at p.config before) writer)
           (answer_by (group_at p.config g) (group_past p.config g earlier) (turn_input p before now closing samples earlier g) writer)
       on (inl within) =
-          let narrow = narrow-at p before plan are (writer_at (group_at p.config g) writer).dataset in
+          let narrow = narrow-at limit p before plan are (writer_at (group_at p.config g) writer).dataset in
           laws.answer p.config (group_at p.config g) (group_past p.config g earlier) (turn_input p before now closing samples earlier g) writer narrow.major narrow.minor
           (turn-rows earlier g writer (turn_by (group_at p.config g) (turn_input p before now closing samples earlier g) writer) (λ t took. row-of earlier g writer there within t took)
           (past-rows (meta_at (group_at p.config g) (metas_at p.config before) writer) writer (group_past p.config g earlier) (pasts-use p.config (metas_at p.config before) earlier g writer kept.1 there within)))
@@ -267,7 +267,7 @@ module _ (laws : TurnsLaws) (words : WordLaws) (p : Plan) (plan : IsPlan p) (bef
       let input = turn_input p before now closing samples earlier g in
       let past = group_past p.config g earlier in
       let types = plan.types.groups g no_group there in
-      let fit = fit-at p before plan are in
+      let fit = fit-at limit p before plan are in
       let answers = answers-are earlier g there kept in
       let all = on-many earlier g in
       record {
@@ -280,7 +280,7 @@ module _ (laws : TurnsLaws) (words : WordLaws) (p : Plan) (plan : IsPlan p) (bef
               room = fit.room g no_group there;
               metas_are = fit.each;
               known = λ k d below. subst (λ (w : Rattle.ps_config.specs.declared.parts.WriterPart.WriterPart). w.dataset < length (metas_at p.config before)) (Rattle.std.proofs.lemmas.List.get_or_default group.writer k Rattle.writer_group.specs.Payloads.no_writer d below)
-                  (meta-there words p before plan are g group at k below);
+                  (meta-there limit words p before plan are g group at k below);
             })
             (omega (arith, all)) (λ writer within. answers writer);
       }
@@ -339,50 +339,50 @@ kept-set p before index field done may h =
       subst (λ (l : List MetaData). AllPasts p.config l (RefreshedSet index ∷ done)) (sym (grown-is metas index field may.may.there)) (pasts-grown p.config metas index (grown (meta_in metas index) field) done h.1),
     )
 
-all-kept : (laws : TurnsLaws) (words : WordLaws) (p : Plan) (steps : List Step) → IsPlan p → AreSteps p steps → AllKept p steps (deeds p steps)
-all-kept laws words p [] plan are = kept-open p plan
-all-kept laws words p (Enable id ∷ before) plan are = kept-below p before id (deeds p before) (all-kept laws words p before plan are.1)
-all-kept laws words p (Disable id ∷ before) plan are = all-kept laws words p before plan are.1
-all-kept laws words p (Append index field ∷ before) plan are = kept-set p before index field (deeds p before) are.0 (all-kept laws words p before plan are.1)
-all-kept laws words p (Tick ms closing samples done ∷ before) plan are =
-    tick-kept laws words p plan before are.1 (moment_of before + ms) closing samples are.0.rows (deeds p before) (all-kept laws words p before plan are.1)
-all-kept laws words p (Pump entries ∷ before) plan are = all-kept laws words p before plan are.1
+all-kept : (limit : ℕ) (laws : TurnsLaws) (words : WordLaws) (p : Plan) (steps : List Step) → IsPlan p → AreStepsOf limit p steps → AllKept p steps (deeds p steps)
+all-kept limit laws words p [] plan are = kept-open p plan
+all-kept limit laws words p (Enable id ∷ before) plan are = kept-below p before id (deeds p before) (all-kept limit laws words p before plan are.1)
+all-kept limit laws words p (Disable id ∷ before) plan are = all-kept limit laws words p before plan are.1
+all-kept limit laws words p (Append index field ∷ before) plan are = kept-set p before index field (deeds p before) are.0 (all-kept limit laws words p before plan are.1)
+all-kept limit laws words p (Tick ms closing samples done ∷ before) plan are =
+    tick-kept limit laws words p plan before are.1 (moment_of before + ms) closing samples are.0.rows (deeds p before) (all-kept limit laws words p before plan are.1)
+all-kept limit laws words p (Pump entries ∷ before) plan are = all-kept limit laws words p before plan are.1
 
-pub turns-hold : (laws : TurnsLaws) (words : WordLaws) (p : Plan) (steps : List Step) → IsPlan p → AreSteps p steps → TurnsHold p steps
-turns-hold laws words p [] plan are = tt
-turns-hold laws words p (Enable id ∷ before) plan are = turns-hold laws words p before plan are.1
-turns-hold laws words p (Disable id ∷ before) plan are = turns-hold laws words p before plan are.1
-turns-hold laws words p (Append index field ∷ before) plan are = turns-hold laws words p before plan are.1
-turns-hold laws words p (Tick ms closing samples done ∷ before) plan are =
-    (tick-turns laws words p plan before are.1 (moment_of before + ms) closing samples are.0.rows (deeds p before) (all-kept laws words p before plan are.1), turns-hold laws words p before plan are.1)
-turns-hold laws words p (Pump entries ∷ before) plan are = turns-hold laws words p before plan are.1
+pub turns-hold : (limit : ℕ) (laws : TurnsLaws) (words : WordLaws) (p : Plan) (steps : List Step) → IsPlan p → AreStepsOf limit p steps → TurnsHold p steps
+turns-hold limit laws words p [] plan are = tt
+turns-hold limit laws words p (Enable id ∷ before) plan are = turns-hold limit laws words p before plan are.1
+turns-hold limit laws words p (Disable id ∷ before) plan are = turns-hold limit laws words p before plan are.1
+turns-hold limit laws words p (Append index field ∷ before) plan are = turns-hold limit laws words p before plan are.1
+turns-hold limit laws words p (Tick ms closing samples done ∷ before) plan are =
+    (tick-turns limit laws words p plan before are.1 (moment_of before + ms) closing samples are.0.rows (deeds p before) (all-kept limit laws words p before plan are.1), turns-hold limit laws words p before plan are.1)
+turns-hold limit laws words p (Pump entries ∷ before) plan are = turns-hold limit laws words p before plan are.1
 
 -- ---- over a life
 
-life-kept : (laws : TurnsLaws) (words : WordLaws) (p : Plan) (life : List Lived) → IsPlan p → AreSteps p (steps_in life) → HasShortTokens life → AllKept p (steps_in life) (account_in p life).deeds
-life-kept laws words p [] plan are short = kept-open p plan
-life-kept laws words p (Stepped (Enable id) ∷ before) plan are short = kept-below p (steps_in before) id (account_in p before).deeds (life-kept laws words p before plan are.1 short)
-life-kept laws words p (Stepped (Disable id) ∷ before) plan are short = life-kept laws words p before plan are.1 short
-life-kept laws words p (Stepped (Append index field) ∷ before) plan are short =
-    kept-set p (steps_in before) index field (account_in p before).deeds are.0 (life-kept laws words p before plan are.1 short)
-life-kept laws words p (Stepped (Tick ms closing samples done) ∷ before) plan are short =
+life-kept : (limit : ℕ) (laws : TurnsLaws) (words : WordLaws) (p : Plan) (life : List Lived) → IsPlan p → AreStepsOf limit p (steps_in life) → HasShortTokens life → AllKept p (steps_in life) (account_in p life).deeds
+life-kept limit laws words p [] plan are short = kept-open p plan
+life-kept limit laws words p (Stepped (Enable id) ∷ before) plan are short = kept-below p (steps_in before) id (account_in p before).deeds (life-kept limit laws words p before plan are.1 short)
+life-kept limit laws words p (Stepped (Disable id) ∷ before) plan are short = life-kept limit laws words p before plan are.1 short
+life-kept limit laws words p (Stepped (Append index field) ∷ before) plan are short =
+    kept-set p (steps_in before) index field (account_in p before).deeds are.0 (life-kept limit laws words p before plan are.1 short)
+life-kept limit laws words p (Stepped (Tick ms closing samples done) ∷ before) plan are short =
     let steps = steps_in before in
-    tick-kept laws words p plan steps are.1 (moment_of steps + ms) closing samples are.0.rows (account_in p before).deeds (life-kept laws words p before plan are.1 short)
-life-kept laws words p (Stepped (Pump entries) ∷ before) plan are short = life-kept laws words p before plan are.1 short
-life-kept laws words p (Renewed keygroup sets ∷ before) plan are short =
+    tick-kept limit laws words p plan steps are.1 (moment_of steps + ms) closing samples are.0.rows (account_in p before).deeds (life-kept limit laws words p before plan are.1 short)
+life-kept limit laws words p (Stepped (Pump entries) ∷ before) plan are short = life-kept limit laws words p before plan are.1 short
+life-kept limit laws words p (Renewed keygroup sets ∷ before) plan are short =
     let done = (account_in p before).deeds in
-    let h = life-kept laws words p before plan are short.1 in
+    let h = life-kept limit laws words p before plan are short.1 in
     (giving-renewed p.config keygroup sets done short.0 h.0, pasts-renewed p.config (metas_at p.config (steps_in before)) keygroup sets done h.1)
 
-pub life-holds : (laws : TurnsLaws) (words : WordLaws) (p : Plan) (life : List Lived) → IsPlan p → AreSteps p (steps_in life) → HasShortTokens life → TurnsHoldIn p life
-life-holds laws words p [] plan are short = tt
-life-holds laws words p (Stepped (Enable id) ∷ before) plan are short = (tt, life-holds laws words p before plan are.1 short)
-life-holds laws words p (Stepped (Disable id) ∷ before) plan are short = (tt, life-holds laws words p before plan are.1 short)
-life-holds laws words p (Stepped (Append index field) ∷ before) plan are short = (tt, life-holds laws words p before plan are.1 short)
-life-holds laws words p (Stepped (Tick ms closing samples done) ∷ before) plan are short =
+pub life-holds : (limit : ℕ) (laws : TurnsLaws) (words : WordLaws) (p : Plan) (life : List Lived) → IsPlan p → AreStepsOf limit p (steps_in life) → HasShortTokens life → TurnsHoldIn p life
+life-holds limit laws words p [] plan are short = tt
+life-holds limit laws words p (Stepped (Enable id) ∷ before) plan are short = (tt, life-holds limit laws words p before plan are.1 short)
+life-holds limit laws words p (Stepped (Disable id) ∷ before) plan are short = (tt, life-holds limit laws words p before plan are.1 short)
+life-holds limit laws words p (Stepped (Append index field) ∷ before) plan are short = (tt, life-holds limit laws words p before plan are.1 short)
+life-holds limit laws words p (Stepped (Tick ms closing samples done) ∷ before) plan are short =
     let steps = steps_in before in (
-      tick-turns laws words p plan steps are.1 (moment_of steps + ms) closing samples are.0.rows (account_in p before).deeds (life-kept laws words p before plan are.1 short),
-      life-holds laws words p before plan are.1 short,
+      tick-turns limit laws words p plan steps are.1 (moment_of steps + ms) closing samples are.0.rows (account_in p before).deeds (life-kept limit laws words p before plan are.1 short),
+      life-holds limit laws words p before plan are.1 short,
     )
-life-holds laws words p (Stepped (Pump entries) ∷ before) plan are short = (tt, life-holds laws words p before plan are.1 short)
-life-holds laws words p (Renewed keygroup sets ∷ before) plan are short = life-holds laws words p before plan are short.1
+life-holds limit laws words p (Stepped (Pump entries) ∷ before) plan are short = (tt, life-holds limit laws words p before plan are.1 short)
+life-holds limit laws words p (Renewed keygroup sets ∷ before) plan are short = life-holds limit laws words p before plan are short.1

@@ -22,7 +22,7 @@ use Rattle.session_model.specs.Steps.{Plan, Step, Enable, Disable, Append, Tick,
 use Rattle.session_model.specs.Sets.{metas_at, meta_in, AreRowsOf}
 use Rattle.session_model.specs.Deeds.{Deed, deeds, component_at, group_past, refreshed_where, is_writer_below, is_writer_of, writer_indexes, turn_input, turn_of}
 use Rattle.writer_group.specs.Parts.{group_at, no_group}
-use Rattle.session_model.specs.Keeping.{AreSteps, IsPlan}
+use Rattle.session_model.specs.Keeping.{AreStepsOf, IsPlan}
 use Rattle.pubsub_model.specs.Answers.{turn_versions, NeverFall}
 use Rattle.session_laws.specs.Pasts.{AreTurns}
 use Rattle.session_laws.specs.Sessions.{HasSample, SamplesRise, pasts_at}
@@ -119,7 +119,7 @@ grown-or : (writer : Rattle.ps_config.specs.declared.parts.WriterPart.WriterPart
 grown-or writer conf now (inl same) = inl same
 grown-or writer conf now (inr since) = inr since.fields
 
-module _ (laws : WordLaws) (p : Plan) (plan : IsPlan p) (before : List Step) (are : AreSteps p before) (now : ℕ) (closing : Bool) (samples : List Sampled) (rows : AreRowsOf p.full samples)
+module _ (limit : ℕ) (laws : WordLaws) (p : Plan) (plan : IsPlan p) (before : List Step) (are : AreStepsOf limit p before) (now : ℕ) (closing : Bool) (samples : List Sampled) (rows : AreRowsOf p.full samples)
     (rise : (index : ℕ) (at : MetaData) (sample : Sampled) → HasSample p before index at sample → sample.version ≤ (slice_index_or samples index no_sample).version) where
   abbrev S : ℕ → MetaData → Sampled → Type 0
   S index at sample = ((slice_index_or samples index no_sample ≡ sample) × (meta_in (metas_at p.config before) index ≡ at)) ⊎ HasSample p before index at sample
@@ -137,9 +137,9 @@ module _ (laws : WordLaws) (p : Plan) (plan : IsPlan p) (before : List Step) (ar
       let index = (writer_at group w).dataset in
       let conf = meta_at group p.config.dataset w in
       let full = meta_at group (metas_at p.config before) w in
-      let is = took-sampled laws p before now closing samples earlier g w t plan are rows there within e in
+      let is = took-sampled limit laws p before now closing samples earlier g w t plan are rows there within e in
       let sample = slice_index_or samples index no_sample in
-      let reads = (meta-of p g group w before are (slice_get-get_or p.config.group g no_group there) within).reads in
+      let reads = (meta-of limit p g group w before are (slice_get-get_or p.config.group g no_group there) within).reads in
       let le = shorter conf full (grown-or (writer_at group w) conf full reads) in
       let version = is.version in (
         is.fits,
@@ -158,7 +158,7 @@ module _ (laws : WordLaws) (p : Plan) (plan : IsPlan p) (before : List Step) (ar
   own-turn : (earlier : List Deed) (g : ℕ) → g < length p.config.group → TurnHolds p.config (group_at p.config g) (group_past p.config g earlier) (turn_input p before now closing samples earlier g)
       → IsPastOf p S (metas_at p.config before) g (group_past p.config g earlier) → IsPastOf p S (metas_at p.config before) g (HadGroupTurn (turn_of p before now closing samples earlier g) ∷ group_past p.config g earlier)
   own-turn earlier g there holds h = record {
-    turns = (turn-is laws p before now closing samples earlier g plan are there holds, h.turns);
+    turns = (turn-is limit laws p before now closing samples earlier g plan are there holds, h.turns);
     lives = λ w within.
         life-turn p S _ _ _ (took_by w (turn_of p before now closing samples earlier g)) (writer_past w (group_past p.config g earlier)) (λ t e. new-turn earlier g w t there within e) (h.lives w within);
   }
@@ -248,15 +248,15 @@ grow-past p S metas g set field past there h = record {
 
 -- ---- over all steps
 
-pub past-of : (laws : WordLaws) (law : RingLaw) (p : Plan) (g : ℕ) (steps : List Step) → IsPlan p → AreSteps p steps → TurnsHold p steps → SamplesRise p steps → IsPastOf p (HasSample p steps) (metas_at p.config steps) g (pasts_at p steps g)
-past-of laws law p g [] plan are hold rise = record { turns = tt; lives = λ w within. record { rows = tt; turns = tt; never = tt } }
-past-of laws law p g (Enable id ∷ before) plan are hold rise =
-    refreshed-past p (HasSample p before) (metas_at p.config before) g (is_writer_below (component_at p.config id) g) (pasts_at p before g) (writer_indexes (group_at p.config g)) (past-of laws law p g before plan are.1 hold rise)
-past-of laws law p g (Disable id ∷ before) plan are hold rise = past-of laws law p g before plan are.1 hold rise
-past-of laws law p g (Append set field ∷ before) plan are hold rise =
+pub past-of : (limit : ℕ) (laws : WordLaws) (law : RingLaw) (p : Plan) (g : ℕ) (steps : List Step) → IsPlan p → AreStepsOf limit p steps → TurnsHold p steps → SamplesRise p steps → IsPastOf p (HasSample p steps) (metas_at p.config steps) g (pasts_at p steps g)
+past-of limit laws law p g [] plan are hold rise = record { turns = tt; lives = λ w within. record { rows = tt; turns = tt; never = tt } }
+past-of limit laws law p g (Enable id ∷ before) plan are hold rise =
+    refreshed-past p (HasSample p before) (metas_at p.config before) g (is_writer_below (component_at p.config id) g) (pasts_at p before g) (writer_indexes (group_at p.config g)) (past-of limit laws law p g before plan are.1 hold rise)
+past-of limit laws law p g (Disable id ∷ before) plan are hold rise = past-of limit laws law p g before plan are.1 hold rise
+past-of limit laws law p g (Append set field ∷ before) plan are hold rise =
     subst (λ (metas : List MetaData). IsPastOf p (HasSample p before) metas g (refreshed_where (is_writer_of (group_at p.config g) set) (pasts_at p before g) (writer_indexes (group_at p.config g)))) (sym (grown-is (metas_at p.config before) set field are.0.may.there))
-    (grow-past p (HasSample p before) (metas_at p.config before) g set field (pasts_at p before g) are.0.may.there (past-of laws law p g before plan are.1 hold rise))
-past-of laws law p g (Tick ms closing samples done ∷ before) plan are hold rise =
-    tick-past laws p plan before are.1 (moment_of before + ms) closing samples are.0.rows rise.0 law g hold.0 hold.1
-    (past-more p (HasSample p before) (HasSample p (Tick ms closing samples done ∷ before)) (metas_at p.config before) g (pasts_at p before g) (λ index at sample has. inr has) (past-of laws law p g before plan are.1 hold.1 rise.1))
-past-of laws law p g (Pump entries ∷ before) plan are hold rise = past-of laws law p g before plan are.1 hold rise
+    (grow-past p (HasSample p before) (metas_at p.config before) g set field (pasts_at p before g) are.0.may.there (past-of limit laws law p g before plan are.1 hold rise))
+past-of limit laws law p g (Tick ms closing samples done ∷ before) plan are hold rise =
+    tick-past limit laws p plan before are.1 (moment_of before + ms) closing samples are.0.rows rise.0 law g hold.0 hold.1
+    (past-more p (HasSample p before) (HasSample p (Tick ms closing samples done ∷ before)) (metas_at p.config before) g (pasts_at p before g) (λ index at sample has. inr has) (past-of limit laws law p g before plan are.1 hold.1 rise.1))
+past-of limit laws law p g (Pump entries ∷ before) plan are hold rise = past-of limit laws law p g before plan are.1 hold rise

@@ -17,7 +17,7 @@ use Rattle.group_laws.specs.Matching.{ReadsFrames, HasGrownSince}
 use Rattle.session_model.specs.Steps.{Plan, Step, Enable, Disable, Append, Tick, Pump}
 use Rattle.session_model.specs.Sets.{metas_at, meta_in}
 use Rattle.ps_script.specs.Faults.{CanTellOf}
-use Rattle.session_model.specs.Keeping.{AreSteps}
+use Rattle.session_model.specs.Keeping.{AreStepsOf}
 use Rattle.session_laws.proofs.Versions.Distinct.{IsAt}
 
 -- a writer's data set at a moment, against the configured one
@@ -87,13 +87,13 @@ meta-set config g group writer metas index field false told at within there test
       fixed = λ is. same ∙ h.fixed is;
     }
 
-pub meta-of : (p : Plan) (g : ℕ) (group : GroupPart) (writer : ℕ) (steps : List Step) → AreSteps p steps → IsAt p.config g group → writer < length group.writer → IsMetaOf p.config group writer (metas_at p.config steps)
-meta-of p g group writer [] are at within = record { reads = inl refl; major = refl; fixed = λ is. refl }
-meta-of p g group writer (Enable id ∷ before) are at within = meta-of p g group writer before are.1 at within
-meta-of p g group writer (Disable id ∷ before) are at within = meta-of p g group writer before are.1 at within
-meta-of p g group writer (Append index field ∷ before) are at within =
+pub meta-of : (limit : ℕ) (p : Plan) (g : ℕ) (group : GroupPart) (writer : ℕ) (steps : List Step) → AreStepsOf limit p steps → IsAt p.config g group → writer < length group.writer → IsMetaOf p.config group writer (metas_at p.config steps)
+meta-of limit p g group writer [] are at within = record { reads = inl refl; major = refl; fixed = λ is. refl }
+meta-of limit p g group writer (Enable id ∷ before) are at within = meta-of limit p g group writer before are.1 at within
+meta-of limit p g group writer (Disable id ∷ before) are at within = meta-of limit p g group writer before are.1 at within
+meta-of limit p g group writer (Append index field ∷ before) are at within =
     let metas = metas_at p.config before in
     subst (IsMetaOf p.config group writer) (sym (grown-is metas index field are.0.may.there))
-    (meta-set p.config g group writer metas index field ((writer_at group writer).dataset == index) are.0.may.told at within are.0.may.there refl (meta-of p g group writer before are.1 at within))
-meta-of p g group writer (Tick ms closing samples done ∷ before) are at within = meta-of p g group writer before are.1 at within
-meta-of p g group writer (Pump entries ∷ before) are at within = meta-of p g group writer before are.1 at within
+    (meta-set p.config g group writer metas index field ((writer_at group writer).dataset == index) are.0.may.told at within are.0.may.there refl (meta-of limit p g group writer before are.1 at within))
+meta-of limit p g group writer (Tick ms closing samples done ∷ before) are at within = meta-of limit p g group writer before are.1 at within
+meta-of limit p g group writer (Pump entries ∷ before) are at within = meta-of limit p g group writer before are.1 at within

@@ -25,7 +25,7 @@ use Rattle.session_model.specs.Steps.{Plan, Step, Enable, Disable, Append, Tick,
 use Rattle.session_model.specs.Sets.{metas_at, meta_in, rows_at, rows_cut, cut_sample, AreFit, GrowTo, AreRowsOf}
 use Rattle.session_model.specs.Deeds.{Deed, group_past, turn_input, turn_of}
 use Rattle.writer_group.specs.Parts.{group_at, no_group}
-use Rattle.session_model.specs.Keeping.{AreSteps, IsPlan}
+use Rattle.session_model.specs.Keeping.{AreStepsOf, IsPlan}
 pub use Rattle.session_laws.specs.Below.{WordLaws}
 use Rattle.session_laws.specs.Pasts.{IsTurn}
 use Rattle.session_laws.proofs.Versions.Senders.{TurnHolds}
@@ -34,24 +34,24 @@ use Rattle.session_laws.proofs.Versions.Metas.{meta-of}
 
 -- ---- the data sets of a moment
 
-pub fit-at : (p : Plan) (steps : List Step) → IsPlan p → AreSteps p steps → AreFit p.config (metas_at p.config steps)
-fit-at p [] plan are = plan.fit
-fit-at p (Enable id ∷ before) plan are = fit-at p before plan are.1
-fit-at p (Disable id ∷ before) plan are = fit-at p before plan are.1
-fit-at p (Append index field ∷ before) plan are = are.0.may.fit
-fit-at p (Tick ms closing samples done ∷ before) plan are = fit-at p before plan are.1
-fit-at p (Pump entries ∷ before) plan are = fit-at p before plan are.1
+pub fit-at : (limit : ℕ) (p : Plan) (steps : List Step) → IsPlan p → AreStepsOf limit p steps → AreFit p.config (metas_at p.config steps)
+fit-at limit p [] plan are = plan.fit
+fit-at limit p (Enable id ∷ before) plan are = fit-at limit p before plan are.1
+fit-at limit p (Disable id ∷ before) plan are = fit-at limit p before plan are.1
+fit-at limit p (Append index field ∷ before) plan are = are.0.may.fit
+fit-at limit p (Tick ms closing samples done ∷ before) plan are = fit-at limit p before plan are.1
+fit-at limit p (Pump entries ∷ before) plan are = fit-at limit p before plan are.1
 
-pub grow-at : (p : Plan) (steps : List Step) → IsPlan p → AreSteps p steps → GrowTo (metas_at p.config steps) p.full
-grow-at p [] plan are = plan.grow
-grow-at p (Enable id ∷ before) plan are = grow-at p before plan are.1
-grow-at p (Disable id ∷ before) plan are = grow-at p before plan are.1
-grow-at p (Append index field ∷ before) plan are = are.0.grow
-grow-at p (Tick ms closing samples done ∷ before) plan are = grow-at p before plan are.1
-grow-at p (Pump entries ∷ before) plan are = grow-at p before plan are.1
+pub grow-at : (limit : ℕ) (p : Plan) (steps : List Step) → IsPlan p → AreStepsOf limit p steps → GrowTo (metas_at p.config steps) p.full
+grow-at limit p [] plan are = plan.grow
+grow-at limit p (Enable id ∷ before) plan are = grow-at limit p before plan are.1
+grow-at limit p (Disable id ∷ before) plan are = grow-at limit p before plan are.1
+grow-at limit p (Append index field ∷ before) plan are = are.0.grow
+grow-at limit p (Tick ms closing samples done ∷ before) plan are = grow-at limit p before plan are.1
+grow-at limit p (Pump entries ∷ before) plan are = grow-at limit p before plan are.1
 
-pub as-many : (p : Plan) (steps : List Step) → IsPlan p → AreSteps p steps → length (metas_at p.config steps) ≡ length p.config.dataset
-as-many p steps plan are = length_all_zip HasGrown (metas_at p.config steps) p.full (grow-at p steps plan are) ∙ sym (length_all_zip HasGrown p.config.dataset p.full plan.grow)
+pub as-many : (limit : ℕ) (p : Plan) (steps : List Step) → IsPlan p → AreStepsOf limit p steps → length (metas_at p.config steps) ≡ length p.config.dataset
+as-many limit p steps plan are = length_all_zip HasGrown (metas_at p.config steps) p.full (grow-at limit p steps plan are) ∙ sym (length_all_zip HasGrown p.config.dataset p.full plan.grow)
 
 -- ---- a sampled row
 
@@ -84,15 +84,15 @@ pub record IsSampledTurn (p : Plan) (now : MetaData) (index : ℕ) (samples : Li
   pub row : turn.row ≡ row_cut now (row_in (meta_in p.full index).fields (slice_index_or samples index no_sample).row.words)
   pub version : turn.version ≡ (slice_index_or samples index no_sample).version
 
-module _ (laws : WordLaws) (p : Plan) (before : List Step) (plan : IsPlan p) (are : AreSteps p before) (g : ℕ) (group : GroupPart) (at : IsAt p.config g group) where
+module _ (limit : ℕ) (laws : WordLaws) (p : Plan) (before : List Step) (plan : IsPlan p) (are : AreStepsOf limit p before) (g : ℕ) (group : GroupPart) (at : IsAt p.config g group) where
   abbrev metas : List MetaData
   metas = metas_at p.config before
 
   pub meta-there : (writer : ℕ) → writer < length group.writer → (writer_at group writer).dataset < length metas
-  meta-there writer within = let there = set-there p.config g group writer plan.good.sound at within in let many = as-many p before plan are in omega (arith, there, many)
+  meta-there writer within = let there = set-there p.config g group writer plan.good.sound at within in let many = as-many limit p before plan are in omega (arith, there, many)
 
   pub meta-is : (writer : ℕ) → writer < length group.writer → IsMeta (meta_at group metas writer).fields
-  meta-is writer within = (fit-at p before plan are).each (writer_at group writer).dataset no_meta (meta-there writer within)
+  meta-is writer within = (fit-at limit p before plan are).each (writer_at group writer).dataset no_meta (meta-there writer within)
 
   pub sampled-turn : (told : Told) (samples : List Sampled) (writer : ℕ) → told.metas ≡ metas → told.rows ≡ rows_at p before samples → AreRowsOf p.full samples → writer < length group.writer
       → IsSampledTurn p (meta_at group metas writer) (writer_at group writer).dataset samples (writer_turn group told writer)
@@ -102,8 +102,8 @@ module _ (laws : WordLaws) (p : Plan) (before : List Step) (plan : IsPlan p) (ar
       let now = meta_at group metas writer in
       let full = meta_in p.full index in
       let sample = slice_index_or samples index no_sample in
-      let grown = AllZip-get_or HasGrown metas p.full index no_meta no_meta (grow-at p before plan are) below in
-      let far : index < length p.full = let many = length_all_zip HasGrown metas p.full (grow-at p before plan are) in omega (arith, below, many) in
+      let grown = AllZip-get_or HasGrown metas p.full index no_meta no_meta (grow-at limit p before plan are) below in
+      let far : index < length p.full = let many = length_all_zip HasGrown metas p.full (grow-at limit p before plan are) in omega (arith, below, many) in
       let words = zip-at (λ (meta : MetaData) (sampled : Sampled). Belongs meta sampled.row.words) p.full samples index no_meta no_sample rows far in
       let found : slice_index_or told.rows index no_sample ≡ cut_sample now full sample = ap (λ (l : List Sampled). slice_index_or l index no_sample) rows_are ∙ row-found metas p.full samples index below in
       let row : (writer_turn group told writer).row ≡ row_in now.fields (cut_words now full sample.row.words) =
@@ -132,31 +132,31 @@ turns-at group told from zero (false ∷ on) turn e = absurd (none-some e)
 turns-at group told from (suc k) (b ∷ on) turn e = turns-at group told (from + 1) k on turn e ∙ ap (writer_turn group told) (omega arith)
 
 -- a turn that the writer had at a tick
-pub took-sampled : (laws : WordLaws) (p : Plan) (before : List Step) (now : ℕ) (closing : Bool) (samples : List Sampled) (earlier : List Deed) (g writer : ℕ) (turn : WriterTurn) → IsPlan p → AreSteps p before → AreRowsOf p.full samples
+pub took-sampled : (limit : ℕ) (laws : WordLaws) (p : Plan) (before : List Step) (now : ℕ) (closing : Bool) (samples : List Sampled) (earlier : List Deed) (g writer : ℕ) (turn : WriterTurn) → IsPlan p → AreStepsOf limit p before → AreRowsOf p.full samples
     → g < length p.config.group → writer < length (group_at p.config g).writer → took_by writer (turn_of p before now closing samples earlier g) ≡ Some turn
     → IsSampledTurn p (meta_at (group_at p.config g) (metas_at p.config before) writer) (writer_at (group_at p.config g) writer).dataset samples turn
-took-sampled laws p before now closing samples earlier g writer turn plan are rows there within e =
+took-sampled limit laws p before now closing samples earlier g writer turn plan are rows there within e =
     let group = group_at p.config g in
     let input = turn_input p before now closing samples earlier g in
     let same : turn ≡ writer_turn group input.told writer = turns-at group input.told 0 writer input.on turn e ∙ ap (writer_turn group input.told) (omega arith) in
     subst (IsSampledTurn p (meta_at group (metas_at p.config before) writer) (writer_at group writer).dataset samples) (sym same)
-    (sampled-turn laws p before plan are g group (slice_get-get_or p.config.group g no_group there) input.told samples writer refl refl rows within)
+    (sampled-turn limit laws p before plan are g group (slice_get-get_or p.config.group g no_group there) input.told samples writer refl refl rows within)
 
 -- ---- each turn is one by the definitions
 
 fixed-is : (layout : Layout) → layout ≡ layouts.Fixed → is_fixed layout ≡ true
 fixed-is layout e = ap is_fixed e
 
-abbrev pub turn-is : (laws : WordLaws) (p : Plan) (before : List Step) (now : ℕ) (closing : Bool) (samples : List Sampled) (earlier : List Deed) (g : ℕ) → IsPlan p → AreSteps p before → g < length p.config.group
+abbrev pub turn-is : (limit : ℕ) (laws : WordLaws) (p : Plan) (before : List Step) (now : ℕ) (closing : Bool) (samples : List Sampled) (earlier : List Deed) (g : ℕ) → IsPlan p → AreStepsOf limit p before → g < length p.config.group
     → TurnHolds p.config (group_at p.config g) (group_past p.config g earlier) (turn_input p before now closing samples earlier g)
     → IsTurn p.config (group_at p.config g) (group_past p.config g earlier) (turn_of p before now closing samples earlier g)
-turn-is laws p before now closing samples earlier g plan are there holds =
+turn-is limit laws p before now closing samples earlier g plan are there holds =
     let group = group_at p.config g in
     let at : IsAt p.config g group = slice_get-get_or p.config.group g no_group there in
     let input = turn_input p before now closing samples earlier g in
     let metas = metas_at p.config before in
     let sampled : (writer : ℕ) → writer < length group.writer → IsSampled group (group_past p.config g earlier) input writer =
-    λ writer within. record { meta = meta-is laws p before plan are g group at writer within; frame = holds.answers writer } in
+    λ writer within. record { meta = meta-is limit laws p before plan are g group at writer within; frame = holds.answers writer } in
     record {
       input = input;
       is = refl;
@@ -168,14 +168,14 @@ turn-is laws p before now closing samples earlier g plan are there holds =
         written = holds.written;
       };
       sampled = sampled;
-      metas = λ writer within. (meta-of p g group writer before are at within).reads;
-      majors = λ writer within. (meta-of p g group writer before are at within).major;
+      metas = λ writer within. (meta-of limit p g group writer before are at within).reads;
+      majors = λ writer within. (meta-of limit p g group writer before are at within).major;
       fixed = λ layout. record {
         fixed = plan.good.fixed;
         metas = record {
-          count = as-many p before plan are;
-          fixed = λ is writer within. (meta-of p g group writer before are at within).fixed is;
-          room = room-at (fit-at p before plan are) at;
+          count = as-many limit p before plan are;
+          fixed = λ is writer within. (meta-of limit p g group writer before are at within).fixed is;
+          room = room-at (fit-at limit p before plan are) at;
         };
         sampled = sampled;
       };

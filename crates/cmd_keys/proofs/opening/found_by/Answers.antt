@@ -1,4 +1,3 @@
-use Rattle.std.proofs.Common.{sym}
 use Rattle.message_guard.specs.Guards.{security_told, setup_of}
 use Rattle.cmd_keys.proofs.Found.{finds_passed, finds_refused, read_secured}
 use Rattle.cmd_keys.proofs.opening.found_by.Goals as goal

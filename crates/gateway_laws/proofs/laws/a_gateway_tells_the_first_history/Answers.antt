@@ -1,3 +1,4 @@
+use Rattle.session_model.specs.Counts.{most_ticks}
 use Rattle.gateway_laws.proofs.Rising.{Laws}
 use Rattle.gateway_laws.proofs.Telling.{tells-gateway}
 use Rattle.gateway_laws.proofs.laws.a_gateway_tells_the_first_history.Goals as goal
@@ -10,13 +11,13 @@ returns c =
       sent = λ meta short s deeds arrivals h rows. c.a_held_row_was_sent.ensures.numbered s deeds short arrivals h (meta, rows);
       words = record { belongs = c.cut_rows_have_words.ensures.belongs; row = c.cut_rows_have_words.ensures.row };
       ring = c.a_ring_makes_senders_of_its_key_group.ensures;
-      turns = c.each_turn_of_a_session_holds.ensures;
+      turns = c.each_turn_of_a_session_holds.ensures most_ticks;
       few = c.a_session_has_at_most_4097_ticks.ensures;
     } in
     tells-gateway (record {
       laws = laws;
       holds = c.matched_readers_hold_published_versions.ensures.holds;
-      publish = c.data_messages_stand_for_versions.ensures.publish;
-      older = c.data_messages_stand_for_versions.ensures.never_older;
+      publish = c.data_messages_stand_for_versions.ensures.publish most_ticks;
+      older = c.data_messages_stand_for_versions.ensures.never_older most_ticks;
       meta = c.a_matched_reader_reads_its_writer.ensures.meta;
     })

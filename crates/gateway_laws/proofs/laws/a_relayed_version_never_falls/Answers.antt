@@ -1,3 +1,4 @@
+use Rattle.session_model.specs.Counts.{most_ticks}
 use Rattle.gateway_laws.proofs.Older.{stores-rise, versions-rise}
 use Rattle.gateway_laws.proofs.Rising.{Laws}
 use Rattle.gateway_laws.proofs.Telling.{no-older}
@@ -11,7 +12,7 @@ returns c =
       sent = λ meta short s deeds arrivals h rows. c.a_held_row_was_sent.ensures.numbered s deeds short arrivals h (meta, rows);
       words = record { belongs = c.cut_rows_have_words.ensures.belongs; row = c.cut_rows_have_words.ensures.row };
       ring = c.a_ring_makes_senders_of_its_key_group.ensures;
-      turns = c.each_turn_of_a_session_holds.ensures;
+      turns = c.each_turn_of_a_session_holds.ensures most_ticks;
       few = c.a_session_has_at_most_4097_ticks.ensures;
     } in
     record { stores = stores-rise laws; versions = versions-rise laws; printed = no-older laws }

@@ -21,5 +21,5 @@ returns c =
       since_last = since-last-held below last;
       taken_last = took-last-held below last;
       came_last = last;
-      sampled = closes-with below.words;
+      sampled = λ limit. closes-with limit below.words;
     }

@@ -1,3 +1,4 @@
+use Rattle.session_model.specs.Counts.{most_ticks}
 use Rattle.session_laws.proofs.laws.what_the_laws_below_say.Goals as goal
 
 pub returns : goal.returns
@@ -16,5 +17,5 @@ returns c = record {
   agrees = c.near_readers_have_their_records.ensures;
   words = record { belongs = c.cut_rows_have_words.ensures.belongs; row = c.cut_rows_have_words.ensures.row };
   ring = c.a_ring_makes_senders_of_its_key_group.ensures;
-  hold = c.each_turn_of_a_session_holds.ensures;
+  hold = c.each_turn_of_a_session_holds.ensures most_ticks;
 }

@@ -8,4 +8,4 @@ returns c =
       answer = c.each_answer_is_a_frame.ensures;
       few = c.a_turn_makes_at_most_1024_datagrams.ensures;
     } in
-    life-holds laws (record { belongs = c.cut_rows_have_words.ensures.belongs; row = c.cut_rows_have_words.ensures.row })
+    λ limit. life-holds limit laws (record { belongs = c.cut_rows_have_words.ensures.belongs; row = c.cut_rows_have_words.ensures.row })

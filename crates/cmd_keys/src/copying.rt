@@ -1,0 +1,14 @@
+//! Copies of bytes.
+ghost use Rattle.std.specs.Prelude.{◌≡◌, ◌≤◌, length};
+
+use arrayvec::ArrayVec;
+
+/// A copy of the bytes, which are at most `N`.
+pub(crate) fn copied<const N: usize>(bytes: &[u8]) -> ArrayVec<u8, N>
+    requires { length bytes.now ≤ N }
+    ensures { result.items ≡ bytes.now }
+{
+    let mut copy = ArrayVec::new();
+    let _ = copy.try_extend_from_slice(bytes);
+    copy
+}

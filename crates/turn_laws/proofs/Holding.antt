@@ -1,0 +1,263 @@
+-- Over all turns of a publisher: each datagram of a writer's group has for its reader what was sent with its token and number.
+use Rattle.std.proofs.Common.{◌≡◌, refl, sym, ap, ◌∙◌, subst, arith, ℕ, zero, suc, ◌+◌, ◌<◌, Bool, true, false, not, List, [], ◌∷◌, length, Option, Some, None, Result, Ok, inl, inr, All, Contains, eq-eqb, ne_eqb, eqb-true}
+use Rattle.std.specs.Prelude.{◌==◌, ◌&&◌, ◌≢◌, if◌then◌else◌, option_map, slice_get}
+use Rattle.std.proofs.lemmas.List.Elements.{All-weaker}
+use Rattle.std.proofs.lemmas.Option.{get_or_from_slice_get, slice_get-get_or, slice_get_within}
+use Rattle.dataset_meta.specs.Metas.{MetaData}
+use Rattle.dataset_meta.specs.Rows.{cons_if}
+use Rattle.message_guard.specs.Acceptance.{Accepted}
+use Rattle.message_guard.specs.Senders.{SenderState}
+use Rattle.pubsub_model.specs.Frames.{PlacedFrame, is_silent, place_of}
+use Rattle.config_tables.specs.declared.words.Layout.{Layout}
+use Rattle.config_tables.specs.declared.words.Layout.TheVariants as layouts
+use Rattle.ps_config.specs.declared.parts.Config.{Config}
+use Rattle.ps_config.specs.declared.parts.GroupPart.{GroupPart}
+use Rattle.ps_config.specs.declared.parts.ReadGroupPart.{ReadGroupPart}
+use Rattle.ps_config.specs.Headers.{mode_of}
+use Rattle.pubsub_states.specs.declared.component.Component.{Component}
+use Rattle.reader_group.specs.declared.refusal.Refusal.{Refusal}
+use Rattle.reader_group.specs.Arrivals.{Way, is_numbered}
+use Rattle.reader_group.specs.Members.{Seat, seat_at}
+use Rattle.reader_group.specs.Opening.{Opened, verdict}
+use Rattle.reader_group.specs.Payloads.{pieces}
+use Rattle.reader_group.specs.Settings.{setting_by, setup_by}
+use Rattle.writer_group.specs.Parts.{group_at}
+use Rattle.writer_group.specs.Payloads.{meta_at, payloads_of, spelled_by}
+use Rattle.writer_group.specs.Sealing.{Envelope, Payload}
+use Rattle.writer_group.specs.Turns.{GroupDeed, GroupTurn, HadGroupTurn, RefreshedWriter, TurnInput, answer_by, answer_to, envelope_of, frames_in, took_by, turn_datagrams}
+use Rattle.group_laws.specs.Matching.{IsMatchedTo, ReadsFrames}
+use Rattle.group_laws.specs.TurnOpened.{opened_at, opened_from, turn_opened}
+use Rattle.group_laws.specs.TurnReading.{IsPartBy}
+use Rattle.group_laws.proofs.TurnTaken.{advanced-keys, advanced-used}
+use Rattle.session_model.specs.Deeds.{Deed, RefreshedBelow, RefreshedSet, CameTo, TookTurn, RenewedKeys, group_past, is_writer_below, is_writer_of, refreshed_where, sender_after, writer_indexes}
+use Rattle.session_laws.specs.Below.{TurnLaws}
+use Rattle.session_laws.specs.Pasts.{IsTurn, WasMade, settings_at}
+use Rattle.session_laws.specs.Readers.{IsPartFor, Making}
+use Rattle.session_laws.proofs.HeldRows.Passing.{IsPassOf}
+use Rattle.session_laws.proofs.HeldRows.Pieces.{opened-at}
+use Rattle.session_laws.proofs.Versions.Answering.{bytes_if}
+use Rattle.turn_laws.specs.Makers.{AreOwnTurns, IsOwnTurn}
+use Rattle.turn_laws.specs.Sent.{NamesPlaces, given_on, sent_in}
+use Rattle.turn_laws.proofs.Parts.{IsSentNow, part-sent, part-stays}
+use Rattle.turn_laws.proofs.Places.{good-to, loud-to, next_of}
+use Rattle.turn_laws.proofs.Rising.{given-has, given-keeps, spanned-at}
+use Rattle.turn_laws.proofs.Sharing.{RisenAt, own-risen}
+
+-- ---- what is opened of a turn has the token in use, and the number behind those used before
+
+opened-pass : (layout : Layout) (e : Envelope) (s : SenderState) (index : ℕ) (payloads : List Payload) (k : ℕ) (opened : Opened) → slice_get (opened_from layout e (Some s) index payloads) k ≡ Some opened → IsPassOf s (index + k) opened.pass
+opened-pass layout e s index [] k opened at = absurd (cc)
+opened-pass layout e s index (payload ∷ payloads) zero opened at =
+    let mode = mode_of e.settings.security in
+    let same : opened_at layout e (Some s) index payload ≡ opened = cc in
+    let here : index ≡ index + 0 = omega arith in
+    subst (λ (n : ℕ). IsPassOf s n opened.pass) here
+    (subst (λ (o : Opened). IsPassOf s index o.pass) same (record { token = ap (λ k. k.token) (advanced-keys mode s (suc index)); number = advanced-used mode s (suc index) }))
+opened-pass layout e s index (payload ∷ payloads) (suc k) opened at =
+    let there : index + 1 + k ≡ index + suc k = omega arith in
+    subst (λ (n : ℕ). IsPassOf s n opened.pass) there (opened-pass layout e s (index + 1) payloads k opened at)
+
+-- ---- the bytes of a place
+
+bytes-here : (place : ℕ) (spelled : PlacedFrame → List ℕ) (frame : PlacedFrame) (rest : List ℕ) → is_silent frame ≡ false → place_of frame ≡ place → bytes_if place spelled (Some frame) rest ≡ spelled frame
+bytes-here place spelled frame rest loud at =
+    let test : (not (is_silent frame) && (place_of frame == place)) ≡ true = ap (λ (b : Bool). not b && (place_of frame == place)) loud ∙ eq-eqb (place_of frame) place at in
+    ap (λ (b : Bool). if b then spelled frame else rest) test
+
+bytes-below : (place : ℕ) (spelled : PlacedFrame → List ℕ) (o : Option PlacedFrame) (rest : List ℕ) → ((frame : PlacedFrame) → o ≡ Some frame → is_silent frame ≡ false → place < place_of frame) → bytes_if place spelled o rest ≡ rest
+bytes-below place spelled None rest below = refl
+bytes-below place spelled (Some frame) rest below = on (is_silent frame) refl
+  where
+    on : (b : Bool) → is_silent frame ≡ b → bytes_if place spelled (Some frame) rest ≡ rest
+    on true e = ap (λ (b : Bool). if not b && (place_of frame == place) then spelled frame else rest) e
+    on false e =
+        let lt = below frame refl e in
+        let differ : place_of frame ≢ place = λ same. omega (arith, same, lt) in
+        let test : (not (is_silent frame) && (place_of frame == place)) ≡ false = ap (λ (b : Bool). not b && (place_of frame == place)) e ∙ ne_eqb (place_of frame) place differ in
+        ap (λ (b : Bool). if b then spelled frame else rest) test
+
+-- ---- a refresh makes nothing
+
+was-where : (test : ℕ → Bool) (past : List GroupDeed) (writers : List ℕ) (datagram : List ℕ) → WasMade (refreshed_where test past writers) datagram → WasMade past datagram
+was-where test past [] datagram h = h
+was-where test past (w ∷ writers) datagram h = on (test w) (was-where test (cons_if (test w) (RefreshedWriter w) past) writers datagram h)
+  where
+    on : (b : Bool) → WasMade (cons_if b (RefreshedWriter w) past) datagram → WasMade past datagram
+    on true h = h
+    on false h = h
+
+abbrev pub made_with : (ℕ → List (ℕ × ℕ)) → (ℕ → List ℕ) → Making
+made_with sent bytes = record { sent = sent; bytes = bytes }
+
+-- ---- a writer of a group, and a reader that is matched to it
+
+module _ (laws : TurnLaws) (config : Config) (k g w : ℕ) (readers : ReadGroupPart) (reader : ℕ) (place : ℕ → ℕ → ℕ → ℕ) (matched : IsMatchedTo config readers reader (group_at config g) w)
+    (keyed : (group_at config g).keygroup ≡ Some k) (numbered : is_numbered (seat_at (setting_by config readers).seats reader).part.numbering ≡ true) where
+  abbrev group : GroupPart
+  group = group_at config g
+
+  abbrev seat : Seat
+  seat = seat_at (setting_by config readers).seats reader
+
+  abbrev way : Way
+  way = record { index = reader; seat = seat; place = place }
+
+  abbrev its_verdict : Accepted → List ℕ → Result Opened Refusal
+  its_verdict accepted datagram = verdict readers (setup_by config readers readers.keygroup) accepted datagram
+
+  -- what a datagram of this past has for the reader was sent with its token and number
+  pub record Held (past : List GroupDeed) (sent : ℕ → List (ℕ × ℕ)) : Type 0 where
+    pub bytes : ℕ → List ℕ
+    pub parts : NamesPlaces place sent → (datagram : List ℕ) (accepted : Accepted) (opened : Opened) → WasMade past datagram → its_verdict accepted datagram ≡ Ok opened
+        → All (IsPartFor (made_with sent bytes) way opened.pass.token opened.pass.number) (pieces seat.part opened.payload)
+
+  abbrev pub HeldAt : List Deed → Type 0
+  HeldAt list = Held (group_past config g list) (λ token. sent_in config k g w token list)
+
+  held-none : HeldAt []
+  held-none = record { bytes = λ own. []; parts = λ named datagram accepted opened was e. absurd was }
+
+  held-below : (component : Component) (earlier : List Deed) → HeldAt earlier → HeldAt (RefreshedBelow component ∷ earlier)
+  held-below component earlier h = record {
+    bytes = h.bytes;
+    parts = λ named datagram accepted opened was e.
+        h.parts named datagram accepted opened (was-where (is_writer_below component g) (group_past config g earlier) (writer_indexes group) datagram was) e;
+  }
+
+  held-set : (set : ℕ) (earlier : List Deed) → HeldAt earlier → HeldAt (RefreshedSet set ∷ earlier)
+  held-set set earlier h = record {
+    bytes = h.bytes;
+    parts = λ named datagram accepted opened was e.
+        h.parts named datagram accepted opened (was-where (is_writer_of group set) (group_past config g earlier) (writer_indexes group) datagram was) e;
+  }
+
+  -- ---- the parts of a datagram of a turn
+
+  meta-is : seat.meta ≡ meta_at group config.dataset w
+  meta-is = laws.meta config readers reader group w matched
+
+  turn-parts : (layout : Layout) (past : List GroupDeed) (turn : GroupTurn) (opened : Opened) (is : IsTurn config group past turn) → group.layout ≡ layout → Contains (turn_opened config group past is.input) opened
+      → All (IsPartBy group past is.input w seat) (pieces seat.part opened.payload)
+  turn-parts layouts.Dynamic past turn opened is layout has =
+      laws.dynamic config group past is.input w seat layout is.may (laws.reads config readers reader group w matched)
+      (subst (ReadsFrames group is.input.told.metas w) (sym meta-is) (is.metas w matched.reads.within)) (is.sampled w matched.reads.within) opened has
+  turn-parts layouts.Fixed past turn opened is layout has =
+      laws.fixed config group past is.input w seat layout is.may (is.fixed layout) (laws.reads config readers reader group w matched) meta-is opened has
+
+  -- ---- a turn of the writer's group
+
+  module _ (before : List Deed) (turn : GroupTurn) (own : IsOwnTurn config g before turn) (risen : RisenAt config k g w before) (h : HeldAt before) where
+    abbrev past : List GroupDeed
+    past = group_past config g before
+
+    abbrev input : TurnInput
+    input = own.is.input
+
+    abbrev s : SenderState
+    s = sender_after config k before
+
+    abbrev answered : Option PlacedFrame
+    answered = answer_to group past w (took_by w turn)
+
+    abbrev old : ℕ → List (ℕ × ℕ)
+    old token = sent_in config k g w token before
+
+    abbrev now : ℕ → List (ℕ × ℕ)
+    now token = given_on (s.keys.token == token) answered s.used (length turn.made) (old token)
+
+    abbrev message : PlacedFrame → List ℕ
+    message frame = (spelled_by group input.told.metas w frame).bytes
+
+    abbrev bytes_now : ℕ → List ℕ
+    bytes_now at = bytes_if at message (answer_by group past input w) (h.bytes at)
+
+    -- what the turn's input answers, the turn does
+    is-answer : (frame : PlacedFrame) → answer_by group past input w ≡ Some frame → answered ≡ Some frame
+    is-answer frame e = ap (λ (t : GroupTurn). answer_to group past w (took_by w t)) own.is.is ∙ e
+
+    keeps : (token number at : ℕ) → Contains (old token) (number, at) → Contains (now token) (number, at)
+    keeps token number at has = given-keeps (s.keys.token == token) answered s.used (length turn.made) (old token) (number, at) has
+
+    named-old : NamesPlaces place now → NamesPlaces place old
+    named-old named = λ token number at has. named token number at (keeps token number at has)
+
+    bytes-stay : (token number at : ℕ) → Contains (old token) (number, at) → bytes_now at ≡ h.bytes at
+    bytes-stay token number at has =
+        let span = spanned-at (settings_at group w).first_number (next_of group w past) (old token) (number, at) (risen.spans token) has in
+        let lt : at < next_of group w past = span.1 in
+        bytes-below at message (answer_by group past input w) (h.bytes at)
+        (λ frame e loud. let there : place_of frame ≡ next_of group w past = loud-to group w (took_by w turn) past frame (is-answer frame e) loud in omega (arith, lt, there))
+
+    old-parts : NamesPlaces place now → (datagram : List ℕ) (accepted : Accepted) (opened : Opened) → WasMade past datagram → its_verdict accepted datagram ≡ Ok opened
+        → All (IsPartFor (made_with now bytes_now) way opened.pass.token opened.pass.number) (pieces seat.part opened.payload)
+    old-parts named datagram accepted opened was e =
+        let token = opened.pass.token in
+        let number = opened.pass.number in
+        All-weaker (IsPartFor (made_with old h.bytes) way token number) (IsPartFor (made_with now bytes_now) way token number)
+        (λ piece of. part-stays (made_with old h.bytes) (made_with now bytes_now) way token number (λ at has. keeps token number at has) (λ at has. bytes-stay token number at has) piece of)
+        (pieces seat.part opened.payload) (h.parts (named-old named) datagram accepted opened was e)
+
+    sender-is : input.sender ≡ Some s
+    sender-is = own.sender ∙ ap (option_map (λ (n : ℕ). sender_after config n before)) keyed
+
+    pass-is : (index : ℕ) (opened : Opened) → slice_get (turn_opened config group past input) index ≡ Some opened → IsPassOf s index opened.pass
+    pass-is index opened there =
+        let e = envelope_of config group past in
+        let payloads = payloads_of config group (frames_in group past input) in
+        let so : slice_get (opened_from group.layout e (Some s) 0 payloads) index ≡ Some opened =
+        subst (λ (o : Option SenderState). slice_get (opened_from group.layout e o 0 payloads) index ≡ Some opened) sender-is there in
+        let zero_is : 0 + index ≡ index = omega arith in
+        subst (λ (n : ℕ). IsPassOf s n opened.pass) zero_is (opened-pass group.layout e s 0 payloads index opened so)
+
+    sent-now : NamesPlaces place now → (index : ℕ) (opened : Opened) → index < length turn.made → IsPassOf s index opened.pass
+        → IsSentNow (made_with now bytes_now) group w past input way opened.pass.token opened.pass.number
+    sent-now named index opened below pass = record {
+      by = numbered;
+      major = ap (λ (m : MetaData). m.major) meta-is ∙ own.is.majors w matched.reads.within;
+      named = λ at has. named opened.pass.token opened.pass.number at has;
+      sent = λ frame e.
+          given-has (s.keys.token == opened.pass.token) answered frame s.used (length turn.made) index opened.pass.number (old opened.pass.token) (eq-eqb s.keys.token opened.pass.token (sym pass.token)) (is-answer frame e) pass.number below;
+      good = λ frame e. good-to group w (took_by w turn) past frame (is-answer frame e);
+      bytes = λ frame e loud. ap (λ (o : Option PlacedFrame). bytes_if (place_of frame) message o (h.bytes (place_of frame))) e ∙ bytes-here (place_of frame) message frame (h.bytes (place_of frame)) loud refl;
+    }
+
+    new-parts : NamesPlaces place now → (datagram : List ℕ) (accepted : Accepted) (opened : Opened) → Contains turn.made datagram → its_verdict accepted datagram ≡ Ok opened
+        → All (IsPartFor (made_with now bytes_now) way opened.pass.token opened.pass.number) (pieces seat.part opened.payload)
+    new-parts named datagram accepted opened (index, below, same) e =
+        let token = opened.pass.token in
+        let number = opened.pass.number in
+        let all = turn_opened config group past input in
+        let at : slice_get turn.made index ≡ Some datagram = slice_get-get_or turn.made index datagram below ∙ ap (λ (d : List ℕ). Some d) same in
+        let sent : slice_get (turn_datagrams config group past input) index ≡ Some datagram = subst (λ (t : GroupTurn). slice_get t.made index ≡ Some datagram) own.is.is at in
+        let there : slice_get all index ≡ Some opened = (opened-at laws config group readers reader w matched past input accepted index datagram opened own.is.may sent e).0 in
+        let has : Contains all opened = (index, slice_get_within all index opened there, get_or_from_slice_get all index opened opened there) in
+        All-weaker (IsPartBy group past input w seat) (IsPartFor (made_with now bytes_now) way token number)
+        (λ piece of. part-sent (made_with now bytes_now) group w past input way token number (sent-now named index opened below (pass-is index opened there)) piece of)
+        (pieces seat.part opened.payload) (turn-parts group.layout past turn opened own.is refl has)
+
+    own-held : Held (HadGroupTurn turn ∷ past) now
+    own-held = record { bytes = bytes_now; parts = λ named datagram accepted opened was e. on named datagram accepted opened e was }
+      where
+        on : NamesPlaces place now → (datagram : List ℕ) (accepted : Accepted) (opened : Opened) → its_verdict accepted datagram ≡ Ok opened → WasMade (HadGroupTurn turn ∷ past) datagram
+            → All (IsPartFor (made_with now bytes_now) way opened.pass.token opened.pass.number) (pieces seat.part opened.payload)
+        on named datagram accepted opened e (inl made) = new-parts named datagram accepted opened made e
+        on named datagram accepted opened e (inr was) = old-parts named datagram accepted opened was e
+
+  -- a turn of whichever group
+  took-held : (other : ℕ) (turn : GroupTurn) (before : List Deed) → IsOwnTurn config other before turn → RisenAt config k g w before → HeldAt before → HeldAt (TookTurn other turn ∷ before)
+  took-held other turn before own risen h = by (other == g) refl
+    where
+      by : (b : Bool) → (other == g) ≡ b
+          → Held (cons_if b (HadGroupTurn turn) (group_past config g before))
+          (λ token. given_on (b && ((sender_after config k before).keys.token == token)) (answer_to group (group_past config g before) w (took_by w turn)) (sender_after config k before).used (length turn.made) (sent_in config k g w token before))
+      by false e = h
+      by true e = own-held before turn (subst (λ (n : ℕ). IsOwnTurn config n before turn) (eqb-true other g e) own) risen h
+
+  -- all of these deeds
+  pub all-held : (list : List Deed) → AreOwnTurns config list → HeldAt list
+  all-held [] are = held-none
+  all-held (RefreshedBelow component ∷ before) are = held-below component before (all-held before are)
+  all-held (RefreshedSet set ∷ before) are = held-set set before (all-held before are)
+  all-held (CameTo moment ∷ before) are = all-held before are
+  all-held (RenewedKeys keygroup sets ∷ before) are = all-held before are
+  all-held (TookTurn other turn ∷ before) are = took-held other turn before are.0 (own-risen config k g w keyed matched.reads.within before are.1) (all-held before are.1)

@@ -1,0 +1,123 @@
+-- A link over which all that is sent comes, and nothing else, is honest: so there are signed sessions.
+use Rattle.std.proofs.Common.{◌≡◌, refl, sym, ap, subst, arith, ℕ, suc, Bool, true, List, [], ◌∷◌, ◌++◌, map, Some, inl, inr, Contains}
+use Rattle.std.specs.Prelude.{◌⊎◌}
+use Rattle.std.proofs.lemmas.List.Elements.{Contains-append_left, Contains-append_right}
+use Rattle.ua_base.specs.Journal.{Entry, Sent, Got, Empty}
+use Rattle.group_laws.specs.Witness.{ones, signed_group, signed_readers, three_config}
+use Rattle.message_guard.specs.Modes.{is_secured}
+use Rattle.reader_group.specs.Arrivals.{is_numbered}
+use Rattle.reader_group.specs.Members.{seat_at}
+use Rattle.reader_group.specs.Plain.{Setting}
+use Rattle.reader_group.specs.Settings.{setting_of}
+use Rattle.reader_group.specs.Signed.{IsSignedBy}
+use Rattle.writer_group.specs.declared.sampled.Sampled.{Sampled}
+use Rattle.writer_group.specs.Parts.{group_at}
+use Rattle.session_model.specs.Counts.{most_ticks}
+use Rattle.session_model.specs.Sends.{Send, journal, send_entries, sends_of}
+use Rattle.session_model.specs.Steps.{Plan, Step}
+use Rattle.session_model.specs.Turns.{TurnsHold}
+use Rattle.session_laws.specs.Delivered.{all_got, delivered_on, sent_on}
+use Rattle.session_laws.specs.Headline.{InSession}
+use Rattle.session_laws.specs.Sessions.{IsHonestFor}
+use Rattle.session_laws.specs.Witness.{three_plan, three_session}
+use Rattle.turn_laws.specs.Makers.{IsSignedSession}
+
+-- ---- an entry of two lists is one of the first, or behind it
+
+-- behind these, in the first list
+abbrev IsInFirst : List Entry → List Entry → Entry → Type 0
+IsInFirst first before entry = (rest : List Entry) × (first ≡ before ++ entry ∷ rest)
+
+-- behind the first list
+abbrev IsBehindFirst : List Entry → List Entry → List Entry → Entry → List Entry → Type 0
+IsBehindFirst first second before entry after = (more : List Entry) × (before ≡ first ++ more) × (second ≡ more ++ entry ∷ after)
+
+split-cases : (first second before : List Entry) (entry : Entry) (after : List Entry) → first ++ second ≡ before ++ entry ∷ after → IsInFirst first before entry ⊎ IsBehindFirst first second before entry after
+split-cases [] second before entry after e = inr (before, refl, e)
+split-cases (x ∷ first) second [] entry after e = let same : x ≡ entry = cc in inl (first, ap (λ (y : Entry). y ∷ first) same)
+split-cases (x ∷ first) second (y ∷ before) entry after e =
+    let same : x ≡ y = cc in
+    let tail : first ++ second ≡ before ++ entry ∷ after = cc in
+    on same (split-cases first second before entry after tail)
+  where
+    on : x ≡ y → IsInFirst first before entry ⊎ IsBehindFirst first second before entry after → IsInFirst (x ∷ first) (y ∷ before) entry ⊎ IsBehindFirst (x ∷ first) second (y ∷ before) entry after
+    on same (inl (rest, is)) = inl (rest, subst (λ (z : Entry). x ∷ first ≡ z ∷ before ++ entry ∷ rest) same (ap (λ (l : List Entry). x ∷ l) is))
+    on same (inr (more, is, behind)) = inr (more, subst (λ (z : Entry). z ∷ before ≡ x ∷ first ++ more) same (ap (λ (l : List Entry). x ∷ l) is), behind)
+
+-- ---- sends and their receives
+
+abbrev done : List Send → List Bool
+done sends = map (λ send. true) sends
+
+no-got : (sends : List Send) (first behind : List Entry) (datagram : List ℕ) → send_entries sends (done sends) ≡ first ++ Got datagram ∷ behind → ⊥
+no-got [] [] behind datagram e = cc
+no-got [] (entry ∷ first) behind datagram e = cc
+no-got (send ∷ sends) [] behind datagram e = cc
+no-got (send ∷ sends) (entry ∷ first) behind datagram e = no-got sends first behind datagram (let tail : send_entries sends (done sends) ≡ first ++ Got datagram ∷ behind = cc in tail)
+
+gets-sent : (sends : List Send) (first behind : List Entry) (datagram : List ℕ) → map (λ send. Got send.datagram) sends ++ Empty ∷ [] ≡ first ++ Got datagram ∷ behind → Contains (send_entries sends (done sends)) (Sent datagram)
+gets-sent [] [] behind datagram e = absurd (cc)
+gets-sent [] (entry ∷ []) behind datagram e = absurd (cc)
+gets-sent [] (entry ∷ other ∷ first) behind datagram e = absurd (cc)
+gets-sent (send ∷ sends) [] behind datagram e = let same : send.datagram ≡ datagram = cc in (0, omega arith, ap (λ (d : List ℕ). Sent d) same)
+gets-sent (send ∷ sends) (entry ∷ first) behind datagram e =
+    let rest = gets-sent sends first behind datagram (let tail : map (λ (send : Send). Got send.datagram) sends ++ Empty ∷ [] ≡ first ++ Got datagram ∷ behind = cc in tail) in
+    (suc rest.0, let lt = rest.1 in omega (arith, lt), rest.2)
+
+-- ---- the journal
+
+pub honest-none : (setting : Setting) → IsHonestFor setting []
+honest-none setting = λ before after datagram e signed. none before after datagram e
+  where
+    none : (before after : List Entry) (datagram : List ℕ) → [] ≡ before ++ Got datagram ∷ after → Contains before (Sent datagram)
+    none [] after datagram e = absurd (cc)
+    none (entry ∷ before) after datagram e = absurd (cc)
+
+pub honest-delivered : (setting : Setting) (p : Plan) (ms : ℕ) (closing : Bool) (samples : List Sampled) (before : List Step) → IsHonestFor setting (journal p before) → IsHonestFor setting (journal p (delivered_on p ms closing samples before))
+honest-delivered setting p ms closing samples before honest = λ earlier after datagram e signed. on earlier after datagram signed (split-cases (old ++ sent) got earlier (Got datagram) after e)
+  where
+    old : List Entry
+    old = journal p before
+
+    sends : List Send
+    sends = sends_of p (sent_on p ms closing samples before)
+
+    sent : List Entry
+    sent = send_entries sends (done sends)
+
+    got : List Entry
+    got = all_got p (sent_on p ms closing samples before)
+
+    at-first : (earlier after : List Entry) (datagram : List ℕ) → (is_secured setting.setup.mode ≡ true → IsSignedBy setting.setup.keys datagram)
+        → IsInFirst old earlier (Got datagram) ⊎ IsBehindFirst old sent earlier (Got datagram) after → Contains earlier (Sent datagram)
+    at-first earlier after datagram signed (inl (rest, is)) = honest earlier rest datagram is signed
+    at-first earlier after datagram signed (inr (more, is, behind)) = absurd (no-got sends more after datagram behind)
+
+    on : (earlier after : List Entry) (datagram : List ℕ) → (is_secured setting.setup.mode ≡ true → IsSignedBy setting.setup.keys datagram)
+        → IsInFirst (old ++ sent) earlier (Got datagram) ⊎ IsBehindFirst (old ++ sent) got earlier (Got datagram) after → Contains earlier (Sent datagram)
+    on earlier after datagram signed (inl (rest, is)) = at-first earlier rest datagram signed (split-cases old sent earlier (Got datagram) rest is)
+    on earlier after datagram signed (inr (more, is, behind)) =
+        subst (λ (l : List Entry). Contains l (Sent datagram)) (sym is)
+        (Contains-append_left (old ++ sent) more (Sent datagram) (Contains-append_right old sent (Sent datagram) (gets-sent sends more after datagram behind)))
+
+-- ---- the session of three groups
+
+three-keyed : (group_at three_plan.config 0).keygroup ≡ Some 0
+unfolding three_plan three_config signed_group
+three-keyed = refl
+
+three-numbered : is_numbered (seat_at (setting_of three_plan.config 0).seats 0).part.numbering ≡ true
+unfolding three_plan three_config signed_readers
+three-numbered = refl
+
+pub three-signed : InSession three_plan 0 0 0 0 three_session → TurnsHold three_plan three_session → IsSignedSession most_ticks three_plan 0 0 0 0 0 three_session
+three-signed is hold = record {
+  plan = is.plan;
+  steps_are = is.steps_are;
+  turns = hold;
+  run = is.run;
+  under = record { there = is.there; within = is.matched.reads.within; keyed = three-keyed };
+  matched = is.matched;
+  numbered = three-numbered;
+  honest = honest-delivered (setting_of three_plan.config 0) three_plan 0 true (ones ∷ []) [] (honest-none (setting_of three_plan.config 0));
+}

@@ -1,0 +1,13 @@
+pub mod Rising
+pub mod Places
+pub mod Alone
+pub mod Sharing
+pub mod Naming
+pub mod Uses
+pub mod Parts
+pub mod Holding
+pub mod Others
+pub mod Signed
+pub mod Turns
+pub mod Sessions
+pub mod Honest

@@ -1,0 +1,99 @@
+//! Laws of a key group's sender, each the contract of a function that does nothing.
+ghost use Rattle.std.specs.Prelude.{◌≡◌, ◌<◌, ℕ, List, length};
+ghost use Rattle.seq_number.specs.Numbers.{number_of_place, place_from};
+ghost use Rattle.ps_config.specs.declared.parts.Config.{Config};
+ghost use Rattle.ps_config.specs.declared.parts.GroupPart.{GroupPart};
+ghost use Rattle.reader_group.specs.Agreeing.{IsWayOf, RiseTogether, SendsRise};
+ghost use Rattle.writer_group.specs.Turns.{GroupDeed};
+ghost use Rattle.session_model.specs.Deeds.{Deed, deeds};
+ghost use Rattle.session_model.specs.Keeping.{AreStepsOf, IsPlan};
+ghost use Rattle.session_model.specs.Lives.{Lived, TurnsHoldIn, account_in};
+ghost use Rattle.session_model.specs.Steps.{Plan, Step};
+ghost use Rattle.session_model.specs.Turns.{TurnsHold};
+ghost use Rattle.session_laws.specs.Below.{Laws};
+ghost use Rattle.session_laws.specs.Pasts.{AreTurns};
+ghost use Rattle.session_laws.specs.Reading.{first_number_of};
+ghost use Rattle.turn_laws.specs.Makers.{AreOwnTurns, HasItsRecords, HasOneSender, IsMadeBySender, IsSignedSession, IsSigning, IsWriterUnder, Signing, its_setting, its_way, signed_session, signing_of};
+ghost use Rattle.turn_laws.specs.Sent.{NamesPlaces, numbered_in, place_near, sends_in};
+
+use group_laws::{
+    a_datagram_has_nothing_for_readers_of_other_groups, a_matched_reader_reads_its_writer,
+    a_ring_makes_senders_of_its_key_group, each_datagram_is_taken_as_it_was_sent,
+    each_part_is_of_what_was_answered,
+};
+use reader_group::near_readers_have_their_records;
+use row_words::cut_rows_have_words;
+use session_laws::{each_turn_of_a_session_holds, signed_readers_have_their_records};
+use writer_group::no_token_and_number_come_twice_in_groups;
+
+/// Of a group alone, all of whose datagrams are under one token: over its turns, of however many datagrams each, the numbers of those
+/// in which a writer answered rise with the places of its answers, which rise by at most as much.
+pub fn numbers_of_a_group_rise_with_places()
+    ensures { (config : Config) (group : GroupPart) (w used : ℕ) (past : List GroupDeed) → AreTurns config group past
+        → w < length group.writer → RiseTogether (numbered_in group w used past) }
+{}
+
+/// So do the numbers that the sender of a key group gives under each token, whichever of the key group's groups have turns in between
+/// and whichever moments it comes to: in a session of however many ticks (`session`), in a life with whichever rings (`life`), and
+/// behind any deeds whose turns are those of the definitions (`any`). Numbers that rise so name the places: in a datagram that was
+/// sent, its token and number and the 16 bits of the place tell it (`names`, `numbers`); in a session of fewer than 65,536 ticks the
+/// 16 bits alone do, from the writer's first number on (`first`).
+pub fn numbers_rise_with_places_over_all_turns()
+    ensures session { (p : Plan) (k g w : ℕ) (steps : List Step) → IsPlan p → IsWriterUnder p.config k g w
+        → SendsRise (sends_in p.config k g w (deeds p steps)) }
+    ensures life { (p : Plan) (k g w : ℕ) (life : List Lived) → IsPlan p → IsWriterUnder p.config k g w
+        → SendsRise (sends_in p.config k g w (account_in p life).deeds) }
+    ensures any { (config : Config) (k g w : ℕ) (list : List Deed) → IsWriterUnder config k g w → AreOwnTurns config list
+        → SendsRise (sends_in config k g w list) }
+    ensures names { (sent : ℕ → List (ℕ × ℕ)) → SendsRise sent → NamesPlaces (place_near sent) sent }
+    ensures numbers { (sent : ℕ → List (ℕ × ℕ)) (token number own : ℕ)
+        → number_of_place (place_near sent token number own) ≡ number_of_place own }
+    ensures first { (most : ℕ) (p : Plan) (k g w : ℕ) (steps : List Step) → IsPlan p → IsWriterUnder p.config k g w
+        → AreStepsOf most p steps → most < 65536
+        → NamesPlaces (λ token number. place_from (first_number_of p.config g w)) (sends_in p.config k g w (deeds p steps)) }
+{}
+
+/// All that the groups of a key group send is what its one sender makes of their turns, one after another, as it comes to the moments
+/// of ticks and whichever rings renew it: each use is allowed when it comes, and no token and number come twice. It is so in each
+/// session and each life whose turns hold, as those of a script do (`each_turn_of_a_session_holds`, `each_turn_of_a_life_holds`).
+pub fn one_sender_makes_what_a_key_group_sends()
+    ensures session { (p : Plan) (k : ℕ) (steps : List Step) → IsPlan p → TurnsHold p steps → k < length p.config.keygroup
+        → HasOneSender p.config k (deeds p steps) }
+    ensures life { (p : Plan) (k : ℕ) (life : List Lived) → IsPlan p → TurnsHoldIn p life → k < length p.config.keygroup
+        → HasOneSender p.config k (account_in p life).deeds }
+{
+    no_token_and_number_come_twice_in_groups();
+}
+
+/// What comes to a reader under a signature of its ring was made by the one sender of its writer's key group, under each token with
+/// numbers that rise with the places of the writer's messages: of whatever deeds of a publisher whose turns are those of the
+/// definitions, where its groups made each datagram that came signed (`made`). Such are those of a session of however many ticks,
+/// whose turns hold, over a link that delivers nothing else that is signed (`session`). So a reader of a secured group that goes by
+/// numbers is what *Arrivals* and *Records* say, with no premise on what a sender made, however many turns there were (`records`,
+/// `session_records`).
+pub fn what_came_signed_was_made_by_its_sender()
+    ensures made { (s : Signing) → IsSigning s → IsMadeBySender s }
+    ensures session { (most : ℕ) (p : Plan) (r i g w k : ℕ) (steps : List Step) (place : ℕ → ℕ → ℕ → ℕ)
+        → NamesPlaces place (sends_in p.config k g w (deeds p steps)) → IsSignedSession most p r i g w k steps
+        → IsSigning (signing_of p r i g w k steps place) }
+    ensures records { (s : Signing) → IsSigning s → IsWayOf (its_setting s) (its_way s) s.events → HasItsRecords s }
+    ensures session_records { (most : ℕ) (p : Plan) (r i g w k : ℕ) (steps : List Step)
+        → IsSignedSession most p r i g w k steps → HasItsRecords (signed_session p r i g w k steps) }
+{
+    what_the_laws_below_say();
+    signed_readers_have_their_records();
+}
+
+/// What the laws below say of turns, of what read groups take of them, of rows and of senders, as one record.
+fn what_the_laws_below_say()
+    ensures { Laws }
+{
+    each_datagram_is_taken_as_it_was_sent();
+    each_part_is_of_what_was_answered();
+    a_datagram_has_nothing_for_readers_of_other_groups();
+    a_matched_reader_reads_its_writer();
+    near_readers_have_their_records();
+    cut_rows_have_words();
+    a_ring_makes_senders_of_its_key_group();
+    each_turn_of_a_session_holds();
+}
