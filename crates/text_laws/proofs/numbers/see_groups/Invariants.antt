@@ -1,0 +1,13 @@
+use Rattle.std.proofs.Common.{ℕ, ◌<◌, List, length}
+use Rattle.writer_group.specs.Parts.{group_at}
+use Rattle.writer_group.specs.Payloads.{writer_at}
+use Rattle.gateway_core.specs.Lived.{GatewayStep, session_steps}
+use Rattle.gateway_core.specs.Holding.{sources_of}
+use Rattle.gateway_core.specs.Standing.{Stands}
+use Rattle.cmd_relay.specs.Texts.{kept_by_index}
+use Rattle.text_laws.specs.Seen.{LogIsSeen}
+use Rattle.text_laws.proofs.numbers.see_groups.Given as goal
+
+abbrev pub invariant-loop-g : goal.invariant-loop-g
+invariant-loop-g l = (lived : List GatewayStep) → Stands l.second lived l.gateway → (g w : ℕ) → g < l.g → w < length (group_at l.second g).writer
+    → LogIsSeen l.second (session_steps (sources_of l.gateway) lived) (kept_by_index (sources_of l.gateway) lived (writer_at (group_at l.second g) w).dataset) g w
