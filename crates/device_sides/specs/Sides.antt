@@ -198,6 +198,10 @@ pub record IsResumed (part : KeyGroupPart) (now used : ℕ) (sender : SenderStat
   pub used_is : sender.used ≡ used
   pub unfronted : sender.fronted ≡ None
 
+-- the first sender of the key group: it goes on behind the numbers that the configuration tells of, with the key set of moment 0
+abbrev pub IsOpeningSender : KeyGroupPart → SenderState → Type 0
+IsOpeningSender part sender = IsResumed part 0 part.used sender
+
 -- the sender of the key group goes on so, no number comes twice, and nothing else changed
 pub record IsBehind (keygroup now used : ℕ) (old new : Publisher) : Type 0 where
   pub within : keygroup < length old.senders.items
