@@ -5,7 +5,7 @@ ghost use Rattle.message_guard.specs.Senders.{IsSender};
 ghost use Rattle.ps_config.specs.Configs.{is_long};
 ghost use Rattle.ps_config.specs.Sound.{IsKeyGroup};
 ghost use Rattle.writer_group.specs.Standing.{AreRowsOf, IsGood};
-ghost use Rattle.device_sides.specs.Sides.{HasLongKeys, IsKeyedBy, IsListening, IsOpeningSender, IsResumed, IsSide, IsUnkeyed};
+ghost use Rattle.device_sides.specs.Sides.{AreOpeningListenings, AreOpeningSides, HasLongKeys, IsKeyedBy, IsListening, IsOpeningRow, IsOpeningSender, IsResumed, IsSide, IsUnkeyed};
 
 use crate::listening::Listening;
 use crate::side::Side;
@@ -20,6 +20,7 @@ use writer_group::Sampled;
 /// An opening row of each data set.
 pub fn rows_of(alloc: Global, metas: &[Meta]) -> Result<Vec<Sampled>, NoMemory>
     ensures rows { IfOk result (λ rows. AreRowsOf metas.now rows.items) }
+    ensures opening { IfOk result (λ rows. AllZip IsOpeningRow metas.now rows.items) }
     ensures count { IfOk result (λ rows. length rows.items ≡ length metas.now) }
 {
     let mut rows = Vec::new(alloc);
@@ -63,6 +64,7 @@ pub fn sender_at(keygroup: &KeyGroupPart, now: u64, used: u32) -> Sender
 pub fn sides_of(alloc: Global, config: &Config) -> Result<Vec<Side>, NoMemory>
     requires { IsGood config.now }
     ensures sides { IfOk result (λ sides. All (IsSide config.now) sides.items) }
+    ensures opening { IfOk result (λ sides. AreOpeningSides config.now sides.items) }
     ensures count { IfOk result (λ sides. length sides.items ≡ length config.now.group) }
 {
     let mut sides = Vec::new(alloc);
@@ -77,6 +79,7 @@ pub fn sides_of(alloc: Global, config: &Config) -> Result<Vec<Side>, NoMemory>
 pub fn listenings_of(alloc: Global, config: &Config) -> Result<Vec<Listening>, NoMemory>
     requires { IsGood config.now }
     ensures groups { IfOk result (λ groups. All (IsListening config.now) groups.items) }
+    ensures opening { IfOk result (λ groups. AreOpeningListenings config.now groups.items) }
     ensures count { IfOk result (λ groups. length groups.items ≡ length config.now.readgroup) }
 {
     let mut groups = Vec::new(alloc);

@@ -7,7 +7,7 @@ ghost use Rattle.ps_config.specs.Reading.{configuration, IsEnd};
 ghost use Rattle.writer_group.specs.Standing.{IsGood, IsReserved, datagrams_in};
 ghost use Rattle.device_sides.specs.Coming.{Comes, HasCome, IsWaiting};
 ghost use Rattle.device_sides.specs.Looking.{Counts, HasLooked};
-ghost use Rattle.device_sides.specs.Sides.{HasField, HasLongKeys, HasNoField, HasRenewed, HasSet, HasSetStatus, HasSetWord, HasWriterSwitched, IsBehind, IsMisfit, IsNoLower, IsOpeningSender, IsPublisher, IsStatusMisfit, IsWordMisfit, MayNotResume, StandsAt};
+ghost use Rattle.device_sides.specs.Sides.{AreOpeningSides, HasField, HasLongKeys, HasNoField, HasRenewed, HasSet, HasSetStatus, HasSetWord, HasWriterSwitched, IsBehind, IsMisfit, IsNoLower, IsOpeningRow, IsOpeningSender, IsPublisher, IsStatusMisfit, IsWordMisfit, MayNotResume, StandsAt};
 
 use crate::asked::Next;
 use crate::looking::{Looked, is_held, look};
@@ -45,8 +45,12 @@ impl Publisher {
     pub fn open(alloc: Global, text: &[u8]) -> Result<Publisher, ConfigEnd>
         ensures publisher { IfOk result IsPublisher }
         ensures ok { IfOk result (λ publisher. configuration text.now ≡ Ok publisher.config) }
+        ensures rows { IfOk result (λ publisher.
+            AllZip IsOpeningRow publisher.config.dataset publisher.rows.items) }
         ensures senders { IfOk result (λ publisher.
             AllZip IsOpeningSender publisher.config.keygroup publisher.senders.items) }
+        ensures sides { IfOk result (λ publisher.
+            AreOpeningSides publisher.config publisher.sides.items) }
         ensures refused { IfErr result (IsEnd (configuration text.now)) }
     {
         let config = read_config(alloc, text)?;
@@ -306,8 +310,11 @@ fn publisher_of(alloc: Global, config: Config) -> Result<Publisher, NoMemory>
     requires { IsGood config }
     ensures publisher { IfOk result IsPublisher }
     ensures config { IfOk result (λ publisher. publisher.config ≡ config) }
+    ensures rows { IfOk result (λ publisher.
+        AllZip IsOpeningRow config.dataset publisher.rows.items) }
     ensures senders { IfOk result (λ publisher.
         AllZip IsOpeningSender config.keygroup publisher.senders.items) }
+    ensures sides { IfOk result (λ publisher. AreOpeningSides config publisher.sides.items) }
 {
     let rows = rows_of(alloc, config.dataset.as_slice())?;
     let senders = senders_of(alloc, config.keygroup.as_slice())?;
