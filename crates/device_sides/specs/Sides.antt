@@ -1,10 +1,10 @@
 -- The sides of a device, between two calls.
-use Rattle.std.specs.Prelude.{◌≡◌, ℕ, ◌<◌, ◌≤◌, Bool, true, false, List, length, map, slice_get, slice_set, ◌⊎◌, All, Option, Some, None, option_map, Result}
-use Rattle.std.specs.List.{HoldsAt}
+use Rattle.std.specs.Prelude.{◌≡◌, ℕ, ◌<◌, ◌≤◌, Bool, true, false, List, length, map, replicate, slice_get, slice_set, ◌⊎◌, All, Option, Some, None, option_map, Result}
+use Rattle.std.specs.List.{AllZip, HoldsAt, range_with_len}
 use Rattle.ua_values.specs.declared.value.Value.{Value}
 use Rattle.dataset_meta.specs.DataValues.{IsStatus}
 use Rattle.dataset_meta.specs.Metas.{MetaData}
-use Rattle.dataset_meta.specs.Rows.{FitsAt}
+use Rattle.dataset_meta.specs.Rows.{FitsAt, opening_row}
 use Rattle.ua_values.specs.declared.kind.Kind.{Kind}
 use Rattle.row_words.specs.Belonging.{row_in}
 use Rattle.row_words.specs.Setting.{with_status, with_value}
@@ -25,7 +25,7 @@ use Rattle.writer_group.specs.declared.datagrams.Datagrams.{Datagrams}
 use Rattle.writer_group.specs.declared.group.Group.{Group}
 use Rattle.writer_group.specs.declared.sampled.Sampled.{Sampled}
 use Rattle.writer_group.specs.Parts.{group_at}
-use Rattle.writer_group.specs.Standing.{AreRowsOf, HasTickedAt, IsGood, IsRefreshed, IsReserved, KeepsTo, MayTickAt, datagrams_in, index_of, input_of, writer_count}
+use Rattle.writer_group.specs.Standing.{AreRowsOf, HasTickedAt, IsFreshAt, IsGood, IsRefreshed, IsReserved, KeepsTo, MayTickAt, datagrams_in, index_of, input_of, writer_count}
 use Rattle.device_sides.specs.declared.listening.Listening.{Listening}
 use Rattle.device_sides.specs.declared.publisher.Publisher.{Publisher}
 use Rattle.device_sides.specs.declared.side.Side.{Side}
@@ -37,6 +37,16 @@ use Rattle.device_sides.specs.declared.subscriber.Subscriber.{Subscriber}
 pub record IsSide (config : Config) (side : Side) : Type 0 where
   pub index : index_of side.group ≡ side.index
   pub keeps_to : KeepsTo config side.group
+
+-- the group with this index before its first turn, all of whose writers are on
+pub record IsOpeningSide (config : Config) (index : ℕ) (side : Side) : Type 0 where
+  pub index_is : side.index ≡ index
+  pub fresh : IsFreshAt config index side.group
+  pub on : side.on.items ≡ replicate (length (group_at config index).writer) true
+
+-- one of each group of the configuration, in its order
+abbrev pub AreOpeningSides : Config → List Side → Type 0
+AreOpeningSides config sides = AllZip (IsOpeningSide config) (range_with_len 0 (length config.group)) sides
 
 -- the sender at the place, if there is one
 abbrev pub nth_sender : List SenderState → Option ℕ → Option SenderState
@@ -76,6 +86,11 @@ pub record HasSwitched (writer : ℕ) (on : Bool) (old new : Side) : Type 0 wher
   pub index : new.index ≡ old.index
 
 -- ---- a publisher
+
+-- the opening row of the data set, which was not set yet
+pub record IsOpeningRow (meta : MetaData) (sampled : Sampled) : Type 0 where
+  pub row : row_in meta.fields sampled.row.words ≡ opening_row meta.fields
+  pub version_is : sampled.version ≡ 0
 
 pub record IsPublisher (publisher : Publisher) : Type 0 where
   pub good : IsGood publisher.config
@@ -198,6 +213,10 @@ pub record IsResumed (part : KeyGroupPart) (now used : ℕ) (sender : SenderStat
   pub used_is : sender.used ≡ used
   pub unfronted : sender.fronted ≡ None
 
+-- the first sender of the key group: it goes on behind the numbers that the configuration tells of, with the key set of moment 0
+abbrev pub IsOpeningSender : KeyGroupPart → SenderState → Type 0
+IsOpeningSender part sender = IsResumed part 0 part.used sender
+
 -- the sender of the key group goes on so, no number comes twice, and nothing else changed
 pub record IsBehind (keygroup now used : ℕ) (old new : Publisher) : Type 0 where
   pub within : keygroup < length old.senders.items
@@ -255,6 +274,17 @@ pub record IsListening (config : Config) (listening : Listening) : Type 0 where
   pub made : reads.IsMadeOf config listening.group
   pub index : reads.index_of listening.group ≡ listening.index
   pub on : length listening.on.items ≡ reads.reader_count listening.group
+
+-- the read group with this index before anything, all of whose readers are on
+pub record IsOpeningListening (config : Config) (index : ℕ) (listening : Listening) : Type 0 where
+  pub index_is : listening.index ≡ index
+  pub opening : reads.IsOpening config index listening.group
+  pub on : listening.on.items ≡ replicate (reads.reader_count listening.group) true
+
+-- one of each read group of the configuration, in its order
+abbrev pub AreOpeningListenings : Config → List Listening → Type 0
+AreOpeningListenings config groups =
+    AllZip (IsOpeningListening config) (range_with_len 0 (length config.readgroup)) groups
 
 pub record IsSubscriber (subscriber : Subscriber) : Type 0 where
   pub good : IsGood subscriber.config

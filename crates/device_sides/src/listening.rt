@@ -4,11 +4,11 @@ ghost use Rattle.dataset_meta.specs.Rows.{FitsAt};
 ghost use Rattle.group_keys.specs.Ring.{key_sets};
 ghost use Rattle.message_guard.specs.Protection.{keys_in};
 ghost use Rattle.ps_config.specs.Sound.{IsSound};
-ghost use Rattle.reader_group.specs.Groups.{AreLeft, IsAnswer, IsMadeOf, IsOpening, StepsBy, GoesOnWith, index_of, reader_count};
+ghost use Rattle.reader_group.specs.Groups.{AreLeft, IsAnswer, IsMadeOf, StepsBy, GoesOnWith, index_of, reader_count};
 ghost use Rattle.reader_group.specs.Plain.{Got};
 ghost use Rattle.ps_config.specs.declared.parts.Config.{Config as ConfigValue};
 ghost use Rattle.device_sides.specs.Readings.{HasExpired, HasGoneOff, HasSwitchedReader};
-ghost use Rattle.device_sides.specs.Sides.{IsListening};
+ghost use Rattle.device_sides.specs.Sides.{IsListening, IsOpeningListening};
 
 use dataset_reader::Reader;
 use group_keys::Ring;
@@ -34,7 +34,7 @@ impl Listening {
         requires sound { IsSound config.now }
         requires index { index < length config.now.readgroup }
         ensures listening { IfOk result (IsListening config.now) }
-        ensures opening { IfOk result (λ listening. IsOpening config.now index listening.group) }
+        ensures opening { IfOk result (IsOpeningListening config.now index) }
     {
         let group = ReaderGroup::new(alloc, config, index)?;
         let on = vec![in alloc; true; usize::from(group.count())]?;

@@ -1,10 +1,11 @@
 //! The parts of a new publisher, and of a new subscriber.
 ghost use Rattle.std.specs.Prelude.{◌≡◌, ◌≤◌, IfNone, IfOk, IfSome, All, length};
+ghost use Rattle.std.specs.List.{AllZip};
 ghost use Rattle.message_guard.specs.Senders.{IsSender};
 ghost use Rattle.ps_config.specs.Configs.{is_long};
 ghost use Rattle.ps_config.specs.Sound.{IsKeyGroup};
 ghost use Rattle.writer_group.specs.Standing.{AreRowsOf, IsGood};
-ghost use Rattle.device_sides.specs.Sides.{HasLongKeys, IsKeyedBy, IsListening, IsSide, IsUnkeyed};
+ghost use Rattle.device_sides.specs.Sides.{AreOpeningListenings, AreOpeningSides, HasLongKeys, IsKeyedBy, IsListening, IsOpeningRow, IsOpeningSender, IsResumed, IsSide, IsUnkeyed};
 
 use crate::listening::Listening;
 use crate::side::Side;
@@ -19,6 +20,7 @@ use writer_group::Sampled;
 /// An opening row of each data set.
 pub fn rows_of(alloc: Global, metas: &[Meta]) -> Result<Vec<Sampled>, NoMemory>
     ensures rows { IfOk result (λ rows. AreRowsOf metas.now rows.items) }
+    ensures opening { IfOk result (λ rows. AllZip IsOpeningRow metas.now rows.items) }
     ensures count { IfOk result (λ rows. length rows.items ≡ length metas.now) }
 {
     let mut rows = Vec::new(alloc);
@@ -33,24 +35,28 @@ pub fn rows_of(alloc: Global, metas: &[Meta]) -> Result<Vec<Sampled>, NoMemory>
 pub fn senders_of(alloc: Global, keygroups: &[KeyGroupPart]) -> Result<Vec<Sender>, NoMemory>
     requires { All IsKeyGroup keygroups.now }
     ensures senders { IfOk result (λ senders. All IsSender senders.items) }
+    ensures opening { IfOk result (λ senders. AllZip IsOpeningSender keygroups.now senders.items) }
     ensures count { IfOk result (λ senders. length senders.items ≡ length keygroups.now) }
 {
     let mut senders = Vec::new(alloc);
     for keygroup in keygroups {
-        senders.push(sender_of(keygroup))?;
+        senders.push(sender_at(keygroup, 0, keygroup.used))?;
     }
     Ok(senders)
 }
 
-fn sender_of(keygroup: &KeyGroupPart) -> Sender
+/// The sender of a key group behind so many numbers.
+pub fn sender_at(keygroup: &KeyGroupPart, now: u64, used: u32) -> Sender
     requires { IsKeyGroup keygroup.now }
-    ensures { IsSender result }
+    ensures sender { IsSender result }
+    ensures resumed { IsResumed keygroup.now now used result }
 {
-    Sender::new(
+    Sender::resume(
         ring_of(keygroup),
         keygroup.random,
         keygroup.first_block,
-        keygroup.used,
+        now,
+        used,
     )
 }
 
@@ -58,6 +64,7 @@ fn sender_of(keygroup: &KeyGroupPart) -> Sender
 pub fn sides_of(alloc: Global, config: &Config) -> Result<Vec<Side>, NoMemory>
     requires { IsGood config.now }
     ensures sides { IfOk result (λ sides. All (IsSide config.now) sides.items) }
+    ensures opening { IfOk result (λ sides. AreOpeningSides config.now sides.items) }
     ensures count { IfOk result (λ sides. length sides.items ≡ length config.now.group) }
 {
     let mut sides = Vec::new(alloc);
@@ -72,6 +79,7 @@ pub fn sides_of(alloc: Global, config: &Config) -> Result<Vec<Side>, NoMemory>
 pub fn listenings_of(alloc: Global, config: &Config) -> Result<Vec<Listening>, NoMemory>
     requires { IsGood config.now }
     ensures groups { IfOk result (λ groups. All (IsListening config.now) groups.items) }
+    ensures opening { IfOk result (λ groups. AreOpeningListenings config.now groups.items) }
     ensures count { IfOk result (λ groups. length groups.items ≡ length config.now.readgroup) }
 {
     let mut groups = Vec::new(alloc);

@@ -1,25 +1,24 @@
 //! Publishers.
 ghost use Rattle.std.specs.Prelude.{◌≡◌, ◌↔◌, ◌<◌, ◌≤◌, ◌+◌, ◌||◌, [], IsTrue, IfOk, IfErr, IfSome, IfNone, Ok, length, slice_index_or};
 ghost use Rattle.std.specs.Bool.{OnTrue, OnFalse};
+ghost use Rattle.std.specs.List.{AllZip};
 ghost use Rattle.group_keys.specs.Ring.{key_sets};
-ghost use Rattle.message_guard.specs.Senders.{IsSender};
-ghost use Rattle.ps_config.specs.Sound.{IsKeyGroup};
 ghost use Rattle.ps_config.specs.Reading.{configuration, IsEnd};
 ghost use Rattle.writer_group.specs.Standing.{IsGood, IsReserved, datagrams_in};
 ghost use Rattle.device_sides.specs.Coming.{Comes, HasCome, IsWaiting};
 ghost use Rattle.device_sides.specs.Looking.{Counts, HasLooked};
-ghost use Rattle.device_sides.specs.Sides.{HasField, HasLongKeys, HasNoField, HasRenewed, HasSet, HasSetStatus, HasSetWord, HasWriterSwitched, IsBehind, IsMisfit, IsNoLower, IsPublisher, IsResumed, IsStatusMisfit, IsWordMisfit, MayNotResume, StandsAt};
+ghost use Rattle.device_sides.specs.Sides.{AreOpeningSides, HasField, HasLongKeys, HasNoField, HasRenewed, HasSet, HasSetStatus, HasSetWord, HasWriterSwitched, IsBehind, IsMisfit, IsNoLower, IsOpeningRow, IsOpeningSender, IsPublisher, IsStatusMisfit, IsWordMisfit, MayNotResume, StandsAt};
 
 use crate::asked::Next;
 use crate::looking::{Looked, is_held, look};
-use crate::making::{has_long_keys, rows_of, senders_of, sides_of};
+use crate::making::{has_long_keys, rows_of, sender_at, senders_of, sides_of};
 use crate::rows::{set_in, set_status_in, set_word_in};
 use crate::side::Side;
 use crate::sides::turn_senders;
 use crate::words::has_field_at;
 use group_keys::Ring;
 use message_guard::Sender;
-use ps_config::{Config, ConfigEnd, KeyGroupPart, read_config, ring_of};
+use ps_config::{Config, ConfigEnd, read_config};
 use std::alloc::Global;
 use ua_base::NoMemory;
 use ua_values::{Kind, Value};
@@ -46,6 +45,12 @@ impl Publisher {
     pub fn open(alloc: Global, text: &[u8]) -> Result<Publisher, ConfigEnd>
         ensures publisher { IfOk result IsPublisher }
         ensures ok { IfOk result (λ publisher. configuration text.now ≡ Ok publisher.config) }
+        ensures rows { IfOk result (λ publisher.
+            AllZip IsOpeningRow publisher.config.dataset publisher.rows.items) }
+        ensures senders { IfOk result (λ publisher.
+            AllZip IsOpeningSender publisher.config.keygroup publisher.senders.items) }
+        ensures sides { IfOk result (λ publisher.
+            AreOpeningSides publisher.config publisher.sides.items) }
         ensures refused { IfErr result (IsEnd (configuration text.now)) }
     {
         let config = read_config(alloc, text)?;
@@ -305,6 +310,11 @@ fn publisher_of(alloc: Global, config: Config) -> Result<Publisher, NoMemory>
     requires { IsGood config }
     ensures publisher { IfOk result IsPublisher }
     ensures config { IfOk result (λ publisher. publisher.config ≡ config) }
+    ensures rows { IfOk result (λ publisher.
+        AllZip IsOpeningRow config.dataset publisher.rows.items) }
+    ensures senders { IfOk result (λ publisher.
+        AllZip IsOpeningSender config.keygroup publisher.senders.items) }
+    ensures sides { IfOk result (λ publisher. AreOpeningSides config publisher.sides.items) }
 {
     let rows = rows_of(alloc, config.dataset.as_slice())?;
     let senders = senders_of(alloc, config.keygroup.as_slice())?;
@@ -319,21 +329,6 @@ fn publisher_of(alloc: Global, config: Config) -> Result<Publisher, NoMemory>
         made: 0,
         handed: 0,
     })
-}
-
-/// The sender of a key group behind so many numbers.
-fn sender_at(keygroup: &KeyGroupPart, now: u64, used: u32) -> Sender
-    requires { IsKeyGroup keygroup.now }
-    ensures sender { IsSender result }
-    ensures resumed { IsResumed keygroup.now now used result }
-{
-    Sender::resume(
-        ring_of(keygroup),
-        keygroup.random,
-        keygroup.first_block,
-        now,
-        used,
-    )
 }
 
 /// Whether no number of the second standing comes again behind the first one, each a token and the number used last under it.

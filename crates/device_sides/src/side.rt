@@ -4,9 +4,9 @@ ghost use Rattle.std.specs.Bool.{OnTrue};
 ghost use Rattle.message_guard.specs.Senders.{IsSender};
 ghost use Rattle.ps_config.specs.declared.parts.Config.{Config as ConfigValue};
 ghost use Rattle.writer_group.specs.Parts.{group_at};
-ghost use Rattle.writer_group.specs.Standing.{AreRowsOf, IsFreshAt, IsGood, IsReserved, KeepsTo, TellsDue, TellsMoment, index_of, writer_count};
+ghost use Rattle.writer_group.specs.Standing.{AreRowsOf, IsGood, IsReserved, KeepsTo, TellsDue, TellsMoment, index_of, writer_count};
 ghost use Rattle.device_sides.specs.Coming.{AreRefreshed, all_writers};
-ghost use Rattle.device_sides.specs.Sides.{HasComeOn, HasSwitched, HasTurned, HasWriter, IsSide, MayNotTurn, sender_for};
+ghost use Rattle.device_sides.specs.Sides.{HasComeOn, HasSwitched, HasTurned, HasWriter, IsOpeningSide, IsSide, MayNotTurn, sender_for};
 
 use message_guard::Sender;
 use ps_config::{Config, GroupPart};
@@ -31,7 +31,7 @@ impl Side {
         requires good { IsGood config.now }
         requires index { index < length config.now.group }
         ensures side { IfOk result (IsSide config.now) }
-        ensures fresh { IfOk result (λ side. IsFreshAt config.now index side.group) }
+        ensures opening { IfOk result (IsOpeningSide config.now index) }
     {
         let count = part_of(config, index).writer.as_slice().len();
         Ok(Side {

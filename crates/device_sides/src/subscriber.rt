@@ -9,7 +9,7 @@ ghost use Rattle.ps_config.specs.Sound.{IsSound};
 ghost use Rattle.writer_group.specs.Standing.{IsGood};
 ghost use Rattle.row_words.specs.Words.{scalar_in};
 ghost use Rattle.device_sides.specs.Readings.{HasFieldStatus, HasFieldValue, HasKeysRenewed, HasNoMisfit, HasReaderSwitched, HaveExpired, IsNoReader, IsOfKind, IsOfOtherKind, IsReaderAt, IsUntold, IsUntoldAt, Keeps, ReaderKeeps, meta_for};
-ghost use Rattle.device_sides.specs.Sides.{HasListened, IsListening, IsSubscriber, ReadsLongKeys, ReadsNoKeys};
+ghost use Rattle.device_sides.specs.Sides.{AreOpeningListenings, HasListened, IsListening, IsSubscriber, ReadsLongKeys, ReadsNoKeys};
 
 use crate::asked::NoValue;
 use crate::listening::Listening;
@@ -35,6 +35,8 @@ impl Subscriber {
     pub fn open(alloc: Global, text: &[u8]) -> Result<Subscriber, ConfigEnd>
         ensures subscriber { IfOk result IsSubscriber }
         ensures ok { IfOk result (λ subscriber. configuration text.now ≡ Ok subscriber.config) }
+        ensures groups { IfOk result (λ subscriber.
+            AreOpeningListenings subscriber.config subscriber.groups.items) }
         ensures refused { IfErr result (IsEnd (configuration text.now)) }
     {
         let config = read_config(alloc, text)?;

@@ -1,5 +1,6 @@
 -- What a handle holds, and how a call leaves it.
 use Rattle.std.specs.Prelude.{◌≡◌, ◌≢◌, ℕ, ◌-◌, [], ◌++◌, List, drop, length, slice_index_or, Ok, IsErr, Some, IfSome, IsSome}
+use Rattle.std.specs.List.{AllZip}
 use Rattle.ua_values.specs.declared.kind.Kind.{Kind}
 use Rattle.ua_values.specs.declared.value.Value.{Value}
 use Rattle.ua_values.specs.declared.value.Value.TheVariants.{ByteString, String}
@@ -12,7 +13,8 @@ use Rattle.ps_config.specs.declared.read.ConfigEnd.TheVariants.{Memory, Refused}
 use Rattle.ps_config.specs.Reading.{configuration}
 use Rattle.writer_group.specs.Standing.{datagrams_in}
 use Rattle.device_sides.specs.declared.publisher.Publisher.{Publisher as PublisherValue}
-use Rattle.device_sides.specs.Sides.{HasSet, HasSetWord, IsPublisher, IsSubscriber, StandsAt}
+use Rattle.device_sides.specs.declared.subscriber.Subscriber.{Subscriber as SubscriberValue}
+use Rattle.device_sides.specs.Sides.{AreOpeningListenings, AreOpeningSides, HasSet, HasSetWord, IsOpeningRow, IsOpeningSender, IsPublisher, IsSubscriber, StandsAt}
 use Rattle.uapubsub_c.specs.declared.handle.Handle.{Handle}
 use Rattle.uapubsub_c.specs.declared.kept.Kept.{Kept}
 use Rattle.uapubsub_c.specs.declared.kept.Kept.TheVariants.{Publisher, Subscriber}
@@ -64,9 +66,22 @@ abbrev pub IsRefusal : ConfigEnd → Type 0
 IsRefusal Memory = ⊥
 IsRefusal (Refused code path) = Unit {0}
 
--- the text is the configuration of what the handle holds
-abbrev pub HasOpened : List ℕ → Handle → Type 0
-HasOpened text handle = Tells handle (λ kept. configuration text ≡ Ok (config_in kept))
+-- the handle holds a publisher of the configuration that the text is: each data set has its opening row, each key group a sender behind
+-- the numbers that the configuration tells of, and each group stands before its first turn, with all writers on
+pub record OpensPublisher (text : List ℕ) (handle : Handle) : Type 0 where
+  pub publisher : PublisherValue
+  pub holds : Holds (Publisher publisher) handle
+  pub config_is : configuration text ≡ Ok publisher.config
+  pub rows : AllZip IsOpeningRow publisher.config.dataset publisher.rows.items
+  pub senders : AllZip IsOpeningSender publisher.config.keygroup publisher.senders.items
+  pub sides : AreOpeningSides publisher.config publisher.sides.items
+
+-- the handle holds a subscriber of the configuration that the text is: each read group stands before anything, with all readers on
+pub record OpensSubscriber (text : List ℕ) (handle : Handle) : Type 0 where
+  pub subscriber : SubscriberValue
+  pub holds : Holds (Subscriber subscriber) handle
+  pub config_is : configuration text ≡ Ok subscriber.config
+  pub groups : AreOpeningListenings subscriber.config subscriber.groups.items
 
 -- the publisher had the field, which is of the kind with this number, set to this word
 pub record SetsWord (set field number word : ℕ) (old new : PublisherValue) : Type 0 where

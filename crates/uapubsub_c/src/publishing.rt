@@ -3,7 +3,7 @@ ghost use Rattle.std.specs.Prelude.{◌≡◌, ◌≢◌, ◌<◌, length};
 ghost use Rattle.device_sides.specs.Coming.{ComesTo};
 ghost use Rattle.device_sides.specs.Sides.{IsBehind, MayNotResume};
 ghost use Rattle.uapubsub_c.specs.Getting.{PublisherIs, PublisherMoves};
-ghost use Rattle.uapubsub_c.specs.Handles.{HandsOver, HasOpened, IsReady, IsRefused, IsSound, Leaves, Stays, StandsIn, Tells};
+ghost use Rattle.uapubsub_c.specs.Handles.{HandsOver, IsReady, IsRefused, IsSound, Leaves, OpensPublisher, StandsIn, Stays, Tells};
 ghost use Rattle.uapubsub_c.specs.Keys.{HasRenewedTo, MakesNoRing};
 ghost use Rattle.uapubsub_c.specs.Nexts.{HandsNext};
 
@@ -23,7 +23,7 @@ use std::alloc::Global;
 pub extern "C" fn uapubsub_publisher_open(alloc: Global, handle: &mut Handle, text: &[u8]) -> u32
     requires { IsReady handle.old }
     ensures ready { IsReady handle.new }
-    ensures opened { result ≡ OK → HasOpened text.now handle.new }
+    ensures opened { result ≡ OK → OpensPublisher text.now handle.new }
     ensures refused { result ≡ REFUSED → IsRefused text.now }
 {
     if handle.is_open != 0 {

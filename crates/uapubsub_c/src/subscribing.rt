@@ -2,7 +2,7 @@
 ghost use Rattle.std.specs.Prelude.{◌≡◌, ◌≢◌, ◌≤◌, ◌⊎◌, IfOk, IfErr};
 ghost use Rattle.device_sides.specs.Readings.{HaveExpired};
 ghost use Rattle.uapubsub_c.specs.Getting.{HasNoNumber, HasNumber, HoldsAfter, IsReaderIn, IsRefusedFor, IsTaken, KeepsIn, SubscriberIs, SubscriberMoves, WaitsFor, taken_in};
-ghost use Rattle.uapubsub_c.specs.Handles.{HasOpened, IsReady, IsRefused, IsSound, Leaves, Stays, Tells};
+ghost use Rattle.uapubsub_c.specs.Handles.{IsReady, IsRefused, IsSound, Leaves, OpensSubscriber, Stays, Tells};
 ghost use Rattle.uapubsub_c.specs.Keys.{HasKeysRenewedTo, MakesNoRingRead};
 ghost use Rattle.uapubsub_c.specs.Numbers.{why_number};
 
@@ -35,7 +35,7 @@ pub struct TakenWords {
 pub extern "C" fn uapubsub_subscriber_open(alloc: Global, handle: &mut Handle, text: &[u8]) -> u32
     requires { IsReady handle.old }
     ensures ready { IsReady handle.new }
-    ensures opened { result ≡ OK → HasOpened text.now handle.new }
+    ensures opened { result ≡ OK → OpensSubscriber text.now handle.new }
     ensures refused { result ≡ REFUSED → IsRefused text.now }
 {
     if handle.is_open != 0 {

@@ -1,7 +1,12 @@
-use Rattle.std.proofs.Common.{◌≡◌, length}
+use Rattle.std.proofs.Common.{◌≡◌, length, take}
 use Rattle.std.specs.Prelude.{All}
-use Rattle.device_sides.specs.Sides.{IsListening}
+use Rattle.std.specs.List.{AllZip, range_with_len}
+use Rattle.device_sides.specs.Sides.{IsListening, IsOpeningListening}
 use Rattle.device_sides.proofs.making.listenings_of.Given as goal
 
 abbrev pub invariant-loop-g : goal.invariant-loop-g
-invariant-loop-g l = record { groups : All (IsListening l.config) l.groups.items; count : length l.groups.items ≡ l.g }
+invariant-loop-g l = record {
+  groups : All (IsListening l.config) l.groups.items;
+  opening : AllZip (IsOpeningListening l.config) (take l.g (range_with_len 0 (length l.config.readgroup))) l.groups.items;
+  count : length l.groups.items ≡ l.g;
+}

@@ -1,6 +1,9 @@
-use Rattle.std.proofs.Common.{◌+◌, ◌∷◌, [], List, length, length-append, sym, subst, ap, ◌∙◌, arith}
+use Rattle.std.proofs.Common.{◌+◌, ◌∷◌, [], List, length, length-append, take, refl, sym, subst, ap, ◌∙◌, arith}
+use Rattle.std.specs.List.{AllZip}
 use Rattle.writer_group.specs.declared.sampled.Sampled.{Sampled}
 use Rattle.writer_group.specs.Standing.{AreRowsOf}
+use Rattle.writer_group.proofs.SetupLaws.{zip-more}
+use Rattle.device_sides.specs.Sides.{IsOpeningRow}
 use Rattle.device_sides.proofs.RowLists.{IsRowAt, of-meta, rows-more}
 use Rattle.device_sides.proofs.making.rows_of.Goals as goal
 
@@ -13,5 +16,7 @@ loop-meta-preserved c =
     record {
       rows = subst (λ (l : List Sampled). AreRowsOf metas l) (sym c.in_ok-push.ensures.items)
           (rows-more metas 0 rows x c.loop-meta.invariant.rows (subst (IsRowAt metas x) (omega (arith, c.loop-meta.invariant.count)) is));
+      opening = subst (AllZip IsOpeningRow (take (c.loop-meta.meta-index + 1) metas)) (sym c.in_ok-push.ensures.items)
+          (zip-more IsOpeningRow metas rows c.loop-meta.meta-index c.meta-item.result x (omega arith) c.meta-item.is c.loop-meta.invariant.opening (record { row = c.opening_of-row.ensures.row; version_is = refl }));
       count = ap length c.in_ok-push.ensures.items ∙ length-append rows (x ∷ []) ∙ ap (λ n. n + 1) c.loop-meta.invariant.count;
     }

@@ -1,9 +1,11 @@
-use Rattle.uapubsub_c.specs.declared.kept.Kept.TheVariants.{Publisher}
 use Rattle.uapubsub_c.proofs.publishing.uapubsub_publisher_open.Goals as goal
 
 pub returns-in-Ok-clause-opened : goal.returns-in-Ok-clause-opened
 returns-in-Ok-clause-opened c = λ ok. record {
-  kept = Publisher c.in-Ok.publisher;
+  publisher = c.in-Ok.publisher;
   holds = c.keep.ensures.held ok;
-  is = c.in-Ok.ensures.ok;
+  config_is = c.in-Ok.ensures.ok;
+  rows = c.in-Ok.ensures.rows;
+  senders = c.in-Ok.ensures.senders;
+  sides = c.in-Ok.ensures.sides;
 }

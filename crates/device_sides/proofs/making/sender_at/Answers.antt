@@ -3,7 +3,7 @@ use Rattle.std.specs.Prelude.{Some, option_map}
 use Rattle.group_keys.specs.KeySets.{current}
 use Rattle.group_keys.specs.declared.key_set.KeySet.{KeySet}
 use Rattle.message_guard.specs.Protection.{keys_in}
-use Rattle.device_sides.proofs.publisher.sender_at.Goals as goal
+use Rattle.device_sides.proofs.making.sender_at.Goals as goal
 
 pub returns-clause-resumed : goal.returns-clause-resumed
 returns-clause-resumed c = record {
