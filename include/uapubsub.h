@@ -298,7 +298,8 @@ static inline uint32_t uap_publisher_standing(struct uap_handle *handle, uint8_t
     return uapubsub_publisher_standing(handle, keygroup, token, used);
 }
 
-/* A key group goes on behind `used` numbers of the last key set whose moment has come: what a device calls after a restart. */
+/* A key group goes on behind `used` numbers of the configuration's last key set whose moment has come: what a device calls after a
+   restart. A ring that uap_publisher_renew gave is dropped: its keys have to stand in the configuration. */
 static inline uint32_t uap_publisher_resume(struct uap_handle *handle, uint8_t keygroup, uint64_t now_ms, uint32_t used) {
     if (handle == NULL) return UAP_NULL;
     return uapubsub_publisher_resume(handle, keygroup, now_ms, used);
