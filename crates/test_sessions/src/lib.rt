@@ -1,0 +1,22 @@
+//! Sessions while they run: rings that renew their keys, what their getters tell, and their close.
+#![tactic(auto)]
+
+#[cfg(test)]
+mod calls;
+#[cfg(test)]
+mod configuration;
+mod device;
+#[cfg(test)]
+mod ends;
+#[cfg(test)]
+mod keys;
+#[cfg(test)]
+mod renewing;
+#[cfg(test)]
+mod room;
+#[cfg(test)]
+mod showing;
+#[cfg(test)]
+mod writing;
+
+pub use device::Device;
