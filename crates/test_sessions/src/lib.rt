@@ -1,4 +1,4 @@
-//! Sessions while they run: rings that renew their keys, what their getters tell, and their close.
+//! Sessions and gateways while they run: rings that renew their keys, what their getters tell, and their close.
 #![tactic(auto)]
 
 #[cfg(test)]
@@ -9,7 +9,12 @@ mod device;
 #[cfg(test)]
 mod ends;
 #[cfg(test)]
+mod gateway_renewing;
+#[cfg(test)]
 mod keys;
+mod outlet;
+#[cfg(test)]
+mod relaying;
 #[cfg(test)]
 mod renewing;
 #[cfg(test)]
@@ -20,3 +25,4 @@ mod showing;
 mod writing;
 
 pub use device::Device;
+pub use outlet::Outlet;

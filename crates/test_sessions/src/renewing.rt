@@ -120,7 +120,7 @@ fn rounds<R: Wait + Abort, L: Link>(
 }
 
 /// A link that loses nothing, and that isn't open yet.
-fn empty_link(alloc: Global) -> MemoryLink {
+pub(crate) fn empty_link(alloc: Global) -> MemoryLink {
     MemoryLink::new(
         alloc,
         Vec::new(alloc),
@@ -130,7 +130,7 @@ fn empty_link(alloc: Global) -> MemoryLink {
     )
 }
 
-fn opens<L: Link>(rt: &impl Abort, link: &mut L)
+pub(crate) fn opens<L: Link>(rt: &impl Abort, link: &mut L)
     ensures { IsSome (L.opened_with link.new) }
 {
     let opened = link.open(4840, &[]);
