@@ -1,0 +1,4 @@
+pub mod Small
+pub mod Opened
+pub mod Going
+pub mod Renewed

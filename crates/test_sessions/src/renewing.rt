@@ -1,0 +1,138 @@
+//! A session whose key group is renewed while it runs.
+ghost use Rattle.std.specs.Prelude.{IsSome, OnOk};
+ghost use Rattle.writer_group.specs.Standing.{IsGood};
+ghost use Rattle.test_sessions.specs.Devices.{IsDevice};
+
+use crate::calls::{device_of, end, renew, round};
+use crate::configuration::configured;
+use crate::device::Device;
+use crate::ends::closes;
+use crate::showing::Expected;
+use mem_edge::MemoryLink;
+use ps_config::Config;
+use std::alloc::Global;
+use std::process::Abort;
+use std::sync::Wait;
+use std::test::Fail;
+use ua_base::{Link, Opened};
+
+/// Behind the first tick: the first datagram under the configured token, 5, was taken.
+const FIRST: Expected = Expected {
+    moment: 100,
+    standing: (5, 1),
+    taken: 1,
+    unknown: 0,
+    number: 0,
+    version: 1,
+    stores: 1,
+};
+
+/// Behind the second: a datagram was sent under a token that the read group's ring hasn't, so the reader holds what it held.
+const WITHOUT: Expected = Expected {
+    moment: 200,
+    standing: (5, 2),
+    taken: 1,
+    unknown: 1,
+    number: 0,
+    version: 1,
+    stores: 1,
+};
+
+/// Behind the third: the ring has the token again, and the key frame is held.
+const AGAIN: Expected = Expected {
+    moment: 300,
+    standing: (5, 3),
+    taken: 2,
+    unknown: 1,
+    number: 2,
+    version: 3,
+    stores: 2,
+};
+
+/// Behind the fourth: a later token of the ring has come, under which numbers begin anew.
+const LATER: Expected = Expected {
+    moment: 400,
+    standing: (7, 1),
+    taken: 3,
+    unknown: 1,
+    number: 3,
+    version: 4,
+    stores: 3,
+};
+
+/// Behind the closing one, which takes no time and sends the row once more.
+const LAST: Expected = Expected {
+    moment: 400,
+    standing: (7, 2),
+    taken: 4,
+    unknown: 1,
+    number: 4,
+    version: 4,
+    stores: 4,
+};
+
+#[test]
+fn a_session_goes_on_under_other_rings(rt: HostRuntime) -> Result<(), Fail> {
+    let alloc = rt.alloc();
+    let config = configured(alloc)?;
+    let mut link = empty_link(alloc);
+    opens(&rt, &mut link);
+    goes_on(&rt, alloc, &config, &mut link)
+}
+
+/// A session from its opening to its close.
+fn goes_on<R: Wait + Abort, L: Link>(
+    rt: &R,
+    alloc: Global,
+    config: &Config,
+    link: &mut L,
+) -> Result<(), Fail>
+    requires good { IsGood config.now }
+    requires open { IsSome (L.opened_with link.old) }
+{
+    let mut device = device_of(rt, alloc, config)?;
+    rounds(rt, &mut device, link)?;
+    let closed = end(rt, alloc, device, link, LAST)?;
+    closes(rt, &closed)
+}
+
+/// Four rounds, and a ring behind each of the first three.
+fn rounds<R: Wait + Abort, L: Link>(
+    rt: &R,
+    device: &mut Device<'_>,
+    link: &mut L,
+) -> Result<(), Fail>
+    requires device { IsDevice device.old }
+    requires open { IsSome (L.opened_with link.old) }
+    ensures device { OnOk result (IsDevice device.new) }
+    ensures open { IsSome (L.opened_with link.new) }
+{
+    round(rt, device, link, 1, FIRST)?;
+    // An earlier token alone: the sender stays under the one in use.
+    renew(rt, device, &[(3, 0)], false, FIRST)?;
+    round(rt, device, link, 2, WITHOUT)?;
+    // The token in use: the answer compares this ring with the one before, which hadn't it.
+    renew(rt, device, &[(5, 0), (6, 350)], false, WITHOUT)?;
+    round(rt, device, link, 3, AGAIN)?;
+    // The token in use, and a later one that comes with the next tick.
+    renew(rt, device, &[(5, 0), (7, 350)], true, AGAIN)?;
+    round(rt, device, link, 4, LATER)
+}
+
+/// A link that loses nothing, and that isn't open yet.
+pub(crate) fn empty_link(alloc: Global) -> MemoryLink {
+    MemoryLink::new(
+        alloc,
+        Vec::new(alloc),
+        Vec::new(alloc),
+        Vec::new(alloc),
+        false,
+    )
+}
+
+pub(crate) fn opens<L: Link>(rt: &impl Abort, link: &mut L)
+    ensures { IsSome (L.opened_with link.new) }
+{
+    let opened = link.open(4840, &[]);
+    assert!(rt; opened == Opened::Done);
+}

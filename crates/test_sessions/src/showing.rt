@@ -1,0 +1,94 @@
+//! What the getters of a running session are to tell.
+ghost use Rattle.pubsub_engine.specs.Holding.{IsSession, plan_of};
+ghost use Rattle.test_sessions.specs.Devices.{IsSmall};
+
+use ps_report::LinkEnd;
+use pubsub_engine::Session;
+use pubsub_states::{Component, State};
+use std::process::Abort;
+
+/// The place of a token that isn't known among the causes of a report.
+const UNKNOWN_TOKEN: usize = 12;
+
+/// What the getters of a session are to tell, whose reader holds a row. Each datagram that was sent came, and was taken or has a token
+/// that the read group doesn't know.
+#[derive(Clone, Copy)]
+pub(crate) struct Expected {
+    pub(crate) moment: u64,
+    /// The token of the key group's sender, and the last number under it.
+    pub(crate) standing: (u32, u32),
+    pub(crate) taken: u64,
+    pub(crate) unknown: u64,
+    /// The number of the reader's message.
+    pub(crate) number: u16,
+    /// The version of its row, which has the same number in its only field.
+    pub(crate) version: u64,
+    pub(crate) stores: u64,
+}
+
+/// Demands that the getters tell this.
+pub(crate) fn shows<R: Abort>(rt: &R, session: &Session<'_>, want: Expected)
+    requires session { IsSession session.now }
+    requires small { IsSmall (plan_of session.now).config }
+{
+    assert_eq!(rt; session.moment(), want.moment);
+    assert_eq!(rt; session.standing(0), want.standing);
+    shows_counts(rt, session, want);
+    shows_row(rt, session, want);
+}
+
+/// The counts of the read group and of the link.
+fn shows_counts<R: Abort>(rt: &R, session: &Session<'_>, want: Expected)
+    requires session { IsSession session.now }
+    requires small { IsSmall (plan_of session.now).config }
+{
+    let tally = session.tally(0);
+    assert_eq!(rt; tally.taken, want.taken);
+    let causes = refusals(want.unknown);
+    assert!(rt; tally.causes.as_slice() == causes.as_slice());
+    let link = session.link();
+    assert!(rt; link == all_came(want.taken.saturating_add(want.unknown)));
+}
+
+/// The state of the reader, its row, and where its last store comes from.
+fn shows_row<R: Abort>(rt: &R, session: &Session<'_>, want: Expected)
+    requires session { IsSession session.now }
+    requires small { IsSmall (plan_of session.now).config }
+{
+    let state = session.state(Component::Reader {
+        read_group: 0,
+        reader: 0,
+    });
+    assert_eq!(rt; state, State::Operational);
+    let reader = session.reader(0, 0);
+    let row = reader.row().expect(rt, "a row");
+    assert_eq!(rt;
+        (reader.number(), row.words[0]),
+        (Some(want.number), want.version)
+    );
+    let origin = session.origin(0);
+    assert_eq!(rt;
+        (origin.store, origin.number),
+        (want.stores, Some(want.number))
+    );
+    assert_eq!(rt; origin.version, Some(want.version));
+}
+
+/// So many refusals, each for a token that isn't known.
+pub(crate) fn refusals(count: u64) -> [u64; 20] {
+    let mut causes = [0; 20];
+    causes[UNKNOWN_TOKEN] = count;
+    causes
+}
+
+/// So many datagrams were sent, and came.
+pub(crate) fn all_came(count: u64) -> LinkEnd {
+    LinkEnd {
+        sent: count,
+        failed: 0,
+        received: count,
+        broken: 0,
+        long: 0,
+        limit: 0,
+    }
+}
