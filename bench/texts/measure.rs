@@ -269,15 +269,6 @@ fn read_scripts(turns: u32, text: String) -> usize {
     text.len()
 }
 
-/// Reads a script by hand so often; its bytes.
-fn read_plain_scripts(turns: u32, text: String) -> usize {
-    let plain = plain_config();
-    for _ in 0..turns {
-        assert!(black_box(scripts::read(black_box(&plain), black_box(text.as_bytes()))).is_ok());
-    }
-    text.len()
-}
-
 /// Writes a report so often, and once more; its bytes.
 fn write_reports(turns: u32, part: u32) -> usize {
     let config = configs::session(FIELDS, WRITERS);
@@ -294,7 +285,6 @@ fn call_often(call: &str, part: u32, turns: u32) -> usize {
         "tables" => read_configs(turns, configs::many_tables(bytes)),
         "keys" => read_configs(turns, configs::many_keys(bytes)),
         "script" => read_scripts(turns, writes(bytes / 32)),
-        "script-by-hand" => read_plain_scripts(turns, writes(bytes / 32)),
         "report" => write_reports(turns, part),
         _ => panic!("no call {call}"),
     }
