@@ -1,4 +1,6 @@
-"""What running a program costs: instructions, processor time, time on the wall, and memory. Valgrind must be installed."""
+"""What running a program costs: instructions, processor time, time on the wall, and memory. Valgrind must be installed.
+
+usage: measuring.py TITLE CALLS WHOLE NONE      (prints what each function takes of one of the calls by which the command WHOLE makes more than NONE)"""
 import fcntl
 import os
 import re
@@ -9,13 +11,15 @@ import time
 SET_PIPE_SIZE, PIPE_BYTES = 1031, 4096
 # of /proc/PID/syscall, where the program waits to write to its output
 WRITING = "1 0x1 "
+# of callgrind_annotate: the count, and behind the file's name the function's
+FUNCTION = re.compile(r"^ *([\d,]+) +(?:\([ \d.]+%\) +)?[^:\n]*:(.+?)(?: \[[^\]\n]*\])?$", re.M)
 NO_AES = {"OPENSSL_ia32cap": "~0x200000000000000"}
 
 
-def instructions(words, more={}, status=0):
+def instructions(words, more={}, status=0, given=""):
     """Those of the program itself, as valgrind's cachegrind counts them."""
     command = ["valgrind", "--tool=cachegrind", "--cache-sim=no", "--cachegrind-out-file=/dev/null", *words]
-    done = subprocess.run(command, stdout=subprocess.DEVNULL, stderr=subprocess.PIPE, text=True, env=dict(os.environ, **more))
+    done = subprocess.run(command, input=given, stdout=subprocess.DEVNULL, stderr=subprocess.PIPE, text=True, env=dict(os.environ, **more))
     found = re.search(r"I +refs: +([\d,]+)", done.stderr)
     if done.returncode != status or not found:
         sys.exit(f"{' '.join(words)}: status {done.returncode}: {done.stderr}")
@@ -25,15 +29,49 @@ def instructions(words, more={}, status=0):
 def instructions_within(words, calls, more={}):
     """Those within each of these functions and in what it calls, as callgrind counts them. A function goes by several names: the first counts that
     callgrind finds, since one that was laid into its caller has no name of its own."""
-    command = ["valgrind", "--tool=callgrind", "--callgrind-out-file=callgrind", *words]
-    subprocess.run(command, stdout=subprocess.DEVNULL, stderr=subprocess.DEVNULL, env=dict(os.environ, **more), check=True)
-    told = subprocess.run(["callgrind_annotate", "--inclusive=yes", "--threshold=100", "callgrind"], capture_output=True, text=True, check=True).stdout
+    profile(words, more)
+    told = annotated("--inclusive=yes")
     return [next((count for count in (count_of(told, name) for name in names) if count), 0) or sys.exit(f"{words[0]}: callgrind finds none of {names}") for names in calls]
+
+
+def profile(words, more, given=""):
+    """Has callgrind count each function's, into the file callgrind."""
+    command = ["valgrind", "--tool=callgrind", "--callgrind-out-file=callgrind", *words]
+    subprocess.run(command, input=given, text=True, stdout=subprocess.DEVNULL, stderr=subprocess.DEVNULL, env=dict(os.environ, **more), check=True)
+
+
+def annotated(how):
+    return subprocess.run(["callgrind_annotate", how, "--threshold=100", "callgrind"], capture_output=True, text=True, check=True).stdout
 
 
 def count_of(told, name):
     found = re.search(r"^ *([\d,]+) .*:" + re.escape(name) + r"(?:::<\S*)? \[", told, re.M)
     return int(found[1].replace(",", "")) if found else 0
+
+
+def by_function(words, more={}, given=""):
+    """Each function's instructions, alone and with what it calls."""
+    profile(words, more, given)
+    both = []
+    for how in ("--inclusive=no", "--inclusive=yes"):
+        counts = {}
+        for count, name in FUNCTION.findall(annotated(how)):
+            counts[name] = counts.get(name, 0) + int(count.replace(",", ""))
+        both.append(counts)
+    return both
+
+
+def print_functions(title, whole, none, calls, more={}, given=("", "")):
+    """A row for each function of the calls by which the whole run has more than the one without: what it takes of one, alone and with what it calls.
+    Functions with less than a hundredth of all are left out."""
+    (alone, within), (alone_none, within_none) = (by_function(words, more, text) for words, text in zip((whole, none), given))
+    of = {name: ((alone.get(name, 0) - alone_none.get(name, 0)) / calls, (count - within_none.get(name, 0)) / calls) for name, count in within.items()}
+    total = sum(own for own, _ in of.values())
+    print(f"{title}: {total:,.0f} instructions\n{'alone':>10} {'with calls':>12}")
+    for name, (own, all_) in sorted(of.items(), key=lambda it: -it[1][0]):
+        if max(own, all_) >= total / 100:
+            print(f"{own:10,.1f} {all_:12,.1f}  {name}")
+    sys.stdout.flush()
 
 
 class Times:
@@ -82,3 +120,8 @@ def peak(words):
         rest.read()
     child.wait()
     return int(re.search(r"VmHWM:\s+(\d+)", status)[1]) / 1024
+
+
+if __name__ == "__main__":
+    title, calls, whole, none = sys.argv[1:]
+    print_functions(title, whole.split(), none.split(), int(calls))

@@ -1,21 +1,22 @@
-// What `bench_cells` times, by hand in Rust: a sequence lock around 151 words, and a Mutex around the same row. It reads the same
-// measures, and writes the same lines.
+// What `bench_cells` times, by hand in Rust: a sequence lock around 34 or 151 words, and a Mutex around the same row. It reads the
+// same measures, and writes the same lines.
 use std::io::{self, BufRead};
 use std::sync::Mutex;
 use std::sync::atomic::{AtomicU64, Ordering::SeqCst};
 use std::thread;
 use std::time::Instant;
 
-const WORDS: usize = 151;
+const NARROW: usize = 34;
+const WIDE: usize = 151;
 
 /// Words under a version that is odd while one thread writes. Every step is SeqCst, as in the cell.
-struct SeqLock {
+struct SeqLock<const WORDS: usize> {
     version: AtomicU64,
     words: [AtomicU64; WORDS],
 }
 
-impl SeqLock {
-    fn new() -> SeqLock {
+impl<const WORDS: usize> SeqLock<WORDS> {
+    fn new() -> SeqLock<WORDS> {
         SeqLock { version: AtomicU64::new(0), words: [const { AtomicU64::new(0) }; WORDS] }
     }
 
@@ -61,7 +62,7 @@ impl SeqLock {
 }
 
 /// Lays one field into the row and counts the version.
-fn write(lock: &SeqLock, front: &mut [u64; WORDS], value: u64) {
+fn write<const WORDS: usize>(lock: &SeqLock<WORDS>, front: &mut [u64; WORDS], value: u64) {
     loop {
         let mut next = *front;
         next[0] += 1;
@@ -78,7 +79,15 @@ fn write(lock: &SeqLock, front: &mut [u64; WORDS], value: u64) {
 
 fn taken(line: &str) -> Option<u128> {
     let mut words = line.split_whitespace();
-    let lock = SeqLock::new();
+    match words.next()? {
+        "narrow" => taken_of::<NARROW>(words),
+        "wide" => taken_of::<WIDE>(words),
+        _ => None,
+    }
+}
+
+fn taken_of<'a, const WORDS: usize>(mut words: impl Iterator<Item = &'a str>) -> Option<u128> {
+    let lock = SeqLock::<WORDS>::new();
     match words.next()? {
         "read" => {
             let calls: u32 = words.next()?.parse().ok()?;

@@ -1,6 +1,8 @@
 // Times the turns and the datagrams of libbench_groups.a beside a publisher and a subscriber by hand, in turns, and prints the
 // least time of each. Opening is taken off: a call without turns is timed too. Both sides must make the same datagrams and
-// come to the same rows, and neither may allocate after opening.
+// come to the same rows, and neither may allocate after opening. With words ROW here|by-hand all|none it makes the calls of one
+// row on one side, or opens alone, for a tool that counts instructions, and prints the row's name and how many calls it has;
+// status 2: there is no such row.
 #include "plain.h"
 #include <stdio.h>
 #include <stdlib.h>
@@ -212,16 +214,14 @@ static void count_turns(const struct session *session, bool changes) {
     if (!opening) fail(session->name, "opening doesn't allocate");
 }
 
-static void measure_turns(struct session session, uint32_t key_frame_count, bool changes, const char *what, size_t turns) {
+static void measure_turns(const struct session *session, bool changes, const char *what, size_t turns) {
     struct sides sides = {0};
-    session.key_frame_count = key_frame_count;
-    write_config(&session, 1);
-    count_turns(&session, changes);
+    count_turns(session, changes);
     for (int round = 0; round < ROUNDS; round++) {
-        time_turns(&session, changes, 0, &sides);
-        time_turns(&session, changes, turns, &sides);
+        time_turns(session, changes, 0, &sides);
+        time_turns(session, changes, turns, &sides);
     }
-    print(session.name, what, "turn", turns, &sides);
+    print(session->name, what, "turn", turns, &sides);
 }
 
 // ---- datagrams
@@ -307,29 +307,14 @@ static void count_datagrams(const struct session *session) {
     if (!opening) fail(session->name, "opening doesn't allocate");
 }
 
-static void measure_read(const struct session *session, uint16_t read_id, const char *what) {
+static void measure_datagrams(const struct session *session, uint16_t read_id, const char *what) {
     struct sides sides = {0};
-    write_config(session, read_id);
     count_datagrams(session);
     for (int round = 0; round < ROUNDS; round++) {
         time_datagrams(session, read_id, 0, &sides);
         time_datagrams(session, read_id, datagram_count, &sides);
     }
     print(session->name, what, "datagram", datagram_count, &sides);
-}
-
-static void measure_datagrams(struct session session, uint32_t key_frame_count, const char *what, size_t turns) {
-    session.key_frame_count = key_frame_count;
-    make_datagrams(&session, turns);
-    measure_read(&session, 1, what);
-}
-
-static void measure_refused(const struct session *session) {
-    make_datagrams(session, MOST_READ);
-    measure_read(session, 2, "not ours");
-    if (!session->mode) return;
-    repeat_first(MOST_READ / 5);
-    measure_read(session, 1, "repeated");
 }
 
 // ---- what is measured
@@ -341,29 +326,88 @@ static const struct session secret = {"16 writers of 20, encrypted", 20, 8, 16, 
 static const struct session fixed = {"4 fixed writers of 10 fields", 10, 4, 4, 1, 1400, UNSECURED, true};
 static const struct session chunked = {"1 writer of 64 fields, chunks", 64, 1, 1, 1, 150, UNSECURED, false};
 
-static void measure_writers(const struct session *session, size_t turns) {
-    measure_turns(*session, 1, false, "key frames", turns);
-    measure_turns(*session, 65535, true, "delta frames", turns);
-    measure_turns(*session, 65535, false, "quiet", turns);
+enum kind { TURNS, DATAGRAMS, OF_ANOTHER, AGAIN };
+
+// Turns, or the datagrams of so many turns.
+struct measured {
+    const struct session *session;
+    enum kind kind;
+    uint32_t key_frame_count;
+    bool changes;
+    const char *what;
+    size_t turns;
+};
+
+static const struct measured rows[] = {
+    {&one, TURNS, 1, false, "key frames", MOST_TURNS},
+    {&one, TURNS, 65535, true, "delta frames", MOST_TURNS},
+    {&one, TURNS, 65535, false, "quiet", MOST_TURNS},
+    {&many, TURNS, 1, false, "key frames", MOST_TURNS / 2},
+    {&many, TURNS, 65535, true, "delta frames", MOST_TURNS / 2},
+    {&many, TURNS, 65535, false, "quiet", MOST_TURNS / 2},
+    {&secret, TURNS, 1, false, "key frames", MOST_TURNS / 10},
+    {&secret, TURNS, 65535, true, "delta frames", MOST_TURNS / 10},
+    {&secret, TURNS, 65535, false, "quiet", MOST_TURNS / 10},
+    {&fixed, TURNS, 1, false, "key frames", MOST_TURNS},
+    {&chunked, TURNS, 1, false, "key frames", MOST_TURNS},
+    {&one, DATAGRAMS, 1, true, "key frames", MOST_READ},
+    {&one, DATAGRAMS, 65535, true, "delta frames", MOST_READ},
+    {&many, DATAGRAMS, 1, true, "key frames", MOST_READ / 10},
+    {&many, DATAGRAMS, 65535, true, "delta frames", MOST_READ / 10},
+    {&secret, DATAGRAMS, 1, true, "key frames", MOST_READ / 20},
+    {&secret, DATAGRAMS, 65535, true, "delta frames", MOST_READ / 20},
+    {&fixed, DATAGRAMS, 1, true, "key frames", MOST_READ},
+    {&chunked, DATAGRAMS, 1, true, "key frames", MOST_READ / 5},
+    {&one, OF_ANOTHER, 1, true, "not ours", MOST_READ},
+    {&one_secret, OF_ANOTHER, 1, true, "not ours", MOST_READ},
+    {&one_secret, AGAIN, 1, true, "repeated", MOST_READ},
+};
+
+enum { ROWS = sizeof rows / sizeof rows[0] };
+
+static uint16_t read_id(const struct measured *row) { return row->kind == OF_ANOTHER ? 2 : 1; }
+
+// The session of the row, its configuration, and the datagrams that are read.
+static struct session prepared(const struct measured *row) {
+    struct session session = *row->session;
+    session.key_frame_count = row->key_frame_count;
+    write_config(&session, read_id(row));
+    if (row->kind != TURNS) make_datagrams(&session, row->turns);
+    if (row->kind == AGAIN) repeat_first(MOST_READ / 5);
+    return session;
 }
 
-static void measure_readers(const struct session *session, size_t turns) {
-    measure_datagrams(*session, 1, "key frames", turns);
-    measure_datagrams(*session, 65535, "delta frames", turns);
+static void measure(const struct measured *row) {
+    struct session session = prepared(row);
+    if (row->kind == TURNS)
+        measure_turns(&session, row->changes, row->what, row->turns);
+    else
+        measure_datagrams(&session, read_id(row), row->what);
 }
 
-int main(void) {
-    measure_writers(&one, MOST_TURNS);
-    measure_writers(&many, MOST_TURNS / 2);
-    measure_writers(&secret, MOST_TURNS / 10);
-    measure_turns(fixed, 1, false, "key frames", MOST_TURNS);
-    measure_turns(chunked, 1, false, "key frames", MOST_TURNS);
-    measure_readers(&one, MOST_READ);
-    measure_readers(&many, MOST_READ / 10);
-    measure_readers(&secret, MOST_READ / 20);
-    measure_datagrams(fixed, 1, "key frames", MOST_READ);
-    measure_datagrams(chunked, 1, "key frames", MOST_READ / 5);
-    measure_refused(&one);
-    measure_refused(&one_secret);
+static void call(const struct measured *row, bool by_hand, bool all) {
+    static uint8_t last[LAST_BYTES];
+    struct session session = prepared(row);
+    size_t calls = row->kind == TURNS ? row->turns : datagram_count, count = all ? calls : 0, length;
+    memcpy(opened, sealed, READ_BYTES);
+    if (row->kind == TURNS && by_hand)
+        turns_by_hand(&session, row->changes, count, last, &length);
+    else if (row->kind == TURNS)
+        bench_turns((const uint8_t *)text, text_length, row->changes, (uint16_t)count, last, LAST_BYTES);
+    else if (by_hand)
+        datagrams_by_hand(&session, read_id(row), count);
+    else
+        bench_datagrams((const uint8_t *)text, text_length, ends, count, opened, ends[datagram_count - 1]);
+    printf("%s, %s, a %s: %zu\n", session.name, row->what, row->kind == TURNS ? "turn" : "datagram", calls);
+}
+
+int main(int argc, char **argv) {
+    if (argc == 4) {
+        size_t row = strtoul(argv[1], 0, 10);
+        if (row >= ROWS) return 2;
+        call(&rows[row], !strcmp(argv[2], "by-hand"), !strcmp(argv[3], "all"));
+        return 0;
+    }
+    for (size_t row = 0; row < ROWS; row++) measure(&rows[row]);
     return 0;
 }

@@ -1,7 +1,7 @@
 //! Times the calls of one cell, for `bench/cells`. Each line of the input is a measure, and is printed again with the nanoseconds
-//! that it took. The row has four fields of the kind UInt32.
+//! that it took. The cell has 34 words in a line that begins with `narrow`, and 151 in one that begins with `wide`.
 //!
-//!     read N | try_write N | threads T N
+//!     narrow|wide read N | narrow|wide try_write N | narrow|wide threads T N
 //!
 //! `read` and `try_write` make N calls on this thread. With `threads` each of T threads, 1 to 8, writes N times on the same cell.
 #![tactic(auto)]

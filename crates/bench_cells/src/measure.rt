@@ -11,9 +11,15 @@ use std::thread::Threads;
 use std::time::{Duration, Instant};
 use version_cell::Cell;
 
-/// What is timed.
+/// What is timed, over a cell of which width.
 #[derive(Clone, Copy)]
-pub enum Measure {
+pub struct Measure {
+    is_wide: bool,
+    call: Call,
+}
+
+#[derive(Clone, Copy)]
+enum Call {
     Read { calls: u32 },
     TryWrite { calls: u32 },
     Threads { threads: u8, calls: u32 },
@@ -23,19 +29,25 @@ impl Measure {
     /// The measure that a line names.
     pub fn of(text: &str) -> Option<Measure> {
         let mut words = text.split_whitespace();
-        match words.next()? {
-            "read" => Some(Measure::Read {
+        let is_wide = match words.next()? {
+            "narrow" => false,
+            "wide" => true,
+            _ => return None,
+        };
+        let call = match words.next()? {
+            "read" => Call::Read {
                 calls: words.next()?.parse().ok()?,
-            }),
-            "try_write" => Some(Measure::TryWrite {
+            },
+            "try_write" => Call::TryWrite {
                 calls: words.next()?.parse().ok()?,
-            }),
-            "threads" => Some(Measure::Threads {
+            },
+            "threads" => Call::Threads {
                 threads: words.next()?.parse().ok()?,
                 calls: words.next()?.parse().ok()?,
-            }),
-            _ => None,
-        }
+            },
+            _ => return None,
+        };
+        Some(Measure { is_wide, call })
     }
 
     /// The time that it takes, or none where there is no memory.
@@ -44,16 +56,24 @@ impl Measure {
         rt: &R,
         alloc: Global,
     ) -> io::Result<Option<Duration>> {
-        match self {
-            Measure::Read { calls } => reads(rt, alloc, *calls),
-            Measure::TryWrite { calls } => exchanges(rt, alloc, *calls),
-            Measure::Threads { threads, calls } => writes_on_threads(rt, alloc, *threads, *calls),
+        let is_wide = self.is_wide;
+        match self.call {
+            Call::Read { calls } => reads(rt, alloc, is_wide, calls),
+            Call::TryWrite { calls } => exchanges(rt, alloc, is_wide, calls),
+            Call::Threads { threads, calls } => {
+                writes_on_threads(rt, alloc, is_wide, threads, calls)
+            }
         }
     }
 }
 
-fn reads<R: Wait + Clock>(rt: &R, alloc: Global, calls: u32) -> io::Result<Option<Duration>> {
-    let Some(meta) = meta(alloc) else {
+fn reads<R: Wait + Clock>(
+    rt: &R,
+    alloc: Global,
+    is_wide: bool,
+    calls: u32,
+) -> io::Result<Option<Duration>> {
+    let Some(meta) = meta(alloc, is_wide) else {
         return Ok(None);
     };
     let Ok((cell, mut first, _)) = Cell::new(rt, alloc, &meta, &[0; 8]) else {
@@ -64,8 +84,13 @@ fn reads<R: Wait + Clock>(rt: &R, alloc: Global, calls: u32) -> io::Result<Optio
     Ok(Some(start.elapsed(rt)?))
 }
 
-fn exchanges<R: Wait + Clock>(rt: &R, alloc: Global, calls: u32) -> io::Result<Option<Duration>> {
-    let Some(meta) = meta(alloc) else {
+fn exchanges<R: Wait + Clock>(
+    rt: &R,
+    alloc: Global,
+    is_wide: bool,
+    calls: u32,
+) -> io::Result<Option<Duration>> {
+    let Some(meta) = meta(alloc, is_wide) else {
         return Ok(None);
     };
     let Some(patch) = patch(&meta) else {
@@ -84,10 +109,11 @@ fn exchanges<R: Wait + Clock>(rt: &R, alloc: Global, calls: u32) -> io::Result<O
 fn writes_on_threads<R: Threads + Wait + Clock + Sync>(
     rt: &R,
     alloc: Global,
+    is_wide: bool,
     threads: u8,
     calls: u32,
 ) -> io::Result<Option<Duration>> {
-    let Some(meta) = meta(alloc) else {
+    let Some(meta) = meta(alloc, is_wide) else {
         return Ok(None);
     };
     let Some(patch) = patch(&meta) else {

@@ -7,16 +7,19 @@ use row_words::Patch;
 use std::alloc::Global;
 use ua_values::{Kind, Value, fits};
 
-/// Four fields of the kind UInt32 and three texts, 103 words in all: a cell of it has 151.
-pub fn meta(alloc: Global) -> Option<Meta>
+/// Four fields of the kind UInt32, whose cell has 34 words, and where it is wide three texts more, 103 words in all, whose cell
+/// has 151.
+pub fn meta(alloc: Global, is_wide: bool) -> Option<Meta>
     ensures { IfSome result (λ meta. meta.quality ≡ false) }
 {
     let mut fields = Vec::new(alloc);
     for name in [b"a", b"b", b"c", b"d"] {
         fields.push(field(name, Kind::UInt32, 0)?).ok()?;
     }
-    for name in [b"e", b"f", b"g"] {
-        fields.push(field(name, Kind::String, 256)?).ok()?;
+    if is_wide {
+        for name in [b"e", b"f", b"g"] {
+            fields.push(field(name, Kind::String, 256)?).ok()?;
+        }
     }
     Meta::new(Name32::new(b"demo")?, fields, 1, 0, false).ok()
 }
