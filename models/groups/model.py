@@ -440,10 +440,9 @@ class Sender:
         if changed: self.keys, self.used = key, 0
         return changed
     def renew(self, ring):
-        """whether both rings have the token in use, with the same keys"""
-        old, new = ([k for k in r if k["token"] == self.token] for r in (self.ring, ring))
+        """whether the ring has the token in use, with the keys in use"""
         self.ring = ring
-        return bool(old) and bool(new) and same_key(old[0], new[0])
+        return any(k["token"] == self.token and same_key(k, self.keyset()) for k in ring)
     def spent(self):
         return 4294967295 - self.used < 1024
     def front(self):

@@ -1,5 +1,5 @@
 // Keys of 16 and of 32 bytes.
-ghost use Rattle.std.specs.Prelude.{◌≡◌, ◌<◌, ℕ, List, [], slice_index_or};
+ghost use Rattle.std.specs.Prelude.{◌≡◌, ◌↔◌, ◌<◌, ℕ, IsTrue, List, [], slice_index_or};
 ghost use Rattle.aes_ctr.specs.Cipher.{aes128, aes256, expanded};
 ghost use Rattle.aes_ctr.specs.InPlanes.{AreLanes, IsLanes};
 ghost use Rattle.aes_ctr.specs.RoundKeys.{AreRoundKeys};
@@ -38,6 +38,13 @@ impl Key128 {
             key: *key,
             round_keys,
         }
+    }
+
+    /// Whether it is the key of these bytes.
+    pub fn is_of(&self, key: &[u8]) -> bool
+        ensures { IsTrue result ↔ (self.now ≡ key.now) }
+    {
+        self.key.as_slice() == key
     }
 
     /// The block under the key (FIPS 197, 5.1).
@@ -87,6 +94,13 @@ impl Key256 {
             key: *key,
             round_keys,
         }
+    }
+
+    /// Whether it is the key of these bytes.
+    pub fn is_of(&self, key: &[u8]) -> bool
+        ensures { IsTrue result ↔ (self.now ≡ key.now) }
+    {
+        self.key.as_slice() == key
     }
 
     /// The block under the key (FIPS 197, 5.1).

@@ -59,6 +59,13 @@ impl SigningKey {
         }
     }
 
+    /// Whether it is the key of these bytes. All 32 bytes are compared, whatever they are.
+    pub fn is_of(&self, key: &[u8; 32]) -> bool
+        ensures { IsTrue result ↔ (self.now ≡ key.now) }
+    {
+        is_same(&self.key, key)
+    }
+
     /// The HMAC-SHA-256 of `bytes`, as `sign` gives it.
     pub fn sign(&self, bytes: &[u8]) -> [u8; 32]
         ensures { result ≡ hmac_sha256 self.now bytes.now }

@@ -126,9 +126,9 @@ GoesOnToRing s sets = (now : ℕ) (set : KeySet) → current sets now ≡ Some s
 abbrev pub IsKnown : SenderState → Type 0
 IsKnown s = keys_with (map keys_in s.sets) s.keys.token ≡ Some s.keys
 
--- where the other ring has the token in use with the same keys, they are still known in the ring
+-- where the other ring has the token in use with the keys in use, a guard of it has them, whatever ring the sender had before
 abbrev pub StaysKnown : SenderState → List KeySet → Type 0
-StaysKnown s sets = KeepsToken s sets → IsKnown s → IsKnown (renewed s sets)
+StaysKnown s sets = KeepsToken s sets → IsKnown (renewed s sets)
 
 -- and they are at each moment that it turns to
 abbrev pub StaysKnownAt : SenderState → ℕ → Type 0

@@ -7,7 +7,7 @@ use Rattle.uadp_header.specs.Headers.{SecurityValue}
 use Rattle.message_guard.specs.declared.mode.Mode.{Mode}
 use Rattle.uadp_header.specs.Reading.{IsSecured}
 use Rattle.message_guard.specs.Modes.{is_secured, encrypts}
-use Rattle.message_guard.specs.Protection.{keys_in, message_nonce, number_in, protected, payload_in}
+use Rattle.message_guard.specs.Protection.{cipher_key, keys_in, message_nonce, number_in, protected, payload_in}
 
 -- the ring's sets, the keys of the token in use, four bytes for each nonce, the first block counter, the last number
 -- used under the token, and the mode of the front that took it, where one did
@@ -51,22 +51,21 @@ sent mode s header payload = protected mode s.keys (message_nonce s.random s.use
 abbrev pub renewed : SenderState → List KeySet → SenderState
 renewed s sets = record s { sets = sets }
 
--- two sets give the same keys, whenever each is used
-pub record HaveSameKeys (one other : KeySet) : Type 0 where
-  pub token : one.token ≡ other.token
-  pub nonce : one.nonce ≡ other.nonce
-  pub signing : one.signing ≡ other.signing
-  pub encrypting : one.encrypting.items ≡ other.encrypting.items
+-- the keys are those that the set gives, whenever it is used
+pub record AreKeysOf (keys : TokenKeys) (set : KeySet) : Type 0 where
+  pub token : keys.token ≡ set.token
+  pub nonce : keys.nonce ≡ set.nonce
+  pub signing : keys.signing ≡ set.signing
+  pub encrypting : keys.encrypting ≡ cipher_key set.encrypting.items
 
--- both of two sets are there, and they give the same keys
-abbrev pub AreSame : Option KeySet → Option KeySet → Type 0
-AreSame (Some one) (Some other) = HaveSameKeys one other
-AreSame (Some one) None = ⊥
-AreSame None other = ⊥
+-- the set is there, and the keys are those that it gives
+abbrev pub AreKeysOfOne : TokenKeys → Option KeySet → Type 0
+AreKeysOfOne keys (Some set) = AreKeysOf keys set
+AreKeysOfOne keys None = ⊥
 
--- the sender's ring and the other sets have the token in use, with the same keys
+-- the sets have the token in use, with the keys in use
 abbrev pub KeepsToken : SenderState → List KeySet → Type 0
-KeepsToken s sets = AreSame (with_token s.sets s.keys.token) (with_token sets s.keys.token)
+KeepsToken s sets = AreKeysOfOne s.keys (with_token sets s.keys.token)
 
 -- how many numbers are left under the token
 abbrev pub numbers_left : SenderState → ℕ

@@ -1,5 +1,6 @@
-ghost use Rattle.std.specs.Prelude.{◌≡◌, ◌++◌, ◌⊎◌, ⊤, length};
+ghost use Rattle.std.specs.Prelude.{◌≡◌, ◌↔◌, ◌++◌, ◌⊎◌, ⊤, IsTrue, length};
 ghost use Rattle.message_guard.specs.Protection.{keys_in, with_stream, cipher_key, message_nonce};
+ghost use Rattle.message_guard.specs.Senders.{AreKeysOf};
 
 use crate::Mode;
 use aes_ctr::{Key, Key128, Key256, apply_stream};
@@ -27,6 +28,16 @@ impl TokenKeys {
             signing: SigningKey::new(&set.signing),
             encrypting: cipher_key(set.encrypting.as_slice()),
         }
+    }
+
+    /// Whether they are the keys of the set, whenever it is used.
+    pub fn are_of(&self, set: &KeySet) -> bool
+        ensures { IsTrue result ↔ AreKeysOf self.now set.now }
+    {
+        self.token == set.token
+            && self.nonce == set.nonce
+            && self.signing.is_of(&set.signing)
+            && is_cipher_key(&self.encrypting, set.encrypting.as_slice())
     }
 
     /// Adds the stream of a message to its payload, where the mode encrypts.
@@ -74,6 +85,16 @@ fn cipher_key(bytes: &[u8]) -> Key
         let mut key = [0; 16];
         key.copy_from_slice(bytes);
         Key::Short(Key128::new(&key))
+    }
+}
+
+// Whether it is the key of these bytes, of AES-256 where they are 32.
+fn is_cipher_key(key: &Key, bytes: &[u8]) -> bool
+    ensures { IsTrue result ↔ (key.now ≡ cipher_key bytes.now) }
+{
+    match key {
+        Key::Short(key) => bytes.len() != 32 && key.is_of(bytes),
+        Key::Long(key) => bytes.len() == 32 && key.is_of(bytes),
     }
 }
 

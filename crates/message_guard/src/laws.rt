@@ -76,7 +76,8 @@ pub fn an_unspent_sender_has_1024_numbers()
 {}
 
 /// A sender that is renewed goes on to the keys of the other ring, where a set with a higher token has come in it; and where the
-/// ring has the keys in use, they are known in it, at that time and at each moment that the sender turns to.
+/// ring has the token in use with the keys in use, a guard of it has them, whatever ring the sender had before, and the guard has
+/// the sender's keys at each moment that it turns to.
 pub fn a_renewed_sender_has_keys_of_its_ring()
     ensures goes_on { (s : SenderState) (sets : List KeySet) → GoesOnToRing s sets }
     ensures known { (s : SenderState) (sets : List KeySet) → StaysKnown s sets }

@@ -9,11 +9,11 @@ ghost use Rattle.uadp_header.specs.Reading.{IsSecured};
 ghost use Rattle.uadp_header.specs.Spelling.{IsSendersSecurity};
 ghost use Rattle.message_guard.specs.Modes.{is_secured};
 ghost use Rattle.message_guard.specs.Protection.{keys_in};
-ghost use Rattle.message_guard.specs.Senders.{SenderState, turned, renewed, advanced, front_value, HaveSameKeys, KeepsToken, made_of, numbers_left, IsSender, MayProtect};
+ghost use Rattle.message_guard.specs.Senders.{SenderState, turned, renewed, advanced, front_value, KeepsToken, made_of, numbers_left, IsSender, MayProtect};
 
 use crate::Mode;
 use crate::keys::{TokenKeys, message_nonce};
-use group_keys::{KeySet, Ring};
+use group_keys::Ring;
 use std::marker::Model;
 use uadp_header::{SecurityPart, read_header};
 
@@ -128,13 +128,13 @@ impl Sender {
         self.ring = ring;
     }
 
-    /// Whether the sender's ring and this one have the token in use, with the same keys.
+    /// Whether the ring has the token in use, with the keys in use.
     pub fn keeps_token(&self, ring: &Ring) -> bool
         ensures { IsTrue result ↔ KeepsToken self.now (key_sets ring.now) }
     {
-        match (self.ring.find(self.keys.token), ring.find(self.keys.token)) {
-            (Some(old), Some(new)) => has_same_keys(old, new),
-            _ => false,
+        match ring.find(self.keys.token) {
+            Some(set) => self.keys.are_of(set),
+            None => false,
         }
     }
 
@@ -229,14 +229,4 @@ impl Sender {
         let signature = self.keys.signing.sign(&datagram[..end]);
         datagram[end..].copy_from_slice(&signature);
     }
-}
-
-// Two sets give the same keys.
-fn has_same_keys(one: &KeySet, other: &KeySet) -> bool
-    ensures { IsTrue result ↔ HaveSameKeys one.now other.now }
-{
-    one.token == other.token
-        && one.nonce == other.nonce
-        && one.signing == other.signing
-        && one.encrypting.as_slice() == other.encrypting.as_slice()
 }

@@ -66,7 +66,7 @@ fn rounds<R: Abort, L: Link>(rt: &R, outlet: &mut Outlet<'_>, link: &mut L) -> R
     renew(rt, outlet, &[(3, 0)], false, begun)?;
     let without = behind(200, (5, 2), 1, 1, 0);
     round(rt, outlet, link, without)?;
-    renew(rt, outlet, &[(5, 0), (6, 350)], false, without)?;
+    renew(rt, outlet, &[(5, 0), (6, 350)], true, without)?;
     let again = behind(300, (5, 3), 2, 1, 2);
     round(rt, outlet, link, again)?;
     renew(rt, outlet, &[(5, 0), (7, 350)], true, again)?;

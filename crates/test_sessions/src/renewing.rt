@@ -111,8 +111,8 @@ fn rounds<R: Wait + Abort, L: Link>(
     // An earlier token alone: the sender stays under the one in use.
     renew(rt, device, &[(3, 0)], false, FIRST)?;
     round(rt, device, link, 2, WITHOUT)?;
-    // The token in use: the answer compares this ring with the one before, which hadn't it.
-    renew(rt, device, &[(5, 0), (6, 350)], false, WITHOUT)?;
+    // The token in use with its keys, though the ring before hadn't it.
+    renew(rt, device, &[(5, 0), (6, 350)], true, WITHOUT)?;
     round(rt, device, link, 3, AGAIN)?;
     // The token in use, and a later one that comes with the next tick.
     renew(rt, device, &[(5, 0), (7, 350)], true, AGAIN)?;
