@@ -1,20 +1,24 @@
 -- What private steps of reading and writing say: scalars as words, and values that are set where they stand.
 use Rattle.std.specs.Prelude.{◌≡◌, ℕ, Bool, true, false, List, [], ◌∷◌, slice_set, Some, Result, Ok, Err}
+use Rattle.std.specs.List.{HoldsAt}
 use Rattle.ua_values.specs.declared.kind.Kind.{Kind}
 use Rattle.ua_values.specs.declared.kind.Kind.TheVariants as kinds
 use Rattle.ua_values.specs.declared.value.Value.{Value}
 use Rattle.ua_binary.specs.declared.data_value.Measured.{Measured}
-use Rattle.ua_binary.specs.Reading.{◌>>=◌}
+use Rattle.ua_binary.specs.declared.cursor.Cursor.{Cursor}
+use Rattle.ua_binary.specs.Reading.{ReadsAhead, ◌>>=◌}
 use Rattle.ua_binary.specs.ReadingValues.{variant_at, data_value_at}
 use Rattle.dataset_meta.specs.declared.field.Field.{Field}
 use Rattle.dataset_meta.specs.DataValues.{DataValue}
+use Rattle.dataset_meta.specs.Metas.{MetaData}
+use Rattle.row_words.specs.Belonging.{row_in}
 use Rattle.row_words.specs.Words.{scalar_in}
 use Rattle.frame_codec.specs.declared.fault.FrameFault.{FrameFault}
 use Rattle.row_words.specs.declared.patch.Patch.{Patch}
 use Rattle.row_words.specs.Patches.{patch_in}
 use Rattle.frame_codec.specs.declared.frame.FrameKind.{FrameKind}
 use Rattle.frame_codec.specs.Frames.{Content}
-use Rattle.frame_codec.specs.Contents.{kept, field_at}
+use Rattle.frame_codec.specs.Contents.{kept, field_at, put_at}
 use Rattle.frame_codec.specs.Words.{content_in}
 
 -- the answer of a call that leaves it in place of another
@@ -42,6 +46,16 @@ unfoldable pub set_at : Bool → ℕ → Field → ℕ → List DataValue → Li
     → Result (List DataValue × List ℕ) FrameFault
 set_at quality encoding field index row bytes =
     field_at quality encoding field bytes >>= λ x. Ok (slice_set row index x.0, x.1)
+
+-- a value is read from the cursor on, and set at the index of a row of the meta
+abbrev pub ReadsField : MetaData → ℕ → ℕ → List ℕ → List ℕ → Cursor → Cursor → Result (Unit {0}) FrameFault → Type 0
+ReadsField meta encoding index old new before after result = HoldsAt (λ field. ReadsAhead (leaving result (row_in meta.fields new)) before after
+    (set_at meta.quality encoding field index (row_in meta.fields old))) meta.fields index
+
+-- a value is read from the cursor on, and put into a patch of the meta as the change at the index
+abbrev pub ReadsChange : MetaData → ℕ → ℕ → Patch → Patch → Cursor → Cursor → Result (Unit {0}) FrameFault → Type 0
+ReadsChange meta encoding index old new before after result = HoldsAt (λ field. ReadsAhead (leaving result (patch_in meta.fields new)) before after
+    (put_at meta.quality false encoding (patch_in meta.fields old) index (Some field))) meta.fields index
 
 -- a scalar with this word, and this status
 abbrev pub measured_in : Kind → ℕ → ℕ → Measured

@@ -8,7 +8,7 @@ ghost use Rattle.dataset_meta.specs.Rows.{put_in};
 ghost use Rattle.row_words.specs.Words.{IsWordOf, scalar_in};
 ghost use Rattle.row_words.specs.Belonging.{Belongs, row_in};
 ghost use Rattle.row_words.specs.Patches.{IsPatchOf, patch_in};
-ghost use Rattle.frame_codec.specs.Calls.{leaving, meaning, patch_meaning, kept_if, set_at};
+ghost use Rattle.frame_codec.specs.Calls.{ReadsChange, ReadsField, leaving, meaning, patch_meaning, kept_if};
 ghost use Rattle.frame_codec.specs.Contents.{kept, given, value_at, surplus_at, row_at, surpluses_at, is_count, counted_at, whole_at, put_at, change_at, changes_at, patch_at, content_at};
 ghost use Rattle.frame_codec.specs.Words.{IsKindOf, content_in};
 
@@ -306,11 +306,8 @@ fn read_into(
     requires row { Belongs meta.now row.old.words }
     requires index { index < length meta.now.fields }
     ensures belongs { Belongs meta.now row.new.words }
-    ensures answer { HoldsAt (λ field. ReadsAhead (leaving result
-        (row_in meta.now.fields row.new.words))
-        cursor.old cursor.new
-        (set_at meta.now.quality encoding field index (row_in meta.now.fields row.old.words)))
-        meta.now.fields index }
+    ensures answer { ReadsField meta.now encoding index
+        row.old.words row.new.words cursor.old cursor.new result }
 {
     let field = &meta.fields()[usize::from(index)];
     match read_own(cursor, field, encoding) {
@@ -334,11 +331,8 @@ fn read_lent_into(
     requires row { Belongs meta.now row.old.words }
     requires index { index < length meta.now.fields }
     ensures belongs { Belongs meta.now row.new.words }
-    ensures answer { HoldsAt (λ field. ReadsAhead (leaving result
-        (row_in meta.now.fields row.new.words))
-        cursor.old cursor.new
-        (set_at meta.now.quality encoding field index (row_in meta.now.fields row.old.words)))
-        meta.now.fields index }
+    ensures answer { ReadsField meta.now encoding index
+        row.old.words row.new.words cursor.old cursor.new result }
 {
     let mut lent = *cursor;
     read_any_into(&mut lent, meta, index, encoding, row)?;
@@ -359,11 +353,8 @@ fn read_any_into(
     requires row { Belongs meta.now row.old.words }
     requires index { index < length meta.now.fields }
     ensures belongs { Belongs meta.now row.new.words }
-    ensures answer { HoldsAt (λ field. ReadsAhead (leaving result
-        (row_in meta.now.fields row.new.words))
-        cursor.old cursor.new
-        (set_at meta.now.quality encoding field index (row_in meta.now.fields row.old.words)))
-        meta.now.fields index }
+    ensures answer { ReadsField meta.now encoding index
+        row.old.words row.new.words cursor.old cursor.new result }
 {
     let field = &meta.fields()[usize::from(index)];
     let measured = read_value(cursor, encoding)?;
@@ -649,11 +640,8 @@ fn read_put(
     requires patch { IsPatchOf meta.now patch.old }
     requires index { index < length meta.now.fields }
     ensures of { IsPatchOf meta.now patch.new }
-    ensures answer { HoldsAt (λ field. ReadsAhead (leaving result
-        (patch_in meta.now.fields patch.new))
-        cursor.old cursor.new
-        (put_at meta.now.quality false encoding (patch_in meta.now.fields patch.old) index
-        (Some field))) meta.now.fields index }
+    ensures answer { ReadsChange meta.now encoding index
+        patch.old patch.new cursor.old cursor.new result }
 {
     let field = &meta.fields()[usize::from(index)];
     match read_own(cursor, field, encoding) {
@@ -677,11 +665,8 @@ fn read_lent_put(
     requires patch { IsPatchOf meta.now patch.old }
     requires index { index < length meta.now.fields }
     ensures of { IsPatchOf meta.now patch.new }
-    ensures answer { HoldsAt (λ field. ReadsAhead (leaving result
-        (patch_in meta.now.fields patch.new))
-        cursor.old cursor.new
-        (put_at meta.now.quality false encoding (patch_in meta.now.fields patch.old) index
-        (Some field))) meta.now.fields index }
+    ensures answer { ReadsChange meta.now encoding index
+        patch.old patch.new cursor.old cursor.new result }
 {
     let mut lent = *cursor;
     read_any_put(&mut lent, meta, index, encoding, patch)?;
@@ -702,11 +687,8 @@ fn read_any_put(
     requires patch { IsPatchOf meta.now patch.old }
     requires index { index < length meta.now.fields }
     ensures of { IsPatchOf meta.now patch.new }
-    ensures answer { HoldsAt (λ field. ReadsAhead (leaving result
-        (patch_in meta.now.fields patch.new))
-        cursor.old cursor.new
-        (put_at meta.now.quality false encoding (patch_in meta.now.fields patch.old) index
-        (Some field))) meta.now.fields index }
+    ensures answer { ReadsChange meta.now encoding index
+        patch.old patch.new cursor.old cursor.new result }
 {
     let field = &meta.fields()[usize::from(index)];
     let measured = read_value(cursor, encoding)?;
