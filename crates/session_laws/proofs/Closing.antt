@@ -1,7 +1,6 @@
 pub mod AllTaken
 pub mod BareEnd
 pub mod BareGot
-pub mod BareTaken
 pub mod BareTrace
 pub mod ClosingGot
 pub mod ClosingHeld

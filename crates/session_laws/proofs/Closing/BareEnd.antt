@@ -26,7 +26,7 @@ use Rattle.session_laws.specs.Newest.{CameIn, ClosesInTick, EachPart, HasPartFor
 use Rattle.session_laws.specs.Plays.{its_way}
 use Rattle.session_laws.specs.Sessions.{AreVersions, pasts_at}
 use Rattle.session_laws.proofs.Closing.BareGot.{and-false}
-use Rattle.session_laws.proofs.Closing.BareTaken.{QuietOnceTaken, TakesAll, chunks-last, part-last, quiet-all}
+use Rattle.session_laws.proofs.Closing.AllTaken.{QuietOnceTaken, TakesAll, chunks-last, part-last, quiet-all}
 use Rattle.session_laws.proofs.Closing.BareTrace.{came-between, taken-any}
 use Rattle.session_laws.proofs.Closing.ClosingGot.{InChunks, LastTurn, OnePart, last-turn, not-empty, one-part, part-case, same-turn}
 use Rattle.session_laws.proofs.Closing.ClosingParts.{all, found-own, its_datagram, le, made-one, opens}

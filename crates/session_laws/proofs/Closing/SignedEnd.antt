@@ -58,7 +58,7 @@ use Rattle.session_laws.proofs.Closing.BareTrace.{came-between, trace-pumps}
 use Rattle.session_laws.proofs.Closing.ClosingGot.{HeldLaw, InChunks, LastTurn, OnePart, gives, in-flat, is-last, not-empty, part-case}
 use Rattle.session_laws.proofs.Closing.ClosingParts.{all, all-covered, below-made, found-own, found_c, has-part, has-part-c, its_cuts, its_datagram, its_total, lays, le, made-one, none-either, older-same, one-at, opens, own-or-other, read-is, sent-list, some-bytes}
 use Rattle.session_laws.proofs.Closing.ClosingTick.{holds-start, holds-tick, in-start, its_last, new-first}
-use Rattle.session_laws.proofs.Closing.BareTaken.{QuietOnceTaken, TakesAll, chunks-last, part-last, quiet-all}
+use Rattle.session_laws.proofs.Closing.AllTaken.{QuietOnceTaken, TakesAll, chunks-last, part-last, quiet-all}
 use Rattle.session_laws.proofs.Closing.Coming.{Lies, covered-parts, lies-parts}
 use Rattle.session_laws.proofs.HeldRows.Marks.{all-on, parts-sent, source}
 use Rattle.session_laws.proofs.Closing.SignedChunks.{IsClosing, IsOlder, IsStep, TakesSteps, covered-all}
