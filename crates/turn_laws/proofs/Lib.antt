@@ -6,7 +6,7 @@ pub mod Naming
 pub mod Uses
 pub mod Parts
 pub mod Holding
-pub mod Others
+pub mod OwnTurns
 pub mod Signed
 pub mod Turns
 pub mod Sessions

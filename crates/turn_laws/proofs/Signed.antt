@@ -20,10 +20,11 @@ use Rattle.reader_group.specs.Settings.{setup_by}
 use Rattle.session_laws.specs.Below.{TurnLaws}
 use Rattle.session_laws.specs.Pasts.{IsMade, WasMade}
 use Rattle.session_laws.specs.Readers.{IsMadeFor, IsPartFor, Making, SignedAreMade}
+use Rattle.session_laws.proofs.HeldRows.Pieces.{own-or-nothing}
 use Rattle.session_laws.proofs.Versions.Distinct.{at-sound}
 use Rattle.turn_laws.specs.Makers.{HasItsRecords, IsMadeBySender, IsSigning, SignedWereMade, Signing, its_part, its_pasts, its_sends, its_setting, its_way}
 use Rattle.turn_laws.proofs.Holding.{HeldAt, all-held, made_with}
-use Rattle.turn_laws.proofs.Others.{own-or-nothing}
+use Rattle.turn_laws.proofs.OwnTurns.{part-turns}
 use Rattle.turn_laws.proofs.Sharing.{own-risen}
 
 module _ (laws : TurnLaws) (s : Signing) (is : IsSigning s) where
@@ -35,7 +36,7 @@ module _ (laws : TurnLaws) (s : Signing) (is : IsSigning s) where
 
   made-for : (datagram : List ℕ) → IsMade s.config (its_pasts s) datagram → IsMadeFor making (its_setting s) (its_way s) datagram
   made-for datagram was = λ pairs opened e.
-      on pairs opened e (own-or-nothing laws s.config (its_part s) s.readers s.reader s.writer is.matched s.group s.deeds is.sound is.there is.turns pairs datagram opened was e)
+      on pairs opened e (own-or-nothing laws s.config (its_part s) s.readers s.reader s.writer is.matched s.group (its_pasts s) is.sound is.there (part-turns s.config s.deeds is.turns) pairs datagram opened was e)
     where
       on : (pairs : Accepted) (opened : Opened) → verdict (its_setting s).group (its_setting s).setup pairs datagram ≡ Ok opened → WasMade (its_pasts s s.group) datagram ⊎ (pieces (its_way s).seat.part opened.payload ≡ [])
           → All (IsPartFor making (its_way s) opened.pass.token opened.pass.number) (pieces (its_way s).seat.part opened.payload)

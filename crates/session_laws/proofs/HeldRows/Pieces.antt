@@ -276,9 +276,9 @@ module _ (laws : TurnLaws) (config : Config) (group : GroupPart) (readers : Read
   -- ---- whichever group made it
 
   -- the group did, or there is nothing for the reader
-  pub own-or-none : (index : ℕ) (pasts : ℕ → List GroupDeed) → IsSound config → IsAt config index group → ((h : ℕ) (part : GroupPart) → IsAt config h part → IsPast config part (pasts h))
+  pub own-or-nothing : (index : ℕ) (pasts : ℕ → List GroupDeed) → IsSound config → IsAt config index group → ((h : ℕ) (part : GroupPart) → IsAt config h part → AreTurns config part (pasts h))
       → (accepted : Accepted) (datagram : List ℕ) (opened : Opened) → IsMade config pasts datagram → its_verdict accepted datagram ≡ Ok opened → WasMade (pasts index) datagram ⊎ (pieces seat.part opened.payload ≡ [])
-  own-or-none index pasts sound at are_pasts accepted datagram opened is e = on (is.group == index) refl
+  own-or-nothing index pasts sound at are_turns accepted datagram opened is e = on (is.group == index) refl
     where
       within : writer < length group.writer
       within = matched.reads.within
@@ -295,8 +295,12 @@ module _ (laws : TurnLaws) (config : Config) (group : GroupPart) (readers : Read
           let differ : is.group ≢ index = grind (arith, nat_tests) in
           let apart = writers-differ config index is.group writer group is.part sound at is.there differ within in
           let not_own = All-weaker (λ (w : WriterPart). w.id ≢ (writer_at group writer).id) (λ (w : WriterPart). w.id ≢ seat.part.writer) (λ w ids same. ids (same ∙ reads.id)) is.part.writer apart in
-          inr (other-made is.part (pasts is.group) accepted datagram opened (are_pasts is.group is.part is.there).turns is.made (at-sound config index group sound at).id.0
+          inr (other-made is.part (pasts is.group) accepted datagram opened (are_turns is.group is.part is.there) is.made (at-sound config index group sound at).id.0
           (ids-differ config index is.group group is.part sound at is.there differ) some not_own e)
+
+  pub own-or-none : (index : ℕ) (pasts : ℕ → List GroupDeed) → IsSound config → IsAt config index group → ((h : ℕ) (part : GroupPart) → IsAt config h part → IsPast config part (pasts h))
+      → (accepted : Accepted) (datagram : List ℕ) (opened : Opened) → IsMade config pasts datagram → its_verdict accepted datagram ≡ Ok opened → WasMade (pasts index) datagram ⊎ (pieces seat.part opened.payload ≡ [])
+  own-or-none index pasts sound at are_pasts = own-or-nothing index pasts sound at (λ h part there. (are_pasts h part there).turns)
 
   pub made-pieces : (index : ℕ) (pasts : ℕ → List GroupDeed) → IsSound config → IsAt config index group → ((h : ℕ) (part : GroupPart) → IsAt config h part → IsPast config part (pasts h))
       → (are : AreTurns config group (pasts index)) (accepted : Accepted) (datagram : List ℕ) (opened : Opened) → IsMade config pasts datagram → its_verdict accepted datagram ≡ Ok opened → ArePieces (pasts index) are opened

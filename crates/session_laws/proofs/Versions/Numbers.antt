@@ -40,7 +40,7 @@ OnceLaw = (s : SenderState) (uses : List SenderUse) → IsSender s → AreUses s
 
 -- ---- uses, one after another
 
-sender_by : SenderState → List SenderUse → SenderState
+pub sender_by : SenderState → List SenderUse → SenderState
 sender_by s [] = s
 sender_by s (Moved now ∷ uses) = sender_by (turned_to s now) uses
 sender_by s (Renewed sets ∷ uses) = sender_by (renewed s sets) uses
@@ -71,11 +71,11 @@ uses-more s (Made envelope payloads ∷ uses) more are also = (are.0, uses-more 
 
 -- ---- of a key group
 
-record HasUses (config : Config) (k : ℕ) (deeds : List Deed) : Type 0 where
-  uses : List SenderUse
-  are : AreUses (opening_sender (keygroup_at config k)) uses
-  made : datagrams_by (opening_sender (keygroup_at config k)) uses ≡ protected_in config k deeds
-  sender : sender_by (opening_sender (keygroup_at config k)) uses ≡ sender_after config k deeds
+pub record HasUses (config : Config) (k : ℕ) (deeds : List Deed) : Type 0 where
+  pub uses : List SenderUse
+  pub are : AreUses (opening_sender (keygroup_at config k)) uses
+  pub made : datagrams_by (opening_sender (keygroup_at config k)) uses ≡ protected_in config k deeds
+  pub sender : sender_by (opening_sender (keygroup_at config k)) uses ≡ sender_after config k deeds
 
 came-on : (config : Config) (k now : ℕ) (earlier : List Deed) → HasUses config k earlier → HasUses config k (CameTo now ∷ earlier)
 unfolding sender_by
@@ -175,7 +175,7 @@ none-on : (config : Config) (k : ℕ) → HasUses config k []
 unfolding sender_by
 none-on config k = record { uses = []; are = tt; made = refl; sender = refl }
 
-has-uses : (p : Plan) (k : ℕ) (steps : List Step) → IsPlan p → TurnsHold p steps → HasUses p.config k (deeds p steps)
+pub has-uses : (p : Plan) (k : ℕ) (steps : List Step) → IsPlan p → TurnsHold p steps → HasUses p.config k (deeds p steps)
 has-uses p k [] plan hold = none-on p.config k
 has-uses p k (Enable id ∷ before) plan hold = fresh-on p.config k (component_at p.config id) (deeds p before) (has-uses p k before plan hold)
 has-uses p k (Disable id ∷ before) plan hold = has-uses p k before plan hold
@@ -185,7 +185,7 @@ has-uses p k (Tick ms closing samples done ∷ before) plan hold =
 has-uses p k (Pump entries ∷ before) plan hold = has-uses p k before plan hold
 
 -- in a life
-life-uses : (p : Plan) (k : ℕ) (life : List Lived) → IsPlan p → TurnsHoldIn p life → HasUses p.config k (account_in p life).deeds
+pub life-uses : (p : Plan) (k : ℕ) (life : List Lived) → IsPlan p → TurnsHoldIn p life → HasUses p.config k (account_in p life).deeds
 life-uses p k [] plan hold = none-on p.config k
 life-uses p k (Stepped (Enable id) ∷ before) plan hold = fresh-on p.config k (component_at p.config id) (account_in p before).deeds (life-uses p k before plan hold.1)
 life-uses p k (Stepped (Disable id) ∷ before) plan hold = life-uses p k before plan hold.1
