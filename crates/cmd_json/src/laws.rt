@@ -6,7 +6,6 @@ ghost use Rattle.ps_config.specs.declared.parts.ReaderPart.{ReaderPart};
 ghost use Rattle.session_model.specs.Keeping.{AreSteps, IsPlan};
 ghost use Rattle.session_model.specs.Sends.{IsRun, TellsRun};
 ghost use Rattle.session_model.specs.Steps.{Plan, Step};
-ghost use Rattle.session_laws.specs.Below.{Laws};
 ghost use Rattle.session_laws.specs.Sessions.{SamplesRise};
 ghost use Rattle.json_frames.specs.Parts.{Part};
 ghost use Rattle.json_text.specs.Readers.{HasRecords};
@@ -14,14 +13,7 @@ ghost use Rattle.cmd_json.specs.Jsons.{ReadsSent};
 ghost use Rattle.cmd_json.specs.Matched.{IsToldIfMatched};
 ghost use Rattle.cmd_json.specs.Owned.{AreOwn};
 
-use group_laws::{
-    a_datagram_has_nothing_for_readers_of_other_groups, a_matched_reader_reads_its_writer,
-    a_ring_makes_senders_of_its_key_group, each_datagram_is_taken_as_it_was_sent,
-    each_part_is_of_what_was_answered,
-};
-use reader_group::near_readers_have_their_records;
-use row_words::cut_rows_have_words;
-use session_laws::each_turn_of_a_session_holds;
+use session_laws::what_the_laws_below_say;
 
 /// Of an accepted configuration's unsecured read groups in a dynamic layout exactly those readers are told that are matched to a
 /// writer.
@@ -39,18 +31,4 @@ pub fn lines_have_their_writers_frames()
         → IsSome told → AreOwn p steps parts }
 {
     what_the_laws_below_say();
-}
-
-/// What the laws of turns, of read groups, of rows and of senders say, as one record.
-fn what_the_laws_below_say()
-    ensures { Laws }
-{
-    each_datagram_is_taken_as_it_was_sent();
-    each_part_is_of_what_was_answered();
-    a_datagram_has_nothing_for_readers_of_other_groups();
-    a_matched_reader_reads_its_writer();
-    near_readers_have_their_records();
-    cut_rows_have_words();
-    a_ring_makes_senders_of_its_key_group();
-    each_turn_of_a_session_holds();
 }

@@ -252,7 +252,7 @@ pub fn a_journal_has_one_run()
 {}
 
 /// What the laws below say of turns, of what read groups take of them, of rows and of senders, as one record.
-pub(crate) fn what_the_laws_below_say()
+pub fn what_the_laws_below_say()
     ensures { Laws }
 {
     each_datagram_is_taken_as_it_was_sent();

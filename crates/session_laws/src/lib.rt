@@ -15,7 +15,7 @@ pub use laws::{
     a_matched_reader_holds_what_was_sent, a_new_token_begins_with_key_frames,
     a_session_has_at_most_4097_ticks, data_messages_stand_for_versions,
     matched_readers_hold_published_versions, no_token_and_number_come_twice_in_a_session,
-    refused_datagrams_leave_no_trace_in_a_session,
+    refused_datagrams_leave_no_trace_in_a_session, what_the_laws_below_say,
 };
 pub use noise::readers_hold_on_in_noise;
 pub use premises::{
