@@ -1,21 +1,16 @@
 -- The marked fields of a patch, the lowest first.
-use Rattle.std.proofs.Common.{◌≡◌, ◌≢◌, ℕ, zero, suc, ◌+◌, ◌*◌, ◌%◌, ◌^◌, ◌<◌, ◌≤◌, Bool, List, [], ◌∷◌, ◌++◌, length, take, drop, refl, sym, ap, ◌∙◌, subst, arith, Some, inl, inr, append_assoc, length-append}
-use Rattle.std.specs.Prelude.{◌==◌, slice_get, bit_and}
-use Rattle.std.specs.Int.{bit_at, bit_not, trailing_zeros, w64}
+use Rattle.std.proofs.Common.{◌≡◌, ℕ, ◌+◌, ◌≤◌, Bool, List, [], ◌++◌, length, take, drop, refl, sym, ap, ◌∙◌, subst, arith, append_assoc, length-append}
+use Rattle.std.specs.Int.{trailing_zeros, w64}
 use Rattle.std.specs.List.{HoldsAt}
-use Rattle.std.proofs.lemmas.Bool.{cases_eq, cases_lt}
-use Rattle.std.proofs.lemmas.Nat.{and_le_l}
-use Rattle.std.proofs.lemmas.Nat.Bits.{bit_at-trailing_zeros, bit_at_clear_same, bit_at_clear_other, bit_at_above}
 use Rattle.std.proofs.lemmas.List.{append-nil, take-append-drop}
 use Rattle.ua_binary.specs.declared.pen.Pen.{Pen}
 use Rattle.ua_binary.specs.Writing.{Puts}
 use Rattle.ua_binary.proofs.Laying.{Puts-then}
 use Rattle.dataset_meta.specs.DataValues.{DataValue}
-use Rattle.dataset_meta.specs.Rows.{cons_if}
 use Rattle.row_words.specs.Patches.{marked_from}
 use Rattle.row_words.proofs.FieldLaws.{StandsAt, stands_at}
-use Rattle.row_words.proofs.Marks.{later, Lowest, lowest, marked_first}
-use Rattle.row_words.proofs.PatchLaws.{marked_same, none_marked}
+use Rattle.row_words.proofs.Marks.{later, Lowest, marked_first}
+use Rattle.row_words.proofs.PatchLaws.{none_marked}
 use Rattle.frame_codec.specs.Spelling.{change_bytes, changes_bytes}
 use Rattle.frame_codec.proofs.Laid.{at_stands}
 
