@@ -7,18 +7,18 @@ ghost use Rattle.ps_config.specs.Reading.{configuration, IsEnd};
 ghost use Rattle.writer_group.specs.Standing.{IsGood, IsReserved, datagrams_in};
 ghost use Rattle.device_sides.specs.Coming.{Comes, HasCome, IsWaiting};
 ghost use Rattle.device_sides.specs.Looking.{Counts, HasLooked};
-ghost use Rattle.device_sides.specs.Sides.{AreOpeningSides, HasField, HasLongKeys, HasNoField, HasRenewed, HasSet, HasSetStatus, HasSetWord, HasWriterSwitched, IsBehind, IsMisfit, IsNoLower, IsOpeningRow, IsOpeningSender, IsPublisher, IsStatusMisfit, IsWordMisfit, MayNotResume, StandsAt};
+ghost use Rattle.device_sides.specs.Sides.{AreOpeningSides, HasField, HasLongKeys, HasNoField, HasNoWriter, HasRenewed, HasSet, HasSetStatus, HasSetWord, HasWriterSwitched, IsBehind, IsBehindConfigured, IsMisfit, IsNoLower, IsOpeningRow, IsOpeningSender, IsPublisher, IsStatusMisfit, IsWordMisfit, MayNotResume, MayNotResumeConfigured, StandsAt};
 
 use crate::asked::Next;
 use crate::looking::{Looked, is_held, look};
-use crate::making::{has_long_keys, rows_of, sender_at, senders_of, sides_of};
+use crate::making::{has_long_keys, rows_of, sender_with, senders_of, sides_of};
 use crate::rows::{set_in, set_status_in, set_word_in};
 use crate::side::Side;
 use crate::sides::turn_senders;
 use crate::words::has_field_at;
 use group_keys::Ring;
 use message_guard::Sender;
-use ps_config::{Config, ConfigEnd, read_config};
+use ps_config::{Config, ConfigEnd, read_config, ring_of};
 use std::alloc::Global;
 use ua_base::NoMemory;
 use ua_values::{Kind, Value};
@@ -168,9 +168,13 @@ impl Publisher {
         ensures publisher { IsPublisher self.new }
         ensures switched { OnTrue result (HasWriterSwitched group writer on self.old self.new) }
         ensures not { OnFalse result (self.new ≡ self.old) }
+        ensures absent { OnFalse result (HasNoWriter group writer self.old) }
     {
         let index = usize::from(group);
-        if index >= self.sides.len() || !self.sides[index].has_writer(&self.config, writer) {
+        if index >= self.sides.len() {
+            return false;
+        }
+        if !self.sides[index].has_writer(&self.config, writer) {
             return false;
         }
         self.sides[index].switch(&self.config, writer, on);
@@ -214,15 +218,34 @@ impl Publisher {
         has_long_keys(&self.config, keygroup)
     }
 
-    /// The key group with this index goes on behind `used` numbers of the last key set whose moment has come at `now`, in milliseconds
-    /// (`Sender::resume`). False, and nothing changes, where there is no such key group, or where a number would come twice: the key
-    /// set's token is lower than the one in use, or is that one with a greater number used.
+    /// The key group with this index goes on behind `used` numbers of the configuration's last key set whose moment has come at `now`,
+    /// in milliseconds (`Sender::resume`). False, and nothing changes, where there is no such key group, or where a number would come
+    /// twice: the key set's token is lower than the one in use, or is that one with a greater number used.
     pub fn resume(&mut self, keygroup: u8, now: u64, used: u32) -> bool
         requires { IsPublisher self.old }
         ensures publisher { IsPublisher self.new }
-        ensures behind { OnTrue result (IsBehind keygroup now used self.old self.new) }
+        ensures behind { OnTrue result (IsBehindConfigured keygroup now used self.old self.new) }
         ensures not { OnFalse result (self.new ≡ self.old) }
-        ensures refused { OnFalse result (MayNotResume keygroup now used self.old) }
+        ensures refused { OnFalse result (MayNotResumeConfigured keygroup now used self.old) }
+    {
+        let index = usize::from(keygroup);
+        let keygroups = self.config.keygroup.as_slice();
+        if index >= keygroups.len() {
+            return false;
+        }
+        let ring = ring_of(&keygroups[index]);
+        self.resume_with(keygroup, now, used, ring)
+    }
+
+    /// The same with the key sets of this ring, of the same key length, as `renew` gave them before a restart: `resume` goes on with
+    /// those of the configuration alone.
+    pub fn resume_with(&mut self, keygroup: u8, now: u64, used: u32, ring: Ring) -> bool
+        requires { IsPublisher self.old }
+        ensures publisher { IsPublisher self.new }
+        ensures behind { OnTrue result
+            (IsBehind keygroup now used (key_sets ring) self.old self.new) }
+        ensures not { OnFalse result (self.new ≡ self.old) }
+        ensures refused { OnFalse result (MayNotResume keygroup now used (key_sets ring) self.old) }
     {
         let index = usize::from(keygroup);
         let keygroups = self.config.keygroup.as_slice();
@@ -232,7 +255,7 @@ impl Publisher {
         if index >= keygroups.len() {
             return false;
         }
-        let sender = sender_at(&keygroups[index], now, used);
+        let sender = sender_with(&keygroups[index], ring, now, used);
         if !is_behind(sender.standing(), self.senders[index].standing()) {
             return false;
         }

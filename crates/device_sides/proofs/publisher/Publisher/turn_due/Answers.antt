@@ -4,7 +4,7 @@ use Rattle.std.specs.List.{Contains}
 use Rattle.device_sides.specs.Coming.{Does, IsPassed, IsQuiet}
 use Rattle.device_sides.specs.declared.looking.Looked.{Looked}
 use Rattle.device_sides.specs.declared.looking.Looked.TheVariants.{Held}
-use Rattle.device_sides.proofs.Looks.{all-done, made-some, none-so-far, passed-so, so-far-looked}
+use Rattle.device_sides.proofs.Looks.{all-done, looked-stay, made-some, none-so-far, passed-so, so-far-looked}
 use Rattle.device_sides.proofs.publisher.Publisher.turn_due.Goals as goal
 
 pub loop-g-init : goal.loop-g-init
@@ -39,14 +39,15 @@ loop-g-preserved c =
     let looked = c.look_at-looked.ensures.looked in
     let passed = passed-so c.look_at-looked.result c.loop-g.self c.look_at-looked.new.self looked.counts c.if-is_waiting.ensures.not in
     let low : c.loop-g.g < length old.sides.items = omega (arith, c.loop-g-test.true, c.len-g-end.ensures, old.sides.ok.0) in
+    let low_mid : c.loop-g.g < length c.loop-g.self.sides.items = omega (arith, low, invariant.count) in
     let far = so-far-looked c.args.now c.loop-g.g c.loop-g.held c.is_held.result c.either-held.result c.look_at-looked.result old c.loop-g.self c.look_at-looked.new.self low
-    (omega (arith, low, invariant.count)) c.either-held.ensures c.is_held.ensures passed invariant.config invariant.rows invariant.senders looked invariant.far in
+    low_mid c.either-held.ensures c.is_held.ensures passed invariant.config invariant.rows invariant.senders looked invariant.far in
     record {
       publisher = c.look_at-looked.ensures.publisher;
       none_waits = c.if-is_waiting.ensures.not;
       config = looked.config ∙ invariant.config;
       rows = looked.rows ∙ invariant.rows;
-      senders = looked.senders passed ∙ invariant.senders;
+      senders = looked-stay c.loop-g.g c.args.now c.look_at-looked.result c.loop-g.self c.look_at-looked.new.self low_mid passed looked ∙ invariant.senders;
       count = far.0 ∙ invariant.count;
       far = far.1;
     }
