@@ -219,14 +219,15 @@ does-there now senders old new did sides others config rows done =
 
 pub all-done : (now : ℕ) (held : Bool) (so : List Looked → Type 0) (old new : Publisher) (count : ℕ) → count ≡ length old.sides.items → new.config ≡ old.config
     → new.rows.items ≡ old.rows.items → new.senders.items ≡ old.senders.items
-    → (far : SoFar (Does old.config now old.rows.items old.senders.items) count held old.sides.items new.sides.items) → so far.did
+    → new.made ≤ new.handed → (far : SoFar (Does old.config now old.rows.items old.senders.items) count held old.sides.items new.sides.items) → so far.did
     → HaveAllDone now old.senders.items old.sides.items so new
-all-done now held so old new count all config rows senders far is = record {
+all-done now held so old new count all config rows senders none far is = record {
   did = far.did;
   count = far.count_is ∙ all;
   is_so = is;
   done = does-there now old.senders.items old new far.did old.sides.items new.sides.items config rows far.done;
   senders_are = senders;
+  none_waits = none;
 }
 
 made-some-by : (now place made : ℕ) (held : Bool) (old mid new : Publisher) → mid.config ≡ old.config → mid.rows.items ≡ old.rows.items → mid.senders.items ≡ old.senders.items

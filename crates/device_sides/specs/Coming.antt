@@ -102,13 +102,14 @@ IsPassed Idle = ⊤
 IsPassed Held = ⊤
 IsPassed (Made made) = made ≡ 0
 
--- all groups did what is so, and made no datagram
+-- all groups did what is so, and made no datagram, and none waits
 pub record HaveAllDone (now : ℕ) (senders : List SenderState) (sides : List Side) (so : List Looked → Type 0) (new : Publisher) : Type 0 where
   pub did : List Looked
   pub count : length did ≡ length sides
   pub is_so : so did
   pub done : AllDid (Does new.config now new.rows.items senders) did sides new.sides.items
   pub senders_are : new.senders.items ≡ senders
+  pub none_waits : new.made ≤ new.handed
 
 -- some groups made no datagram, and the one behind them has a turn, of which the datagrams that wait came, each under a number of its own; those behind it stay
 pub record HasMadeSome (now : ℕ) (senders : List SenderState) (sides : List Side) (new : Publisher) : Type 0 where

@@ -256,6 +256,12 @@ abbrev pub IsBehindConfigured : ℕ → ℕ → ℕ → Publisher → Publisher 
 IsBehindConfigured keygroup now used old new =
     HoldsAt (λ part. IsBehind keygroup now used (configured_sets part) old new) old.config.keygroup keygroup
 
+-- the last of these key sets whose moment has come at this moment is of an earlier token than this
+pub record IsEarlier (now token : ℕ) (sets : List KeySet) : Type 0 where
+  pub set : KeySet
+  pub is : current sets now ≡ Some set
+  pub earlier : set.token < token
+
 -- with the sender of this key group that goes on so, numbers that this one used would come again
 pub record WouldRepeat (part : KeyGroupPart) (sets : List KeySet) (now used : ℕ) (sender : SenderState) : Type 0 where
   pub resumed : SenderState
@@ -324,12 +330,14 @@ pub record IsSubscriber (subscriber : Subscriber) : Type 0 where
   pub good : IsGood subscriber.config
   pub groups_are : All (IsListening subscriber.config) subscriber.groups.items
 
--- a datagram came to the read group at this moment: its group stepped as by the plain reading, and so was what is left of the bytes; the others stayed
+-- a datagram came to the read group at this moment: its group stepped as by the plain reading, and so was what is left of the bytes; which of its readers are on, and
+-- the others, stayed
 pub record HasListened (group now : ℕ) (datagram left : List ℕ) (old new : Subscriber) (answer : Result Taken Refusal) : Type 0 where
   pub within : group < length old.groups.items
   pub step : HoldsAt (λ was. HoldsAt (λ is. reads.StepsBy old.config (Got now was.on.items datagram) was.group is.group) new.groups.items group)
       old.groups.items group
   pub answer_is : HoldsAt (λ was. reads.IsAnswer old.config was.group now was.on.items datagram answer) old.groups.items group
   pub bytes : HoldsAt (λ was. reads.AreLeft old.config was.group datagram left) old.groups.items group
+  pub rest : HoldsAt (λ was. HoldsAt (λ is. is ≡ record was { group = is.group }) new.groups.items group) old.groups.items group
   pub others : HoldsAt (λ is. new.groups.items ≡ slice_set old.groups.items group is) new.groups.items group
   pub config : new.config ≡ old.config

@@ -1,5 +1,5 @@
 //! Publishers.
-ghost use Rattle.std.specs.Prelude.{◌≡◌, ◌↔◌, ◌<◌, ◌≤◌, ◌+◌, ◌||◌, [], IsTrue, IfOk, IfErr, IfSome, IfNone, Ok, length, slice_index_or};
+ghost use Rattle.std.specs.Prelude.{◌≡◌, ◌↔◌, ◌<◌, ◌≤◌, ◌+◌, ◌⊎◌, ◌||◌, [], IsTrue, IfOk, IfErr, IfSome, IfNone, Ok, length, slice_index_or};
 ghost use Rattle.std.specs.Bool.{OnTrue, OnFalse};
 ghost use Rattle.std.specs.List.{AllZip};
 ghost use Rattle.group_keys.specs.Ring.{key_sets};
@@ -7,7 +7,7 @@ ghost use Rattle.ps_config.specs.Reading.{configuration, IsEnd};
 ghost use Rattle.writer_group.specs.Standing.{IsGood, IsReserved, datagrams_in};
 ghost use Rattle.device_sides.specs.Coming.{Comes, HasCome, IsWaiting};
 ghost use Rattle.device_sides.specs.Looking.{Counts, HasLooked};
-ghost use Rattle.device_sides.specs.Sides.{AreOpeningSides, HasField, HasLongKeys, HasNoField, HasNoWriter, HasRenewed, HasSet, HasSetStatus, HasSetWord, HasWriterSwitched, IsBehind, IsBehindConfigured, IsMisfit, IsNoLower, IsOpeningRow, IsOpeningSender, IsPublisher, IsStatusMisfit, IsWordMisfit, MayNotResume, MayNotResumeConfigured, StandsAt};
+ghost use Rattle.device_sides.specs.Sides.{AreOpeningSides, HasField, HasLongKeys, HasNoField, HasNoWriter, HasRenewed, HasSet, HasSetStatus, HasSetWord, HasWriterSwitched, IsBehind, IsBehindConfigured, IsEarlier, IsMisfit, IsNoLower, IsOpeningRow, IsOpeningSender, IsPublisher, IsStatusMisfit, IsWordMisfit, MayNotResume, MayNotResumeConfigured, StandsAt};
 
 use crate::asked::Next;
 use crate::looking::{Looked, is_held, look};
@@ -51,6 +51,7 @@ impl Publisher {
             AllZip IsOpeningSender publisher.config.keygroup publisher.senders.items) }
         ensures sides { IfOk result (λ publisher.
             AreOpeningSides publisher.config publisher.sides.items) }
+        ensures none_waits { IfOk result (λ publisher. publisher.made ≡ 0) }
         ensures refused { IfErr result (IsEnd (configuration text.now)) }
     {
         let config = read_config(alloc, text)?;
@@ -234,12 +235,30 @@ impl Publisher {
             return false;
         }
         let ring = ring_of(&keygroups[index]);
-        self.resume_with(keygroup, now, used, ring)
+        self.go_on(keygroup, now, used, ring)
     }
 
-    /// The same with the key sets of this ring, of the same key length, as `renew` gave them before a restart: `resume` goes on with
-    /// those of the configuration alone.
-    pub fn resume_with(&mut self, keygroup: u8, now: u64, used: u32, ring: Ring) -> bool
+    /// The same with the key sets of this ring, of the same key length, as `renew` gave them before a restart: behind the token and the
+    /// number that `standing` told last. False also where the last key set whose moment has come is of an earlier token: the numbers
+    /// that were used under it aren't known. Under a later token so many numbers are passed over.
+    pub fn resume_with(&mut self, keygroup: u8, now: u64, token: u32, used: u32, ring: Ring) -> bool
+        requires { IsPublisher self.old }
+        ensures publisher { IsPublisher self.new }
+        ensures behind { OnTrue result
+            (IsBehind keygroup now used (key_sets ring) self.old self.new) }
+        ensures no_earlier { OnTrue result (¬ IsEarlier now token (key_sets ring)) }
+        ensures not { OnFalse result (self.new ≡ self.old) }
+        ensures refused { OnFalse result
+            (IsEarlier now token (key_sets ring) ⊎ MayNotResume keygroup now used (key_sets ring) self.old) }
+    {
+        if ring.at(now).token < token {
+            return false;
+        }
+        self.go_on(keygroup, now, used, ring)
+    }
+
+    /// The sender of the key group goes on behind `used` numbers of this ring, unless a number would come twice.
+    fn go_on(&mut self, keygroup: u8, now: u64, used: u32, ring: Ring) -> bool
         requires { IsPublisher self.old }
         ensures publisher { IsPublisher self.new }
         ensures behind { OnTrue result
@@ -338,6 +357,7 @@ fn publisher_of(alloc: Global, config: Config) -> Result<Publisher, NoMemory>
     ensures senders { IfOk result (λ publisher.
         AllZip IsOpeningSender config.keygroup publisher.senders.items) }
     ensures sides { IfOk result (λ publisher. AreOpeningSides config publisher.sides.items) }
+    ensures none_waits { IfOk result (λ publisher. publisher.made ≡ 0) }
 {
     let rows = rows_of(alloc, config.dataset.as_slice())?;
     let senders = senders_of(alloc, config.keygroup.as_slice())?;

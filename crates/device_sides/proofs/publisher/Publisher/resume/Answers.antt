@@ -14,13 +14,13 @@ pub returns-clause-behind : goal.returns-clause-behind
 returns-clause-behind c =
     let keygroup = c.args.keygroup in
     let old = c.args.self.now in
-    let new = c.resume_with.new.self in
+    let new = c.go_on.new.self in
     let keygroups = c.as_slice-keygroups.result.now in
     let low : c.from-index.result < length keygroups = omega (arith, c.if-index-keygroups.false) in
-    OnTrue_from c.resume_with.result (IsBehindConfigured keygroup c.args.now c.args.used old new) (λ yes.
+    OnTrue_from c.go_on.result (IsBehindConfigured keygroup c.args.now c.args.used old new) (λ yes.
     holds-at (λ (part : KeyGroupPart). IsBehind keygroup c.args.now c.args.used (configured_sets part) old new) keygroups old.config.keygroup c.from-index.result keygroup
     c.index-keygroups-index.result c.as_slice-keygroups.ensures c.from-index.ensures low c.index-keygroups-index.is
-    (subst (λ (sets : List KeySet). IsBehind keygroup c.args.now c.args.used sets old new) c.ring_of-ring.ensures.keys (OnTrue_at yes c.resume_with.ensures.behind)))
+    (subst (λ (sets : List KeySet). IsBehind keygroup c.args.now c.args.used sets old new) c.ring_of-ring.ensures.keys (OnTrue_at yes c.go_on.ensures.behind)))
 
 pub returns-clause-refused : goal.returns-clause-refused
 returns-clause-refused c =
@@ -28,7 +28,7 @@ returns-clause-refused c =
     let old = c.args.self.now in
     let keygroups = c.as_slice-keygroups.result.now in
     let low : c.from-index.result < length keygroups = omega (arith, c.if-index-keygroups.false) in
-    OnFalse_from c.resume_with.result (MayNotResumeConfigured keygroup c.args.now c.args.used old) (λ no.
+    OnFalse_from c.go_on.result (MayNotResumeConfigured keygroup c.args.now c.args.used old) (λ no.
     holds-at (λ (part : KeyGroupPart). MayNotResume keygroup c.args.now c.args.used (configured_sets part) old) keygroups old.config.keygroup c.from-index.result keygroup
     c.index-keygroups-index.result c.as_slice-keygroups.ensures c.from-index.ensures low c.index-keygroups-index.is
-    (subst (λ (sets : List KeySet). MayNotResume keygroup c.args.now c.args.used sets old) c.ring_of-ring.ensures.keys (OnFalse_at no c.resume_with.ensures.refused)))
+    (subst (λ (sets : List KeySet). MayNotResume keygroup c.args.now c.args.used sets old) c.ring_of-ring.ensures.keys (OnFalse_at no c.go_on.ensures.refused)))

@@ -57,7 +57,7 @@ returns-then-held-clause-came c =
     let invariant = c.loop-g.invariant in
     let old = c.args.self.now in
     let all : c.loop-g.g ≡ length old.sides.items = omega (arith, c.loop-g-test.false, c.loop-g.auto.g-end, c.len-g-end.ensures, old.sides.ok.0) in
-    all-done c.args.now c.loop-g.held (λ (did : List Looked). All IsPassed did × Contains did Held) old c.loop-g.self c.loop-g.g all invariant.config invariant.rows invariant.senders invariant.far
+    all-done c.args.now c.loop-g.held (λ (did : List Looked). All IsPassed did × Contains did Held) old c.loop-g.self c.loop-g.g all invariant.config invariant.rows invariant.senders invariant.none_waits invariant.far
     (invariant.far.passed, invariant.far.held_is c.if-held.true)
 
 pub returns-else-held-clause-came : goal.returns-else-held-clause-came
@@ -65,5 +65,5 @@ returns-else-held-clause-came c =
     let invariant = c.loop-g.invariant in
     let old = c.args.self.now in
     let all : c.loop-g.g ≡ length old.sides.items = omega (arith, c.loop-g-test.false, c.loop-g.auto.g-end, c.len-g-end.ensures, old.sides.ok.0) in
-    all-done c.args.now c.loop-g.held (λ (did : List Looked). All IsQuiet did) old c.loop-g.self c.loop-g.g all invariant.config invariant.rows invariant.senders invariant.far
+    all-done c.args.now c.loop-g.held (λ (did : List Looked). All IsQuiet did) old c.loop-g.self c.loop-g.g all invariant.config invariant.rows invariant.senders invariant.none_waits invariant.far
     (invariant.far.quiet c.if-held.false)
