@@ -111,6 +111,8 @@ uint32_t uapubsub_publisher_open(struct uap_handle *handle, const uint8_t *text,
 uint32_t uapubsub_publisher_next(struct uap_handle *handle, uint64_t now_ms, uint8_t *buffer, size_t room, size_t *length);
 uint32_t uapubsub_publisher_standing(struct uap_handle *handle, uint8_t keygroup, uint32_t *token, uint32_t *used);
 uint32_t uapubsub_publisher_resume(struct uap_handle *handle, uint8_t keygroup, uint64_t now_ms, uint32_t used);
+uint32_t uapubsub_publisher_resume_with(struct uap_handle *handle, uint8_t keygroup, uint64_t now_ms, uint32_t used, const struct uap_key_set *sets,
+                                        size_t count);
 uint32_t uapubsub_publisher_renew(struct uap_handle *handle, uint8_t keygroup, const struct uap_key_set *sets, size_t count);
 uint32_t uapubsub_writer_enable(struct uap_handle *handle, uint8_t group, uint8_t writer);
 uint32_t uapubsub_writer_disable(struct uap_handle *handle, uint8_t group, uint8_t writer);
@@ -299,10 +301,18 @@ static inline uint32_t uap_publisher_standing(struct uap_handle *handle, uint8_t
 }
 
 /* A key group goes on behind `used` numbers of the configuration's last key set whose moment has come: what a device calls after a
-   restart. A ring that uap_publisher_renew gave is dropped: its keys have to stand in the configuration. */
+ * restart, where the key in use stands in the configuration. A ring that uap_publisher_renew gave is dropped. */
 static inline uint32_t uap_publisher_resume(struct uap_handle *handle, uint8_t keygroup, uint64_t now_ms, uint32_t used) {
     if (handle == NULL) return UAP_NULL;
     return uapubsub_publisher_resume(handle, keygroup, now_ms, used);
+}
+
+/* The same with other key sets, as `uap_publisher_renew` has them: what a device calls after a restart, before its first datagram, with the
+ * ring that it was last renewed with, and stored beside token and number. */
+static inline uint32_t uap_publisher_resume_with(struct uap_handle *handle, uint8_t keygroup, uint64_t now_ms, uint32_t used,
+                                                 const struct uap_key_set *sets, size_t count) {
+    if (handle == NULL || sets == NULL) return UAP_NULL;
+    return uapubsub_publisher_resume_with(handle, keygroup, now_ms, used, sets, count);
 }
 
 /* A key group goes on with other key sets, at most 16, in the order of their tokens and moments, the first from 0. */

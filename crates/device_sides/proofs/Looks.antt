@@ -11,12 +11,13 @@ use Rattle.writer_group.specs.Standing.{IsReserved, datagrams_in}
 use Rattle.writer_group.specs.declared.datagrams.Datagrams.{Datagrams}
 use Rattle.writer_group.specs.declared.sampled.Sampled.{Sampled}
 use Rattle.device_sides.specs.Coming.{AllDid, Did, Does, HasItsTurn, HasMadeSome, HaveAllDone, IsPassed, IsQuiet}
-use Rattle.device_sides.specs.Looking.{Counts, HasLooked, LeavesOut, is_held}
-use Rattle.device_sides.specs.Sides.{IsPublisher, IsSide}
+use Rattle.device_sides.specs.Looking.{Counts, HasLooked, LeavesOut, LeavesSenders, is_held}
+use Rattle.device_sides.specs.Sides.{HasNumbered, IsPublisher, IsSide}
 use Rattle.device_sides.specs.declared.looking.Looked.{Looked}
 use Rattle.device_sides.specs.declared.looking.Looked.TheVariants.{Held, Idle, Made}
 use Rattle.device_sides.specs.declared.publisher.Publisher.{Publisher}
 use Rattle.device_sides.specs.declared.side.Side.{Side}
+use Rattle.device_sides.proofs.Sending.{numbered-none}
 
 -- ---- one look
 
@@ -68,8 +69,8 @@ looked-publisher looked old mid new is but counted counts leaves senders count s
 pub looked-so : (place now : ℕ) (looked : Looked) (old mid new : Publisher) (was is : Side) (rows : List Sampled) (senders left : List SenderState)
     → IsBut old mid → IsCounted mid new → Counts looked mid new → place < length old.sides.items → was ≡ get_or old.sides.items place was
     → rows ≡ old.rows.items → senders ≡ old.senders.items → mid.sides.items ≡ set old.sides.items place is → mid.senders.items ≡ left
-    → Did old.config now rows senders mid.out looked was is → (IsPassed looked → left ≡ senders) → HasLooked place now looked old new
-looked-so place now looked old mid new was is rows senders left but counted counts low was_is rows_are senders_are sides_are left_are did unsent =
+    → Did old.config now rows senders mid.out looked was is → LeavesSenders old.config was.index looked senders left → HasLooked place now looked old new
+looked-so place now looked old mid new was is rows senders left but counted counts low was_is rows_are senders_are sides_are left_are did numbers =
     let all = but-counted old mid new but counted in
     let sides : new.sides.items ≡ set old.sides.items place is = ap (λ (p : Publisher). p.sides.items) all ∙ sides_are in
     let out : new.out ≡ mid.out = ap (λ (p : Publisher). p.out) all in
@@ -84,9 +85,29 @@ looked-so place now looked old mid new was is rows senders left but counted coun
           (subst (λ (s : List SenderState). Did old.config now old.rows.items s mid.out looked was is) senders_are
           (subst (λ (r : List Sampled). Did old.config now r senders mid.out looked was is) rows_are did))));
       others = λ e. sides ∙ ap (λ (s : Side). set old.sides.items place s) (sym (here e));
-      senders = λ passed. ap (λ (p : Publisher). p.senders.items) all ∙ left_are ∙ unsent passed ∙ senders_are;
+      senders = λ d.
+          subst (λ (s : Side). LeavesSenders old.config s.index looked old.senders.items new.senders.items) (get_or_read old.sides.items place was low was_is d)
+          (subst (λ (l : List SenderState). LeavesSenders old.config was.index looked old.senders.items l) (sym (ap (λ (p : Publisher). p.senders.items) all ∙ left_are))
+          (subst (λ (l : List SenderState). LeavesSenders old.config was.index looked l left) senders_are numbers));
       counts = counts-on looked old mid new but counts;
     }
+
+-- an element of a list that isn't empty
+some-side : (sides : List Side) (place : ℕ) → place < length sides → Side
+some-side [] place low = absurd (omega (arith, low))
+some-side (side ∷ sides) place low = side
+
+-- a look that made no datagram leaves the senders
+passed-stay : (looked : Looked) (config : Config) (index : ℕ) (old new : List SenderState) → IsPassed looked → LeavesSenders config index looked old new → new ≡ old
+passed-stay Idle config index old new passed leaves = leaves
+passed-stay Held config index old new passed leaves = leaves
+passed-stay (Made made) config index old new passed leaves = numbered-none config index old new (subst (λ (n : ℕ). HasNumbered config index n old new) passed leaves)
+
+pub looked-stay : (place now : ℕ) (looked : Looked) (old new : Publisher) → place < length old.sides.items → IsPassed looked → HasLooked place now looked old new
+    → new.senders.items ≡ old.senders.items
+looked-stay place now looked old new low passed has =
+    let d = some-side old.sides.items place low in
+    passed-stay looked old.config (get_or old.sides.items place d).index old.senders.items new.senders.items passed (has.senders d)
 
 -- ---- all looks
 
@@ -179,10 +200,6 @@ pub so-far-looked : (now place : ℕ) (held more next : Bool) (looked : Looked) 
     → (length new.sides.items ≡ length mid.sides.items) × SoFar (Does old.config now old.rows.items old.senders.items) (place + 1) next old.sides.items new.sides.items
 so-far-looked now place held more next looked old mid new low low_mid either tells passed config rows senders has far = by_some (some-side mid.sides.items place low_mid)
   where
-    some-side : (sides : List Side) (at : ℕ) → at < length sides → Side
-    some-side [] at there = absurd (omega (arith, there))
-    some-side (side ∷ sides) at there = side
-
     by_some : Side → (length new.sides.items ≡ length mid.sides.items) × SoFar (Does old.config now old.rows.items old.senders.items) (place + 1) next old.sides.items new.sides.items
     by_some d =
         let is = get_or new.sides.items place d in
@@ -202,14 +219,15 @@ does-there now senders old new did sides others config rows done =
 
 pub all-done : (now : ℕ) (held : Bool) (so : List Looked → Type 0) (old new : Publisher) (count : ℕ) → count ≡ length old.sides.items → new.config ≡ old.config
     → new.rows.items ≡ old.rows.items → new.senders.items ≡ old.senders.items
-    → (far : SoFar (Does old.config now old.rows.items old.senders.items) count held old.sides.items new.sides.items) → so far.did
+    → new.made ≤ new.handed → (far : SoFar (Does old.config now old.rows.items old.senders.items) count held old.sides.items new.sides.items) → so far.did
     → HaveAllDone now old.senders.items old.sides.items so new
-all-done now held so old new count all config rows senders far is = record {
+all-done now held so old new count all config rows senders none far is = record {
   did = far.did;
   count = far.count_is ∙ all;
   is_so = is;
   done = does-there now old.senders.items old new far.did old.sides.items new.sides.items config rows far.done;
   senders_are = senders;
+  none_waits = none;
 }
 
 made-some-by : (now place made : ℕ) (held : Bool) (old mid new : Publisher) → mid.config ≡ old.config → mid.rows.items ≡ old.rows.items → mid.senders.items ≡ old.senders.items
@@ -231,6 +249,11 @@ made-some-by now place made held old mid new config rows senders far looked wait
           (subst (λ (n : ℕ). HasItsTurn mid.config now mid.rows.items mid.senders.items new.out n (get_or mid.sides.items place d) (get_or new.sides.items place e)) (sym looked.counts.0)
           (looked.did d e)))));
       others = subst (λ (n : ℕ). HoldsAt (λ (is : Side). new.sides.items ≡ set mid.sides.items n is) new.sides.items n) (sym far.count_is) looked.others;
+      numbers = subst (λ (n : ℕ). HoldsAt (λ (was : Side). HasNumbered new.config was.index new.made old.senders.items new.senders.items) mid.sides.items n) (sym far.count_is)
+          (λ d.
+          subst (λ (k : Config). HasNumbered k (get_or mid.sides.items place d).index new.made old.senders.items new.senders.items) (sym looked.config)
+          (subst (λ (s : List SenderState). HasNumbered mid.config (get_or mid.sides.items place d).index new.made s new.senders.items) senders
+          (subst (λ (n : ℕ). HasNumbered mid.config (get_or mid.sides.items place d).index n mid.senders.items new.senders.items) (sym looked.counts.0) (looked.senders d))));
       some = omega (arith, waits);
       handed = looked.counts.1;
     }

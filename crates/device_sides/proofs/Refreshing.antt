@@ -1,12 +1,11 @@
 -- Groups whose writers are refreshed.
-use Rattle.std.proofs.Common.{◌≡◌, refl, sym, ap, ◌∙◌, subst, arith, ℕ, zero, suc, ◌+◌, ◌<◌, ◌≤◌, ◌≢◌, ◌⊎◌, inl, inr, true, false, Bool, List, [], length, get_or, replicate, set}
-use Rattle.std.specs.Prelude.{Option, Some, None, IsTrue, ◌↔◌, ◌==◌, slice_get}
+use Rattle.std.proofs.Common.{◌≡◌, refl, sym, ap, ◌∙◌, subst, arith, ℕ, zero, suc, ◌+◌, ◌<◌, ◌≤◌, ◌≢◌, ◌⊎◌, inl, inr, true, false, Bool, List, length, get_or, replicate, set}
+use Rattle.std.specs.Prelude.{Option, Some, None, IsTrue, ◌↔◌, ◌==◌}
 use Rattle.std.proofs.lemmas.Bool.{cases_lt, false≢true}
 use Rattle.std.proofs.lemmas.Bool.Decides.{eqb_tells}
 use Rattle.std.proofs.lemmas.List.{get_or-set_other, get_or-set_same, get_or_read}
 use Rattle.std.proofs.lemmas.Option.{none-some, same_Some, slice_get-get_or, slice_get_past}
-use Rattle.message_guard.specs.Senders.{SenderState, turned}
-use Rattle.reader_group.specs.Settings.{no_keys}
+use Rattle.message_guard.specs.Senders.{SenderState}
 use Rattle.ps_config.specs.declared.parts.Config.{Config}
 use Rattle.writer_group.specs.Parts.{group_at}
 use Rattle.writer_group.specs.Standing.{IsGroup, IsRefreshed}
@@ -15,6 +14,7 @@ use Rattle.device_sides.specs.Coming.{AreRefreshed, HasNewToken, IsRefreshedFor,
 use Rattle.device_sides.specs.Raising.{AreRaised, IsRefreshedIf, is_raised, raised_in}
 use Rattle.device_sides.specs.Sides.{nth_sender, sender_for}
 use Rattle.device_sides.specs.declared.side.Side.{Side}
+use Rattle.device_sides.proofs.Sending.{no_sender}
 
 -- one writer more is refreshed
 pub refreshed-more : (count : ℕ) (old mid : Side) (group : Group) → IsRefreshed count mid.group group → AreRefreshed count old mid
@@ -51,9 +51,6 @@ raised-more now senders raised k x is room low at tells each j d below there = b
     by_case (inr other) =
         subst (λ (b : Bool). IsTrue b ↔ HasNewToken now (get_or senders j d)) (sym (get_or-set_other raised k j is false (λ e. other.1 (sym e))))
         (each j d (omega (arith, below, other.1)) there)
-
-no_sender : SenderState
-no_sender = record { sets = []; keys = no_keys; random = []; first_block = 0; used = 0; fronted = None }
 
 module _ (config : Config) (now : ℕ) (senders : List SenderState) (was is : Side) where
   -- without a sender a group stays

@@ -16,7 +16,7 @@ use Rattle.device_sides.specs.declared.looking.Looked.{Looked}
 use Rattle.device_sides.specs.declared.looking.Looked.TheVariants.{Held, Idle, Made}
 use Rattle.device_sides.specs.declared.publisher.Publisher.{Publisher}
 use Rattle.device_sides.specs.declared.side.Side.{Side}
-use Rattle.device_sides.specs.Sides.{HasTurned, MayNotTurn, sender_for}
+use Rattle.device_sides.specs.Sides.{HasNumbered, HasTurned, MayNotTurn, sender_for}
 
 -- ---- tokens
 
@@ -102,15 +102,16 @@ IsPassed Idle = ⊤
 IsPassed Held = ⊤
 IsPassed (Made made) = made ≡ 0
 
--- all groups did what is so, and made no datagram
+-- all groups did what is so, and made no datagram, and none waits
 pub record HaveAllDone (now : ℕ) (senders : List SenderState) (sides : List Side) (so : List Looked → Type 0) (new : Publisher) : Type 0 where
   pub did : List Looked
   pub count : length did ≡ length sides
   pub is_so : so did
   pub done : AllDid (Does new.config now new.rows.items senders) did sides new.sides.items
   pub senders_are : new.senders.items ≡ senders
+  pub none_waits : new.made ≤ new.handed
 
--- some groups made no datagram, and the one behind them has a turn, of which the datagrams that wait came; those behind it stay
+-- some groups made no datagram, and the one behind them has a turn, of which the datagrams that wait came, each under a number of its own; those behind it stay
 pub record HasMadeSome (now : ℕ) (senders : List SenderState) (sides : List Side) (new : Publisher) : Type 0 where
   pub did : List Looked
   pub passed : All IsPassed did
@@ -119,6 +120,7 @@ pub record HasMadeSome (now : ℕ) (senders : List SenderState) (sides : List Si
   pub turn : HoldsAt (λ was. HoldsAt (HasItsTurn new.config now new.rows.items senders new.out new.made was)
       new.sides.items (length did)) mid (length did)
   pub others : HoldsAt (λ is. new.sides.items ≡ slice_set mid (length did) is) new.sides.items (length did)
+  pub numbers : HoldsAt (λ was. HasNumbered new.config was.index new.made senders new.senders.items) mid (length did)
   pub some : 0 < new.made
   pub handed : new.handed ≡ 0
 

@@ -1,12 +1,15 @@
 -- What one look at a group leaves of its publisher.
-use Rattle.std.specs.Prelude.{◌≡◌, ℕ, Bool, true, false, length, slice_set}
+use Rattle.std.specs.Prelude.{◌≡◌, ℕ, Bool, true, false, List, length, slice_set}
 use Rattle.std.specs.List.{HoldsAt}
+use Rattle.message_guard.specs.Senders.{SenderState}
+use Rattle.ps_config.specs.declared.parts.Config.{Config}
 use Rattle.writer_group.specs.Standing.{datagrams_in}
 use Rattle.writer_group.specs.declared.datagrams.Datagrams.{Datagrams}
 use Rattle.device_sides.specs.declared.looking.Looked.{Looked}
 use Rattle.device_sides.specs.declared.looking.Looked.TheVariants.{Held, Idle, Made}
 use Rattle.device_sides.specs.declared.publisher.Publisher.{Publisher}
-use Rattle.device_sides.specs.Coming.{Did, IsPassed}
+use Rattle.device_sides.specs.Coming.{Did}
+use Rattle.device_sides.specs.Sides.{HasNumbered}
 
 abbrev pub is_held : Looked → Bool
 is_held Idle = false
@@ -18,6 +21,12 @@ abbrev pub LeavesOut : Looked → Datagrams → Datagrams → Type 0
 LeavesOut Idle old new = new ≡ old
 LeavesOut Held old new = new ≡ old
 LeavesOut (Made made) old new = made ≡ length (datagrams_in new)
+
+-- each datagram of a turn of the group with this index took a number of its sender, and else the senders stay
+abbrev pub LeavesSenders : Config → ℕ → Looked → List SenderState → List SenderState → Type 0
+LeavesSenders config index Idle old new = new ≡ old
+LeavesSenders config index Held old new = new ≡ old
+LeavesSenders config index (Made made) old new = HasNumbered config index made old new
 
 -- the datagrams of a turn are counted, and none of them was handed over
 abbrev pub Counts : Looked → Publisher → Publisher → Type 0
@@ -31,5 +40,5 @@ pub record HasLooked (place now : ℕ) (looked : Looked) (old new : Publisher) :
   pub rows : new.rows.items ≡ old.rows.items
   pub did : HoldsAt (λ was. HoldsAt (Did old.config now old.rows.items old.senders.items new.out looked was) new.sides.items place) old.sides.items place
   pub others : HoldsAt (λ is. new.sides.items ≡ slice_set old.sides.items place is) new.sides.items place
-  pub senders : IsPassed looked → new.senders.items ≡ old.senders.items
+  pub senders : HoldsAt (λ was. LeavesSenders old.config was.index looked old.senders.items new.senders.items) old.sides.items place
   pub counts : Counts looked old new

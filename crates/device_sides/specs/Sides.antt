@@ -16,6 +16,7 @@ use Rattle.message_guard.specs.Senders.{SenderState, IsSender, renewed}
 use Rattle.ps_config.specs.declared.parts.Config.{Config}
 use Rattle.ps_config.specs.declared.parts.KeyGroupPart.{KeyGroupPart}
 use Rattle.ps_config.specs.Configs.{is_long}
+use Rattle.ps_config.specs.Headers.{mode_of}
 use Rattle.ps_config.specs.Rings.{key_set}
 use Rattle.reader_group.specs.Groups as reads
 use Rattle.reader_group.specs.Plain.{Got}
@@ -25,6 +26,7 @@ use Rattle.writer_group.specs.declared.datagrams.Datagrams.{Datagrams}
 use Rattle.writer_group.specs.declared.group.Group.{Group}
 use Rattle.writer_group.specs.declared.sampled.Sampled.{Sampled}
 use Rattle.writer_group.specs.Parts.{group_at}
+use Rattle.writer_group.specs.Sealing.{advanced_by}
 use Rattle.writer_group.specs.Standing.{AreRowsOf, HasTickedAt, IsFreshAt, IsGood, IsRefreshed, IsReserved, KeepsTo, MayTickAt, datagrams_in, index_of, input_of, writer_count}
 use Rattle.device_sides.specs.declared.listening.Listening.{Listening}
 use Rattle.device_sides.specs.declared.publisher.Publisher.{Publisher}
@@ -68,6 +70,19 @@ pub record HasTurned (config : Config) (moment : ℕ) (rows : List Sampled) (sen
 -- the group may have no turn with these rows and this sender
 abbrev pub MayNotTurn : Config → List Sampled → Option SenderState → Side → Type 0
 MayNotTurn config rows sender side = ¬ MayTickAt config config.dataset rows side.on.items sender side.group
+
+-- the sender with a front given for each of so many datagrams of the group with this index
+abbrev pub numbered : Config → ℕ → ℕ → SenderState → SenderState
+numbered config index made sender = advanced_by (mode_of (group_at config index).security) sender made
+
+-- the sender at the place became what this makes of it, and the others stay; without a place all stay
+abbrev pub IsBecome : Option ℕ → (SenderState → SenderState) → List SenderState → List SenderState → Type 0
+IsBecome None change old new = new ≡ old
+IsBecome (Some k) change old new = HoldsAt (λ sender. new ≡ slice_set old k (change sender)) old k
+
+-- the group with this index made so many datagrams: each took the next number of the sender of its key group, if it is secured, and the other senders stay
+abbrev pub HasNumbered : Config → ℕ → ℕ → List SenderState → List SenderState → Type 0
+HasNumbered config index made old new = IsBecome (group_at config index).keygroup (numbered config index made) old new
 
 -- the group has a writer with this index
 pub record HasWriter (writer : ℕ) (side : Side) : Type 0 where
@@ -189,6 +204,11 @@ pub record HasWriterSwitched (group writer : ℕ) (on : Bool) (old new : Publish
   pub others : HoldsAt (λ is. new.sides.items ≡ slice_set old.sides.items group is) new.sides.items group
   pub rest : new ≡ record old { sides = new.sides }
 
+-- where there is a group with this index, it has no writer with this index
+abbrev pub HasNoWriter : ℕ → ℕ → Publisher → Type 0
+HasNoWriter group writer publisher =
+    group < length publisher.sides.items → HoldsAt (λ side. ¬ HasWriter writer side) publisher.sides.items group
+
 -- the sender of the key group is at this token, with this number used last
 pub record StandsAt (keygroup : ℕ) (publisher : Publisher) (standing : ℕ × ℕ) : Type 0 where
   pub within : keygroup < length publisher.senders.items
@@ -204,10 +224,14 @@ pub record HasRenewed (keygroup : ℕ) (sets : List KeySet) (old new : Publisher
 abbrev pub IsNoLower : ℕ × ℕ → ℕ × ℕ → Type 0
 IsNoLower old new = (old.0 < new.0) ⊎ ((old.0 ≡ new.0) × (old.1 ≤ new.1))
 
--- the sender of this key group that goes on behind so many numbers of the last key set whose moment has come at this moment
-pub record IsResumed (part : KeyGroupPart) (now used : ℕ) (sender : SenderState) : Type 0 where
-  pub sets : sender.sets ≡ map key_set part.key
-  pub keys : option_map keys_in (current (map key_set part.key) now) ≡ Some sender.keys
+-- the key sets that the configuration gives the key group
+abbrev pub configured_sets : KeyGroupPart → List KeySet
+configured_sets part = map key_set part.key
+
+-- the sender of this key group that goes on behind so many numbers of the last of these key sets whose moment has come at this moment
+pub record IsResumed (part : KeyGroupPart) (sets : List KeySet) (now used : ℕ) (sender : SenderState) : Type 0 where
+  pub sets_are : sender.sets ≡ sets
+  pub keys : option_map keys_in (current sets now) ≡ Some sender.keys
   pub random : sender.random ≡ part.random
   pub first_block : sender.first_block ≡ part.first_block
   pub used_is : sender.used ≡ used
@@ -215,29 +239,45 @@ pub record IsResumed (part : KeyGroupPart) (now used : ℕ) (sender : SenderStat
 
 -- the first sender of the key group: it goes on behind the numbers that the configuration tells of, with the key set of moment 0
 abbrev pub IsOpeningSender : KeyGroupPart → SenderState → Type 0
-IsOpeningSender part sender = IsResumed part 0 part.used sender
+IsOpeningSender part sender = IsResumed part (configured_sets part) 0 part.used sender
 
--- the sender of the key group goes on so, no number comes twice, and nothing else changed
-pub record IsBehind (keygroup now used : ℕ) (old new : Publisher) : Type 0 where
+-- the sender of the key group goes on so with these key sets, no number comes twice, and nothing else changed
+pub record IsBehind (keygroup now used : ℕ) (sets : List KeySet) (old new : Publisher) : Type 0 where
   pub within : keygroup < length old.senders.items
   pub there : keygroup < length old.config.keygroup
-  pub is_resumed : HoldsAt (λ part. HoldsAt (IsResumed part now used) new.senders.items keygroup) old.config.keygroup keygroup
+  pub is_resumed : HoldsAt (λ part. HoldsAt (IsResumed part sets now used) new.senders.items keygroup) old.config.keygroup keygroup
   pub no_lower : HoldsAt (λ was. HoldsAt (λ is. IsNoLower (was.keys.token, was.used) (is.keys.token, is.used))
       new.senders.items keygroup) old.senders.items keygroup
   pub others : HoldsAt (λ is. new.senders.items ≡ slice_set old.senders.items keygroup is) new.senders.items keygroup
   pub rest : new ≡ record old { senders = new.senders }
 
+-- the same with the key sets of the configuration
+abbrev pub IsBehindConfigured : ℕ → ℕ → ℕ → Publisher → Publisher → Type 0
+IsBehindConfigured keygroup now used old new =
+    HoldsAt (λ part. IsBehind keygroup now used (configured_sets part) old new) old.config.keygroup keygroup
+
+-- the last of these key sets whose moment has come at this moment is of an earlier token than this
+pub record IsEarlier (now token : ℕ) (sets : List KeySet) : Type 0 where
+  pub set : KeySet
+  pub is : current sets now ≡ Some set
+  pub earlier : set.token < token
+
 -- with the sender of this key group that goes on so, numbers that this one used would come again
-pub record WouldRepeat (part : KeyGroupPart) (now used : ℕ) (sender : SenderState) : Type 0 where
+pub record WouldRepeat (part : KeyGroupPart) (sets : List KeySet) (now used : ℕ) (sender : SenderState) : Type 0 where
   pub resumed : SenderState
-  pub is : IsResumed part now used resumed
+  pub is : IsResumed part sets now used resumed
   pub repeats : ¬ IsNoLower (sender.keys.token, sender.used) (resumed.keys.token, resumed.used)
 
--- where there is a key group with this index, numbers of its sender would come again
-abbrev pub MayNotResume : ℕ → ℕ → ℕ → Publisher → Type 0
-MayNotResume keygroup now used publisher =
+-- where there is a key group with this index, numbers of its sender would come again with these key sets
+abbrev pub MayNotResume : ℕ → ℕ → ℕ → List KeySet → Publisher → Type 0
+MayNotResume keygroup now used sets publisher =
     keygroup < length publisher.senders.items → keygroup < length publisher.config.keygroup
-    → HoldsAt (λ part. HoldsAt (WouldRepeat part now used) publisher.senders.items keygroup) publisher.config.keygroup keygroup
+    → HoldsAt (λ part. HoldsAt (WouldRepeat part sets now used) publisher.senders.items keygroup) publisher.config.keygroup keygroup
+
+-- the same with the key sets of the configuration
+abbrev pub MayNotResumeConfigured : ℕ → ℕ → ℕ → Publisher → Type 0
+MayNotResumeConfigured keygroup now used publisher =
+    HoldsAt (λ part. MayNotResume keygroup now used (configured_sets part) publisher) publisher.config.keygroup keygroup
 
 -- ---- the lengths of keys
 
@@ -290,12 +330,14 @@ pub record IsSubscriber (subscriber : Subscriber) : Type 0 where
   pub good : IsGood subscriber.config
   pub groups_are : All (IsListening subscriber.config) subscriber.groups.items
 
--- a datagram came to the read group at this moment: its group stepped as by the plain reading, and so was what is left of the bytes; the others stayed
+-- a datagram came to the read group at this moment: its group stepped as by the plain reading, and so was what is left of the bytes; which of its readers are on, and
+-- the others, stayed
 pub record HasListened (group now : ℕ) (datagram left : List ℕ) (old new : Subscriber) (answer : Result Taken Refusal) : Type 0 where
   pub within : group < length old.groups.items
   pub step : HoldsAt (λ was. HoldsAt (λ is. reads.StepsBy old.config (Got now was.on.items datagram) was.group is.group) new.groups.items group)
       old.groups.items group
   pub answer_is : HoldsAt (λ was. reads.IsAnswer old.config was.group now was.on.items datagram answer) old.groups.items group
   pub bytes : HoldsAt (λ was. reads.AreLeft old.config was.group datagram left) old.groups.items group
+  pub rest : HoldsAt (λ was. HoldsAt (λ is. is ≡ record was { group = is.group }) new.groups.items group) old.groups.items group
   pub others : HoldsAt (λ is. new.groups.items ≡ slice_set old.groups.items group is) new.groups.items group
   pub config : new.config ≡ old.config

@@ -54,6 +54,7 @@ impl Listening {
             self.old.group self.new.group }
         ensures answer { IsAnswer config.now self.old.group now self.old.on.items bytes.old result }
         ensures bytes { AreLeft config.now self.old.group bytes.old bytes.new }
+        ensures rest { self.new ≡ record self.old { group = self.new.group } }
     {
         self.group.datagram(config, now, &self.on, bytes)
     }

@@ -2,9 +2,9 @@
 ghost use Rattle.std.specs.Prelude.{◌≡◌, All};
 ghost use Rattle.message_guard.specs.Senders.{IsSender};
 ghost use Rattle.writer_group.specs.Standing.{AreRowsOf, IsGood, IsReserved};
-ghost use Rattle.device_sides.specs.Coming.{Did, IsPassed};
+ghost use Rattle.device_sides.specs.Coming.{Did};
 ghost use Rattle.device_sides.specs.Sides.{IsSide};
-ghost use Rattle.device_sides.specs.Looking.{LeavesOut, is_held};
+ghost use Rattle.device_sides.specs.Looking.{LeavesOut, LeavesSenders, is_held};
 
 use crate::side::Side;
 use message_guard::Sender;
@@ -41,7 +41,7 @@ pub fn look(
     ensures senders { All IsSender senders.new }
     ensures reserved { IsReserved out.new }
     ensures did { Did config.now now rows.now senders.old out.new result side.old side.new }
-    ensures unsent { IsPassed result → senders.new ≡ senders.old }
+    ensures numbers { LeavesSenders config.now side.old.index result senders.old senders.new }
     ensures out { LeavesOut result out.old out.new }
 {
     if !side.is_due(now) {

@@ -1,6 +1,7 @@
 //! The parts of a new publisher, and of a new subscriber.
 ghost use Rattle.std.specs.Prelude.{◌≡◌, ◌≤◌, IfNone, IfOk, IfSome, All, length};
 ghost use Rattle.std.specs.List.{AllZip};
+ghost use Rattle.group_keys.specs.Ring.{key_sets};
 ghost use Rattle.message_guard.specs.Senders.{IsSender};
 ghost use Rattle.ps_config.specs.Configs.{is_long};
 ghost use Rattle.ps_config.specs.Sound.{IsKeyGroup};
@@ -10,6 +11,7 @@ ghost use Rattle.device_sides.specs.Sides.{AreOpeningListenings, AreOpeningSides
 use crate::listening::Listening;
 use crate::side::Side;
 use dataset_meta::Meta;
+use group_keys::Ring;
 use message_guard::Sender;
 use ps_config::{Config, KeyGroupPart, Policy, ring_of};
 use row_words::Row;
@@ -40,24 +42,18 @@ pub fn senders_of(alloc: Global, keygroups: &[KeyGroupPart]) -> Result<Vec<Sende
 {
     let mut senders = Vec::new(alloc);
     for keygroup in keygroups {
-        senders.push(sender_at(keygroup, 0, keygroup.used))?;
+        let ring = ring_of(keygroup);
+        senders.push(sender_with(keygroup, ring, 0, keygroup.used))?;
     }
     Ok(senders)
 }
 
-/// The sender of a key group behind so many numbers.
-pub fn sender_at(keygroup: &KeyGroupPart, now: u64, used: u32) -> Sender
-    requires { IsKeyGroup keygroup.now }
+/// The sender of a key group with this ring, behind so many numbers.
+pub fn sender_with(keygroup: &KeyGroupPart, ring: Ring, now: u64, used: u32) -> Sender
     ensures sender { IsSender result }
-    ensures resumed { IsResumed keygroup.now now used result }
+    ensures resumed { IsResumed keygroup.now (key_sets ring) now used result }
 {
-    Sender::resume(
-        ring_of(keygroup),
-        keygroup.random,
-        keygroup.first_block,
-        now,
-        used,
-    )
+    Sender::resume(ring, keygroup.random, keygroup.first_block, now, used)
 }
 
 /// The groups, in the configuration's order.

@@ -1,5 +1,5 @@
 //! Publishers.
-ghost use Rattle.std.specs.Prelude.{◌≡◌, ◌↔◌, ◌<◌, ◌≤◌, ◌+◌, ◌||◌, [], IsTrue, IfOk, IfErr, IfSome, IfNone, Ok, length, slice_index_or};
+ghost use Rattle.std.specs.Prelude.{◌≡◌, ◌↔◌, ◌<◌, ◌≤◌, ◌+◌, ◌⊎◌, ◌||◌, [], IsTrue, IfOk, IfErr, IfSome, IfNone, Ok, length, slice_index_or};
 ghost use Rattle.std.specs.Bool.{OnTrue, OnFalse};
 ghost use Rattle.std.specs.List.{AllZip};
 ghost use Rattle.group_keys.specs.Ring.{key_sets};
@@ -7,18 +7,18 @@ ghost use Rattle.ps_config.specs.Reading.{configuration, IsEnd};
 ghost use Rattle.writer_group.specs.Standing.{IsGood, IsReserved, datagrams_in};
 ghost use Rattle.device_sides.specs.Coming.{Comes, HasCome, IsWaiting};
 ghost use Rattle.device_sides.specs.Looking.{Counts, HasLooked};
-ghost use Rattle.device_sides.specs.Sides.{AreOpeningSides, HasField, HasLongKeys, HasNoField, HasRenewed, HasSet, HasSetStatus, HasSetWord, HasWriterSwitched, IsBehind, IsMisfit, IsNoLower, IsOpeningRow, IsOpeningSender, IsPublisher, IsStatusMisfit, IsWordMisfit, MayNotResume, StandsAt};
+ghost use Rattle.device_sides.specs.Sides.{AreOpeningSides, HasField, HasLongKeys, HasNoField, HasNoWriter, HasRenewed, HasSet, HasSetStatus, HasSetWord, HasWriterSwitched, IsBehind, IsBehindConfigured, IsEarlier, IsMisfit, IsNoLower, IsOpeningRow, IsOpeningSender, IsPublisher, IsStatusMisfit, IsWordMisfit, MayNotResume, MayNotResumeConfigured, StandsAt};
 
 use crate::asked::Next;
 use crate::looking::{Looked, is_held, look};
-use crate::making::{has_long_keys, rows_of, sender_at, senders_of, sides_of};
+use crate::making::{has_long_keys, rows_of, sender_with, senders_of, sides_of};
 use crate::rows::{set_in, set_status_in, set_word_in};
 use crate::side::Side;
 use crate::sides::turn_senders;
 use crate::words::has_field_at;
 use group_keys::Ring;
 use message_guard::Sender;
-use ps_config::{Config, ConfigEnd, read_config};
+use ps_config::{Config, ConfigEnd, read_config, ring_of};
 use std::alloc::Global;
 use ua_base::NoMemory;
 use ua_values::{Kind, Value};
@@ -51,6 +51,7 @@ impl Publisher {
             AllZip IsOpeningSender publisher.config.keygroup publisher.senders.items) }
         ensures sides { IfOk result (λ publisher.
             AreOpeningSides publisher.config publisher.sides.items) }
+        ensures none_waits { IfOk result (λ publisher. publisher.made ≡ 0) }
         ensures refused { IfErr result (IsEnd (configuration text.now)) }
     {
         let config = read_config(alloc, text)?;
@@ -168,9 +169,13 @@ impl Publisher {
         ensures publisher { IsPublisher self.new }
         ensures switched { OnTrue result (HasWriterSwitched group writer on self.old self.new) }
         ensures not { OnFalse result (self.new ≡ self.old) }
+        ensures absent { OnFalse result (HasNoWriter group writer self.old) }
     {
         let index = usize::from(group);
-        if index >= self.sides.len() || !self.sides[index].has_writer(&self.config, writer) {
+        if index >= self.sides.len() {
+            return false;
+        }
+        if !self.sides[index].has_writer(&self.config, writer) {
             return false;
         }
         self.sides[index].switch(&self.config, writer, on);
@@ -214,15 +219,52 @@ impl Publisher {
         has_long_keys(&self.config, keygroup)
     }
 
-    /// The key group with this index goes on behind `used` numbers of the last key set whose moment has come at `now`, in milliseconds
-    /// (`Sender::resume`). False, and nothing changes, where there is no such key group, or where a number would come twice: the key
-    /// set's token is lower than the one in use, or is that one with a greater number used.
+    /// The key group with this index goes on behind `used` numbers of the configuration's last key set whose moment has come at `now`,
+    /// in milliseconds (`Sender::resume`). False, and nothing changes, where there is no such key group, or where a number would come
+    /// twice: the key set's token is lower than the one in use, or is that one with a greater number used.
     pub fn resume(&mut self, keygroup: u8, now: u64, used: u32) -> bool
         requires { IsPublisher self.old }
         ensures publisher { IsPublisher self.new }
-        ensures behind { OnTrue result (IsBehind keygroup now used self.old self.new) }
+        ensures behind { OnTrue result (IsBehindConfigured keygroup now used self.old self.new) }
         ensures not { OnFalse result (self.new ≡ self.old) }
-        ensures refused { OnFalse result (MayNotResume keygroup now used self.old) }
+        ensures refused { OnFalse result (MayNotResumeConfigured keygroup now used self.old) }
+    {
+        let index = usize::from(keygroup);
+        let keygroups = self.config.keygroup.as_slice();
+        if index >= keygroups.len() {
+            return false;
+        }
+        let ring = ring_of(&keygroups[index]);
+        self.go_on(keygroup, now, used, ring)
+    }
+
+    /// The same with the key sets of this ring, of the same key length, as `renew` gave them before a restart: behind the token and the
+    /// number that `standing` told last. False also where the last key set whose moment has come is of an earlier token: the numbers
+    /// that were used under it aren't known. Under a later token so many numbers are passed over.
+    pub fn resume_with(&mut self, keygroup: u8, now: u64, token: u32, used: u32, ring: Ring) -> bool
+        requires { IsPublisher self.old }
+        ensures publisher { IsPublisher self.new }
+        ensures behind { OnTrue result
+            (IsBehind keygroup now used (key_sets ring) self.old self.new) }
+        ensures no_earlier { OnTrue result (¬ IsEarlier now token (key_sets ring)) }
+        ensures not { OnFalse result (self.new ≡ self.old) }
+        ensures refused { OnFalse result
+            (IsEarlier now token (key_sets ring) ⊎ MayNotResume keygroup now used (key_sets ring) self.old) }
+    {
+        if ring.at(now).token < token {
+            return false;
+        }
+        self.go_on(keygroup, now, used, ring)
+    }
+
+    /// The sender of the key group goes on behind `used` numbers of this ring, unless a number would come twice.
+    fn go_on(&mut self, keygroup: u8, now: u64, used: u32, ring: Ring) -> bool
+        requires { IsPublisher self.old }
+        ensures publisher { IsPublisher self.new }
+        ensures behind { OnTrue result
+            (IsBehind keygroup now used (key_sets ring) self.old self.new) }
+        ensures not { OnFalse result (self.new ≡ self.old) }
+        ensures refused { OnFalse result (MayNotResume keygroup now used (key_sets ring) self.old) }
     {
         let index = usize::from(keygroup);
         let keygroups = self.config.keygroup.as_slice();
@@ -232,7 +274,7 @@ impl Publisher {
         if index >= keygroups.len() {
             return false;
         }
-        let sender = sender_at(&keygroups[index], now, used);
+        let sender = sender_with(&keygroups[index], ring, now, used);
         if !is_behind(sender.standing(), self.senders[index].standing()) {
             return false;
         }
@@ -315,6 +357,7 @@ fn publisher_of(alloc: Global, config: Config) -> Result<Publisher, NoMemory>
     ensures senders { IfOk result (λ publisher.
         AllZip IsOpeningSender config.keygroup publisher.senders.items) }
     ensures sides { IfOk result (λ publisher. AreOpeningSides config publisher.sides.items) }
+    ensures none_waits { IfOk result (λ publisher. publisher.made ≡ 0) }
 {
     let rows = rows_of(alloc, config.dataset.as_slice())?;
     let senders = senders_of(alloc, config.keygroup.as_slice())?;

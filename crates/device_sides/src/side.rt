@@ -1,12 +1,12 @@
 //! A group of writers, of a configuration that its publisher keeps.
 ghost use Rattle.std.specs.Prelude.{◌≡◌, ◌<◌, IfOk, IfSome, IfNone, Some, None, All, length, min, slice_index_or};
-ghost use Rattle.std.specs.Bool.{OnTrue};
+ghost use Rattle.std.specs.Bool.{OnFalse, OnTrue};
 ghost use Rattle.message_guard.specs.Senders.{IsSender};
 ghost use Rattle.ps_config.specs.declared.parts.Config.{Config as ConfigValue};
 ghost use Rattle.writer_group.specs.Parts.{group_at};
 ghost use Rattle.writer_group.specs.Standing.{AreRowsOf, IsGood, IsReserved, KeepsTo, TellsDue, TellsMoment, index_of, writer_count};
 ghost use Rattle.device_sides.specs.Coming.{AreRefreshed, all_writers};
-ghost use Rattle.device_sides.specs.Sides.{HasComeOn, HasSwitched, HasTurned, HasWriter, IsOpeningSide, IsSide, MayNotTurn, sender_for};
+ghost use Rattle.device_sides.specs.Sides.{HasComeOn, HasNumbered, HasSwitched, HasTurned, HasWriter, IsOpeningSide, IsSide, MayNotTurn, numbered, sender_for};
 
 use message_guard::Sender;
 use ps_config::{Config, GroupPart};
@@ -70,10 +70,14 @@ impl Side {
     /// Whether there is a writer with this index.
     pub fn has_writer(&self, config: &Config, writer: u8) -> bool
         requires { IsSide config.now self.now }
-        ensures { OnTrue result (HasWriter writer self.now) }
+        ensures there { OnTrue result (HasWriter writer self.now) }
+        ensures not { OnFalse result (¬ HasWriter writer self.now) }
     {
         let index = usize::from(writer);
-        index < self.on.len() && index < part_of(config, self.index).writer.as_slice().len()
+        if index >= self.on.len() {
+            return false;
+        }
+        index < part_of(config, self.index).writer.as_slice().len()
     }
 
     /// Switches the writer with this index on or off.
@@ -121,11 +125,18 @@ impl Side {
         ensures senders_stay { IfNone result (senders.new ≡ senders.old) }
         ensures may_not { IfNone result (MayNotTurn config.now rows.now
             (sender_for config.now senders.old self.old.index) self.old) }
-        ensures unsent { IfSome result (λ made. made ≡ 0 → senders.new ≡ senders.old) }
+        ensures numbers { IfSome result (λ made.
+            HasNumbered config.now self.old.index made senders.old senders.new) }
     {
         match self.keygroup(config) {
             None => self.turn_plain(config, moment, rows, out),
-            Some(keygroup) => self.turn_keyed(config, keygroup, moment, rows, senders, out),
+            Some(keygroup) => {
+                let k = usize::from(keygroup);
+                if k >= senders.len() {
+                    return None;
+                }
+                self.turn_secured(config, moment, rows, &mut senders[k], out)
+            }
         }
     }
 
@@ -159,41 +170,6 @@ impl Side {
         )
     }
 
-    /// The turn of a group that is secured with the keys of this key group.
-    fn turn_keyed(
-        &mut self,
-        config: &Config,
-        keygroup: u8,
-        moment: u64,
-        rows: &[Sampled],
-        senders: &mut [Sender],
-        out: &mut Datagrams,
-    ) -> Option<u32>
-        requires good { IsGood config.now }
-        requires side { IsSide config.now self.old }
-        requires keyed { (group_at config.now self.old.index).keygroup ≡ Some keygroup }
-        requires rows { AreRowsOf config.now.dataset rows.now }
-        requires senders { All IsSender senders.old }
-        requires reserved { IsReserved out.old }
-        ensures side { IsSide config.now self.new }
-        ensures senders { All IsSender senders.new }
-        ensures reserved { IsReserved out.new }
-        ensures turned { IfSome result (HasTurned config.now moment rows.now
-            (sender_for config.now senders.old self.old.index) self.old self.new out.new) }
-        ensures not { IfNone result (self.new ≡ self.old) }
-        ensures out_stays { IfNone result (out.new ≡ out.old) }
-        ensures senders_stay { IfNone result (senders.new ≡ senders.old) }
-        ensures may_not { IfNone result (MayNotTurn config.now rows.now
-            (sender_for config.now senders.old self.old.index) self.old) }
-        ensures unsent { IfSome result (λ made. made ≡ 0 → senders.new ≡ senders.old) }
-    {
-        let k = usize::from(keygroup);
-        if k >= senders.len() {
-            return None;
-        }
-        self.turn_secured(config, moment, rows, &mut senders[k], out)
-    }
-
     /// The turn of a secured group.
     fn turn_secured(
         &mut self,
@@ -218,7 +194,8 @@ impl Side {
         ensures sender_stays { IfNone result (sender.new ≡ sender.old) }
         ensures may_not { IfNone result
             (MayNotTurn config.now rows.now (Some sender.old) self.old) }
-        ensures unsent { IfSome result (λ made. made ≡ 0 → sender.new ≡ sender.old) }
+        ensures numbers { IfSome result (λ made.
+            sender.new ≡ numbered config.now self.old.index made sender.old) }
     {
         if !self.group.may_tick(config, rows, &self.on, Some(sender)) {
             return None;

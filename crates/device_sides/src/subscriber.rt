@@ -61,6 +61,7 @@ impl Subscriber {
             self.old self.new) }
         ensures none { IfNone result (self.new ≡ self.old) }
         ensures bytes { IfNone result (bytes.new ≡ bytes.old) }
+        ensures absent { IfNone result (length self.old.groups.items ≤ group) }
     {
         let index = usize::from(group);
         if index >= self.groups.len() {
@@ -134,9 +135,13 @@ impl Subscriber {
         ensures subscriber { IsSubscriber self.new }
         ensures switched { OnTrue result (HasReaderSwitched group reader on self.old self.new) }
         ensures not { OnFalse result (self.new ≡ self.old) }
+        ensures absent { OnFalse result (IsNoReader group reader self.old) }
     {
         let index = usize::from(group);
-        if index >= self.groups.len() || reader >= self.groups[index].group.count() {
+        if index >= self.groups.len() {
+            return false;
+        }
+        if reader >= self.groups[index].group.count() {
             return false;
         }
         self.groups[index].switch(&self.config, reader, on);

@@ -1,5 +1,5 @@
 -- What a handle tells of a reader.
-use Rattle.std.proofs.Common.{ℕ, ◌<◌, List, [], ◌∷◌, length, get_or, arith}
+use Rattle.std.proofs.Common.{◌≡◌, ℕ, ◌<◌, List, [], ◌∷◌, length, get_or, refl, arith}
 use Rattle.dataset_meta.specs.Metas.{MetaData}
 use Rattle.dataset_reader.specs.declared.reader.Reader.{Reader}
 use Rattle.dataset_reader.specs.Kept.{Kept as ReaderKept}
@@ -7,7 +7,7 @@ use Rattle.dataset_reader.specs.Reader.{kept_by}
 use Rattle.device_sides.specs.Readings.{HasNoMisfit, IsReaderAt, Keeps, meta_for}
 use Rattle.device_sides.specs.declared.publisher.Publisher.{Publisher as PublisherValue}
 use Rattle.device_sides.specs.declared.subscriber.Subscriber.{Subscriber as SubscriberValue}
-use Rattle.uapubsub_c.specs.Getting.{IsReaderIn, KeepsIn, PublisherIs}
+use Rattle.uapubsub_c.specs.Getting.{IsPublisherSide, IsReaderIn, IsSubscriberSide, KeepsIn, PublisherIs}
 use Rattle.uapubsub_c.specs.declared.kept.Kept.{Kept}
 use Rattle.uapubsub_c.specs.declared.kept.Kept.TheVariants.{Publisher, Subscriber}
 
@@ -54,3 +54,12 @@ never-misfit group reader subscriber keeps = (keeps.is (some-of subscriber.group
 pub publisher-too : (kept : Kept) (says more : PublisherValue → Type 0) → ((publisher : PublisherValue) → says publisher → more publisher) → PublisherIs says kept → PublisherIs more kept
 publisher-too (Publisher publisher) says more step is = step publisher is
 publisher-too (Subscriber subscriber) says more step is = absurd is
+
+-- one side, where it isn't the other
+pub not-publisher : (kept : Kept) → ((publisher : PublisherValue) → kept ≡ Publisher publisher → ⊥) → IsSubscriberSide kept
+not-publisher (Publisher publisher) not = absurd (not publisher refl)
+not-publisher (Subscriber subscriber) not = tt
+
+pub not-subscriber : (kept : Kept) → ((subscriber : SubscriberValue) → kept ≡ Subscriber subscriber → ⊥) → IsPublisherSide kept
+not-subscriber (Subscriber subscriber) not = absurd (not subscriber refl)
+not-subscriber (Publisher publisher) not = tt

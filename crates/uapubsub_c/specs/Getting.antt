@@ -1,5 +1,5 @@
 -- What calls tell C of a subscriber, and what a datagram does to it.
-use Rattle.std.specs.Prelude.{◌≡◌, ◌≢◌, ℕ, ◌<◌, ◌++◌, List, drop, length, Ok, Err, None, Some, IsSome}
+use Rattle.std.specs.Prelude.{◌≡◌, ◌≢◌, ℕ, ◌<◌, ◌≤◌, ◌++◌, List, drop, length, All, Ok, Err, None, Some, IsSome, ⊤}
 use Rattle.std.specs.List.{HoldsAt}
 use Rattle.ua_values.specs.declared.kind.Kind.{Kind}
 use Rattle.ua_values.specs.declared.value.Value.{Value}
@@ -61,11 +61,11 @@ IsNoBlob value = (blob : List ℕ) → value ≢ ByteString blob
 abbrev pub IsNoGuid : Value → Type 0
 IsNoGuid value = (bytes : List ℕ) → value ≢ Guid bytes
 
--- the row that is held has at the field another value
-pub record HasOther (field : ℕ) (other : Value → Type 0) (meta : MetaData) (kept : ReaderKept) : Type 0 where
+-- the row that is held has at the field such a value
+pub record HasSuch (field : ℕ) (such : Value → Type 0) (meta : MetaData) (kept : ReaderKept) : Type 0 where
   pub value : Value
   pub has : HasFieldValue field value meta kept
-  pub is : other value
+  pub is : such value
 
 -- the bytes stand at the front of the buffer, which keeps its rest, and there are so many
 pub record IsLaidOut (bytes old new : List ℕ) (count : ℕ) : Type 0 where
@@ -83,6 +83,21 @@ pub record IsBlobLaid (value : Value) (old new : List ℕ) (count : ℕ) : Type 
   pub blob : List ℕ
   pub is : value ≡ ByteString blob
   pub laid : IsLaidOut blob old new count
+
+-- the value has so many bytes, which are more than the buffer has
+pub record IsLonger (made : List ℕ → Value) (buffer : List ℕ) (count : ℕ) (value : Value) : Type 0 where
+  pub bytes : List ℕ
+  pub is : value ≡ made bytes
+  pub count_is : count ≡ length bytes
+  pub longer : length buffer < count
+
+-- it is such a String
+abbrev pub IsLongerText : List ℕ → ℕ → Value → Type 0
+IsLongerText buffer count value = IsLonger (λ text. String text) buffer count value
+
+-- it is such a ByteString
+abbrev pub IsLongerBlob : List ℕ → ℕ → Value → Type 0
+IsLongerBlob buffer count value = IsLonger (λ blob. ByteString blob) buffer count value
 
 -- the row that is held has at the field a String, which is laid out so
 pub record GetsText (group reader field : ℕ) (handle : Handle) (old new : List ℕ) (count : ℕ) : Type 0 where
@@ -126,6 +141,11 @@ pub record IsFieldNamed (config : Config) (set : ℕ) (name : List ℕ) (index :
   pub within : set < length config.dataset
   pub named : HoldsAt (λ meta. IsPlaceOf meta.fields name index) config.dataset set
 
+-- where there is a data set with this index, none of its fields has this name
+abbrev pub HasNoFieldNamed : Config → ℕ → List ℕ → Type 0
+HasNoFieldNamed config set name =
+    set < length config.dataset → HoldsAt (λ meta. All (λ field. field.name ≢ name) meta.fields) config.dataset set
+
 -- ---- a side, and what befalls it
 
 -- it is a publisher, and is so
@@ -138,6 +158,14 @@ abbrev pub SubscriberIs : (SubscriberValue → Type 0) → Kept → Type 0
 SubscriberIs says (Subscriber subscriber) = says subscriber
 SubscriberIs says (Publisher publisher) = ⊥
 
+-- it is a publisher, whichever
+abbrev pub IsPublisherSide : Kept → Type 0
+IsPublisherSide kept = PublisherIs (λ publisher. ⊤) kept
+
+-- it is a subscriber, whichever
+abbrev pub IsSubscriberSide : Kept → Type 0
+IsSubscriberSide kept = SubscriberIs (λ subscriber. ⊤) kept
+
 -- the publisher moved so
 abbrev pub PublisherMoves : (PublisherValue → PublisherValue → Type 0) → Kept → Kept → Type 0
 PublisherMoves moves (Publisher old) (Publisher new) = moves old new
@@ -149,6 +177,10 @@ abbrev pub SubscriberMoves : (SubscriberValue → SubscriberValue → Type 0) �
 SubscriberMoves moves (Subscriber old) (Subscriber new) = moves old new
 SubscriberMoves moves (Subscriber old) (Publisher new) = ⊥
 SubscriberMoves moves (Publisher old) new = ⊥
+
+-- the subscriber has no read group with this index
+abbrev pub HasNoReadGroup : ℕ → SubscriberValue → Type 0
+HasNoReadGroup group subscriber = length subscriber.groups.items ≤ group
 
 abbrev pub taken_in : TakenWords → Taken
 taken_in words = record { parts = words.parts; matched = words.matched; bad = words.bad }

@@ -1,7 +1,7 @@
 //! Getting fields.
-ghost use Rattle.std.specs.Prelude.{◌≡◌, ◌≢◌, IfOk, IfErr};
+ghost use Rattle.std.specs.Prelude.{◌≡◌, ◌≢◌, ◌<◌, IfOk, IfErr, length};
 ghost use Rattle.device_sides.specs.Readings.{HasFieldStatus, HasFieldValue, HoldsNone};
-ghost use Rattle.uapubsub_c.specs.Getting.{GetsBytes, GetsText, HasNoFieldIn, HasOther, HasScalarAt, IsBlobLaid, IsLaidOut, IsNoBlob, IsNoGuid, IsNoText, IsOtherKindIn, IsTextLaid, KeepsIn};
+ghost use Rattle.uapubsub_c.specs.Getting.{GetsBytes, GetsText, HasNoFieldIn, HasScalarAt, HasSuch, IsBlobLaid, IsLaidOut, IsLongerBlob, IsLongerText, IsNoBlob, IsNoGuid, IsNoText, IsOtherKindIn, IsPublisherSide, IsTextLaid, KeepsIn};
 ghost use Rattle.uapubsub_c.specs.Handles.{IsReady, IsSound, Stays, Tells};
 
 use crate::guid::GuidBytes;
@@ -33,6 +33,7 @@ pub extern "C" fn uapubsub_get_scalar(
     ensures no_row { result ≡ NONE → Tells handle.old (KeepsIn group reader HoldsNone) }
     ensures misfit { result ≡ MISFIT → Tells handle.old (IsOtherKindIn group reader field kind) }
     ensures index { result ≡ INDEX → Tells handle.old (HasNoFieldIn group reader field) }
+    ensures other_side { result ≡ OTHER_SIDE → Tells handle.old IsPublisherSide }
     ensures closed { result ≡ CLOSED → handle.old.is_open ≡ 0 }
 {
     let Some(kept) = handle.take(alloc) else {
@@ -50,6 +51,7 @@ fn word_in(kept: &Kept, group: u8, reader: u8, field: u8, kind: u32, word: &mut 
     ensures no_row { result ≡ NONE → KeepsIn group reader HoldsNone kept.now }
     ensures misfit { result ≡ MISFIT → IsOtherKindIn group reader field kind kept.now }
     ensures index { result ≡ INDEX → HasNoFieldIn group reader field kept.now }
+    ensures other_side { result ≡ OTHER_SIDE → IsPublisherSide kept.now }
     ensures not_closed { result ≢ CLOSED }
 {
     let Kept::Subscriber(subscriber) = kept else {
@@ -72,6 +74,8 @@ fn status_of(none: NoValue) -> u32
     ensures no_row { result ≡ NONE → none ≡ NoValue.NoRow }
     ensures misfit { result ≡ MISFIT → none ≡ NoValue.Misfit }
     ensures index { result ≡ INDEX → none ≡ NoValue.NoField }
+    ensures not_other_side { result ≢ OTHER_SIDE }
+    ensures not_room { result ≢ ROOM }
     ensures not_closed { result ≢ CLOSED }
 {
     match none {
@@ -101,8 +105,11 @@ pub extern "C" fn uapubsub_get_text(
     ensures rest { result ≢ OK → buffer.new ≡ buffer.old }
     ensures no_row { result ≡ NONE → Tells handle.old (KeepsIn group reader HoldsNone) }
     ensures misfit { result ≡ MISFIT
-        → Tells handle.old (KeepsIn group reader (HasOther field IsNoText)) }
+        → Tells handle.old (KeepsIn group reader (HasSuch field IsNoText)) }
+    ensures room { result ≡ ROOM → Tells handle.old
+        (KeepsIn group reader (HasSuch field (IsLongerText buffer.old count.new))) }
     ensures index { result ≡ INDEX → Tells handle.old (HasNoFieldIn group reader field) }
+    ensures other_side { result ≡ OTHER_SIDE → Tells handle.old IsPublisherSide }
     ensures closed { result ≡ CLOSED → handle.old.is_open ≡ 0 }
 {
     match field_of(alloc, handle, group, reader, field) {
@@ -130,8 +137,11 @@ pub extern "C" fn uapubsub_get_bytes(
     ensures rest { result ≢ OK → buffer.new ≡ buffer.old }
     ensures no_row { result ≡ NONE → Tells handle.old (KeepsIn group reader HoldsNone) }
     ensures misfit { result ≡ MISFIT
-        → Tells handle.old (KeepsIn group reader (HasOther field IsNoBlob)) }
+        → Tells handle.old (KeepsIn group reader (HasSuch field IsNoBlob)) }
+    ensures room { result ≡ ROOM → Tells handle.old
+        (KeepsIn group reader (HasSuch field (IsLongerBlob buffer.old count.new))) }
     ensures index { result ≡ INDEX → Tells handle.old (HasNoFieldIn group reader field) }
+    ensures other_side { result ≡ OTHER_SIDE → Tells handle.old IsPublisherSide }
     ensures closed { result ≡ CLOSED → handle.old.is_open ≡ 0 }
 {
     match field_of(alloc, handle, group, reader, field) {
@@ -145,8 +155,10 @@ fn lay_text(value: &Value, buffer: &mut [u8], count: &mut usize) -> u32
     ensures laid { result ≡ OK → IsTextLaid value.now buffer.old buffer.new count.new }
     ensures rest { result ≢ OK → buffer.new ≡ buffer.old }
     ensures misfit { result ≡ MISFIT → IsNoText value.now }
+    ensures room { result ≡ ROOM → IsLongerText buffer.old count.new value.now }
     ensures not_none { result ≢ NONE }
     ensures not_index { result ≢ INDEX }
+    ensures not_other_side { result ≢ OTHER_SIDE }
     ensures not_closed { result ≢ CLOSED }
 {
     match value {
@@ -160,8 +172,10 @@ fn lay_blob(value: &Value, buffer: &mut [u8], count: &mut usize) -> u32
     ensures laid { result ≡ OK → IsBlobLaid value.now buffer.old buffer.new count.new }
     ensures rest { result ≢ OK → buffer.new ≡ buffer.old }
     ensures misfit { result ≡ MISFIT → IsNoBlob value.now }
+    ensures room { result ≡ ROOM → IsLongerBlob buffer.old count.new value.now }
     ensures not_none { result ≢ NONE }
     ensures not_index { result ≢ INDEX }
+    ensures not_other_side { result ≢ OTHER_SIDE }
     ensures not_closed { result ≢ CLOSED }
 {
     match value {
@@ -174,9 +188,12 @@ fn lay_blob(value: &Value, buffer: &mut [u8], count: &mut usize) -> u32
 fn lay_in(bytes: &[u8], buffer: &mut [u8], count: &mut usize) -> u32
     ensures laid { result ≡ OK → IsLaidOut bytes.now buffer.old buffer.new count.new }
     ensures rest { result ≢ OK → buffer.new ≡ buffer.old }
+    ensures count { result ≡ ROOM → count.new ≡ length bytes.now }
+    ensures room { result ≡ ROOM → length buffer.old < count.new }
     ensures not_misfit { result ≢ MISFIT }
     ensures not_none { result ≢ NONE }
     ensures not_index { result ≢ INDEX }
+    ensures not_other_side { result ≢ OTHER_SIDE }
     ensures not_closed { result ≢ CLOSED }
 {
     *count = bytes.len();
@@ -204,8 +221,9 @@ pub extern "C" fn uapubsub_get_guid(
         (KeepsIn group reader (HasFieldValue field (Value.Guid guid.new.bytes))) }
     ensures no_row { result ≡ NONE → Tells handle.old (KeepsIn group reader HoldsNone) }
     ensures misfit { result ≡ MISFIT
-        → Tells handle.old (KeepsIn group reader (HasOther field IsNoGuid)) }
+        → Tells handle.old (KeepsIn group reader (HasSuch field IsNoGuid)) }
     ensures index { result ≡ INDEX → Tells handle.old (HasNoFieldIn group reader field) }
+    ensures other_side { result ≡ OTHER_SIDE → Tells handle.old IsPublisherSide }
     ensures closed { result ≡ CLOSED → handle.old.is_open ≡ 0 }
 {
     match field_of(alloc, handle, group, reader, field) {
@@ -220,6 +238,7 @@ fn guid_of(value: &Value, guid: &mut GuidBytes) -> u32
     ensures misfit { result ≡ MISFIT → IsNoGuid value.now }
     ensures not_none { result ≢ NONE }
     ensures not_index { result ≢ INDEX }
+    ensures not_other_side { result ≢ OTHER_SIDE }
     ensures not_closed { result ≢ CLOSED }
 {
     match value {
@@ -248,6 +267,7 @@ pub extern "C" fn uapubsub_get_field_status(
         (KeepsIn group reader (HasFieldStatus field status.new)) }
     ensures no_row { result ≡ NONE → Tells handle.old (KeepsIn group reader HoldsNone) }
     ensures index { result ≡ INDEX → Tells handle.old (HasNoFieldIn group reader field) }
+    ensures other_side { result ≡ OTHER_SIDE → Tells handle.old IsPublisherSide }
     ensures closed { result ≡ CLOSED → handle.old.is_open ≡ 0 }
 {
     match field_of(alloc, handle, group, reader, field) {
@@ -280,6 +300,9 @@ fn field_of(
         → Tells handle.old (KeepsIn group reader HoldsNone)) }
     ensures index { IfErr result (λ status. status ≡ INDEX
         → Tells handle.old (HasNoFieldIn group reader field)) }
+    ensures other_side { IfErr result (λ status. status ≡ OTHER_SIDE
+        → Tells handle.old IsPublisherSide) }
+    ensures not_room { IfErr result (λ status. status ≢ ROOM) }
     ensures closed { IfErr result (λ status. status ≡ CLOSED → handle.old.is_open ≡ 0) }
 {
     let Some(kept) = handle.take(alloc) else {
@@ -300,6 +323,8 @@ fn field_in(kept: &Kept, group: u8, reader: u8, field: u8) -> Result<(Value, u32
         → KeepsIn group reader HoldsNone kept.now) }
     ensures index { IfErr result (λ status. status ≡ INDEX
         → HasNoFieldIn group reader field kept.now) }
+    ensures other_side { IfErr result (λ status. status ≡ OTHER_SIDE → IsPublisherSide kept.now) }
+    ensures not_room { IfErr result (λ status. status ≢ ROOM) }
     ensures not_closed { IfErr result (λ status. status ≢ CLOSED) }
 {
     let Kept::Subscriber(subscriber) = kept else {

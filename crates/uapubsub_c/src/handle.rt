@@ -1,5 +1,5 @@
 //! Handles.
-ghost use Rattle.std.specs.Prelude.{◌≡◌, ◌⊎◌, IfSome, IfNone};
+ghost use Rattle.std.specs.Prelude.{◌≡◌, ◌≢◌, ◌⊎◌, IfSome, IfNone};
 ghost use Rattle.uapubsub_c.specs.Handles.{Holds, IsReady, IsSound};
 
 use crate::kept::Kept;
@@ -52,6 +52,7 @@ impl Handle {
         requires sound { IsSound kept }
         ensures ready { IsReady self.new }
         ensures held { result ≡ OK → Holds kept self.new }
+        ensures not { result ≢ OK → self.new ≡ self.old }
         ensures answers { (result ≡ OK) ⊎ (result ≡ MEMORY) }
     {
         match Box::new(alloc, kept) {

@@ -33,7 +33,7 @@ pub use keys::KeySetWords;
 pub use naming::{uapubsub_field_index, uapubsub_set_index};
 pub use publishing::{
     uapubsub_publisher_next, uapubsub_publisher_open, uapubsub_publisher_renew,
-    uapubsub_publisher_resume, uapubsub_publisher_standing,
+    uapubsub_publisher_resume, uapubsub_publisher_resume_with, uapubsub_publisher_standing,
 };
 pub use setting::{
     uapubsub_set_bytes, uapubsub_set_field_status, uapubsub_set_guid, uapubsub_set_scalar,

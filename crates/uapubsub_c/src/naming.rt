@@ -1,6 +1,6 @@
 //! Indexes by names.
 ghost use Rattle.std.specs.Prelude.{◌≡◌, ◌≢◌};
-ghost use Rattle.uapubsub_c.specs.Getting.{IsFieldNamed, IsSetNamed};
+ghost use Rattle.uapubsub_c.specs.Getting.{HasNoFieldNamed, IsFieldNamed, IsSetNamed};
 ghost use Rattle.uapubsub_c.specs.Handles.{IsReady, Stays, Tells, config_in};
 
 use crate::handle::Handle;
@@ -60,6 +60,8 @@ pub extern "C" fn uapubsub_field_index(
     ensures stays { Stays handle.old handle.new }
     ensures named { result ≡ OK
         → Tells handle.old (λ kept. IsFieldNamed (config_in kept) set name.now index.new) }
+    ensures none { result ≡ INDEX
+        → Tells handle.old (λ kept. HasNoFieldNamed (config_in kept) set name.now) }
     ensures closed { result ≡ CLOSED → handle.old.is_open ≡ 0 }
 {
     let Some(kept) = handle.take(alloc) else {
@@ -72,6 +74,7 @@ pub extern "C" fn uapubsub_field_index(
 
 fn field_of(config: &Config, set: u8, name: &[u8], index: &mut u8) -> u32
     ensures named { result ≡ OK → IsFieldNamed config.now set name.now index.new }
+    ensures none { result ≡ INDEX → HasNoFieldNamed config.now set name.now }
     ensures not_closed { result ≢ CLOSED }
 {
     let metas = config.dataset.as_slice();

@@ -1,10 +1,10 @@
 //! The publisher's calls, but those that set fields.
 ghost use Rattle.std.specs.Prelude.{◌≡◌, ◌≢◌, ◌<◌, length};
 ghost use Rattle.device_sides.specs.Coming.{ComesTo};
-ghost use Rattle.device_sides.specs.Sides.{IsBehind, MayNotResume};
-ghost use Rattle.uapubsub_c.specs.Getting.{PublisherIs, PublisherMoves};
+ghost use Rattle.device_sides.specs.Sides.{IsBehindConfigured, MayNotResumeConfigured};
+ghost use Rattle.uapubsub_c.specs.Getting.{IsSubscriberSide, PublisherIs, PublisherMoves};
 ghost use Rattle.uapubsub_c.specs.Handles.{HandsOver, IsReady, IsRefused, IsSound, Leaves, OpensPublisher, StandsIn, Stays, Tells};
-ghost use Rattle.uapubsub_c.specs.Keys.{HasRenewedTo, MakesNoRing};
+ghost use Rattle.uapubsub_c.specs.Keys.{HasNoKeyGroup, HasRenewedTo, IsBehindWith, MakesNoRing, MayNotResumeWith};
 ghost use Rattle.uapubsub_c.specs.Nexts.{HandsNext};
 
 use crate::handle::Handle;
@@ -25,6 +25,8 @@ pub extern "C" fn uapubsub_publisher_open(alloc: Global, handle: &mut Handle, te
     ensures ready { IsReady handle.new }
     ensures opened { result ≡ OK → OpensPublisher text.now handle.new }
     ensures refused { result ≡ REFUSED → IsRefused text.now }
+    ensures was_open { result ≡ OPENED → handle.old.is_open ≢ 0 }
+    ensures not { result ≢ OK → handle.new ≡ handle.old }
 {
     if handle.is_open != 0 {
         return OPENED;
@@ -59,6 +61,8 @@ pub extern "C" fn uapubsub_publisher_next(
     ensures waits { result ≡ ROOM
         → Leaves handle.old handle.new (PublisherMoves (ComesTo now Next.Datagram)) }
     ensures room { result ≡ ROOM → length buffer.old < count.new }
+    ensures other_side { result ≡ OTHER_SIDE → Tells handle.old IsSubscriberSide }
+    ensures stays { result ≡ OTHER_SIDE → Stays handle.old handle.new }
     ensures closed { result ≡ CLOSED → handle.old.is_open ≡ 0 }
 {
     *count = 0;
@@ -80,6 +84,8 @@ fn next_of(kept: &mut Kept, now: u64, buffer: &mut [u8], count: &mut usize) -> u
     ensures spent { result ≡ SPENT → PublisherMoves (ComesTo now Next.Spent) kept.old kept.new }
     ensures waits { result ≡ ROOM → PublisherMoves (ComesTo now Next.Datagram) kept.old kept.new }
     ensures room { result ≡ ROOM → length buffer.old < count.new }
+    ensures other_side { result ≡ OTHER_SIDE → IsSubscriberSide kept.old }
+    ensures stays { result ≡ OTHER_SIDE → kept.new ≡ kept.old }
     ensures not_closed { result ≢ CLOSED }
 {
     let Kept::Publisher(publisher) = kept else {
@@ -115,6 +121,8 @@ pub extern "C" fn uapubsub_publisher_standing(
     ensures ready { IsReady handle.new }
     ensures stays { Stays handle.old handle.new }
     ensures stands { result ≡ OK → Tells handle.old (StandsIn keygroup token.new used.new) }
+    ensures index { result ≡ INDEX → Tells handle.old (PublisherIs (HasNoKeyGroup keygroup)) }
+    ensures other_side { result ≡ OTHER_SIDE → Tells handle.old IsSubscriberSide }
     ensures closed { result ≡ CLOSED → handle.old.is_open ≡ 0 }
 {
     let Some(kept) = handle.take(alloc) else {
@@ -126,7 +134,10 @@ pub extern "C" fn uapubsub_publisher_standing(
 }
 
 fn standing_of(kept: &Kept, keygroup: u8, token: &mut u32, used: &mut u32) -> u32
+    requires { IsSound kept.now }
     ensures stands { result ≡ OK → StandsIn keygroup token.new used.new kept.now }
+    ensures index { result ≡ INDEX → PublisherIs (HasNoKeyGroup keygroup) kept.now }
+    ensures other_side { result ≡ OTHER_SIDE → IsSubscriberSide kept.now }
     ensures not_closed { result ≢ CLOSED }
 {
     let Kept::Publisher(publisher) = kept else {
@@ -139,9 +150,9 @@ fn standing_of(kept: &Kept, keygroup: u8, token: &mut u32, used: &mut u32) -> u3
     OK
 }
 
-/// The key group with this index goes on behind `used` numbers of the last key set whose moment has come at `now`, in milliseconds.
-/// BAD_KEYS, and nothing changes, where a number would come twice: its token is lower than the one in use, or is that one with a
-/// greater number used.
+/// The key group with this index goes on behind `used` numbers of the configuration's last key set whose moment has come at `now`, in
+/// milliseconds. BAD_KEYS, and nothing changes, where a number would come twice: its token is lower than the one in use, or is that
+/// one with a greater number used.
 #[unsafe(no_mangle)]
 pub extern "C" fn uapubsub_publisher_resume(
     alloc: Global,
@@ -153,9 +164,11 @@ pub extern "C" fn uapubsub_publisher_resume(
     requires { IsReady handle.old }
     ensures ready { IsReady handle.new }
     ensures behind { result ≡ OK
-        → Leaves handle.old handle.new (PublisherMoves (IsBehind keygroup now used)) }
+        → Leaves handle.old handle.new (PublisherMoves (IsBehindConfigured keygroup now used)) }
     ensures bad_keys { result ≡ BAD_KEYS
-        → Tells handle.old (PublisherIs (MayNotResume keygroup now used)) }
+        → Tells handle.old (PublisherIs (MayNotResumeConfigured keygroup now used)) }
+    ensures index { result ≡ INDEX → Tells handle.old (PublisherIs (HasNoKeyGroup keygroup)) }
+    ensures other_side { result ≡ OTHER_SIDE → Tells handle.old IsSubscriberSide }
     ensures not { result ≢ OK → Stays handle.old handle.new }
     ensures closed { result ≡ CLOSED → handle.old.is_open ≡ 0 }
 {
@@ -170,18 +183,80 @@ pub extern "C" fn uapubsub_publisher_resume(
 fn resume_in(kept: &mut Kept, keygroup: u8, now: u64, used: u32) -> u32
     requires { IsSound kept.old }
     ensures sound { IsSound kept.new }
-    ensures behind { result ≡ OK → PublisherMoves (IsBehind keygroup now used) kept.old kept.new }
-    ensures bad_keys { result ≡ BAD_KEYS → PublisherIs (MayNotResume keygroup now used) kept.old }
+    ensures behind { result ≡ OK
+        → PublisherMoves (IsBehindConfigured keygroup now used) kept.old kept.new }
+    ensures bad_keys { result ≡ BAD_KEYS
+        → PublisherIs (MayNotResumeConfigured keygroup now used) kept.old }
+    ensures index { result ≡ INDEX → PublisherIs (HasNoKeyGroup keygroup) kept.old }
+    ensures other_side { result ≡ OTHER_SIDE → IsSubscriberSide kept.old }
     ensures not { result ≢ OK → kept.new ≡ kept.old }
     ensures not_closed { result ≢ CLOSED }
 {
     let Kept::Publisher(publisher) = kept else {
         return OTHER_SIDE;
     };
-    if publisher.standing(keygroup).is_none() {
+    let Some(_) = publisher.standing(keygroup) else {
         return INDEX;
-    }
+    };
     if publisher.resume(keygroup, now, used) {
+        OK
+    } else {
+        BAD_KEYS
+    }
+}
+
+/// The same with these key sets, in the order of their tokens and moments, at most 16: as `uapubsub_publisher_renew` gave them before a
+/// restart. BAD_KEYS also where they make no ring.
+#[unsafe(no_mangle)]
+pub extern "C" fn uapubsub_publisher_resume_with(
+    alloc: Global,
+    handle: &mut Handle,
+    keygroup: u8,
+    now: u64,
+    used: u32,
+    sets: &[KeySetWords],
+) -> u32
+    requires { IsReady handle.old }
+    ensures ready { IsReady handle.new }
+    ensures behind { result ≡ OK
+        → Leaves handle.old handle.new (PublisherMoves (IsBehindWith keygroup now used sets.now)) }
+    ensures bad_keys { result ≡ BAD_KEYS
+        → Tells handle.old (PublisherIs (MayNotResumeWith keygroup now used sets.now)) }
+    ensures index { result ≡ INDEX → Tells handle.old (PublisherIs (HasNoKeyGroup keygroup)) }
+    ensures other_side { result ≡ OTHER_SIDE → Tells handle.old IsSubscriberSide }
+    ensures not { result ≢ OK → Stays handle.old handle.new }
+    ensures closed { result ≡ CLOSED → handle.old.is_open ≡ 0 }
+{
+    let Some(mut kept) = handle.take(alloc) else {
+        return CLOSED;
+    };
+    let status = resume_with_in(&mut kept, keygroup, now, used, sets);
+    handle.put(kept);
+    status
+}
+
+fn resume_with_in(kept: &mut Kept, keygroup: u8, now: u64, used: u32, sets: &[KeySetWords]) -> u32
+    requires { IsSound kept.old }
+    ensures sound { IsSound kept.new }
+    ensures behind { result ≡ OK
+        → PublisherMoves (IsBehindWith keygroup now used sets.now) kept.old kept.new }
+    ensures bad_keys { result ≡ BAD_KEYS
+        → PublisherIs (MayNotResumeWith keygroup now used sets.now) kept.old }
+    ensures index { result ≡ INDEX → PublisherIs (HasNoKeyGroup keygroup) kept.old }
+    ensures other_side { result ≡ OTHER_SIDE → IsSubscriberSide kept.old }
+    ensures not { result ≢ OK → kept.new ≡ kept.old }
+    ensures not_closed { result ≢ CLOSED }
+{
+    let Kept::Publisher(publisher) = kept else {
+        return OTHER_SIDE;
+    };
+    let Some(long) = publisher.has_long_keys(keygroup) else {
+        return INDEX;
+    };
+    let Some(ring) = ring_of_words(long, sets) else {
+        return BAD_KEYS;
+    };
+    if publisher.resume_with(keygroup, now, used, ring) {
         OK
     } else {
         BAD_KEYS
@@ -203,6 +278,8 @@ pub extern "C" fn uapubsub_publisher_renew(
         → Leaves handle.old handle.new (PublisherMoves (HasRenewedTo keygroup sets.now)) }
     ensures bad_keys { result ≡ BAD_KEYS
         → Tells handle.old (PublisherIs (MakesNoRing keygroup sets.now)) }
+    ensures index { result ≡ INDEX → Tells handle.old (PublisherIs (HasNoKeyGroup keygroup)) }
+    ensures other_side { result ≡ OTHER_SIDE → Tells handle.old IsSubscriberSide }
     ensures not { result ≢ OK → Stays handle.old handle.new }
     ensures closed { result ≡ CLOSED → handle.old.is_open ≡ 0 }
 {
@@ -221,6 +298,8 @@ fn renew_in(kept: &mut Kept, keygroup: u8, sets: &[KeySetWords]) -> u32
         → PublisherMoves (HasRenewedTo keygroup sets.now) kept.old kept.new }
     ensures bad_keys { result ≡ BAD_KEYS
         → PublisherIs (MakesNoRing keygroup sets.now) kept.old }
+    ensures index { result ≡ INDEX → PublisherIs (HasNoKeyGroup keygroup) kept.old }
+    ensures other_side { result ≡ OTHER_SIDE → IsSubscriberSide kept.old }
     ensures not { result ≢ OK → kept.new ≡ kept.old }
     ensures not_closed { result ≢ CLOSED }
 {

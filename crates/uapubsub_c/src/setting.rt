@@ -3,7 +3,7 @@ ghost use Rattle.std.specs.Prelude.{◌≡◌, ◌≢◌, IsErr};
 ghost use Rattle.ua_values.specs.Blobs.{blob_of};
 ghost use Rattle.ua_values.specs.Texts.{text_of};
 ghost use Rattle.device_sides.specs.Sides.{HasSetStatus};
-ghost use Rattle.uapubsub_c.specs.Getting.{PublisherIs, PublisherMoves};
+ghost use Rattle.uapubsub_c.specs.Getting.{IsSubscriberSide, PublisherIs, PublisherMoves};
 ghost use Rattle.uapubsub_c.specs.Handles.{HasBytesIn, HasScalarIn, HasSetIn, HasTextIn, IsReady, IsSound, Leaves, Tells};
 ghost use Rattle.uapubsub_c.specs.Setting.{IsBytesMisfit, IsCodeMisfit, IsScalarMisfit, IsTextMisfit, IsValueMisfit, SetsNoField};
 
@@ -35,6 +35,7 @@ pub extern "C" fn uapubsub_set_scalar(
     ensures misfit { result ≡ MISFIT
         → Tells handle.old (PublisherIs (IsScalarMisfit set field kind word)) }
     ensures index { result ≡ INDEX → Tells handle.old (PublisherIs (SetsNoField set field)) }
+    ensures other_side { result ≡ OTHER_SIDE → Tells handle.old IsSubscriberSide }
     ensures closed { result ≡ CLOSED → handle.old.is_open ≡ 0 }
 {
     let Some(mut kept) = handle.take(alloc) else {
@@ -52,6 +53,7 @@ fn set_scalar_in(kept: &mut Kept, set: u8, field: u8, kind: u32, word: u64) -> u
     ensures misfit { result ≡ MISFIT
         → PublisherIs (IsScalarMisfit set field kind word) kept.old }
     ensures index { result ≡ INDEX → PublisherIs (SetsNoField set field) kept.old }
+    ensures other_side { result ≡ OTHER_SIDE → IsSubscriberSide kept.old }
     ensures not_closed { result ≢ CLOSED }
 {
     let Kept::Publisher(publisher) = kept else {
@@ -85,6 +87,7 @@ pub extern "C" fn uapubsub_set_text(
     ensures misfit { result ≡ MISFIT
         → Tells handle.old (PublisherIs (IsTextMisfit set field text.now)) }
     ensures index { result ≡ INDEX → Tells handle.old (PublisherIs (SetsNoField set field)) }
+    ensures other_side { result ≡ OTHER_SIDE → Tells handle.old IsSubscriberSide }
     ensures bad_text { result ≡ BAD_TEXT → IsErr (text_of text.now) }
     ensures closed { result ≡ CLOSED → handle.old.is_open ≡ 0 }
 {
@@ -109,6 +112,7 @@ pub extern "C" fn uapubsub_set_bytes(
     ensures misfit { result ≡ MISFIT
         → Tells handle.old (PublisherIs (IsBytesMisfit set field bytes.now)) }
     ensures index { result ≡ INDEX → Tells handle.old (PublisherIs (SetsNoField set field)) }
+    ensures other_side { result ≡ OTHER_SIDE → Tells handle.old IsSubscriberSide }
     ensures bad_text { result ≡ BAD_TEXT → IsErr (blob_of bytes.now) }
     ensures closed { result ≡ CLOSED → handle.old.is_open ≡ 0 }
 {
@@ -134,6 +138,7 @@ pub extern "C" fn uapubsub_set_guid(
     ensures misfit { result ≡ MISFIT
         → Tells handle.old (PublisherIs (IsValueMisfit set field (Value.Guid guid.now.bytes))) }
     ensures index { result ≡ INDEX → Tells handle.old (PublisherIs (SetsNoField set field)) }
+    ensures other_side { result ≡ OTHER_SIDE → Tells handle.old IsSubscriberSide }
     ensures closed { result ≡ CLOSED → handle.old.is_open ≡ 0 }
 {
     set_field(alloc, handle, set, field, &Value::Guid(guid.bytes))
@@ -155,6 +160,7 @@ pub extern "C" fn uapubsub_set_field_status(
     ensures misfit { result ≡ MISFIT
         → Tells handle.old (PublisherIs (IsCodeMisfit set field status)) }
     ensures index { result ≡ INDEX → Tells handle.old (PublisherIs (SetsNoField set field)) }
+    ensures other_side { result ≡ OTHER_SIDE → Tells handle.old IsSubscriberSide }
     ensures closed { result ≡ CLOSED → handle.old.is_open ≡ 0 }
 {
     let Some(mut kept) = handle.take(alloc) else {
@@ -171,6 +177,7 @@ fn set_status_in(kept: &mut Kept, set: u8, field: u8, status: u32) -> u32
     ensures set { result ≡ OK → PublisherMoves (HasSetStatus set field status) kept.old kept.new }
     ensures misfit { result ≡ MISFIT → PublisherIs (IsCodeMisfit set field status) kept.old }
     ensures index { result ≡ INDEX → PublisherIs (SetsNoField set field) kept.old }
+    ensures other_side { result ≡ OTHER_SIDE → IsSubscriberSide kept.old }
     ensures not_closed { result ≢ CLOSED }
 {
     let Kept::Publisher(publisher) = kept else {
@@ -194,6 +201,7 @@ fn set_field(alloc: Global, handle: &mut Handle, set: u8, field: u8, value: &Val
     ensures misfit { result ≡ MISFIT
         → Tells handle.old (PublisherIs (IsValueMisfit set field value.now)) }
     ensures index { result ≡ INDEX → Tells handle.old (PublisherIs (SetsNoField set field)) }
+    ensures other_side { result ≡ OTHER_SIDE → Tells handle.old IsSubscriberSide }
     ensures not_text { result ≢ BAD_TEXT }
     ensures closed { result ≡ CLOSED → handle.old.is_open ≡ 0 }
 {
@@ -211,6 +219,7 @@ fn set_in(kept: &mut Kept, set: u8, field: u8, value: &Value) -> u32
     ensures set { result ≡ OK → HasSetIn set field value.now 0 kept.old kept.new }
     ensures misfit { result ≡ MISFIT → PublisherIs (IsValueMisfit set field value.now) kept.old }
     ensures index { result ≡ INDEX → PublisherIs (SetsNoField set field) kept.old }
+    ensures other_side { result ≡ OTHER_SIDE → IsSubscriberSide kept.old }
     ensures not_text { result ≢ BAD_TEXT }
     ensures not_closed { result ≢ CLOSED }
 {

@@ -1,9 +1,9 @@
 //! The subscriber's calls, but those that get fields.
-ghost use Rattle.std.specs.Prelude.{◌≡◌, ◌≢◌, ◌≤◌, ◌⊎◌, IfOk, IfErr};
-ghost use Rattle.device_sides.specs.Readings.{HaveExpired};
-ghost use Rattle.uapubsub_c.specs.Getting.{HasNoNumber, HasNumber, HoldsAfter, IsReaderIn, IsRefusedFor, IsTaken, KeepsIn, SubscriberIs, SubscriberMoves, WaitsFor, taken_in};
+ghost use Rattle.std.specs.Prelude.{◌≡◌, ◌≢◌, ◌<◌, ◌≤◌, ◌⊎◌, IfOk, IfErr};
+ghost use Rattle.device_sides.specs.Readings.{HaveExpired, IsNoReader};
+ghost use Rattle.uapubsub_c.specs.Getting.{HasNoNumber, HasNoReadGroup, HasNumber, HoldsAfter, IsPublisherSide, IsReaderIn, IsRefusedFor, IsTaken, KeepsIn, SubscriberIs, SubscriberMoves, WaitsFor, taken_in};
 ghost use Rattle.uapubsub_c.specs.Handles.{IsReady, IsRefused, IsSound, Leaves, OpensSubscriber, Stays, Tells};
-ghost use Rattle.uapubsub_c.specs.Keys.{HasKeysRenewedTo, MakesNoRingRead};
+ghost use Rattle.uapubsub_c.specs.Keys.{HasKeysRenewedTo, HasNoSecuredReadGroup, MakesNoRingRead};
 ghost use Rattle.uapubsub_c.specs.Numbers.{why_number};
 
 use crate::handle::Handle;
@@ -37,6 +37,8 @@ pub extern "C" fn uapubsub_subscriber_open(alloc: Global, handle: &mut Handle, t
     ensures ready { IsReady handle.new }
     ensures opened { result ≡ OK → OpensSubscriber text.now handle.new }
     ensures refused { result ≡ REFUSED → IsRefused text.now }
+    ensures was_open { result ≡ OPENED → handle.old.is_open ≢ 0 }
+    ensures not { result ≢ OK → handle.new ≡ handle.old }
 {
     if handle.is_open != 0 {
         return OPENED;
@@ -66,6 +68,9 @@ pub extern "C" fn uapubsub_subscriber_datagram(
         (SubscriberMoves (IsTaken group now bytes.old bytes.new taken.new)) }
     ensures refused { 100 ≤ result → Leaves handle.old handle.new
         (SubscriberMoves (IsRefusedFor group now bytes.old bytes.new result)) }
+    ensures index { result ≡ INDEX → Tells handle.old (SubscriberIs (HasNoReadGroup group)) }
+    ensures other_side { result ≡ OTHER_SIDE → Tells handle.old IsPublisherSide }
+    ensures not { result ≢ OK → result < 100 → Stays handle.old handle.new }
     ensures closed { result ≡ CLOSED → handle.old.is_open ≡ 0 }
 {
     let Some(mut kept) = handle.take(alloc) else {
@@ -89,6 +94,9 @@ fn datagram_in(
         (IsTaken group now bytes.old bytes.new taken.new) kept.old kept.new }
     ensures refused { 100 ≤ result → SubscriberMoves
         (IsRefusedFor group now bytes.old bytes.new result) kept.old kept.new }
+    ensures index { result ≡ INDEX → SubscriberIs (HasNoReadGroup group) kept.old }
+    ensures other_side { result ≡ OTHER_SIDE → IsPublisherSide kept.old }
+    ensures not { result ≢ OK → result < 100 → kept.new ≡ kept.old }
     ensures not_closed { result ≢ CLOSED }
 {
     let Kept::Subscriber(subscriber) = kept else {
@@ -121,6 +129,7 @@ pub extern "C" fn uapubsub_subscriber_expire(alloc: Global, handle: &mut Handle,
     ensures ready { IsReady handle.new }
     ensures expired { result ≡ OK
         → Leaves handle.old handle.new (SubscriberMoves (HaveExpired now)) }
+    ensures other_side { result ≡ OTHER_SIDE → Tells handle.old IsPublisherSide }
     ensures not { result ≢ OK → Stays handle.old handle.new }
     ensures closed { result ≡ CLOSED → handle.old.is_open ≡ 0 }
 {
@@ -136,6 +145,7 @@ fn expire_in(kept: &mut Kept, now: u64) -> u32
     requires { IsSound kept.old }
     ensures sound { IsSound kept.new }
     ensures expired { result ≡ OK → SubscriberMoves (HaveExpired now) kept.old kept.new }
+    ensures other_side { result ≡ OTHER_SIDE → IsPublisherSide kept.old }
     ensures not { result ≢ OK → kept.new ≡ kept.old }
     ensures not_closed { result ≢ CLOSED }
 {
@@ -160,6 +170,9 @@ pub extern "C" fn uapubsub_subscriber_renew(
         → Leaves handle.old handle.new (SubscriberMoves (HasKeysRenewedTo group sets.now)) }
     ensures bad_keys { result ≡ BAD_KEYS
         → Tells handle.old (SubscriberIs (MakesNoRingRead group sets.now)) }
+    ensures index { result ≡ INDEX
+        → Tells handle.old (SubscriberIs (HasNoSecuredReadGroup group)) }
+    ensures other_side { result ≡ OTHER_SIDE → Tells handle.old IsPublisherSide }
     ensures not { result ≢ OK → Stays handle.old handle.new }
     ensures closed { result ≡ CLOSED → handle.old.is_open ≡ 0 }
 {
@@ -178,6 +191,8 @@ fn renew_in(kept: &mut Kept, group: u8, sets: &[KeySetWords]) -> u32
         → SubscriberMoves (HasKeysRenewedTo group sets.now) kept.old kept.new }
     ensures bad_keys { result ≡ BAD_KEYS
         → SubscriberIs (MakesNoRingRead group sets.now) kept.old }
+    ensures index { result ≡ INDEX → SubscriberIs (HasNoSecuredReadGroup group) kept.old }
+    ensures other_side { result ≡ OTHER_SIDE → IsPublisherSide kept.old }
     ensures not { result ≢ OK → kept.new ≡ kept.old }
     ensures not_closed { result ≢ CLOSED }
 {
@@ -212,6 +227,8 @@ pub extern "C" fn uapubsub_reader_why(
     ensures stays { Stays handle.old handle.new }
     ensures held { result ≡ OK → Tells handle.old (KeepsIn group reader (HoldsAfter why.new)) }
     ensures waits { result ≡ NONE → Tells handle.old (KeepsIn group reader (WaitsFor why.new)) }
+    ensures index { result ≡ INDEX → Tells handle.old (SubscriberIs (IsNoReader group reader)) }
+    ensures other_side { result ≡ OTHER_SIDE → Tells handle.old IsPublisherSide }
     ensures closed { result ≡ CLOSED → handle.old.is_open ≡ 0 }
 {
     let Some(kept) = handle.take(alloc) else {
@@ -226,6 +243,8 @@ fn why_of(kept: &Kept, group: u8, reader: u8, why: &mut u32) -> u32
     requires { IsSound kept.now }
     ensures held { result ≡ OK → KeepsIn group reader (HoldsAfter why.new) kept.now }
     ensures waits { result ≡ NONE → KeepsIn group reader (WaitsFor why.new) kept.now }
+    ensures index { result ≡ INDEX → SubscriberIs (IsNoReader group reader) kept.now }
+    ensures other_side { result ≡ OTHER_SIDE → IsPublisherSide kept.now }
     ensures not_closed { result ≢ CLOSED }
 {
     match reader_of(kept, group, reader) {
@@ -267,6 +286,8 @@ pub extern "C" fn uapubsub_reader_number(
     ensures stays { Stays handle.old handle.new }
     ensures number { result ≡ OK → Tells handle.old (KeepsIn group reader (HasNumber number.new)) }
     ensures none { result ≡ NONE → Tells handle.old (KeepsIn group reader HasNoNumber) }
+    ensures index { result ≡ INDEX → Tells handle.old (SubscriberIs (IsNoReader group reader)) }
+    ensures other_side { result ≡ OTHER_SIDE → Tells handle.old IsPublisherSide }
     ensures closed { result ≡ CLOSED → handle.old.is_open ≡ 0 }
 {
     let Some(kept) = handle.take(alloc) else {
@@ -281,6 +302,8 @@ fn message_number_of(kept: &Kept, group: u8, reader: u8, number: &mut u16) -> u3
     requires { IsSound kept.now }
     ensures number { result ≡ OK → KeepsIn group reader (HasNumber number.new) kept.now }
     ensures none { result ≡ NONE → KeepsIn group reader HasNoNumber kept.now }
+    ensures index { result ≡ INDEX → SubscriberIs (IsNoReader group reader) kept.now }
+    ensures other_side { result ≡ OTHER_SIDE → IsPublisherSide kept.now }
     ensures not_closed { result ≢ CLOSED }
 {
     match reader_of(kept, group, reader) {
@@ -300,6 +323,9 @@ fn reader_of(kept: &Kept, group: u8, reader: u8) -> Result<&Reader, u32>
     requires { IsSound kept.now }
     ensures reader { IfOk result (λ value. IsReaderIn group reader value.now kept.now) }
     ensures not { IfErr result (λ status. (status ≡ OTHER_SIDE) ⊎ (status ≡ INDEX)) }
+    ensures index { IfErr result (λ status. status ≡ INDEX
+        → SubscriberIs (IsNoReader group reader) kept.now) }
+    ensures other_side { IfErr result (λ status. status ≡ OTHER_SIDE → IsPublisherSide kept.now) }
     ensures not_closed { IfErr result (λ status. status ≢ CLOSED) }
 {
     let Kept::Subscriber(subscriber) = kept else {

@@ -1,9 +1,9 @@
 //! Writers and readers that are switched on and off.
 ghost use Rattle.std.specs.Prelude.{◌≡◌, ◌≢◌, true, false};
-ghost use Rattle.device_sides.specs.Readings.{HasReaderSwitched};
-ghost use Rattle.device_sides.specs.Sides.{HasWriterSwitched};
-ghost use Rattle.uapubsub_c.specs.Getting.{PublisherMoves, SubscriberMoves};
-ghost use Rattle.uapubsub_c.specs.Handles.{IsReady, IsSound, Leaves, Stays};
+ghost use Rattle.device_sides.specs.Readings.{HasReaderSwitched, IsNoReader};
+ghost use Rattle.device_sides.specs.Sides.{HasNoWriter, HasWriterSwitched};
+ghost use Rattle.uapubsub_c.specs.Getting.{IsPublisherSide, IsSubscriberSide, PublisherIs, PublisherMoves, SubscriberIs, SubscriberMoves};
+ghost use Rattle.uapubsub_c.specs.Handles.{IsReady, IsSound, Leaves, Stays, Tells};
 
 use crate::handle::Handle;
 use crate::kept::Kept;
@@ -22,6 +22,8 @@ pub extern "C" fn uapubsub_writer_enable(
     ensures ready { IsReady handle.new }
     ensures switched { result ≡ OK
         → Leaves handle.old handle.new (PublisherMoves (HasWriterSwitched group writer true)) }
+    ensures index { result ≡ INDEX → Tells handle.old (PublisherIs (HasNoWriter group writer)) }
+    ensures other_side { result ≡ OTHER_SIDE → Tells handle.old IsSubscriberSide }
     ensures not { result ≢ OK → Stays handle.old handle.new }
     ensures closed { result ≡ CLOSED → handle.old.is_open ≡ 0 }
 {
@@ -40,6 +42,8 @@ pub extern "C" fn uapubsub_writer_disable(
     ensures ready { IsReady handle.new }
     ensures switched { result ≡ OK
         → Leaves handle.old handle.new (PublisherMoves (HasWriterSwitched group writer false)) }
+    ensures index { result ≡ INDEX → Tells handle.old (PublisherIs (HasNoWriter group writer)) }
+    ensures other_side { result ≡ OTHER_SIDE → Tells handle.old IsSubscriberSide }
     ensures not { result ≢ OK → Stays handle.old handle.new }
     ensures closed { result ≡ CLOSED → handle.old.is_open ≡ 0 }
 {
@@ -51,6 +55,8 @@ fn switch_writer(alloc: Global, handle: &mut Handle, group: u8, writer: u8, on: 
     ensures ready { IsReady handle.new }
     ensures switched { result ≡ OK
         → Leaves handle.old handle.new (PublisherMoves (HasWriterSwitched group writer on)) }
+    ensures index { result ≡ INDEX → Tells handle.old (PublisherIs (HasNoWriter group writer)) }
+    ensures other_side { result ≡ OTHER_SIDE → Tells handle.old IsSubscriberSide }
     ensures not { result ≢ OK → Stays handle.old handle.new }
     ensures closed { result ≡ CLOSED → handle.old.is_open ≡ 0 }
 {
@@ -67,6 +73,8 @@ fn switch_writer_in(kept: &mut Kept, group: u8, writer: u8, on: bool) -> u32
     ensures sound { IsSound kept.new }
     ensures switched { result ≡ OK
         → PublisherMoves (HasWriterSwitched group writer on) kept.old kept.new }
+    ensures index { result ≡ INDEX → PublisherIs (HasNoWriter group writer) kept.old }
+    ensures other_side { result ≡ OTHER_SIDE → IsSubscriberSide kept.old }
     ensures not { result ≢ OK → kept.new ≡ kept.old }
     ensures not_closed { result ≢ CLOSED }
 {
@@ -92,6 +100,8 @@ pub extern "C" fn uapubsub_reader_enable(
     ensures ready { IsReady handle.new }
     ensures switched { result ≡ OK
         → Leaves handle.old handle.new (SubscriberMoves (HasReaderSwitched group reader true)) }
+    ensures index { result ≡ INDEX → Tells handle.old (SubscriberIs (IsNoReader group reader)) }
+    ensures other_side { result ≡ OTHER_SIDE → Tells handle.old IsPublisherSide }
     ensures not { result ≢ OK → Stays handle.old handle.new }
     ensures closed { result ≡ CLOSED → handle.old.is_open ≡ 0 }
 {
@@ -110,6 +120,8 @@ pub extern "C" fn uapubsub_reader_disable(
     ensures ready { IsReady handle.new }
     ensures switched { result ≡ OK
         → Leaves handle.old handle.new (SubscriberMoves (HasReaderSwitched group reader false)) }
+    ensures index { result ≡ INDEX → Tells handle.old (SubscriberIs (IsNoReader group reader)) }
+    ensures other_side { result ≡ OTHER_SIDE → Tells handle.old IsPublisherSide }
     ensures not { result ≢ OK → Stays handle.old handle.new }
     ensures closed { result ≡ CLOSED → handle.old.is_open ≡ 0 }
 {
@@ -121,6 +133,8 @@ fn switch_reader(alloc: Global, handle: &mut Handle, group: u8, reader: u8, on: 
     ensures ready { IsReady handle.new }
     ensures switched { result ≡ OK
         → Leaves handle.old handle.new (SubscriberMoves (HasReaderSwitched group reader on)) }
+    ensures index { result ≡ INDEX → Tells handle.old (SubscriberIs (IsNoReader group reader)) }
+    ensures other_side { result ≡ OTHER_SIDE → Tells handle.old IsPublisherSide }
     ensures not { result ≢ OK → Stays handle.old handle.new }
     ensures closed { result ≡ CLOSED → handle.old.is_open ≡ 0 }
 {
@@ -137,6 +151,8 @@ fn switch_reader_in(kept: &mut Kept, group: u8, reader: u8, on: bool) -> u32
     ensures sound { IsSound kept.new }
     ensures switched { result ≡ OK
         → SubscriberMoves (HasReaderSwitched group reader on) kept.old kept.new }
+    ensures index { result ≡ INDEX → SubscriberIs (IsNoReader group reader) kept.old }
+    ensures other_side { result ≡ OTHER_SIDE → IsPublisherSide kept.old }
     ensures not { result ≢ OK → kept.new ≡ kept.old }
     ensures not_closed { result ≢ CLOSED }
 {

@@ -2,10 +2,10 @@ use Rattle.std.proofs.Common.{◌≡◌, ℕ, subst}
 use Rattle.std.proofs.lemmas.Result.{IfErr-weaker, IfOk-weaker}
 use Rattle.ua_values.specs.declared.value.Value.{Value}
 use Rattle.device_sides.specs.Readings.{HasFieldStatus, HasFieldValue, HoldsNone}
-use Rattle.uapubsub_c.specs.Getting.{HasNoFieldIn, KeepsIn}
+use Rattle.uapubsub_c.specs.Getting.{HasNoFieldIn, IsPublisherSide, KeepsIn}
 use Rattle.uapubsub_c.specs.Handles.{Tells}
 use Rattle.uapubsub_c.specs.declared.kept.Kept.{Kept}
-use Rattle.uapubsub_c.specs.declared.status.TheConstants.{CLOSED, INDEX, NONE}
+use Rattle.uapubsub_c.specs.declared.status.TheConstants.{CLOSED, INDEX, NONE, OTHER_SIDE}
 use Rattle.uapubsub_c.proofs.getting.field_of.Goals as goal
 
 pub returns-clause-value : goal.returns-clause-value
@@ -56,3 +56,14 @@ pub returns-clause-closed : goal.returns-clause-closed
 returns-clause-closed c =
     IfErr-weaker c.field_in-answer.result (λ (status : ℕ). status ≡ CLOSED → ⊥) (λ (status : ℕ). status ≡ CLOSED → c.args.handle.now.is_open ≡ 0)
     (λ status not is. absurd (not is)) c.field_in-answer.ensures.not_closed
+
+pub returns-clause-other_side : goal.returns-clause-other_side
+returns-clause-other_side c =
+    IfErr-weaker c.field_in-answer.result (λ (status : ℕ). status ≡ OTHER_SIDE → IsPublisherSide c.deref.result.now)
+    (λ (status : ℕ). status ≡ OTHER_SIDE → Tells c.args.handle.now IsPublisherSide)
+    (λ status other is. record {
+      kept = c.in-Some.kept.value;
+      holds = c.in-Some.ensures.held;
+      is = subst (λ (kept : Kept). IsPublisherSide kept) c.deref.ensures (other is);
+    })
+    c.field_in-answer.ensures.other_side

@@ -1,7 +1,7 @@
 use Rattle.std.proofs.Common.{subst}
 use Rattle.ua_values.specs.declared.value.Value.{Value}
 use Rattle.device_sides.specs.Readings.{HasFieldValue}
-use Rattle.uapubsub_c.specs.Getting.{HasOther, IsNoBlob, KeepsIn}
+use Rattle.uapubsub_c.specs.Getting.{HasSuch, IsLongerBlob, IsNoBlob, KeepsIn}
 use Rattle.uapubsub_c.specs.Handles.{Tells}
 use Rattle.uapubsub_c.proofs.Telling.{kept-too}
 use Rattle.uapubsub_c.proofs.getting.uapubsub_get_bytes.Goals as goal
@@ -22,6 +22,17 @@ returns-in-Ok-clause-misfit c = λ misfit.
     record {
       kept = told.kept;
       holds = told.holds;
-      is = kept-too c.args.group c.args.reader told.kept (HasFieldValue c.args.field c.in-Ok.value) (HasOther c.args.field IsNoBlob)
+      is = kept-too c.args.group c.args.reader told.kept (HasFieldValue c.args.field c.in-Ok.value) (HasSuch c.args.field IsNoBlob)
           (λ meta keeps has. record { value = c.in-Ok.value; has = has; is = c.lay_blob.ensures.misfit misfit }) told.is;
+    }
+
+pub returns-in-Ok-clause-room : goal.returns-in-Ok-clause-room
+returns-in-Ok-clause-room c = λ room.
+    let told = c.in-Ok.ensures.value in
+    let longer = IsLongerBlob c.args.buffer.now c.lay_blob.new.count in
+    record {
+      kept = told.kept;
+      holds = told.holds;
+      is = kept-too c.args.group c.args.reader told.kept (HasFieldValue c.args.field c.in-Ok.value) (HasSuch c.args.field longer)
+          (λ meta keeps has. record { value = c.in-Ok.value; has = has; is = c.lay_blob.ensures.room room }) told.is;
     }

@@ -1,7 +1,7 @@
 use Rattle.std.proofs.Common.{subst}
 use Rattle.ua_values.specs.declared.value.Value.{Value}
 use Rattle.device_sides.specs.Readings.{HasFieldValue}
-use Rattle.uapubsub_c.specs.Getting.{HasOther, IsNoGuid, KeepsIn}
+use Rattle.uapubsub_c.specs.Getting.{HasSuch, IsNoGuid, KeepsIn}
 use Rattle.uapubsub_c.specs.Handles.{Tells}
 use Rattle.uapubsub_c.proofs.Telling.{kept-too}
 use Rattle.uapubsub_c.proofs.getting.uapubsub_get_guid.Goals as goal
@@ -17,6 +17,6 @@ returns-in-Ok-clause-misfit c = λ misfit.
     record {
       kept = told.kept;
       holds = told.holds;
-      is = kept-too c.args.group c.args.reader told.kept (HasFieldValue c.args.field c.in-Ok.value) (HasOther c.args.field IsNoGuid)
+      is = kept-too c.args.group c.args.reader told.kept (HasFieldValue c.args.field c.in-Ok.value) (HasSuch c.args.field IsNoGuid)
           (λ meta keeps has. record { value = c.in-Ok.value; has = has; is = c.guid_of.ensures.misfit misfit }) told.is;
     }

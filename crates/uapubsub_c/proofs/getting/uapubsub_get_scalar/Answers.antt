@@ -1,7 +1,7 @@
 use Rattle.std.proofs.Common.{subst}
 use Rattle.uapubsub_c.specs.declared.kept.Kept.{Kept}
 use Rattle.device_sides.specs.Readings.{HoldsNone}
-use Rattle.uapubsub_c.specs.Getting.{HasNoFieldIn, HasScalarAt, IsOtherKindIn, KeepsIn}
+use Rattle.uapubsub_c.specs.Getting.{HasNoFieldIn, HasScalarAt, IsOtherKindIn, IsPublisherSide, KeepsIn}
 use Rattle.uapubsub_c.proofs.getting.uapubsub_get_scalar.Goals as goal
 
 pub returns-clause-word : goal.returns-clause-word
@@ -30,4 +30,11 @@ returns-clause-index c = λ is. record {
   kept = c.in-Some.kept.value;
   holds = c.in-Some.ensures.held;
   is = subst (λ (kept : Kept). HasNoFieldIn c.args.group c.args.reader c.args.field kept) c.deref.ensures (c.word_in-status.ensures.index is);
+}
+
+pub returns-clause-other_side : goal.returns-clause-other_side
+returns-clause-other_side c = λ is. record {
+  kept = c.in-Some.kept.value;
+  holds = c.in-Some.ensures.held;
+  is = subst (λ (kept : Kept). IsPublisherSide kept) c.deref.ensures (c.word_in-status.ensures.other_side is);
 }

@@ -5,6 +5,7 @@ use Rattle.device_sides.specs.Readings.{HoldsNone, IsOfOtherKind, IsUntoldAt, Ke
 use Rattle.device_sides.specs.declared.asked.NoValue.{NoValue}
 use Rattle.uapubsub_c.specs.Getting.{HasNoFieldIn, IsOtherKindIn, KeepsIn}
 use Rattle.uapubsub_c.specs.declared.kept.Kept.{Kept}
+use Rattle.uapubsub_c.proofs.Telling.{not-subscriber}
 use Rattle.uapubsub_c.proofs.getting.word_in.Goals as goal
 
 pub returns-in_default-kind_numbered-clause-misfit : goal.returns-in_default-kind_numbered-clause-misfit
@@ -29,3 +30,6 @@ returns-in-Err-clause-misfit c = λ misfit.
     subst (λ (k : Kind). Keeps c.args.group c.args.reader (IsOfOtherKind c.args.field k) c.in-Subscriber.subscriber) (same_Some c.in-Some.kind kind (c.in-Some.ensures.kind ∙ is))
     (subst (λ (none : NoValue). IsUntoldAt (IsOfOtherKind c.args.field c.in-Some.kind) c.args.group c.args.reader c.args.field c.in-Subscriber.subscriber none)
     (c.status_of.ensures.misfit misfit) c.in-Err.ensures.none))
+
+pub returns-in_default-clause-other_side : goal.returns-in_default-clause-other_side
+returns-in_default-clause-other_side c = λ is. not-subscriber c.args.kept.now c.in_default.not-Subscriber

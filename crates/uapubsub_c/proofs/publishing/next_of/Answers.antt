@@ -7,6 +7,7 @@ use Rattle.uapubsub_c.specs.Handles.{last_handed}
 use Rattle.uapubsub_c.specs.Nexts.{HandsNext}
 use Rattle.uapubsub_c.specs.declared.kept.Kept.{Kept}
 use Rattle.uapubsub_c.specs.declared.kept.Kept.TheVariants.{Publisher}
+use Rattle.uapubsub_c.proofs.Telling.{not-publisher}
 use Rattle.uapubsub_c.proofs.publishing.next_of.Goals as goal
 
 pub returns-else-datagram-buffer-clause-laid : goal.returns-else-datagram-buffer-clause-laid
@@ -41,3 +42,6 @@ pub returns-in-Spent-clause-spent : goal.returns-in-Spent-clause-spent
 returns-in-Spent-clause-spent c = λ is.
     subst (λ (kept : Kept). PublisherMoves (ComesTo c.args.now Spent) kept (Publisher c.come_to.new.self)) (sym c.in-Publisher.is)
     (record { waited = c.in-Spent.ensures.waited; came = c.in-Spent.ensures.came })
+
+pub returns-in_default-clause-other_side : goal.returns-in_default-clause-other_side
+returns-in_default-clause-other_side c = λ is. not-publisher c.args.kept.now c.in_default.not-Publisher

@@ -1,10 +1,12 @@
-use Rattle.std.proofs.Common.{List, subst, sym}
+use Rattle.std.proofs.Common.{List, subst, sym, arith}
 use Rattle.group_keys.specs.declared.key_set.KeySet.{KeySet}
-use Rattle.device_sides.specs.Sides.{HasRenewed}
+use Rattle.device_sides.specs.Sides.{HasRenewed, IsPublisher}
 use Rattle.uapubsub_c.specs.Getting.{PublisherIs, PublisherMoves}
-use Rattle.uapubsub_c.specs.Keys.{HasRenewedTo, MakesNoRing}
+use Rattle.uapubsub_c.specs.Handles.{IsSound}
+use Rattle.uapubsub_c.specs.Keys.{HasNoKeyGroup, HasRenewedTo, MakesNoRing}
 use Rattle.uapubsub_c.specs.declared.kept.Kept.{Kept}
 use Rattle.uapubsub_c.specs.declared.kept.Kept.TheVariants.{Publisher}
+use Rattle.uapubsub_c.proofs.Telling.{not-publisher}
 use Rattle.uapubsub_c.proofs.publishing.renew_in.Goals as goal
 
 pub returns-then-renew-clause-renewed : goal.returns-then-renew-clause-renewed
@@ -24,3 +26,16 @@ returns-in_default-ring_of_words-clause-bad_keys c = λ bad.
       is_long = c.in-Some.ensures.long;
       none = c.in_default-ring_of_words.ensures.none;
     })
+
+pub returns-in_default-clause-other_side : goal.returns-in_default-clause-other_side
+returns-in_default-clause-other_side c = λ is. not-publisher c.args.kept.now c.in_default.not-Publisher
+
+pub returns-in_default-has_long_keys-clause-index : goal.returns-in_default-has_long_keys-clause-index
+returns-in_default-has_long_keys-clause-index c = λ is.
+    subst (λ (kept : Kept). PublisherIs (HasNoKeyGroup c.args.keygroup) kept) (sym c.in-Publisher.is) c.in_default-has_long_keys.ensures.none
+
+pub returns-else-renew-clause-index : goal.returns-else-renew-clause-index
+returns-else-renew-clause-index c = λ is.
+    let sound : IsPublisher c.in-Publisher.publisher = subst IsSound c.in-Publisher.is c.requires in
+    let none : HasNoKeyGroup c.args.keygroup c.in-Publisher.publisher = omega (arith, sound.senders_count, c.if-renew.ensures.absent) in
+    subst (λ (kept : Kept). PublisherIs (HasNoKeyGroup c.args.keygroup) kept) (sym c.in-Publisher.is) none

@@ -2,7 +2,7 @@ use Rattle.std.proofs.Common.{subst}
 use Rattle.device_sides.specs.Coming.{ComesTo}
 use Rattle.device_sides.specs.declared.asked.Next.TheVariants.{Datagram, Nothing, Spent}
 use Rattle.uapubsub_c.specs.declared.kept.Kept.{Kept}
-use Rattle.uapubsub_c.specs.Getting.{PublisherMoves}
+use Rattle.uapubsub_c.specs.Getting.{IsSubscriberSide, PublisherMoves}
 use Rattle.uapubsub_c.specs.Nexts.{HandsNext}
 use Rattle.uapubsub_c.proofs.publishing.uapubsub_publisher_next.Goals as goal
 
@@ -47,4 +47,11 @@ returns-clause-waits c = λ is. record {
   held = c.in-Some.ensures.held;
   holds = c.put.ensures.held;
   moved = subst (λ (kept : Kept). PublisherMoves (ComesTo c.args.now Datagram) kept c.next_of-status.new.kept) c.deref_mut.ensures.value (c.next_of-status.ensures.waits is);
+}
+
+pub returns-clause-other_side : goal.returns-clause-other_side
+returns-clause-other_side c = λ is. record {
+  kept = c.in-Some.kept.value;
+  holds = c.in-Some.ensures.held;
+  is = subst (λ (kept : Kept). IsSubscriberSide kept) c.deref_mut.ensures.value (c.next_of-status.ensures.other_side is);
 }

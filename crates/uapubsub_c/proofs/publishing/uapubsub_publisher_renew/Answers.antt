@@ -1,7 +1,7 @@
 use Rattle.std.proofs.Common.{subst}
 use Rattle.uapubsub_c.specs.declared.kept.Kept.{Kept}
-use Rattle.uapubsub_c.specs.Getting.{PublisherIs, PublisherMoves}
-use Rattle.uapubsub_c.specs.Keys.{HasRenewedTo, MakesNoRing}
+use Rattle.uapubsub_c.specs.Getting.{IsSubscriberSide, PublisherIs, PublisherMoves}
+use Rattle.uapubsub_c.specs.Keys.{HasNoKeyGroup, HasRenewedTo, MakesNoRing}
 use Rattle.uapubsub_c.proofs.publishing.uapubsub_publisher_renew.Goals as goal
 
 pub returns-clause-renewed : goal.returns-clause-renewed
@@ -19,4 +19,18 @@ returns-clause-bad_keys c = λ bad. record {
   kept = c.in-Some.kept.value;
   holds = c.in-Some.ensures.held;
   is = subst (λ (kept : Kept). PublisherIs (MakesNoRing c.args.keygroup c.args.sets.now) kept) c.deref_mut.ensures.value (c.renew_in-status.ensures.bad_keys bad);
+}
+
+pub returns-clause-index : goal.returns-clause-index
+returns-clause-index c = λ is. record {
+  kept = c.in-Some.kept.value;
+  holds = c.in-Some.ensures.held;
+  is = subst (λ (kept : Kept). PublisherIs (HasNoKeyGroup c.args.keygroup) kept) c.deref_mut.ensures.value (c.renew_in-status.ensures.index is);
+}
+
+pub returns-clause-other_side : goal.returns-clause-other_side
+returns-clause-other_side c = λ is. record {
+  kept = c.in-Some.kept.value;
+  holds = c.in-Some.ensures.held;
+  is = subst (λ (kept : Kept). IsSubscriberSide kept) c.deref_mut.ensures.value (c.renew_in-status.ensures.other_side is);
 }

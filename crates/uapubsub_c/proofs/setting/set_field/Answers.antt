@@ -1,6 +1,6 @@
 use Rattle.std.proofs.Common.{subst}
 use Rattle.uapubsub_c.specs.declared.kept.Kept.{Kept}
-use Rattle.uapubsub_c.specs.Getting.{PublisherIs}
+use Rattle.uapubsub_c.specs.Getting.{IsSubscriberSide, PublisherIs}
 use Rattle.uapubsub_c.specs.Handles.{HasSetIn}
 use Rattle.uapubsub_c.specs.Setting.{IsValueMisfit, SetsNoField}
 use Rattle.uapubsub_c.proofs.setting.set_field.Goals as goal
@@ -26,4 +26,11 @@ returns-clause-index c = λ is. record {
   kept = c.in-Some.kept.value;
   holds = c.in-Some.ensures.held;
   is = subst (λ (kept : Kept). PublisherIs (SetsNoField c.args.set c.args.field) kept) c.deref_mut.ensures.value (c.set_in-answer.ensures.index is);
+}
+
+pub returns-clause-other_side : goal.returns-clause-other_side
+returns-clause-other_side c = λ is. record {
+  kept = c.in-Some.kept.value;
+  holds = c.in-Some.ensures.held;
+  is = subst (λ (kept : Kept). IsSubscriberSide kept) c.deref_mut.ensures.value (c.set_in-answer.ensures.other_side is);
 }

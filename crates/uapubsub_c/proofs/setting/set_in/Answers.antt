@@ -5,6 +5,7 @@ use Rattle.device_sides.specs.declared.publisher.Publisher.{Publisher}
 use Rattle.uapubsub_c.specs.Getting.{PublisherIs}
 use Rattle.uapubsub_c.specs.Setting.{IsValueMisfit, SetsNoField}
 use Rattle.uapubsub_c.specs.declared.kept.Kept.{Kept}
+use Rattle.uapubsub_c.proofs.Telling.{not-publisher}
 use Rattle.uapubsub_c.proofs.setting.set_in.Goals as goal
 
 pub returns-then-has_field-clause-misfit : goal.returns-then-has_field-clause-misfit
@@ -14,3 +15,6 @@ pub returns-else-has_field-clause-index : goal.returns-else-has_field-clause-ind
 returns-else-has_field-clause-index c = λ index.
     subst (λ (kept : Kept). PublisherIs (SetsNoField c.args.set c.args.field) kept) (sym c.in-Publisher.is)
     (subst (λ (metas : List MetaData). HasNoField metas c.args.set c.args.field) (ap (λ (publisher : Publisher). publisher.config.dataset) c.set.ensures.rest) c.if-has_field.ensures.not)
+
+pub returns-in_default-clause-other_side : goal.returns-in_default-clause-other_side
+returns-in_default-clause-other_side c = λ is. not-publisher c.args.kept.now c.in_default.not-Publisher

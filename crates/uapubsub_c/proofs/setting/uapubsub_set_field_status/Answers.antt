@@ -1,7 +1,7 @@
 use Rattle.std.proofs.Common.{subst}
 use Rattle.uapubsub_c.specs.declared.kept.Kept.{Kept}
 use Rattle.device_sides.specs.Sides.{HasSetStatus}
-use Rattle.uapubsub_c.specs.Getting.{PublisherIs, PublisherMoves}
+use Rattle.uapubsub_c.specs.Getting.{IsSubscriberSide, PublisherIs, PublisherMoves}
 use Rattle.uapubsub_c.specs.Setting.{IsCodeMisfit, SetsNoField}
 use Rattle.uapubsub_c.proofs.setting.uapubsub_set_field_status.Goals as goal
 
@@ -27,4 +27,11 @@ returns-clause-index c = λ is. record {
   kept = c.in-Some.kept.value;
   holds = c.in-Some.ensures.held;
   is = subst (λ (kept : Kept). PublisherIs (SetsNoField c.args.set c.args.field) kept) c.deref_mut.ensures.value (c.set_status_in-answer.ensures.index is);
+}
+
+pub returns-clause-other_side : goal.returns-clause-other_side
+returns-clause-other_side c = λ is. record {
+  kept = c.in-Some.kept.value;
+  holds = c.in-Some.ensures.held;
+  is = subst (λ (kept : Kept). IsSubscriberSide kept) c.deref_mut.ensures.value (c.set_status_in-answer.ensures.other_side is);
 }

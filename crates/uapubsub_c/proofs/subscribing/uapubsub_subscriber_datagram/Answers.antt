@@ -1,6 +1,6 @@
 use Rattle.std.proofs.Common.{subst}
 use Rattle.uapubsub_c.specs.declared.kept.Kept.{Kept}
-use Rattle.uapubsub_c.specs.Getting.{IsRefusedFor, IsTaken, SubscriberMoves}
+use Rattle.uapubsub_c.specs.Getting.{HasNoReadGroup, IsPublisherSide, IsRefusedFor, IsTaken, SubscriberIs, SubscriberMoves}
 use Rattle.uapubsub_c.proofs.subscribing.uapubsub_subscriber_datagram.Goals as goal
 
 pub returns-clause-taken : goal.returns-clause-taken
@@ -21,4 +21,18 @@ returns-clause-refused c = λ ok. record {
   holds = c.put.ensures.held;
   moved = subst (λ (kept : Kept). SubscriberMoves (IsRefusedFor c.args.group c.args.now c.args.bytes.now c.datagram_in-status.new.bytes c.datagram_in-status.result) kept c.datagram_in-status.new.kept)
       c.deref_mut.ensures.value (c.datagram_in-status.ensures.refused ok);
+}
+
+pub returns-clause-index : goal.returns-clause-index
+returns-clause-index c = λ is. record {
+  kept = c.in-Some.kept.value;
+  holds = c.in-Some.ensures.held;
+  is = subst (λ (kept : Kept). SubscriberIs (HasNoReadGroup c.args.group) kept) c.deref_mut.ensures.value (c.datagram_in-status.ensures.index is);
+}
+
+pub returns-clause-other_side : goal.returns-clause-other_side
+returns-clause-other_side c = λ is. record {
+  kept = c.in-Some.kept.value;
+  holds = c.in-Some.ensures.held;
+  is = subst (λ (kept : Kept). IsPublisherSide kept) c.deref_mut.ensures.value (c.datagram_in-status.ensures.other_side is);
 }

@@ -1,7 +1,7 @@
 use Rattle.std.proofs.Common.{subst}
 use Rattle.uapubsub_c.specs.declared.kept.Kept.{Kept}
-use Rattle.uapubsub_c.specs.Getting.{SubscriberIs, SubscriberMoves}
-use Rattle.uapubsub_c.specs.Keys.{HasKeysRenewedTo, MakesNoRingRead}
+use Rattle.uapubsub_c.specs.Getting.{IsPublisherSide, SubscriberIs, SubscriberMoves}
+use Rattle.uapubsub_c.specs.Keys.{HasKeysRenewedTo, HasNoSecuredReadGroup, MakesNoRingRead}
 use Rattle.uapubsub_c.proofs.subscribing.uapubsub_subscriber_renew.Goals as goal
 
 pub returns-clause-renewed : goal.returns-clause-renewed
@@ -19,4 +19,18 @@ returns-clause-bad_keys c = λ bad. record {
   kept = c.in-Some.kept.value;
   holds = c.in-Some.ensures.held;
   is = subst (λ (kept : Kept). SubscriberIs (MakesNoRingRead c.args.group c.args.sets.now) kept) c.deref_mut.ensures.value (c.renew_in-status.ensures.bad_keys bad);
+}
+
+pub returns-clause-index : goal.returns-clause-index
+returns-clause-index c = λ is. record {
+  kept = c.in-Some.kept.value;
+  holds = c.in-Some.ensures.held;
+  is = subst (λ (kept : Kept). SubscriberIs (HasNoSecuredReadGroup c.args.group) kept) c.deref_mut.ensures.value (c.renew_in-status.ensures.index is);
+}
+
+pub returns-clause-other_side : goal.returns-clause-other_side
+returns-clause-other_side c = λ is. record {
+  kept = c.in-Some.kept.value;
+  holds = c.in-Some.ensures.held;
+  is = subst (λ (kept : Kept). IsPublisherSide kept) c.deref_mut.ensures.value (c.renew_in-status.ensures.other_side is);
 }

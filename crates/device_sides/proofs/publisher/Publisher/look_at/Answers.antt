@@ -1,4 +1,4 @@
-use Rattle.std.proofs.Common.{◌≡◌, ◌<◌, List, length, refl, sym, subst, ap, ◌∙◌, arith}
+use Rattle.std.proofs.Common.{◌≡◌, List, length, refl, sym, subst, ap, ◌∙◌, arith}
 use Rattle.std.specs.Prelude.{All}
 use Rattle.std.specs.Vec.{with_item, with_items}
 use Rattle.std.proofs.lemmas.List.{with_items_is}
@@ -21,7 +21,7 @@ returns-clause-looked c =
     let look = c.look-looked in
     looked-so c.args.index c.args.now look.result self (record self { sides = with_item self.sides c.args.index look.new.side; senders = with_items self.senders look.new.senders; out = look.new.out })
     c.count.new.self c.index_mut.result.now look.new.side c.deref.result.now c.deref_mut.result.now look.new.senders refl c.count.ensures.rest c.count.ensures.counts c.requires.index
-    c.index_mut.ensures.value c.deref.ensures.value c.deref_mut.ensures.value refl (kept (goal.at.returns-clause-looked c).After-count) look.ensures.did look.ensures.unsent
+    c.index_mut.ensures.value c.deref.ensures.value c.deref_mut.ensures.value refl (kept (goal.at.returns-clause-looked c).After-count) look.ensures.did look.ensures.numbers
 
 pub returns-clause-publisher : goal.returns-clause-publisher
 returns-clause-publisher c =

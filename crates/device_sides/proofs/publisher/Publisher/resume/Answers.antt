@@ -1,80 +1,34 @@
-use Rattle.std.proofs.Common.{◌≡◌, ℕ, ◌<◌, List, length, refl, set, sym, subst, ap, ◌∙◌, arith}
-use Rattle.std.specs.List.{HoldsAt}
-use Rattle.std.proofs.lemmas.Bool.{false≢true}
-use Rattle.std.proofs.lemmas.List.{length-set}
-use Rattle.std.proofs.lemmas.List.Elements.{All-set}
-use Rattle.message_guard.specs.Senders.{IsSender, SenderState}
+use Rattle.std.proofs.Common.{◌<◌, List, length, subst, ap, arith}
+use Rattle.std.proofs.lemmas.Bool.{OnFalse_at, OnFalse_from, OnTrue_at, OnTrue_from}
+use Rattle.group_keys.specs.declared.key_set.KeySet.{KeySet}
 use Rattle.ps_config.specs.declared.parts.KeyGroupPart.{KeyGroupPart}
-use Rattle.device_sides.specs.Sides.{IsNoLower, IsResumed, WouldRepeat}
-use Rattle.device_sides.proofs.Places.{holds-at, put-at}
+use Rattle.device_sides.specs.Sides.{IsBehind, IsBehindConfigured, MayNotResume, MayNotResumeConfigured, configured_sets}
+use Rattle.device_sides.proofs.Places.{holds-at}
 use Rattle.device_sides.proofs.publisher.Publisher.resume.Goals as goal
-
-pub returns-then-index-len-clause-refused : goal.returns-then-index-len-clause-refused
-returns-then-index-len-clause-refused c = λ within there. absurd (omega (arith, within, c.if-index-len.true, c.len.ensures, c.args.self.now.senders.ok.0, c.from-index.ensures))
 
 pub returns-then-index-keygroups-clause-refused : goal.returns-then-index-keygroups-clause-refused
 returns-then-index-keygroups-clause-refused c =
-    λ within there. absurd (omega (arith, there, c.if-index-keygroups.true, c.from-index.ensures, ap (λ (l : List KeyGroupPart). length l) c.as_slice-keygroups.ensures))
-
-pub returns-then-not-is_behind-clause-refused : goal.returns-then-not-is_behind-clause-refused
-returns-then-not-is_behind-clause-refused c =
-    let senders = c.args.self.now.senders.items in
-    let keygroups = c.as_slice-keygroups.result.now in
-    let index = c.from-index.result in
-    let part = c.index-keygroups-index.result in
-    let sender = c.index.result.now in
-    let resumed = c.sender_at-sender.result in
-    let low : index < length senders = omega (arith, c.if-index-len.false, c.len.ensures, c.args.self.now.senders.ok.0) in
-    let would : WouldRepeat part c.args.now c.args.used sender = record {
-      resumed = resumed;
-      is = c.sender_at-sender.ensures.resumed;
-      repeats = λ no_lower. false≢true (c.if-not-is_behind.ensures.1
-          (subst (λ (standing : ℕ × ℕ). IsNoLower standing c.standing.result) (sym c.standing-2.ensures)
-          (subst (λ (standing : ℕ × ℕ). IsNoLower (sender.keys.token, sender.used) standing) (sym c.standing.ensures) no_lower)));
-    } in
-    λ within there.
-    holds-at (λ (p : KeyGroupPart). HoldsAt (WouldRepeat p c.args.now c.args.used) senders c.args.keygroup) keygroups c.args.self.now.config.keygroup index c.args.keygroup part
-    c.as_slice-keygroups.ensures c.from-index.ensures (omega (arith, c.if-index-keygroups.false)) c.index-keygroups-index.is
-    (holds-at (WouldRepeat part c.args.now c.args.used) senders senders index c.args.keygroup sender refl c.from-index.ensures low c.index.ensures would)
+    λ d within there. absurd (omega (arith, there, c.if-index-keygroups.true, c.from-index.ensures, ap (λ (l : List KeyGroupPart). length l) c.as_slice-keygroups.ensures))
 
 pub returns-clause-behind : goal.returns-clause-behind
 returns-clause-behind c =
-    let senders = c.args.self.now.senders.items in
+    let keygroup = c.args.keygroup in
+    let old = c.args.self.now in
+    let new = c.go_on.new.self in
     let keygroups = c.as_slice-keygroups.result.now in
-    let index = c.from-index.result in
-    let part = c.index-keygroups-index.result in
-    let sender = c.index.result.now in
-    let resumed = c.sender_at-sender.result in
-    let at = c.from-index.ensures in
-    let low : index < length senders = omega (arith, c.if-index-len.false, c.len.ensures, c.args.self.now.senders.ok.0) in
-    let there : index < length keygroups = omega (arith, c.if-index-keygroups.false) in
-    let no_lower : IsNoLower (sender.keys.token, sender.used) (resumed.keys.token, resumed.used) =
-    subst (λ (standing : ℕ × ℕ). IsNoLower standing (resumed.keys.token, resumed.used)) c.standing-2.ensures
-    (subst (λ (standing : ℕ × ℕ). IsNoLower c.standing-2.result standing) c.standing.ensures (c.if-not-is_behind.ensures.0 refl)) in
-    record {
-      within = omega (arith, low, at);
-      there = omega (arith, there, at, ap (λ (l : List KeyGroupPart). length l) c.as_slice-keygroups.ensures);
-      is_resumed = holds-at (λ (p : KeyGroupPart). HoldsAt (IsResumed p c.args.now c.args.used) (set senders index resumed) c.args.keygroup) keygroups c.args.self.now.config.keygroup index
-          c.args.keygroup part c.as_slice-keygroups.ensures at there c.index-keygroups-index.is
-          (put-at (IsResumed part c.args.now c.args.used) senders index c.args.keygroup resumed at low c.sender_at-sender.ensures.resumed);
-      no_lower = holds-at (λ (was : SenderState). HoldsAt (λ (is : SenderState). IsNoLower (was.keys.token, was.used) (is.keys.token, is.used)) (set senders index resumed) c.args.keygroup)
-          senders senders index c.args.keygroup sender refl at low c.index.ensures
-          (put-at (λ (is : SenderState). IsNoLower (sender.keys.token, sender.used) (is.keys.token, is.used)) senders index c.args.keygroup resumed at low no_lower);
-      others = put-at (λ (is : SenderState). set senders index resumed ≡ set senders c.args.keygroup is) senders index c.args.keygroup resumed at low (ap (λ (k : ℕ). set senders k resumed) at);
-      rest = refl;
-    }
+    let low : c.from-index.result < length keygroups = omega (arith, c.if-index-keygroups.false) in
+    OnTrue_from c.go_on.result (IsBehindConfigured keygroup c.args.now c.args.used old new) (λ yes.
+    holds-at (λ (part : KeyGroupPart). IsBehind keygroup c.args.now c.args.used (configured_sets part) old new) keygroups old.config.keygroup c.from-index.result keygroup
+    c.index-keygroups-index.result c.as_slice-keygroups.ensures c.from-index.ensures low c.index-keygroups-index.is
+    (subst (λ (sets : List KeySet). IsBehind keygroup c.args.now c.args.used sets old new) c.ring_of-ring.ensures.keys (OnTrue_at yes c.go_on.ensures.behind)))
 
-pub returns-clause-publisher : goal.returns-clause-publisher
-returns-clause-publisher c =
-    let r = c.requires in
-    record {
-      good = r.good;
-      rows_are = r.rows_are;
-      rows_count = r.rows_count;
-      senders_are = All-set IsSender c.args.self.now.senders.items c.from-index.result c.sender_at-sender.result c.sender_at-sender.ensures.sender r.senders_are;
-      senders_count = length-set c.args.self.now.senders.items c.from-index.result c.sender_at-sender.result ∙ r.senders_count;
-      sides_are = r.sides_are;
-      reserved = r.reserved;
-      made_is = r.made_is;
-      handed_is = r.handed_is;
-    }
+pub returns-clause-refused : goal.returns-clause-refused
+returns-clause-refused c =
+    let keygroup = c.args.keygroup in
+    let old = c.args.self.now in
+    let keygroups = c.as_slice-keygroups.result.now in
+    let low : c.from-index.result < length keygroups = omega (arith, c.if-index-keygroups.false) in
+    OnFalse_from c.go_on.result (MayNotResumeConfigured keygroup c.args.now c.args.used old) (λ no.
+    holds-at (λ (part : KeyGroupPart). MayNotResume keygroup c.args.now c.args.used (configured_sets part) old) keygroups old.config.keygroup c.from-index.result keygroup
+    c.index-keygroups-index.result c.as_slice-keygroups.ensures c.from-index.ensures low c.index-keygroups-index.is
+    (subst (λ (sets : List KeySet). MayNotResume keygroup c.args.now c.args.used sets old) c.ring_of-ring.ensures.keys (OnFalse_at no c.go_on.ensures.refused)))

@@ -4,7 +4,7 @@ use Rattle.std.specs.List.{Contains}
 use Rattle.device_sides.specs.Coming.{Does, IsPassed, IsQuiet}
 use Rattle.device_sides.specs.declared.looking.Looked.{Looked}
 use Rattle.device_sides.specs.declared.looking.Looked.TheVariants.{Held}
-use Rattle.device_sides.proofs.Looks.{all-done, made-some, none-so-far, passed-so, so-far-looked}
+use Rattle.device_sides.proofs.Looks.{all-done, looked-stay, made-some, none-so-far, passed-so, so-far-looked}
 use Rattle.device_sides.proofs.publisher.Publisher.turn_due.Goals as goal
 
 pub loop-g-init : goal.loop-g-init
@@ -39,14 +39,15 @@ loop-g-preserved c =
     let looked = c.look_at-looked.ensures.looked in
     let passed = passed-so c.look_at-looked.result c.loop-g.self c.look_at-looked.new.self looked.counts c.if-is_waiting.ensures.not in
     let low : c.loop-g.g < length old.sides.items = omega (arith, c.loop-g-test.true, c.len-g-end.ensures, old.sides.ok.0) in
+    let low_mid : c.loop-g.g < length c.loop-g.self.sides.items = omega (arith, low, invariant.count) in
     let far = so-far-looked c.args.now c.loop-g.g c.loop-g.held c.is_held.result c.either-held.result c.look_at-looked.result old c.loop-g.self c.look_at-looked.new.self low
-    (omega (arith, low, invariant.count)) c.either-held.ensures c.is_held.ensures passed invariant.config invariant.rows invariant.senders looked invariant.far in
+    low_mid c.either-held.ensures c.is_held.ensures passed invariant.config invariant.rows invariant.senders looked invariant.far in
     record {
       publisher = c.look_at-looked.ensures.publisher;
       none_waits = c.if-is_waiting.ensures.not;
       config = looked.config ∙ invariant.config;
       rows = looked.rows ∙ invariant.rows;
-      senders = looked.senders passed ∙ invariant.senders;
+      senders = looked-stay c.loop-g.g c.args.now c.look_at-looked.result c.loop-g.self c.look_at-looked.new.self low_mid passed looked ∙ invariant.senders;
       count = far.0 ∙ invariant.count;
       far = far.1;
     }
@@ -56,7 +57,7 @@ returns-then-held-clause-came c =
     let invariant = c.loop-g.invariant in
     let old = c.args.self.now in
     let all : c.loop-g.g ≡ length old.sides.items = omega (arith, c.loop-g-test.false, c.loop-g.auto.g-end, c.len-g-end.ensures, old.sides.ok.0) in
-    all-done c.args.now c.loop-g.held (λ (did : List Looked). All IsPassed did × Contains did Held) old c.loop-g.self c.loop-g.g all invariant.config invariant.rows invariant.senders invariant.far
+    all-done c.args.now c.loop-g.held (λ (did : List Looked). All IsPassed did × Contains did Held) old c.loop-g.self c.loop-g.g all invariant.config invariant.rows invariant.senders invariant.none_waits invariant.far
     (invariant.far.passed, invariant.far.held_is c.if-held.true)
 
 pub returns-else-held-clause-came : goal.returns-else-held-clause-came
@@ -64,5 +65,5 @@ returns-else-held-clause-came c =
     let invariant = c.loop-g.invariant in
     let old = c.args.self.now in
     let all : c.loop-g.g ≡ length old.sides.items = omega (arith, c.loop-g-test.false, c.loop-g.auto.g-end, c.len-g-end.ensures, old.sides.ok.0) in
-    all-done c.args.now c.loop-g.held (λ (did : List Looked). All IsQuiet did) old c.loop-g.self c.loop-g.g all invariant.config invariant.rows invariant.senders invariant.far
+    all-done c.args.now c.loop-g.held (λ (did : List Looked). All IsQuiet did) old c.loop-g.self c.loop-g.g all invariant.config invariant.rows invariant.senders invariant.none_waits invariant.far
     (invariant.far.quiet c.if-held.false)

@@ -4,9 +4,8 @@ use Rattle.dataset_meta.specs.Metas.{MetaData}
 use Rattle.writer_group.specs.Standing.{HasTickedAt, MayTickAt, index_of, input_of}
 use Rattle.std.proofs.lemmas.Bool.{false≢true}
 use Rattle.std.proofs.lemmas.Option.{same_Some}
-use Rattle.ps_config.specs.Headers.{mode_of}
-use Rattle.writer_group.specs.Parts.{group_at, no_group}
-use Rattle.writer_group.specs.Sealing.{advanced_by}
+use Rattle.writer_group.specs.Parts.{no_group}
+use Rattle.device_sides.specs.Sides.{numbered}
 use Rattle.device_sides.proofs.side.Side.turn_secured.Goals as goal
 
 pub returns-clause-turned : goal.returns-clause-turned
@@ -31,9 +30,10 @@ returns-then-not-may_tick-clause-may_not c =
     λ may. false≢true (c.if-not-may_tick.ensures.1
     (subst (λ (on : List Bool). MayTickAt config config.dataset c.args.rows.now on (Some c.args.sender.now) c.args.self.now.group) (sym c.deref.ensures.value) may))
 
-pub returns-clause-unsent : goal.returns-clause-unsent
-returns-clause-unsent c =
-    let mode = mode_of (group_at c.args.config.now (index_of c.args.self.now.group)).security in
+pub returns-clause-numbers : goal.returns-clause-numbers
+returns-clause-numbers c =
+    let config = c.args.config.now in
     let sender = c.args.sender.now in
-    let is : Some c.tick.new.sender.0 ≡ Some (advanced_by mode sender c.tick.result) = c.tick.ensures.sender no_group in
-    λ zero. same_Some c.tick.new.sender.0 sender (is ∙ ap (λ (made : ℕ). Some (advanced_by mode sender made)) zero)
+    let made = c.tick.result in
+    let is : Some c.tick.new.sender.0 ≡ Some (numbered config (index_of c.args.self.now.group) made sender) = c.tick.ensures.sender no_group in
+    same_Some c.tick.new.sender.0 (numbered config c.args.self.now.index made sender) (is ∙ ap (λ (index : ℕ). Some (numbered config index made sender)) c.requires.side.index)
