@@ -1,4 +1,4 @@
-use Rattle.std.proofs.Common.{refl, ap, arith, ◌<◌, length}
+use Rattle.std.proofs.Common.{refl, ap, arith}
 use Rattle.group_keys.specs.Ring.{key_sets}
 use Rattle.session_parts.specs.declared.publisher.Publisher.{Publisher}
 use Rattle.session_parts.specs.declared.round.Round.{Round}
