@@ -20,7 +20,7 @@ use Rattle.ps_config.specs.Sound.{IsSound}
 use Rattle.reader_group.specs.declared.refusal.Refusal.{Refusal}
 use Rattle.reader_group.specs.declared.refusal.Refusal.TheVariants as refusals
 use Rattle.reader_group.specs.Opening.{Opened, verdict}
-use Rattle.reader_group.specs.Settings.{keygroup_at, setting_of, setup_by}
+use Rattle.reader_group.specs.Settings.{keygroup_at, setup_by}
 use Rattle.writer_group.specs.declared.sampled.Sampled.{Sampled}
 use Rattle.writer_group.specs.Turns.{GroupDeed, GroupTurn, HadGroupTurn, RefreshedWriter, turn_datagrams}
 use Rattle.group_laws.specs.Matching.{IsMatchedTo, IsSenderOf, MaySend}

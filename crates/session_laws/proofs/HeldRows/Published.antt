@@ -13,7 +13,7 @@ use Rattle.row_words.specs.Belonging.{row_in}
 use Rattle.ps_config.specs.declared.parts.GroupPart.{GroupPart}
 use Rattle.writer_group.specs.Payloads.{meta_at, writer_at}
 use Rattle.writer_group.specs.Turns.{writer_past}
-use Rattle.reader_group.specs.Settings.{group_at as read_group_at, setting_of}
+use Rattle.reader_group.specs.Settings.{group_at as read_group_at}
 use Rattle.session_model.specs.Counts.{most_ticks}
 use Rattle.session_model.specs.Steps.{Plan, Step}
 use Rattle.session_model.specs.Sets.{metas_at, meta_in}

@@ -1,10 +1,9 @@
 -- What came under a signature was made by the sender, so the items of a reader are those that it sent.
-use Rattle.std.proofs.Common.{◌≡◌, refl, sym, ap, ◌∙◌, subst, arith, ℕ, ◌≤◌, Bool, true, false, List, [], ◌∷◌, map, Option, Some, None, Result, Ok, Err, All, Contains}
+use Rattle.std.proofs.Common.{◌≡◌, refl, sym, ap, ◌∙◌, subst, arith, ℕ, ◌≤◌, Bool, true, false, List, [], ◌∷◌, Option, Some, None, Result, Ok, Err, All}
 use Rattle.std.specs.Prelude.{⊤, ◌&&◌, not, ◌==◌, if◌then◌else◌, slice_index_or, is_some}
 use Rattle.std.proofs.lemmas.Bool.Decides.{nat_tests}
 use Rattle.std.proofs.lemmas.List.Elements.{All-cons, All-head, All-nil, All-tail}
-use Rattle.seq_number.specs.Numbers.{greatest}
-use Rattle.chunker.specs.Chunks.{Chunk, is_whole_at, message_of}
+use Rattle.chunker.specs.Chunks.{Chunk}
 use Rattle.chunker.specs.Joins.{IsCutOf}
 use Rattle.chunker.specs.Spelling.{chunk_at, without_rest}
 use Rattle.chunker.specs.declared.payload.ChunkFault.{ChunkFault}
@@ -20,7 +19,7 @@ use Rattle.message_guard.specs.declared.keys.TokenKeys.{TokenKeys}
 use Rattle.pubsub_model.specs.declared.reading.Why.{Why}
 use Rattle.pubsub_model.specs.declared.reading.Why.TheVariants.{NewToken, Timeout}
 use Rattle.pubsub_model.specs.Frames.{PlacedFrame, place_of}
-use Rattle.pubsub_model.specs.Records.{Came, Cut, Item, since_cut}
+use Rattle.pubsub_model.specs.Records.{Came, Cut, since_cut}
 use Rattle.reader_group.specs.declared.refusal.Refusal.{Refusal}
 use Rattle.reader_group.specs.Agreeing.{AllSent, AreSent, ChunksNear, EachSecuredAgrees, IsWayOf, MemberIs, SendsRise}
 use Rattle.reader_group.specs.Arrivals.{Arrived, Laid, Mark, Way, accepted, accepted_with, arrivals, arrivals_in, chunks_in, chunks_unless, clears, comes, cut_on, frame_of, goes_by_numbers, item_of, item_on, marks, placed, runs_out, taken_in}
@@ -30,7 +29,7 @@ use Rattle.reader_group.specs.Plain.{Setting, Event, Got, Expired, Stopped, is_r
 use Rattle.reader_group.specs.Signed.{TakesSignedAlone}
 use Rattle.reader_group.specs.SlotFrames.{slot_frame_at}
 use Rattle.reader_group.proofs.KeptParts.{IsPieceOf, Keep, OfRead, keep-parts}
-use Rattle.session_laws.specs.Readers.{ChunkIsCutFor, GivesPlace, IsCutFor, IsMadeFor, IsPartFor, IsSentAt, Making, ReadGives, SignedAreMade}
+use Rattle.session_laws.specs.Readers.{ChunkIsCutFor, GivesPlace, IsCutFor, IsPartFor, IsSentAt, Making, ReadGives, SignedAreMade}
 use Rattle.session_laws.proofs.Closing.Coming.{same-chunks}
 use Rattle.session_laws.proofs.HeldRows.KnownTokens.{taken-acceptable}
 use Rattle.session_laws.proofs.HeldRows.Marks.{all-on}

@@ -1,9 +1,8 @@
 -- What a read group takes in a session's steps, and in fewer or more of them; and that an honest link delivers nothing else to it.
-use Rattle.std.proofs.Common.{◌≡◌, refl, sym, ap, ◌∙◌, subst, arith, ℕ, ◌≤◌, ◌⊎◌, inl, inr, Bool, true, List, [], ◌∷◌, ◌++◌, length, Contains, append_assoc}
+use Rattle.std.proofs.Common.{◌≡◌, sym, ap, ◌∙◌, subst, ℕ, ◌⊎◌, inl, inr, Bool, List, [], ◌∷◌, ◌++◌, Contains, append_assoc}
 use Rattle.std.proofs.lemmas.List.Elements.{Contains-append_cases}
 use Rattle.dataset_meta.specs.declared.field.Field.{Field}
 use Rattle.ua_base.specs.Journal.{Entry, Sent, Got, IsHonest}
-use Rattle.message_guard.specs.Modes.{is_secured}
 use Rattle.reader_group.specs.Arrivals.{accepted}
 use Rattle.reader_group.specs.Settings.{setting_of}
 use Rattle.reader_group.specs.Signed.{TakesSignedAlone}

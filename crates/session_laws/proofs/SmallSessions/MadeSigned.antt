@@ -1,5 +1,5 @@
 -- In the session of the three groups each datagram that came with a signature was made by the session's sender: the premise of signed readers is met.
-use Rattle.std.proofs.Common.{◌≡◌, refl, sym, ap, ◌∙◌, subst, arith, ℕ, zero, suc, ◌+◌, ◌<◌, ◌≤◌, ◌⊎◌, inl, inr, Bool, true, List, [], ◌∷◌, ◌++◌, map, length, Some, Result, Ok, Err, All, Contains}
+use Rattle.std.proofs.Common.{◌≡◌, refl, sym, ap, ◌∙◌, subst, arith, ℕ, zero, suc, ◌+◌, ◌≤◌, ◌⊎◌, inl, inr, Bool, true, List, [], ◌∷◌, ◌++◌, map, length, Some, Result, Ok, Err, All, Contains}
 use Rattle.std.specs.Prelude.{fold, slice_get}
 use Rattle.std.proofs.lemmas.List.Elements.{All-cons, All-head, All-nil, All-tail, Contains-append_left, Contains-append_right}
 use Rattle.std.proofs.lemmas.Option.{slice_get-get_or}
@@ -14,13 +14,12 @@ use Rattle.frame_codec.specs.Frames.{Frame}
 use Rattle.frame_codec.specs.Reading.{frame_at}
 use Rattle.group_laws.specs.Witness.{cut_group, cut_readers, ones, signed_group, signed_readers, slotted_group, slotted_readers, three_config, three_key, three_keys}
 use Rattle.message_guard.specs.Acceptance.{Accepted}
-use Rattle.message_guard.specs.Modes.{is_secured}
 use Rattle.ps_config.specs.declared.parts.ReadGroupPart.{ReadGroupPart}
 use Rattle.pubsub_model.specs.Answers.{InSpan}
-use Rattle.pubsub_model.specs.Cadence.{Answered, next_place}
+use Rattle.pubsub_model.specs.Cadence.{next_place}
 use Rattle.pubsub_model.specs.Frames.{Alive, Change, PlacedFrame, Whole, place_of, placed_cut}
 use Rattle.reader_group.specs.Agreeing.{SendsRise}
-use Rattle.reader_group.specs.Arrivals.{Way, frame_of, placed}
+use Rattle.reader_group.specs.Arrivals.{Way, placed}
 use Rattle.reader_group.specs.Opening.{Opened, verdict}
 use Rattle.reader_group.specs.Payloads.{Piece, Message, Chunked, Slotted, Missing, pieces}
 use Rattle.reader_group.specs.Plain.{Event, Setting}
@@ -30,18 +29,17 @@ use Rattle.reader_group.proofs.KeptParts.{IsPieceOf, OfRead}
 use Rattle.ua_base.specs.Journal.{Entry, Sent, SendFailed, Got, Empty, Long, ReceiveFailed}
 use Rattle.writer_group.specs.Payloads.{writer_at}
 use Rattle.writer_group.specs.Turns.{GroupDeed, HadGroupTurn, writer_past}
-use Rattle.session_model.specs.Counts.{ticks_in}
-use Rattle.session_model.specs.Deeds.{deeds, group_past, sender_after}
+use Rattle.session_model.specs.Deeds.{sender_after}
 use Rattle.session_model.specs.Events.{events, got_on, readers_on}
 use Rattle.session_model.specs.Sends.{Send, journal, send_entries, sends_of}
-use Rattle.session_model.specs.Steps.{Plan, Pump, Step, moment_of}
+use Rattle.session_model.specs.Steps.{Plan, Step, moment_of}
 use Rattle.session_model.specs.Turns.{deeds_before}
 use Rattle.session_laws.specs.Below.{Laws}
 use Rattle.session_laws.specs.Delivered.{all_done, all_got}
 use Rattle.session_laws.specs.Headline.{InSession}
 use Rattle.session_laws.specs.Pasts.{IsMade, WasMade, settings_at}
 use Rattle.session_laws.specs.Plays.{IsPlay, Play, its_answers, its_meta, its_way}
-use Rattle.session_laws.specs.Readers.{ChunkIsCutFor, GivesPlace, IsCutFor, IsMadeFor, IsPartFor, IsSentAt, Making, ReadGives, SignedAreMade}
+use Rattle.session_laws.specs.Readers.{ChunkIsCutFor, GivesPlace, IsMadeFor, IsPartFor, IsSentAt, Making, ReadGives, SignedAreMade}
 use Rattle.session_laws.specs.Sessions.{pasts_at}
 use Rattle.session_laws.proofs.Closing.ClosingTick.{its_last}
 use Rattle.session_laws.proofs.HeldRows.Marks.{its_bytes, source, turns}

@@ -1,6 +1,6 @@
 -- Sessions to whose port comes what was never sent meet the premises, and their readers hold what was sent.
-use Rattle.std.proofs.Common.{◌≡◌, refl, sym, ap, ◌∙◌, subst, arith, ℕ, zero, suc, ◌<◌, lit<, lit≤, ◌⊎◌, inl, inr, true, false, List, [], ◌∷◌, ◌++◌, map, length, append-nil, append_assoc, Contains, Some}
-use Rattle.std.specs.Prelude.{codes, slice_index_or, Result, Ok, Err, IsErr}
+use Rattle.std.proofs.Common.{◌≡◌, refl, sym, ap, ◌∙◌, subst, arith, ℕ, zero, suc, ◌<◌, lit<, lit≤, ◌⊎◌, inl, inr, true, false, List, [], ◌∷◌, ◌++◌, map, append-nil, append_assoc, Contains, Some}
+use Rattle.std.specs.Prelude.{slice_index_or, Result, Ok, Err, IsErr}
 use Rattle.std.proofs.lemmas.List.Elements.{Contains-append_right}
 use Rattle.ua_binary.specs.ReadingValues.{block_at, text_at, kind_at, variant_at, times_past, parts_at, data_value_at}
 use Rattle.uadp_header.specs.Formats.{◌>>=◌, read}
@@ -8,13 +8,10 @@ use Rattle.uadp_header.specs.Layout.{byte, number, block, when, byte_when, text,
 use Rattle.frame_codec.specs.Contents.{field_at, surplus_at, whole_at, change_at, patch_at, content_at}
 use Rattle.frame_codec.specs.Fronts.{flags1_at, flags2_at, times_past as front_times, parts_at as front_parts, front_at}
 use Rattle.frame_codec.specs.Reading.{behind_front, message_at, frame_at}
-use Rattle.row_words.specs.Belonging.{row_in, statuses_in, spelled_row, spelled_statuses, cut_words}
-use Rattle.uadp_header.specs.Spelling.{header_len, header_bytes, flags_bytes, group_bytes, security_bytes}
-use Rattle.frame_codec.specs.Spelling.{front_bytes, frame_bytes}
 use Rattle.ua_base.specs.Journal.{Entry, Sent, SendFailed, Got, Empty, Long, ReceiveFailed}
 use Rattle.ps_config.specs.BuiltIn.{demo, built_in_writer, built_in_group, built_in_reader, built_in_read_group, built_in_config}
 use Rattle.ps_config.specs.declared.parts.ReadGroupPart.{ReadGroupPart}
-use Rattle.group_laws.specs.Witness.{ones, reader_of, signed_group, signed_readers, slotted_group, slotted_readers, cut_group, cut_readers, three_config, three_key, three_keys}
+use Rattle.group_laws.specs.Witness.{ones, signed_readers, slotted_readers, cut_readers, three_config, three_key, three_keys}
 use Rattle.reader_group.specs.Arrivals.{accepted}
 use Rattle.reader_group.specs.Opening.{Opened, verdict}
 use Rattle.reader_group.specs.Settings.{no_keys, setting_of}
@@ -23,17 +20,15 @@ use Rattle.session_model.specs.Counts.{most_taken}
 use Rattle.session_model.specs.Events.{events, reader_at}
 use Rattle.session_model.specs.Sends.{IsPump, IsRun, Send, journal, send_entries, sends_of}
 use Rattle.session_model.specs.Steps.{Plan, Step, Pump}
-use Rattle.session_laws.specs.Delivered.{all_done, all_got, sent_on}
+use Rattle.session_laws.specs.Delivered.{all_done, all_got}
 use Rattle.session_laws.specs.Headline.{InSession}
 use Rattle.session_laws.specs.Newest.{ClosesInTick, ClosingGotSecured}
 use Rattle.session_laws.specs.Noise.{noise, noisy_receives, noisy_session, noisy_three_session, of_another_publisher, of_another_version, signed_noise, stray_bytes}
-use Rattle.session_laws.specs.Reading.{IsMatchedIn}
 use Rattle.session_laws.specs.Sessions.{IsHonestFor, Takes, TakesWhatWasSent}
-use Rattle.session_laws.specs.Witness.{IsNewestWhere, seven, small_datagram, small_datagram_with, small_plan, small_row, three_plan, three_rows, tick_on}
+use Rattle.session_laws.specs.Witness.{IsNewestWhere, seven, small_datagram, small_plan, small_row, three_plan, three_rows, tick_on}
 use Rattle.session_laws.proofs.HeldRows.Delivering.{pump-of}
 use Rattle.session_laws.proofs.SmallSessions.Meeting.{BuiltInLaws, first-are, first-rise, first-run, first-sends, matched-is, plan-is, there-is}
-use Rattle.session_laws.proofs.SmallSessions.OneTick as OneTick
-use Rattle.session_laws.proofs.SmallSessions.OneTick.{all-short, config, four-sends, in-session, own_at, plan, sent, session, signed-came, signed-had, signed-took, turn_at, versions-are}
+use Rattle.session_laws.proofs.SmallSessions.OneTick.{all-short, four-sends, in-session, own_at, plan, sent, signed-came, signed-had, signed-took, turn_at, versions-are}
 use Rattle.session_laws.proofs.HeldRows.Taking.{taken-none, taken-pump, taken-tick}
 use Rattle.session_laws.proofs.SmallSessions.ThreeGroups.{NewestLaw, ThreeLaws, its-plan, newest-where, signed-matched}
 
