@@ -2,10 +2,7 @@
 use Rattle.std.proofs.Common.{◌≡◌, refl, sym, ap, ◌∙◌, subst, arith, ℕ, ◌+◌, ◌<◌, Bool, true, false, List, [], ◌∷◌, ◌++◌, length, Option, Some, AllPairs, append_assoc, append-nil}
 use Rattle.std.specs.Prelude.{◌==◌, option_map}
 use Rattle.group_keys.specs.declared.key_set.KeySet.{KeySet}
-use Rattle.message_guard.specs.Modes as guard_modes
 use Rattle.message_guard.specs.Senders.{SenderState, IsSender, HaveOtherNumbers, renewed, turned as turned_to}
-use Rattle.config_tables.specs.declared.words.Security.{Security}
-use Rattle.config_tables.specs.declared.words.Security.TheVariants as security
 use Rattle.ps_config.specs.declared.parts.Config.{Config}
 use Rattle.ps_config.specs.Headers.{is_secured, mode_of}
 use Rattle.ps_config.specs.Sound.{IsKeyed}
@@ -31,6 +28,7 @@ use Rattle.session_laws.proofs.Versions.LifeTicks.{life-tick}
 use Rattle.session_laws.proofs.Versions.Numbers.{OnceLaw}
 use Rattle.session_laws.proofs.Versions.Senders.{group-keyed, left-by, not-spent, shared-by}
 use Rattle.turn_laws.specs.Makers.{HasOneSender}
+use Rattle.turn_laws.proofs.Rings.{same-mode}
 
 -- ---- uses, one after another
 
@@ -101,11 +99,6 @@ renewed-on config k keygroup sets true e earlier h =
       sender = sender-more s h.uses (Renewed sets ∷ []) ∙ ap (λ (x : SenderState). renewed x sets) h.sender
           ∙ sym (ap (λ (b : Bool). renewed_if b sets (sender_after config k earlier)) e);
     }
-
-same-mode : (s : Security) → guard_modes.is_secured (mode_of s) ≡ is_secured s
-same-mode security.None = refl
-same-mode security.Sign = refl
-same-mode security.Encrypt = refl
 
 turn-on : (p : Plan) (before : List Step) (now : ℕ) (closing : Bool) (samples : List Sampled) (k g : ℕ) (earlier : List Deed) (b : Bool) → shares (group_at p.config g) k ≡ b → IsPlan p → g < length p.config.group
     → has_turn p before now closing earlier g ≡ true → HoldsTurn p.config (group_at p.config g) (group_past p.config g earlier) (turn_input p before now closing samples earlier g) → HasUses p.config k earlier
