@@ -1,7 +1,7 @@
 -- A link over which all that is sent comes, and nothing else, is honest: so there are signed sessions.
-use Rattle.std.proofs.Common.{◌≡◌, refl, sym, ap, ◌∙◌, subst, arith, ℕ, zero, suc, ◌<◌, Bool, true, false, List, [], ◌∷◌, ◌++◌, length, map, Some, inl, inr, Contains}
-use Rattle.std.specs.Prelude.{◌⊎◌, slice_index}
-use Rattle.std.proofs.lemmas.List.Elements.{Contains-append_left, Contains-append_right}
+use Rattle.std.proofs.Common.{◌≡◌, refl, sym, ap, ◌∙◌, subst, arith, ℕ, zero, suc, ◌<◌, ◌^◌, lit<, Bool, true, false, List, [], ◌∷◌, ◌++◌, length, map, Some, inl, inr, Contains}
+use Rattle.std.specs.Prelude.{◌⊎◌, ◌≢◌, slice_index}
+use Rattle.std.proofs.lemmas.List.Elements.{All-append, All-cons, All-nil, Contains-append_left, Contains-append_right}
 use Rattle.ua_base.specs.Journal.{Entry, Sent, Got, Empty}
 use Rattle.group_keys.specs.KeySets.{LengthsFit, encrypting_length, encrypting_lengths}
 use Rattle.group_keys.specs.declared.key_set.KeySet.{KeySet}
@@ -27,7 +27,8 @@ use Rattle.session_laws.specs.Delivered.{all_got, delivered_on, sent_on}
 use Rattle.session_laws.specs.Headline.{InSession}
 use Rattle.session_laws.specs.Sessions.{IsHonestFor}
 use Rattle.session_laws.specs.Witness.{three_plan, three_session}
-use Rattle.turn_laws.specs.Lives.{AreSentIfSigned, IsSignedLife, TokensNameKeys, between_life, sets_in_life, three_sent}
+use Rattle.session_laws.specs.Renewals.{HasShortTokens, HaveShortTokens}
+use Rattle.turn_laws.specs.Lives.{AreSentIfSigned, IsSignedLife, TokensNameKeys, between_life, later_ring, later_set, sets_in_life, three_sent}
 use Rattle.turn_laws.specs.Makers.{IsSignedSession}
 
 -- ---- an entry of two lists is one of the first, or behind it
@@ -141,26 +142,38 @@ three-signed is hold = record {
 between-honest : (keys : List TokenKeys) → AreSentIfSigned keys (account_in three_plan (map Stepped three_sent)).journal (all_got three_plan three_sent)
 between-honest keys datagram has signed = got-sent (sends_of three_plan three_sent) datagram has
 
--- a ring of one set, twice
-is-that : (set one : KeySet) → Contains (set ∷ set ∷ []) one → set ≡ one
-is-that set one (zero, below, same) = same
-is-that set one (suc zero, below, same) = same
-is-that set one (suc (suc k), below, same) = absurd (omega (arith, below))
+-- a ring of two sets, behind one of the first alone
+one-of : (a b one : KeySet) → Contains (a ∷ b ∷ a ∷ []) one → (a ≡ one) ⊎ (b ≡ one)
+one-of a b one (zero, below, same) = inl same
+one-of a b one (suc zero, below, same) = inr same
+one-of a b one (suc (suc zero), below, same) = inl same
+one-of a b one (suc (suc (suc k)), below, same) = absurd (omega (arith, below))
 
-same-names : (set : KeySet) → TokensNameKeys (set ∷ set ∷ [])
-same-names set = λ one other has_one has_other token. ap keys_in (sym (is-that set one has_one) ∙ is-that set other has_other)
+two-named : (a b : KeySet) → a.token ≢ b.token → TokensNameKeys (a ∷ b ∷ a ∷ [])
+two-named a b apart = λ one other has_one has_other token. on one other (one-of a b one has_one) (one-of a b other has_other) token
+  where
+    on : (one other : KeySet) → (a ≡ one) ⊎ (b ≡ one) → (a ≡ other) ⊎ (b ≡ other) → one.token ≡ other.token → keys_in one ≡ keys_in other
+    on one other (inl is) (inl also) token = ap keys_in (sym is ∙ also)
+    on one other (inl is) (inr also) token = absurd (apart (ap (λ (set : KeySet). set.token) is ∙ token ∙ sym (ap (λ (set : KeySet). set.token) also)))
+    on one other (inr is) (inl also) token = absurd (apart (ap (λ (set : KeySet). set.token) also ∙ sym token ∙ sym (ap (λ (set : KeySet). set.token) is)))
+    on one other (inr is) (inr also) token = ap keys_in (sym is ∙ also)
 
 three-named : TokensNameKeys (sets_in_life three_plan.config 0 between_life)
-unfolding three_plan three_config three_keys
-three-named = same-names (key_set three_key)
-
-fits-one : (set : KeySet) → length set.encrypting.items ≡ 16 → (index : ℕ) → index < length (set ∷ []) → slice_index (encrypting_lengths (set ∷ [])) index ≡ encrypting_length false
-fits-one set is zero below = is
-fits-one set is (suc index) below = absurd (omega (arith, below))
-
-three-fit : LengthsFit (is_long (keygroup_at three_plan.config 0).policy) (map key_set three_keys.key)
 unfolding three_plan three_config three_keys three_key
-three-fit = fits-one (key_set three_key) refl
+three-named = two-named (key_set three_key) later_set (λ same. omega (arith, same))
+
+fits-two : (a b : KeySet) → length a.encrypting.items ≡ 16 → length b.encrypting.items ≡ 16 → (index : ℕ) → index < length (a ∷ b ∷ []) → slice_index (encrypting_lengths (a ∷ b ∷ [])) index ≡ encrypting_length false
+fits-two a b is also zero below = is
+fits-two a b is also (suc zero) below = also
+fits-two a b is also (suc (suc index)) below = absurd (omega (arith, below))
+
+three-fit : LengthsFit (is_long (keygroup_at three_plan.config 0).policy) later_ring
+unfolding three_plan three_config three_keys three_key
+three-fit = fits-two (key_set three_key) later_set refl refl
+
+pub three-short : HaveShortTokens (map key_set three_keys.key) → HasShortTokens between_life
+three-short short =
+    (All-append (λ (set : KeySet). set.token < 2 ^ 32) (map key_set three_keys.key) (later_set ∷ []) short (All-cons (λ (set : KeySet). set.token < 2 ^ 32) later_set [] (lit< tt) (All-nil (λ (set : KeySet). set.token < 2 ^ 32))), tt)
 
 pub three-renewed : InSession three_plan 0 0 0 0 three_session → TurnsHoldIn three_plan between_life → IsSignedLife most_ticks three_plan 0 0 0 0 0 between_life
 three-renewed is hold = record {
@@ -171,7 +184,7 @@ three-renewed is hold = record {
   under = record { there = is.there; within = is.matched.reads.within; keyed = three-keyed };
   matched = is.matched;
   numbered = three-numbered;
-  honest = (between-honest ((account_in three_plan (Renewed 0 (map key_set three_keys.key) ∷ map Stepped three_sent)).readings 0).keys, (tt, tt));
+  honest = (between-honest ((account_in three_plan (Renewed 0 later_ring ∷ map Stepped three_sent)).readings 0).keys, (tt, tt));
   named = three-named;
   lengths = (three-fit, tt);
 }

@@ -1,5 +1,5 @@
 -- Lives, in which rings renew a key group's sender and the read groups with its keys: what comes to a reader, who made it, and what the rings owe.
-use Rattle.std.specs.Prelude.{◌≡◌, ⊤, ℕ, List, [], ◌∷◌, ◌++◌, map, Contains, true, false, ◌==◌, if◌then◌else◌, slice_index_or}
+use Rattle.std.specs.Prelude.{◌≡◌, ⊤, ℕ, List, [], ◌∷◌, ◌++◌, map, Contains, true, false, ◌==◌, if◌then◌else◌, replicate, slice_index_or}
 use Rattle.ua_base.specs.Journal as link
 use Rattle.ua_base.specs.Journal.{Entry}
 use Rattle.pubsub_model.specs.declared.reading.Why.TheVariants.{Timeout}
@@ -148,7 +148,13 @@ pub record IsSignedLife (most : ℕ) (p : Plan) (r i g w k : ℕ) (life : List L
 abbrev pub three_sent : List Step
 three_sent = sent_on three_plan 0 true (ones ∷ []) []
 
--- a ring with the keys of the configuration renews it then, and the pump gets all that was sent
+-- a ring with the key of the configuration and a later one
+abbrev pub later_set : KeySet
+later_set = record { token = 2; from = 1000; signing = replicate 32 1; encrypting = record { items = replicate 16 1 }; nonce = replicate 4 1 }
+
+abbrev pub later_ring : List KeySet
+later_ring = map key_set three_keys.key ++ later_set ∷ []
+
+-- it renews the key group then, and the pump gets all that was sent
 abbrev pub between_life : List Lived
-between_life =
-    Stepped (Pump (all_got three_plan three_sent)) ∷ Renewed 0 (map key_set three_keys.key) ∷ map Stepped three_sent
+between_life = Stepped (Pump (all_got three_plan three_sent)) ∷ Renewed 0 later_ring ∷ map Stepped three_sent

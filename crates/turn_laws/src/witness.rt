@@ -30,8 +30,8 @@ pub fn signed_sessions_meet_the_premises()
     each_turn_of_a_session_holds();
 }
 
-/// A life of the session of the three groups is one for the reader of the signed group: a ring with the keys of the configuration renews
-/// the key group behind the tick, before the pump gets all that the tick sent.
+/// A life of the session of the three groups is one for the reader of the signed group: a ring with the key of the configuration and a
+/// later one renews the key group behind the tick, before the pump gets all that the tick sent.
 pub fn a_renewed_life_meets_the_premises()
     ensures { IsSignedLife most_ticks three_plan 0 0 0 0 0 between_life }
 {
