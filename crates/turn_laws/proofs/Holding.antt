@@ -1,17 +1,21 @@
 -- Over all turns of a publisher: each datagram of a writer's group has for its reader what was sent with its token and number.
-use Rattle.std.proofs.Common.{◌≡◌, refl, sym, ap, ◌∙◌, subst, arith, ℕ, zero, suc, ◌+◌, ◌<◌, Bool, true, false, not, List, [], ◌∷◌, length, Option, Some, None, Result, Ok, inl, inr, All, Contains, eq-eqb, ne_eqb, eqb-true}
-use Rattle.std.specs.Prelude.{◌==◌, ◌&&◌, ◌≢◌, if◌then◌else◌, option_map, slice_get}
+use Rattle.std.proofs.Common.{◌≡◌, refl, sym, ap, ◌∙◌, subst, arith, ℕ, zero, suc, ◌+◌, ◌<◌, Bool, true, false, not, List, [], ◌∷◌, length, get_or, Option, Some, None, Result, Ok, inl, inr, All, Contains, eq-eqb, ne_eqb, eqb-true}
+use Rattle.std.specs.Prelude.{◌==◌, ◌&&◌, ◌≢◌, if◌then◌else◌, slice_get}
 use Rattle.std.proofs.lemmas.List.Elements.{All-weaker}
 use Rattle.std.proofs.lemmas.Option.{get_or_from_slice_get, slice_get-get_or, slice_get_within}
 use Rattle.dataset_meta.specs.Metas.{MetaData}
 use Rattle.dataset_meta.specs.Rows.{cons_if}
+use Rattle.message_guard.specs.declared.keys.TokenKeys.{TokenKeys}
 use Rattle.message_guard.specs.Acceptance.{Accepted}
+use Rattle.message_guard.specs.Guards.{Setup}
+use Rattle.message_guard.specs.Protection.{keys_with}
 use Rattle.message_guard.specs.Senders.{SenderState}
 use Rattle.pubsub_model.specs.Frames.{PlacedFrame, is_silent, place_of}
 use Rattle.config_tables.specs.declared.words.Layout.{Layout}
 use Rattle.config_tables.specs.declared.words.Layout.TheVariants as layouts
 use Rattle.ps_config.specs.declared.parts.Config.{Config}
 use Rattle.ps_config.specs.declared.parts.GroupPart.{GroupPart}
+use Rattle.ps_config.specs.declared.parts.KeyGroupPart.{KeyGroupPart}
 use Rattle.ps_config.specs.declared.parts.ReadGroupPart.{ReadGroupPart}
 use Rattle.ps_config.specs.Headers.{mode_of}
 use Rattle.pubsub_states.specs.declared.component.Component.{Component}
@@ -20,12 +24,12 @@ use Rattle.reader_group.specs.Arrivals.{Way, is_numbered}
 use Rattle.reader_group.specs.Members.{Seat, seat_at}
 use Rattle.reader_group.specs.Opening.{Opened, verdict}
 use Rattle.reader_group.specs.Payloads.{pieces}
-use Rattle.reader_group.specs.Settings.{setting_by, setup_by}
+use Rattle.reader_group.specs.Settings.{keygroup_at, setting_by, setup_by}
 use Rattle.writer_group.specs.Parts.{group_at}
 use Rattle.writer_group.specs.Payloads.{meta_at, payloads_of, spelled_by}
 use Rattle.writer_group.specs.Sealing.{Envelope, Payload}
 use Rattle.writer_group.specs.Turns.{GroupDeed, GroupTurn, HadGroupTurn, RefreshedWriter, TurnInput, answer_by, answer_to, envelope_of, frames_in, took_by, turn_datagrams}
-use Rattle.group_laws.specs.Matching.{IsMatchedTo, ReadsFrames}
+use Rattle.group_laws.specs.Matching.{IsMatched, IsMatchedTo, IsSenderOf, ReadsFrames}
 use Rattle.group_laws.specs.TurnOpened.{opened_at, opened_from, turn_opened}
 use Rattle.group_laws.specs.TurnReading.{IsPartBy}
 use Rattle.group_laws.proofs.TurnTaken.{advanced-keys, advanced-used}
@@ -34,12 +38,12 @@ use Rattle.session_laws.specs.Below.{TurnLaws}
 use Rattle.session_laws.specs.Pasts.{IsTurn, WasMade, settings_at}
 use Rattle.session_laws.specs.Readers.{IsPartFor, Making}
 use Rattle.session_laws.proofs.HeldRows.Passing.{IsPassOf}
-use Rattle.session_laws.proofs.HeldRows.Pieces.{opened-at}
 use Rattle.session_laws.proofs.Versions.Answering.{bytes_if}
-use Rattle.turn_laws.specs.Makers.{AreOwnTurns, IsOwnTurn}
 use Rattle.turn_laws.specs.Sent.{NamesPlaces, given_on, sent_in}
+use Rattle.turn_laws.proofs.Keyed.{first-accepted, other-ring, same-opening}
 use Rattle.turn_laws.proofs.Parts.{IsSentNow, part-sent, part-stays}
 use Rattle.turn_laws.proofs.Places.{good-to, loud-to, next_of}
+use Rattle.turn_laws.proofs.Rings.{AreRingTurns, IsRingTurn, KnowsSender, KnowsSenders, sender-of, sender-there, setup-mode, with_rings}
 use Rattle.turn_laws.proofs.Rising.{given-has, given-keeps, spanned-at}
 use Rattle.turn_laws.proofs.Sharing.{RisenAt, own-risen}
 
@@ -91,7 +95,7 @@ made_with sent bytes = record { sent = sent; bytes = bytes }
 
 -- ---- a writer of a group, and a reader that is matched to it
 
-module _ (laws : TurnLaws) (config : Config) (k g w : ℕ) (readers : ReadGroupPart) (reader : ℕ) (place : ℕ → ℕ → ℕ → ℕ) (matched : IsMatchedTo config readers reader (group_at config g) w)
+module _ (laws : TurnLaws) (config : Config) (k g w : ℕ) (readers : ReadGroupPart) (reader : ℕ) (place : ℕ → ℕ → ℕ → ℕ) (keys : List TokenKeys) (matched : IsMatchedTo config readers reader (group_at config g) w)
     (keyed : (group_at config g).keygroup ≡ Some k) (numbered : is_numbered (seat_at (setting_by config readers).seats reader).part.numbering ≡ true) where
   abbrev group : GroupPart
   group = group_at config g
@@ -102,8 +106,12 @@ module _ (laws : TurnLaws) (config : Config) (k g w : ℕ) (readers : ReadGroupP
   abbrev way : Way
   way = record { index = reader; seat = seat; place = place }
 
+  -- its guard, with these keys
+  abbrev setup : Setup
+  setup = record (setup_by config readers readers.keygroup) { keys = keys }
+
   abbrev its_verdict : Accepted → List ℕ → Result Opened Refusal
-  its_verdict accepted datagram = verdict readers (setup_by config readers readers.keygroup) accepted datagram
+  its_verdict accepted datagram = verdict readers setup accepted datagram
 
   -- what a datagram of this past has for the reader was sent with its token and number
   pub record Held (past : List GroupDeed) (sent : ℕ → List (ℕ × ℕ)) : Type 0 where
@@ -136,17 +144,21 @@ module _ (laws : TurnLaws) (config : Config) (k g w : ℕ) (readers : ReadGroupP
   meta-is : seat.meta ≡ meta_at group config.dataset w
   meta-is = laws.meta config readers reader group w matched
 
-  turn-parts : (layout : Layout) (past : List GroupDeed) (turn : GroupTurn) (opened : Opened) (is : IsTurn config group past turn) → group.layout ≡ layout → Contains (turn_opened config group past is.input) opened
-      → All (IsPartBy group past is.input w seat) (pieces seat.part opened.payload)
-  turn-parts layouts.Dynamic past turn opened is layout has =
-      laws.dynamic config group past is.input w seat layout is.may (laws.reads config readers reader group w matched)
+  turn-parts : (rings : List KeyGroupPart) (layout : Layout) (past : List GroupDeed) (turn : GroupTurn) (opened : Opened) (is : IsTurn (with_rings config rings) group past turn) → group.layout ≡ layout
+      → Contains (turn_opened (with_rings config rings) group past is.input) opened → All (IsPartBy group past is.input w seat) (pieces seat.part opened.payload)
+  turn-parts rings layouts.Dynamic past turn opened is layout has =
+      laws.dynamic (with_rings config rings) group past is.input w seat layout is.may (laws.reads config readers reader group w matched)
       (subst (ReadsFrames group is.input.told.metas w) (sym meta-is) (is.metas w matched.reads.within)) (is.sampled w matched.reads.within) opened has
-  turn-parts layouts.Fixed past turn opened is layout has =
-      laws.fixed config group past is.input w seat layout is.may (is.fixed layout) (laws.reads config readers reader group w matched) meta-is opened has
+  turn-parts rings layouts.Fixed past turn opened is layout has =
+      laws.fixed (with_rings config rings) group past is.input w seat layout is.may (is.fixed layout) (laws.reads config readers reader group w matched) meta-is opened has
 
   -- ---- a turn of the writer's group
 
-  module _ (before : List Deed) (turn : GroupTurn) (own : IsOwnTurn config g before turn) (risen : RisenAt config k g w before) (h : HeldAt before) where
+  module _ (before : List Deed) (turn : GroupTurn) (own : IsRingTurn config g before turn) (knows : KnowsSender setup (sender_after config k before)) (risen : RisenAt config k g w before) (h : HeldAt before) where
+    -- the configuration of the turn
+    abbrev ringed : Config
+    ringed = with_rings config own.rings
+
     abbrev past : List GroupDeed
     past = group_past config g before
 
@@ -198,16 +210,56 @@ module _ (laws : TurnLaws) (config : Config) (k g w : ℕ) (readers : ReadGroupP
         (pieces seat.part opened.payload) (h.parts (named-old named) datagram accepted opened was e)
 
     sender-is : input.sender ≡ Some s
-    sender-is = own.sender ∙ ap (option_map (λ (n : ℕ). sender_after config n before)) keyed
+    sender-is = sender-of config g k before input.sender keyed own.sender
 
-    pass-is : (index : ℕ) (opened : Opened) → slice_get (turn_opened config group past input) index ≡ Some opened → IsPassOf s index opened.pass
+    pass-is : (index : ℕ) (opened : Opened) → slice_get (turn_opened ringed group past input) index ≡ Some opened → IsPassOf s index opened.pass
     pass-is index opened there =
-        let e = envelope_of config group past in
-        let payloads = payloads_of config group (frames_in group past input) in
+        let e = envelope_of ringed group past in
+        let payloads = payloads_of ringed group (frames_in group past input) in
         let so : slice_get (opened_from group.layout e (Some s) 0 payloads) index ≡ Some opened =
         subst (λ (o : Option SenderState). slice_get (opened_from group.layout e o 0 payloads) index ≡ Some opened) sender-is there in
         let zero_is : 0 + index ≡ index = omega arith in
         subst (λ (n : ℕ). IsPassOf s n opened.pass) zero_is (opened-pass group.layout e s 0 payloads index opened so)
+
+    -- the sender is one of the turn's configuration
+    of-ring : IsSenderOf (keygroup_at ringed k) s
+    of-ring = sender-there ringed group k (length (payloads_of ringed group (frames_in group past input))) input.sender s sender-is keyed own.is.may.sender
+
+    ring-matched : IsMatched ringed group readers
+    ring-matched = record {
+      publisher = matched.groups.publisher;
+      group_id = matched.groups.group_id;
+      version = matched.groups.version;
+      class_id = matched.groups.class_id;
+      layout = matched.groups.layout;
+      security = matched.groups.security;
+      keygroup = matched.groups.keygroup;
+    }
+
+    abbrev ring_setup : Setup
+    ring_setup = setup_by ringed readers readers.keygroup
+
+    -- a guard of that configuration has the sender's keys too, and the same block counter
+    ring-known : KnowsSender ring_setup s
+    ring-known = subst (λ (o : Option ℕ). KnowsSender (setup_by ringed readers o) s) (sym (matched.groups.keygroup ∙ keyed)) (record { keys = of-ring.keys; first_block = sym of-ring.first_block })
+
+    -- what is taken is opened to what the group had for it
+    opened-there : (index : ℕ) (datagram : List ℕ) (accepted : Accepted) (opened : Opened) → slice_get (turn_datagrams ringed group past input) index ≡ Some datagram → its_verdict accepted datagram ≡ Ok opened
+        → slice_get (turn_opened ringed group past input) index ≡ Some opened
+    opened-there index datagram accepted opened at e =
+        let sent = turn_datagrams ringed group past input in
+        let all = turn_opened ringed group past input in
+        let below : index < length all = subst (λ (n : ℕ). index < n) (sym (laws.many ringed group past input)) (slice_get_within sent index datagram at) in
+        let one = get_or all index opened in
+        let there : slice_get all index ≡ Some one = slice_get-get_or all index opened below in
+        let token : one.pass.token ≡ s.keys.token = (pass-is index one there).token in
+        let theirs : keys_with ring_setup.keys one.pass.token ≡ Some s.keys = ap (keys_with ring_setup.keys) token ∙ ring-known.keys in
+        let known : keys_with keys one.pass.token ≡ Some s.keys = ap (keys_with keys) token ∙ knows.keys in
+        let is = laws.taken ringed group readers past input [] index datagram one own.is.may ring-matched at there in
+        let taken : verdict readers ring_setup [] datagram ≡ Ok one = is.taken (first-accepted ring_setup one.pass s.keys theirs) in
+        let mode : ring_setup.mode ≡ setup.mode = setup-mode ringed readers readers.keygroup ∙ sym (setup-mode config readers readers.keygroup) in
+        let mine : its_verdict [] datagram ≡ Ok one = other-ring readers ring_setup setup datagram one s.keys mode (ring-known.first_block ∙ sym knows.first_block) theirs known taken in
+        there ∙ ap (λ (o : Opened). Some o) (same-opening readers setup [] accepted datagram one opened mine e)
 
     sent-now : NamesPlaces place now → (index : ℕ) (opened : Opened) → index < length turn.made → IsPassOf s index opened.pass
         → IsSentNow (made_with now bytes_now) group w past input way opened.pass.token opened.pass.number
@@ -226,14 +278,14 @@ module _ (laws : TurnLaws) (config : Config) (k g w : ℕ) (readers : ReadGroupP
     new-parts named datagram accepted opened (index, below, same) e =
         let token = opened.pass.token in
         let number = opened.pass.number in
-        let all = turn_opened config group past input in
+        let all = turn_opened ringed group past input in
         let at : slice_get turn.made index ≡ Some datagram = slice_get-get_or turn.made index datagram below ∙ ap (λ (d : List ℕ). Some d) same in
-        let sent : slice_get (turn_datagrams config group past input) index ≡ Some datagram = subst (λ (t : GroupTurn). slice_get t.made index ≡ Some datagram) own.is.is at in
-        let there : slice_get all index ≡ Some opened = (opened-at laws config group readers reader w matched past input accepted index datagram opened own.is.may sent e).0 in
+        let sent : slice_get (turn_datagrams ringed group past input) index ≡ Some datagram = subst (λ (t : GroupTurn). slice_get t.made index ≡ Some datagram) own.is.is at in
+        let there : slice_get all index ≡ Some opened = opened-there index datagram accepted opened sent e in
         let has : Contains all opened = (index, slice_get_within all index opened there, get_or_from_slice_get all index opened opened there) in
         All-weaker (IsPartBy group past input w seat) (IsPartFor (made_with now bytes_now) way token number)
         (λ piece of. part-sent (made_with now bytes_now) group w past input way token number (sent-now named index opened below (pass-is index opened there)) piece of)
-        (pieces seat.part opened.payload) (turn-parts group.layout past turn opened own.is refl has)
+        (pieces seat.part opened.payload) (turn-parts own.rings group.layout past turn opened own.is refl has)
 
     own-held : Held (HadGroupTurn turn ∷ past) now
     own-held = record { bytes = bytes_now; parts = λ named datagram accepted opened was e. on named datagram accepted opened e was }
@@ -244,20 +296,22 @@ module _ (laws : TurnLaws) (config : Config) (k g w : ℕ) (readers : ReadGroupP
         on named datagram accepted opened e (inr was) = old-parts named datagram accepted opened was e
 
   -- a turn of whichever group
-  took-held : (other : ℕ) (turn : GroupTurn) (before : List Deed) → IsOwnTurn config other before turn → RisenAt config k g w before → HeldAt before → HeldAt (TookTurn other turn ∷ before)
-  took-held other turn before own risen h = by (other == g) refl
+  took-held : (other : ℕ) (turn : GroupTurn) (before : List Deed) → IsRingTurn config other before turn → (other ≡ g → KnowsSender setup (sender_after config k before)) → RisenAt config k g w before → HeldAt before
+      → HeldAt (TookTurn other turn ∷ before)
+  took-held other turn before own knows risen h = by (other == g) refl
     where
       by : (b : Bool) → (other == g) ≡ b
           → Held (cons_if b (HadGroupTurn turn) (group_past config g before))
           (λ token. given_on (b && ((sender_after config k before).keys.token == token)) (answer_to group (group_past config g before) w (took_by w turn)) (sender_after config k before).used (length turn.made) (sent_in config k g w token before))
       by false e = h
-      by true e = own-held before turn (subst (λ (n : ℕ). IsOwnTurn config n before turn) (eqb-true other g e) own) risen h
+      by true e = let same : other ≡ g = eqb-true other g e in own-held before turn (subst (λ (n : ℕ). IsRingTurn config n before turn) same own) (knows same) risen h
 
   -- all of these deeds
-  pub all-held : (list : List Deed) → AreOwnTurns config list → HeldAt list
-  all-held [] are = held-none
-  all-held (RefreshedBelow component ∷ before) are = held-below component before (all-held before are)
-  all-held (RefreshedSet set ∷ before) are = held-set set before (all-held before are)
-  all-held (CameTo moment ∷ before) are = all-held before are
-  all-held (RenewedKeys keygroup sets ∷ before) are = all-held before are
-  all-held (TookTurn other turn ∷ before) are = took-held other turn before are.0 (own-risen config k g w keyed matched.reads.within before are.1) (all-held before are.1)
+  pub all-held : (list : List Deed) → AreRingTurns config list → KnowsSenders config setup k g list → HeldAt list
+  all-held [] are known = held-none
+  all-held (RefreshedBelow component ∷ before) are known = held-below component before (all-held before are known)
+  all-held (RefreshedSet set ∷ before) are known = held-set set before (all-held before are known)
+  all-held (CameTo moment ∷ before) are known = all-held before are known
+  all-held (RenewedKeys keygroup sets ∷ before) are known = all-held before are known
+  all-held (TookTurn other turn ∷ before) are known =
+      took-held other turn before are.0 known.0 (own-risen config k g w keyed matched.reads.within before are.1) (all-held before are.1 known.1)

@@ -1,18 +1,25 @@
 -- A link over which all that is sent comes, and nothing else, is honest: so there are signed sessions.
-use Rattle.std.proofs.Common.{◌≡◌, refl, sym, ap, subst, arith, ℕ, suc, Bool, true, List, [], ◌∷◌, ◌++◌, map, Some, inl, inr, Contains}
-use Rattle.std.specs.Prelude.{◌⊎◌}
-use Rattle.std.proofs.lemmas.List.Elements.{Contains-append_left, Contains-append_right}
+use Rattle.std.proofs.Common.{◌≡◌, refl, sym, ap, ◌∙◌, subst, arith, ℕ, zero, suc, ◌<◌, ◌^◌, lit<, Bool, true, false, List, [], ◌∷◌, ◌++◌, length, map, Some, inl, inr, Contains}
+use Rattle.std.specs.Prelude.{◌⊎◌, ◌≢◌, slice_index}
+use Rattle.std.proofs.lemmas.List.Elements.{All-append, All-cons, All-nil, Contains-append_left, Contains-append_right}
 use Rattle.ua_base.specs.Journal.{Entry, Sent, Got, Empty}
-use Rattle.group_laws.specs.Witness.{ones, signed_group, signed_readers, three_config}
+use Rattle.group_keys.specs.KeySets.{LengthsFit, encrypting_length, encrypting_lengths}
+use Rattle.group_keys.specs.declared.key_set.KeySet.{KeySet}
+use Rattle.group_laws.specs.Witness.{ones, signed_group, signed_readers, three_config, three_key, three_keys}
+use Rattle.message_guard.specs.declared.keys.TokenKeys.{TokenKeys}
 use Rattle.message_guard.specs.Modes.{is_secured}
+use Rattle.message_guard.specs.Protection.{keys_in}
+use Rattle.ps_config.specs.Configs.{is_long}
+use Rattle.ps_config.specs.Rings.{key_set}
 use Rattle.reader_group.specs.Arrivals.{is_numbered}
 use Rattle.reader_group.specs.Members.{seat_at}
 use Rattle.reader_group.specs.Plain.{Setting}
-use Rattle.reader_group.specs.Settings.{setting_of}
+use Rattle.reader_group.specs.Settings.{keygroup_at, setting_of}
 use Rattle.reader_group.specs.Signed.{IsSignedBy}
 use Rattle.writer_group.specs.declared.sampled.Sampled.{Sampled}
 use Rattle.writer_group.specs.Parts.{group_at}
 use Rattle.session_model.specs.Counts.{most_ticks}
+use Rattle.session_model.specs.Lives.{Renewed, Stepped, TurnsHoldIn, account_in}
 use Rattle.session_model.specs.Sends.{Send, journal, send_entries, sends_of}
 use Rattle.session_model.specs.Steps.{Plan, Step}
 use Rattle.session_model.specs.Turns.{TurnsHold}
@@ -20,6 +27,8 @@ use Rattle.session_laws.specs.Delivered.{all_got, delivered_on, sent_on}
 use Rattle.session_laws.specs.Headline.{InSession}
 use Rattle.session_laws.specs.Sessions.{IsHonestFor}
 use Rattle.session_laws.specs.Witness.{three_plan, three_session}
+use Rattle.session_laws.specs.Renewals.{HasShortTokens, HaveShortTokens}
+use Rattle.turn_laws.specs.Lives.{AreSentIfSigned, IsSignedLife, TokensNameKeys, between_life, later_ring, later_set, sets_in_life, three_sent}
 use Rattle.turn_laws.specs.Makers.{IsSignedSession}
 
 -- ---- an entry of two lists is one of the first, or behind it
@@ -63,6 +72,12 @@ gets-sent (send ∷ sends) [] behind datagram e = let same : send.datagram ≡ d
 gets-sent (send ∷ sends) (entry ∷ first) behind datagram e =
     let rest = gets-sent sends first behind datagram (let tail : map (λ (send : Send). Got send.datagram) sends ++ Empty ∷ [] ≡ first ++ Got datagram ∷ behind = cc in tail) in
     (suc rest.0, let lt = rest.1 in omega (arith, lt), rest.2)
+
+got-sent : (sends : List Send) (datagram : List ℕ) → Contains (map (λ (send : Send). Got send.datagram) sends ++ Empty ∷ []) (Got datagram) → Contains (send_entries sends (done sends)) (Sent datagram)
+got-sent [] datagram (zero, below, same) = absurd (cc)
+got-sent [] datagram (suc k, below, same) = absurd (omega (arith, below))
+got-sent (send ∷ sends) datagram (zero, below, same) = let is : send.datagram ≡ datagram = cc in (0, omega arith, ap (λ (d : List ℕ). Sent d) is)
+got-sent (send ∷ sends) datagram (suc k, below, same) = let rest = got-sent sends datagram (k, omega (arith, below), same) in (suc rest.0, let lt = rest.1 in omega (arith, lt), rest.2)
 
 -- ---- the journal
 
@@ -120,4 +135,56 @@ three-signed is hold = record {
   matched = is.matched;
   numbered = three-numbered;
   honest = honest-delivered (setting_of three_plan.config 0) three_plan 0 true (ones ∷ []) [] (honest-none (setting_of three_plan.config 0));
+}
+
+-- ---- a life of it, which a ring renews
+
+between-honest : (keys : List TokenKeys) → AreSentIfSigned keys (account_in three_plan (map Stepped three_sent)).journal (all_got three_plan three_sent)
+between-honest keys datagram has signed = got-sent (sends_of three_plan three_sent) datagram has
+
+-- a ring of two sets, behind one of the first alone
+one-of : (a b one : KeySet) → Contains (a ∷ b ∷ a ∷ []) one → (a ≡ one) ⊎ (b ≡ one)
+one-of a b one (zero, below, same) = inl same
+one-of a b one (suc zero, below, same) = inr same
+one-of a b one (suc (suc zero), below, same) = inl same
+one-of a b one (suc (suc (suc k)), below, same) = absurd (omega (arith, below))
+
+two-named : (a b : KeySet) → a.token ≢ b.token → TokensNameKeys (a ∷ b ∷ a ∷ [])
+two-named a b apart = λ one other has_one has_other token. on one other (one-of a b one has_one) (one-of a b other has_other) token
+  where
+    on : (one other : KeySet) → (a ≡ one) ⊎ (b ≡ one) → (a ≡ other) ⊎ (b ≡ other) → one.token ≡ other.token → keys_in one ≡ keys_in other
+    on one other (inl is) (inl also) token = ap keys_in (sym is ∙ also)
+    on one other (inl is) (inr also) token = absurd (apart (ap (λ (set : KeySet). set.token) is ∙ token ∙ sym (ap (λ (set : KeySet). set.token) also)))
+    on one other (inr is) (inl also) token = absurd (apart (ap (λ (set : KeySet). set.token) also ∙ sym token ∙ sym (ap (λ (set : KeySet). set.token) is)))
+    on one other (inr is) (inr also) token = ap keys_in (sym is ∙ also)
+
+three-named : TokensNameKeys (sets_in_life three_plan.config 0 between_life)
+unfolding three_plan three_config three_keys three_key
+three-named = two-named (key_set three_key) later_set (λ same. omega (arith, same))
+
+fits-two : (a b : KeySet) → length a.encrypting.items ≡ 16 → length b.encrypting.items ≡ 16 → (index : ℕ) → index < length (a ∷ b ∷ []) → slice_index (encrypting_lengths (a ∷ b ∷ [])) index ≡ encrypting_length false
+fits-two a b is also zero below = is
+fits-two a b is also (suc zero) below = also
+fits-two a b is also (suc (suc index)) below = absurd (omega (arith, below))
+
+three-fit : LengthsFit (is_long (keygroup_at three_plan.config 0).policy) later_ring
+unfolding three_plan three_config three_keys three_key
+three-fit = fits-two (key_set three_key) later_set refl refl
+
+pub three-short : HaveShortTokens (map key_set three_keys.key) → HasShortTokens between_life
+three-short short =
+    (All-append (λ (set : KeySet). set.token < 2 ^ 32) (map key_set three_keys.key) (later_set ∷ []) short (All-cons (λ (set : KeySet). set.token < 2 ^ 32) later_set [] (lit< tt) (All-nil (λ (set : KeySet). set.token < 2 ^ 32))), tt)
+
+pub three-renewed : InSession three_plan 0 0 0 0 three_session → TurnsHoldIn three_plan between_life → IsSignedLife most_ticks three_plan 0 0 0 0 0 between_life
+three-renewed is hold = record {
+  plan = is.plan;
+  steps_are = is.steps_are;
+  turns = hold;
+  run = is.run;
+  under = record { there = is.there; within = is.matched.reads.within; keyed = three-keyed };
+  matched = is.matched;
+  numbered = three-numbered;
+  honest = (between-honest ((account_in three_plan (Renewed 0 later_ring ∷ map Stepped three_sent)).readings 0).keys, (tt, tt));
+  named = three-named;
+  lengths = (three-fit, tt);
 }

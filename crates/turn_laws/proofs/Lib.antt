@@ -1,3 +1,5 @@
+pub mod Rings
+pub mod Keyed
 pub mod Rising
 pub mod Places
 pub mod Alone
@@ -6,8 +8,16 @@ pub mod Naming
 pub mod Uses
 pub mod Parts
 pub mod Holding
-pub mod OwnTurns
+pub mod Others
 pub mod Signed
+pub mod LifeKeys
+pub mod OneKey
 pub mod Turns
+pub mod Befalling
 pub mod Sessions
+pub mod LifeTurns
+pub mod LifeMade
+pub mod LifeReading
+pub mod LifeRecords
 pub mod Honest
+pub mod NearPlaces

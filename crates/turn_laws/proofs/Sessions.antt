@@ -1,25 +1,19 @@
 -- A session whose link delivers nothing else that is signed: what came signed was made by its turns.
-use Rattle.std.proofs.Common.{◌≡◌, refl, sym, ap, subst, arith, ℕ, zero, suc, ◌<◌, Bool, true, false, List, [], ◌∷◌, ◌++◌, length, map, Some, Contains}
-use Rattle.std.specs.Prelude.{fold, if◌then◌else◌, slice_get}
+use Rattle.std.proofs.Common.{◌≡◌, sym, ap, subst, arith, ℕ, zero, suc, ◌<◌, List, [], ◌∷◌, ◌++◌, length, map, Some, Contains}
+use Rattle.std.specs.Prelude.{slice_get}
 use Rattle.std.proofs.lemmas.List.{length-map}
 use Rattle.std.proofs.lemmas.List.Elements.{Contains-append_left, Contains-append_right}
 use Rattle.std.proofs.lemmas.Option.{slice_get-get_or}
-use Rattle.dataset_meta.specs.Rows.{cons_if}
-use Rattle.pubsub_model.specs.declared.reading.Why.TheVariants.{Restarted}
-use Rattle.ua_base.specs.Journal.{Entry, Sent, SendFailed, Got, Empty, Long, ReceiveFailed}
-use Rattle.pubsub_states.specs.declared.component.Component.{Component}
-use Rattle.pubsub_states.specs.declared.component.Component.TheVariants.{Reader}
-use Rattle.pubsub_states.specs.Components.{is_at_or_above}
+use Rattle.ua_base.specs.Journal.{Entry, Sent, Got}
 use Rattle.reader_group.specs.Agreeing.{IsWayOf}
 use Rattle.reader_group.specs.Members.{no_seat, seat_at}
-use Rattle.reader_group.specs.Plain as befalls
 use Rattle.reader_group.specs.Plain.{Event, Setting}
 use Rattle.reader_group.specs.Settings.{group_at as read_group_at, seat_in, setting_of}
 use Rattle.reader_group.specs.Signed.{IsSignedBy}
 use Rattle.writer_group.specs.Parts.{no_group}
 use Rattle.writer_group.specs.Turns.{GroupDeed}
 use Rattle.session_model.specs.Deeds.{component_at, deeds}
-use Rattle.session_model.specs.Events.{events, got_on, reader_indexes, readers_on, receives}
+use Rattle.session_model.specs.Events.{events, reader_indexes, readers_on, receives}
 use Rattle.session_model.specs.Sends.{IsRun, journal, send_entries, sends_of}
 use Rattle.session_model.specs.Steps.{Plan, Step, Enable, Disable, Append, Tick, Pump, moment_of}
 use Rattle.session_laws.specs.Below.{Laws}
@@ -28,6 +22,7 @@ use Rattle.session_laws.specs.Sessions.{IsHonestFor, pasts_at}
 use Rattle.session_laws.proofs.HeldRows.Sending.{all-restarts, sent-made}
 use Rattle.turn_laws.specs.Makers.{HasItsRecords, IsSignedSession, IsSigning, SignedWereMade, its_setting, its_way, signed_session, signing_of}
 use Rattle.turn_laws.specs.Sent.{NamesPlaces, place_near, sends_in}
+use Rattle.turn_laws.proofs.Befalling.{got-if, stopped-keeps}
 use Rattle.turn_laws.proofs.Naming.{near-names, near-numbers}
 use Rattle.turn_laws.proofs.Sharing.{steps-rise}
 use Rattle.turn_laws.proofs.Signed.{SignedLaw, signed-member}
@@ -59,41 +54,15 @@ module _ (p : Plan) (r : ℕ) (pasts : ℕ → List GroupDeed) where
   abbrev AreSo : List Event → Type 0
   AreSo befell = SignedWereMade setting p.config pasts befell
 
-  got-so : (moment : ℕ) (on : List Bool) (entries : List Entry) (earlier : List Event) → ((datagram : List ℕ) → Contains entries (Got datagram) → IsSo datagram) → AreSo earlier → AreSo (fold (got_on moment on) earlier entries)
-  got-so moment on [] earlier so h = h
-  got-so moment on (entry ∷ entries) earlier so h =
-      got-so moment on entries (got_on moment on earlier entry) (λ datagram has. so datagram (suc has.0, let lt = has.1 in omega (arith, lt), has.2)) (one entry (λ datagram same. so datagram (0, omega arith, same)))
-    where
-      one : (entry : Entry) → ((datagram : List ℕ) → entry ≡ Got datagram → IsSo datagram) → AreSo (got_on moment on earlier entry)
-      one (Sent d) so = h
-      one SendFailed so = h
-      one (Got d) so = (so d refl, h)
-      one Empty so = h
-      one (Long len) so = h
-      one ReceiveFailed so = h
-
-  got-if : (b : Bool) (moment : ℕ) (on : List Bool) (entries : List Entry) (earlier : List Event) → ((datagram : List ℕ) → Contains entries (Got datagram) → IsSo datagram) → AreSo earlier
-      → AreSo (if b then fold (got_on moment on) earlier entries else earlier)
-  got-if true moment on entries earlier so h = got-so moment on entries earlier so h
-  got-if false moment on entries earlier so h = h
-
-  stopped-so : (component : Component) (readers : List ℕ) (earlier : List Event) → AreSo earlier → AreSo (fold (λ so_far i. cons_if (is_at_or_above component (Reader r i)) (befalls.Stopped i Restarted) so_far) earlier readers)
-  stopped-so component [] earlier h = h
-  stopped-so component (i ∷ readers) earlier h = stopped-so component readers (cons_if (is_at_or_above component (Reader r i)) (befalls.Stopped i Restarted) earlier) (on (is_at_or_above component (Reader r i)))
-    where
-      on : (b : Bool) → AreSo (cons_if b (befalls.Stopped i Restarted) earlier)
-      on true = h
-      on false = h
-
   steps-so : (steps : List Step) → ((datagram : List ℕ) → Contains (journal p steps) (Got datagram) → IsSo datagram) → AreSo (events p.config r steps)
   steps-so [] so = tt
   steps-so (Enable id ∷ before) so = steps-so before so
-  steps-so (Disable id ∷ before) so = stopped-so (component_at p.config id) (reader_indexes p.config r) (events p.config r before) (steps-so before so)
+  steps-so (Disable id ∷ before) so = stopped-keeps AreSo (λ i earlier h. h) (component_at p.config id) r (reader_indexes p.config r) (events p.config r before) (steps-so before so)
   steps-so (Append set field ∷ before) so = steps-so before so
   steps-so (Tick ms closing samples done ∷ before) so =
       steps-so before (λ datagram has. so datagram (Contains-append_left (journal p before) (send_entries (sends_of p (Tick ms closing samples done ∷ before)) done) (Got datagram) has))
   steps-so (Pump entries ∷ before) so =
-      got-if (receives p.config before r) (moment_of before) (readers_on p.config before r) entries (events p.config r before) (λ datagram has. so datagram (Contains-append_right (journal p before) entries (Got datagram) has))
+      got-if AreSo (receives p.config before r) (moment_of before) (readers_on p.config before r) entries (events p.config r before) (λ datagram has earlier h. (so datagram (Contains-append_right (journal p before) entries (Got datagram) has), h))
       (steps-so before (λ datagram has. so datagram (Contains-append_left (journal p before) entries (Got datagram) has)))
 
 -- ---- the session
@@ -113,7 +82,7 @@ session-signing laws most p r i g w k steps place names is = record {
 
 -- ---- a reader of it
 
-seat-there : (p : Plan) (r i : ℕ) → i < length (read_group_at p.config r).reader → slice_get (setting_of p.config r).seats i ≡ Some (seat_at (setting_of p.config r).seats i)
+pub seat-there : (p : Plan) (r i : ℕ) → i < length (read_group_at p.config r).reader → slice_get (setting_of p.config r).seats i ≡ Some (seat_at (setting_of p.config r).seats i)
 seat-there p r i within =
     let readers = (read_group_at p.config r).reader in
     slice_get-get_or (map (seat_in p.config) readers) i no_seat (omega (arith, within, length-map readers (seat_in p.config)))

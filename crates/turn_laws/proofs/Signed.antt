@@ -1,59 +1,93 @@
 -- What came signed was made by the key group's sender, whatever a publisher did whose turns are those of the definitions.
-use Rattle.std.proofs.Common.{◌≡◌, refl, sym, ap, ◌∙◌, subst, ℕ, true, List, [], ◌∷◌, Option, Some, None, Ok, inl, inr, All}
-use Rattle.std.specs.Prelude.{◌⊎◌}
+use Rattle.std.proofs.Common.{◌≡◌, sym, ◌∙◌, subst, ℕ, true, List, [], ◌∷◌, Some, Ok, inl, inr, All}
+use Rattle.std.specs.Prelude.{◌⊎◌, slice_get}
 use Rattle.std.proofs.lemmas.List.Elements.{All-nil}
+use Rattle.message_guard.specs.declared.keys.TokenKeys.{TokenKeys}
 use Rattle.message_guard.specs.Acceptance.{Accepted}
+use Rattle.message_guard.specs.Guards.{Setup}
 use Rattle.message_guard.specs.Modes.{is_secured}
-use Rattle.config_tables.specs.declared.words.Security.{Security}
-use Rattle.config_tables.specs.declared.words.Security.TheVariants as security
 use Rattle.ps_config.specs.declared.parts.Config.{Config}
 use Rattle.ps_config.specs.declared.parts.ReadGroupPart.{ReadGroupPart}
-use Rattle.ps_config.specs.Headers as configured
-use Rattle.ps_config.specs.Headers.{mode_of}
-use Rattle.ps_config.specs.Sound.{IsKeyed}
+use Rattle.ps_config.specs.Sound.{IsSound}
 use Rattle.reader_group.specs.Agreeing.{ChunksNear, IsWayOf, MemberIs, SendsRise}
-use Rattle.reader_group.specs.Arrivals.{Way, goes_by_numbers, marks}
+use Rattle.reader_group.specs.Arrivals.{Way, goes_by_numbers, is_numbered, marks}
+use Rattle.reader_group.specs.Members.{seat_at}
 use Rattle.reader_group.specs.Opening.{Opened, verdict}
 use Rattle.reader_group.specs.Payloads.{pieces}
-use Rattle.reader_group.specs.Plain.{Event, Setting, Got, Expired, Stopped, member_at, plain}
-use Rattle.reader_group.specs.Settings.{setup_by}
+use Rattle.reader_group.specs.Plain.{Setting, Event, Got, Expired, Stopped, member_at, plain, with_keys}
+use Rattle.reader_group.specs.Settings.{setting_by, setup_by}
+use Rattle.writer_group.specs.Parts.{group_at}
+use Rattle.group_laws.specs.Matching.{IsMatchedTo}
+use Rattle.session_model.specs.Deeds.{Deed, group_past}
 use Rattle.session_laws.specs.Below.{TurnLaws}
 use Rattle.session_laws.specs.Pasts.{IsMade, WasMade}
 use Rattle.session_laws.specs.Readers.{IsMadeFor, IsPartFor, Making, SignedAreMade}
-use Rattle.session_laws.proofs.HeldRows.Pieces.{own-or-nothing}
-use Rattle.session_laws.proofs.Versions.Distinct.{at-sound}
 use Rattle.turn_laws.specs.Makers.{HasItsRecords, IsMadeBySender, IsSigning, SignedWereMade, Signing, its_part, its_pasts, its_sends, its_setting, its_way}
+use Rattle.turn_laws.specs.Sent.{NamesPlaces, sends_in}
 use Rattle.turn_laws.proofs.Holding.{HeldAt, all-held, made_with}
-use Rattle.turn_laws.proofs.OwnTurns.{part-turns}
+use Rattle.turn_laws.proofs.Others.{own-or-nothing}
+use Rattle.turn_laws.proofs.Rings.{AreRingTurns, KnowsSenders, knows-own, ring-turns, secured-so}
 use Rattle.turn_laws.proofs.Sharing.{own-risen}
 
-module _ (laws : TurnLaws) (s : Signing) (is : IsSigning s) where
-  held : HeldAt laws s.config s.keygroup s.group s.writer s.readers s.reader s.place is.matched is.keyed is.numbered s.deeds
-  held = all-held laws s.config s.keygroup s.group s.writer s.readers s.reader s.place is.matched is.keyed is.numbered s.deeds is.turns
+-- what a publisher did, a writer of a group of it, and a reader with these keys that is matched to it
+module _ (laws : TurnLaws) (config : Config) (k g w : ℕ) (readers : ReadGroupPart) (reader : ℕ) (place : ℕ → ℕ → ℕ → ℕ) (keys : List TokenKeys) (matched : IsMatchedTo config readers reader (group_at config g) w)
+    (keyed : (group_at config g).keygroup ≡ Some k) (numbered : is_numbered (seat_at (setting_by config readers).seats reader).part.numbering ≡ true) (sound : IsSound config) (there : slice_get config.group g ≡ Some (group_at config g))
+    (list : List Deed) (turns : AreRingTurns config list) (known : KnowsSenders config (record (setup_by config readers readers.keygroup) { keys = keys }) k g list) (names : NamesPlaces place (sends_in config k g w list)) where
+  abbrev setup : Setup
+  setup = record (setup_by config readers readers.keygroup) { keys = keys }
+
+  abbrev way : Way
+  way = record { index = reader; seat = seat_at (setting_by config readers).seats reader; place = place }
+
+  pub held : HeldAt laws config k g w readers reader place keys matched keyed numbered list
+  held = all-held laws config k g w readers reader place keys matched keyed numbered list turns known
 
   abbrev making : Making
-  making = made_with (its_sends s) held.bytes
+  making = made_with (sends_in config k g w list) held.bytes
 
-  made-for : (datagram : List ℕ) → IsMade s.config (its_pasts s) datagram → IsMadeFor making (its_setting s) (its_way s) datagram
-  made-for datagram was = λ pairs opened e.
-      on pairs opened e (own-or-nothing laws s.config (its_part s) s.readers s.reader s.writer is.matched s.group (its_pasts s) is.sound is.there (part-turns s.config s.deeds is.turns) pairs datagram opened was e)
+  pub made-for : (datagram : List ℕ) → IsMade config (λ h. group_past config h list) datagram → IsMadeFor making (with_keys (setting_by config readers) keys) way datagram
+  made-for datagram was = λ pairs opened e. on pairs opened e (own-or-nothing laws config (group_at config g) readers reader w setup matched g list sound there turns pairs datagram opened was e)
     where
-      on : (pairs : Accepted) (opened : Opened) → verdict (its_setting s).group (its_setting s).setup pairs datagram ≡ Ok opened → WasMade (its_pasts s s.group) datagram ⊎ (pieces (its_way s).seat.part opened.payload ≡ [])
-          → All (IsPartFor making (its_way s) opened.pass.token opened.pass.number) (pieces (its_way s).seat.part opened.payload)
-      on pairs opened e (inl own) = held.parts is.names datagram pairs opened own e
-      on pairs opened e (inr none) = subst (All (IsPartFor making (its_way s) opened.pass.token opened.pass.number)) (sym none) (All-nil (IsPartFor making (its_way s) opened.pass.token opened.pass.number))
+      on : (pairs : Accepted) (opened : Opened) → verdict readers setup pairs datagram ≡ Ok opened → WasMade (group_past config g list) datagram ⊎ (pieces way.seat.part opened.payload ≡ [])
+          → All (IsPartFor making way opened.pass.token opened.pass.number) (pieces way.seat.part opened.payload)
+      on pairs opened e (inl own) = held.parts names datagram pairs opened own e
+      on pairs opened e (inr none) = subst (All (IsPartFor making way opened.pass.token opened.pass.number)) (sym none) (All-nil (IsPartFor making way opened.pass.token opened.pass.number))
 
-  all-made : (events : List Event) → SignedWereMade (its_setting s) s.config (its_pasts s) events → SignedAreMade making (its_setting s) (its_way s) events
+-- ---- of a publisher's deeds, with the rings of the configuration
+
+module _ (laws : TurnLaws) (s : Signing) (is : IsSigning s) where
+  reads : s.readers.keygroup ≡ Some s.keygroup
+  reads = is.matched.groups.keygroup ∙ is.keyed
+
+  abbrev ring_keys : List TokenKeys
+  ring_keys = (its_setting s).setup.keys
+
+  known : KnowsSenders s.config (setup_by s.config s.readers s.readers.keygroup) s.keygroup s.group s.deeds
+  known = knows-own s.config s.readers s.group s.keygroup s.deeds is.keyed reads is.turns
+
+  turns : AreRingTurns s.config s.deeds
+  turns = ring-turns s.config s.deeds is.turns
+
+  abbrev bytes : ℕ → List ℕ
+  bytes = (held laws s.config s.keygroup s.group s.writer s.readers s.reader s.place ring_keys is.matched is.keyed is.numbered is.sound is.there s.deeds turns known is.names).bytes
+
+  abbrev its_making : Making
+  its_making = made_with (its_sends s) bytes
+
+  was-made-for : (datagram : List ℕ) → IsMade s.config (its_pasts s) datagram → IsMadeFor its_making (its_setting s) (its_way s) datagram
+  was-made-for = made-for laws s.config s.keygroup s.group s.writer s.readers s.reader s.place ring_keys is.matched is.keyed is.numbered is.sound is.there s.deeds turns known is.names
+
+  all-made : (events : List Event) → SignedWereMade (its_setting s) s.config (its_pasts s) events → SignedAreMade its_making (its_setting s) (its_way s) events
   all-made [] came = tt
-  all-made (Got moment on datagram ∷ before) came = ((λ signed. made-for datagram (came.0 signed)), all-made before came.1)
+  all-made (Got moment on datagram ∷ before) came = ((λ signed. was-made-for datagram (came.0 signed)), all-made before came.1)
   all-made (Expired moment ∷ before) came = all-made before came
   all-made (Stopped reader why ∷ before) came = all-made before came
 
   rises : SendsRise (its_sends s)
-  rises = (own-risen s.config s.keygroup s.group s.writer is.keyed is.matched.reads.within s.deeds is.turns).each
+  rises = (own-risen s.config s.keygroup s.group s.writer is.keyed is.matched.reads.within s.deeds turns).each
 
   pub made-by-sender : IsMadeBySender s
-  made-by-sender = record { bytes = held.bytes; rise = rises; made = all-made s.events is.came }
+  made-by-sender = record { bytes = bytes; rise = rises; made = all-made s.events is.came }
 
 -- ---- so its readers have their records
 
@@ -63,22 +97,8 @@ SignedLaw =
     (m : Making) (setting : Setting) (way : Way) (events : List Event) → is_secured setting.setup.mode ≡ true → goes_by_numbers way ≡ true → SendsRise m.sent → SignedAreMade m setting way events → IsWayOf setting way events
     → ChunksNear (marks setting way events) → MemberIs way (marks setting way events) (member_at (plain setting events).members way.index)
 
-setup-mode : (config : Config) (readers : ReadGroupPart) (keygroup : Option ℕ) → (setup_by config readers keygroup).mode ≡ mode_of readers.security
-setup-mode config readers None = refl
-setup-mode config readers (Some index) = refl
-
-same-mode : (word : Security) → is_secured (mode_of word) ≡ configured.is_secured word
-same-mode security.None = refl
-same-mode security.Sign = refl
-same-mode security.Encrypt = refl
-
--- a read group is secured that is matched to a group with a key group
-secured-so : (s : Signing) → IsSigning s → is_secured (its_setting s).setup.mode ≡ true
-secured-so s is =
-    let word = (its_part s).security in
-    let keys = subst (IsKeyed s.config (configured.is_secured word)) is.keyed (at-sound s.config s.group (its_part s) is.sound is.there).keys in
-    ap is_secured (setup-mode s.config s.readers s.readers.keygroup) ∙ ap (λ (x : Security). is_secured (mode_of x)) is.matched.groups.security ∙ same-mode word ∙ keys.keyed
-
 pub signed-member : TurnLaws → SignedLaw → (s : Signing) → IsSigning s → IsWayOf (its_setting s) (its_way s) s.events → HasItsRecords s
 signed-member laws law s is way_of = λ near.
-    let made = made-by-sender laws s is in law (made_with (its_sends s) made.bytes) (its_setting s) (its_way s) s.events (secured-so s is) is.numbered made.rise made.made way_of near
+    let made = made-by-sender laws s is in
+    let secured = secured-so s.config s.group s.keygroup (its_part s) s.readers s.reader s.writer is.sound is.there is.keyed is.matched in
+    law (made_with (its_sends s) made.bytes) (its_setting s) (its_way s) s.events secured is.numbered made.rise made.made way_of near

@@ -1,11 +1,15 @@
-//! Laws of the one sender of a key group, over all turns of its groups: what it gave their datagrams, and that it made what came signed.
+//! Laws of the one sender of a key group, over all turns of its groups, whichever rings renew it: what it gave their datagrams, and that it
+//! made what came signed; and of readers of sessions that are longer than a script's.
 #![tactic(auto)]
 
 mod laws;
+mod longer;
 mod witness;
 
 pub use laws::{
     numbers_of_a_group_rise_with_places, numbers_rise_with_places_over_all_turns,
-    one_sender_makes_what_a_key_group_sends, what_came_signed_was_made_by_its_sender,
+    one_sender_makes_what_a_key_group_sends, what_came_signed_in_a_life_was_made_by_its_sender,
+    what_came_signed_was_made_by_its_sender,
 };
-pub use witness::signed_sessions_meet_the_premises;
+pub use longer::longer_sessions_are_read_by_records;
+pub use witness::{a_renewed_life_meets_the_premises, signed_sessions_meet_the_premises};

@@ -1,4 +1,4 @@
-//! Sessions in which what comes signed was made by the sender.
+//! Sessions, and a life, in which what comes signed was made by the sender.
 ghost use Rattle.std.specs.Prelude.{ℕ, Bool, List, []};
 ghost use Rattle.reader_group.specs.Plain.{Setting};
 ghost use Rattle.writer_group.specs.declared.sampled.Sampled.{Sampled};
@@ -8,9 +8,13 @@ ghost use Rattle.session_model.specs.Steps.{Plan, Step};
 ghost use Rattle.session_laws.specs.Delivered.{delivered_on};
 ghost use Rattle.session_laws.specs.Sessions.{IsHonestFor};
 ghost use Rattle.session_laws.specs.Witness.{three_plan, three_session};
+ghost use Rattle.turn_laws.specs.Lives.{IsSignedLife, between_life};
 ghost use Rattle.turn_laws.specs.Makers.{IsSignedSession};
 
-use session_laws::{each_turn_of_a_session_holds, sessions_of_each_kind_meet_the_premises};
+use session_laws::{
+    a_signed_life_meets_the_premises, each_turn_of_a_life_holds, each_turn_of_a_session_holds,
+    sessions_of_each_kind_meet_the_premises,
+};
 
 /// A link is honest where nothing came yet, and behind each tick whose sends are all done and a pump that gets all of them: so with
 /// `what_is_sent_can_come` there are signed sessions of more and more turns. The session of a signed group, a fixed one and one
@@ -24,4 +28,14 @@ pub fn signed_sessions_meet_the_premises()
 {
     sessions_of_each_kind_meet_the_premises();
     each_turn_of_a_session_holds();
+}
+
+/// A life of the session of the three groups is one for the reader of the signed group: a ring with the key of the configuration and a
+/// later one renews the key group behind the tick, before the pump gets all that the tick sent.
+pub fn a_renewed_life_meets_the_premises()
+    ensures { IsSignedLife most_ticks three_plan 0 0 0 0 0 between_life }
+{
+    sessions_of_each_kind_meet_the_premises();
+    a_signed_life_meets_the_premises();
+    each_turn_of_a_life_holds();
 }
