@@ -10,21 +10,14 @@ ghost use Rattle.session_model.specs.Keeping.{AreStepsOf, IsPlan};
 ghost use Rattle.session_model.specs.Lives.{Lived, TurnsHoldIn, account_in};
 ghost use Rattle.session_model.specs.Steps.{Plan, Step};
 ghost use Rattle.session_model.specs.Turns.{TurnsHold};
-ghost use Rattle.session_laws.specs.Below.{Laws};
 ghost use Rattle.session_laws.specs.Pasts.{AreTurns};
 ghost use Rattle.session_laws.specs.Reading.{first_number_of};
 ghost use Rattle.turn_laws.specs.Lives.{HasItsRecordsIn, IsMadeBySenderIn, IsSignedLife};
 ghost use Rattle.turn_laws.specs.Makers.{AreOwnTurns, HasItsRecords, HasOneSender, IsMadeBySender, IsSignedSession, IsSigning, IsWriterUnder, Signing, its_setting, its_way, signed_session, signing_of};
 ghost use Rattle.turn_laws.specs.Sent.{NamesPlaces, numbered_in, place_near, sends_in};
 
-use group_laws::{
-    a_datagram_has_nothing_for_readers_of_other_groups, a_matched_reader_reads_its_writer,
-    a_ring_makes_senders_of_its_key_group, each_datagram_is_taken_as_it_was_sent,
-    each_part_is_of_what_was_answered,
-};
-use reader_group::{near_readers_have_their_records, what_a_secured_group_takes_is_signed};
-use row_words::cut_rows_have_words;
-use session_laws::{each_turn_of_a_session_holds, signed_readers_have_their_records};
+use reader_group::what_a_secured_group_takes_is_signed;
+use session_laws::{signed_readers_have_their_records, what_the_laws_below_say};
 use writer_group::no_token_and_number_come_twice_in_groups;
 
 /// Of a group alone, all of whose datagrams are under one token: over its turns, of however many datagrams each, the numbers of those
@@ -99,18 +92,4 @@ pub fn what_came_signed_in_a_life_was_made_by_its_sender()
     what_the_laws_below_say();
     signed_readers_have_their_records();
     what_a_secured_group_takes_is_signed();
-}
-
-/// What the laws below say of turns, of what read groups take of them, of rows and of senders, as one record.
-pub(crate) fn what_the_laws_below_say()
-    ensures { Laws }
-{
-    each_datagram_is_taken_as_it_was_sent();
-    each_part_is_of_what_was_answered();
-    a_datagram_has_nothing_for_readers_of_other_groups();
-    a_matched_reader_reads_its_writer();
-    near_readers_have_their_records();
-    cut_rows_have_words();
-    a_ring_makes_senders_of_its_key_group();
-    each_turn_of_a_session_holds();
 }

@@ -9,8 +9,9 @@ ghost use Rattle.session_laws.specs.Plays.{HoldsVersion};
 ghost use Rattle.session_laws.specs.Reading.{ReadsByRecords, first_number_of};
 ghost use Rattle.turn_laws.specs.Longer.{IsLongerSession, play_in};
 
-use crate::laws::what_the_laws_below_say;
-use session_laws::{a_matched_reader_holds_what_was_sent, each_turn_of_a_session_holds};
+use session_laws::{
+    a_matched_reader_holds_what_was_sent, each_turn_of_a_session_holds, what_the_laws_below_say,
+};
 
 /// What is said of readers of a script's session holds of longer ones, where each datagram that the read group takes was sent before,
 /// whole, in a slot or in chunks, and in whichever order. Of up to 65,535 ticks beside the closing one: what comes is what the writer
