@@ -42,12 +42,9 @@ collected-gateway old left c passes gateway counts same samples rows count room 
     versions = count ∙ gateway.collected.versions;
     room = λ set low. subst (λ (n : ℕ). HoldsAt (HasRoom n) c.versions.items set) (sym logged) (room set (subst (λ (n : ℕ). set < n) (sym gateway.collected.sources) low));
   };
-  publisher = gateway.publisher;
-  goes_on = subst (λ (n : ℕ). MayAllGoOn old.config.now old.config.now.dataset n old.publisher.groups.items) (sym ticks) gateway.goes_on;
-  logs = subst (λ (n : ℕ). AreAllLogged n old.publisher.groups.items) (sym logged) gateway.logs;
-  subscriber = gateway.subscriber;
-  tree = gateway.tree;
-  buffers = gateway.buffers;
+  round = gateway.round;
+  goes_on = subst (λ (n : ℕ). MayAllGoOn old.config.now old.config.now.dataset n old.round.publisher.groups.items) (sym ticks) gateway.goes_on;
+  logs = subst (λ (n : ℕ). AreAllLogged n old.round.publisher.groups.items) (sym logged) gateway.logs;
   time = omega (arith, gateway.time, ap (λ (n : ℕ). n * most_ms) ticks);
   calls = omega (arith, gateway.calls, ticks, ap (λ (l : Left). l.pumps) counts.rest);
 }

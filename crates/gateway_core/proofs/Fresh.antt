@@ -1,18 +1,19 @@
 -- A new gateway: what its parts are when they are made, and that it may be called and stands where no step was.
 use Rattle.std.proofs.Common.{◌≡◌, refl, sym, ap, ◌∙◌, subst, arith, ℕ, ◌+◌, ◌<◌, ◌≤◌, List, [], length, map}
 use Rattle.std.specs.List.{HoldsAt}
+use Rattle.dataset_meta.specs.Metas.{MetaData}
 use Rattle.ps_config.specs.declared.parts.Config.{Config}
 use Rattle.writer_group.specs.Standing.{IsGood}
 use Rattle.session_model.specs.Counts.{life_ticks}
 use Rattle.session_model.specs.Sets.{AreRowsOf}
 use Rattle.session_parts.specs.Holding.{AreAllLogged, MayAllGoOn}
+use Rattle.session_parts.specs.Rounds.{HoldRound, IsUnstepped}
 use Rattle.gateway_core.specs.declared.collected.Collected.{Collected}
 use Rattle.gateway_core.specs.declared.gateway.Left.{Left}
 use Rattle.gateway_core.specs.declared.gateway.Gateway.{Gateway}
 use Rattle.gateway_core.specs.Lived.{opening_sample}
 use Rattle.gateway_core.specs.Holding.{HasRoom, IsGateway, opening_left}
 use Rattle.gateway_core.specs.Standing.{HaveKept, Stands}
-use Rattle.session_parts.proofs.Fresh.{IsFreshPublisher, IsFreshReceiving, IsFreshSubscriber, IsFreshTree, fresh-flags}
 
 -- ---- the parts
 
@@ -28,14 +29,12 @@ pub record IsFreshCollected (config : Config) (logged : ℕ) (c : Collected) : T
 pub record IsFresh (turns logged : ℕ) (s : Gateway) : Type 0 where
   pub good : IsGood s.config.now
   pub few : turns ≤ life_ticks + 1
-  pub moment : s.moment ≡ 0
   pub left : s.left ≡ opening_left turns
   pub collected : IsFreshCollected s.config.now logged s.collected
-  pub publisher : IsFreshPublisher s.config.now turns s.publisher
-  pub logs : AreAllLogged logged s.publisher.groups.items
-  pub subscriber : IsFreshSubscriber s.config.now s.subscriber
-  pub receiving : IsFreshReceiving s.receiving
-  pub tree : IsFreshTree s.config.now s.publisher s.tree
+  pub holds : HoldRound s.config.now s.round
+  pub unstepped : (full : List MetaData) → IsUnstepped s.config.now full s.round
+  pub goes_on : MayAllGoOn s.config.now s.config.now.dataset turns s.round.publisher.groups.items
+  pub logs : AreAllLogged logged s.round.publisher.groups.items
 
 -- where it was made of these sources
 pub fresh-collected : (config : Config) (logged : ℕ) (sources : List ℕ) (c : Collected) → c.sources.items ≡ sources → length sources ≡ length config.dataset
@@ -58,7 +57,7 @@ fresh-gateway turns logged s fresh =
     let config = s.config.now in
     let ticks : s.left.ticks ≡ turns = ap (λ (l : Left). l.ticks) fresh.left in
     let pumps : s.left.pumps ≡ 0 = ap (λ (l : Left). l.pumps) fresh.left in
-    let start : s.moment ≡ 0 = fresh.moment in
+    let start : s.round.moment ≡ 0 = (fresh.unstepped config.dataset).moment in
     let few : turns ≤ 4398046511105 = fresh.few in
     record {
       good = fresh.good;
@@ -70,12 +69,9 @@ fresh-gateway turns logged s fresh =
             subst (λ (n : ℕ). HoldsAt (HasRoom n) s.collected.versions.items set) (sym fresh.collected.logged_is)
             (fresh.collected.room set (subst (λ (n : ℕ). set < n) (sym fresh.collected.sources) low));
       };
-      publisher = fresh.publisher.holds;
-      goes_on = subst (λ (t : ℕ). MayAllGoOn config config.dataset t s.publisher.groups.items) (sym ticks) fresh.publisher.goes_on;
-      logs = subst (λ (n : ℕ). AreAllLogged n s.publisher.groups.items) (sym fresh.collected.logged_is) fresh.logs;
-      subscriber = fresh.subscriber.holds;
-      tree = fresh.tree.counts ∙ fresh.tree.opening.counts;
-      buffers = fresh.receiving.room;
+      round = fresh.holds;
+      goes_on = subst (λ (t : ℕ). MayAllGoOn config config.dataset t s.round.publisher.groups.items) (sym ticks) fresh.goes_on;
+      logs = subst (λ (n : ℕ). AreAllLogged n s.round.publisher.groups.items) (sym fresh.collected.logged_is) fresh.logs;
       time = omega (arith, start, ticks, few);
       calls = omega (arith, ticks, pumps, few);
     }
@@ -94,24 +90,11 @@ fresh-stands turns logged s fresh =
         run = tt;
         steps_are = tt;
         turns = tt;
-        moment = fresh.moment;
         closed = ap (λ (l : Left). l.is_closed) fresh.left;
         ticks = omega (arith, ticks, all);
         pumps = omega (arith, pumps);
         metas = refl;
-        groups = fresh.publisher.past;
-        senders = fresh.publisher.senders;
-        outcomes = fresh.publisher.sends;
-        sends = fresh.publisher.link;
-        readings = fresh.subscriber.read;
-        tallies = fresh.subscriber.tallied;
-        receives = record {
-          received = fresh.receiving.counts.0;
-          broken = fresh.receiving.counts.1;
-          long = fresh.receiving.counts.2;
-          limit = fresh.receiving.counts.3;
-        };
-        flags = fresh-flags s.config.now.dataset s.config.now turns s.publisher s.tree fresh.good fresh.publisher fresh.tree;
+        round = fresh.unstepped s.config.now.dataset;
       };
       samples = fresh.collected.samples;
       kept = subst (λ (n : ℕ). HaveKept n s.collected.sources.items [] s.collected.versions.items) (sym fresh.collected.logged_is) fresh.collected.kept;

@@ -1,6 +1,5 @@
 pub mod TicksLeft
 pub mod Wholes
-pub mod Begun
 pub mod Ending
 pub mod TickEnd
 pub mod Receipts

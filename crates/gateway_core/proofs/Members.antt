@@ -39,45 +39,45 @@ same-config second lived s stands = ap (λ (p : Plan). p.config) stands.session.
 -- ---- writers
 
 pub writer-there : (s : Gateway) (g w : ℕ) (group : Group) → IsGateway s → g < length s.config.now.group → w < length (group_at s.config.now g).writer
-    → group ≡ get_or s.publisher.groups.items g group → w < writer_count group
+    → group ≡ get_or s.round.publisher.groups.items g group → w < writer_count group
 writer-there s g w group gateway low within is =
-    let made = (gateway.publisher.groups.each g low group).made.writers in
-    let same : vec_len group.writers ≡ vec_len (get_or s.publisher.groups.items g group).writers = ap (λ (x : Group). vec_len x.writers) is in
+    let made = (gateway.round.publisher.groups.each g low group).made.writers in
+    let same : vec_len group.writers ≡ vec_len (get_or s.round.publisher.groups.items g group).writers = ap (λ (x : Group). vec_len x.writers) is in
     omega (arith, within, made, same)
 
 -- where its deeds left the group
 writer-behind : (second : Config) (metas : List MetaData) (all : List Deed) (s : Gateway) (g w : ℕ) (group : Group) (writer : Writer) → s.config.now ≡ second → metas ≡ second.dataset
-    → HavePast second metas all s.publisher.groups.items → g < length s.config.now.group → w < length (group_at s.config.now g).writer → group ≡ get_or s.publisher.groups.items g group
+    → HavePast second metas all s.round.publisher.groups.items → g < length s.config.now.group → w < length (group_at s.config.now g).writer → group ≡ get_or s.round.publisher.groups.items g group
     → IsWriterIn group w writer → IsWriter (meta_at (group_at second g) second.dataset w) (settings_of (writer_at (group_at second g) w)) (writer_past w (group_past second g all)) writer
 writer-behind second metas all s g w group writer same metas_are past low within is there =
     there (metas_for part second.dataset) part (group_past second g all)
     (subst (λ (c : Config). w < length (group_at c g).writer) same within)
     (subst (λ (x : Group). IsGroup (metas_for part second.dataset) part (group_past second g all) x) (sym is)
-    (subst (λ (m : List MetaData). IsGroup (metas_for part m) part (group_past second g all) (get_or s.publisher.groups.items g group)) metas_are
+    (subst (λ (m : List MetaData). IsGroup (metas_for part m) part (group_past second g all) (get_or s.round.publisher.groups.items g group)) metas_are
     (past g (subst (λ (c : Config). g < length c.group) same low) group)))
   where
     part : GroupPart
     part = group_at second g
 
 pub writer-lived : (second : Config) (lived : List GatewayStep) (s : Gateway) (g w : ℕ) (group : Group) (writer : Writer) → Stands second lived s → g < length s.config.now.group
-    → w < length (group_at s.config.now g).writer → group ≡ get_or s.publisher.groups.items g group → IsWriterIn group w writer
+    → w < length (group_at s.config.now g).writer → group ≡ get_or s.round.publisher.groups.items g group → IsWriterIn group w writer
     → IsWriter (meta_at (group_at second g) second.dataset w) (settings_of (writer_at (group_at second g) w)) (writer_deeds (plan_again second) g w (session_steps (sources_of s) lived)) writer
 writer-lived second lived s g w group writer stands =
     let steps = session_steps (sources_of s) lived in
-    writer-behind second (metas_at second steps) (deeds (plan_again second) steps) s g w group writer (same-config second lived s stands) stands.session.metas stands.session.groups
+    writer-behind second (metas_at second steps) (deeds (plan_again second) steps) s g w group writer (same-config second lived s stands) stands.session.metas stands.session.round.groups
 
 pub writer-lives : (second : Config) (lived : List GatewayStep) (life : List Lived) (s : Gateway) (g w : ℕ) (group : Group) (writer : Writer) → StandsIn second lived life s
-    → g < length s.config.now.group → w < length (group_at s.config.now g).writer → group ≡ get_or s.publisher.groups.items g group → IsWriterIn group w writer
+    → g < length s.config.now.group → w < length (group_at s.config.now g).writer → group ≡ get_or s.round.publisher.groups.items g group → IsWriterIn group w writer
     → IsWriter (meta_at (group_at second g) second.dataset w) (settings_of (writer_at (group_at second g) w)) (writer_deeds_in second life g w) writer
 writer-lives second lived life s g w group writer stands =
     writer-behind second (metas_at second (steps_in life)) (account_in (plan_again second) life).deeds s g w group writer (ap (λ (p : Plan). p.config) stands.session.parts.plan)
     stands.session.parts.metas stands.session.parts.round.groups
 
 -- its log keeps as many data frames as the gateway's
-pub writer-logged : (s : Gateway) (g : ℕ) (group : Group) (writer : Writer) → IsGateway s → g < length s.config.now.group → group ≡ get_or s.publisher.groups.items g group
+pub writer-logged : (s : Gateway) (g : ℕ) (group : Group) (writer : Writer) → IsGateway s → g < length s.config.now.group → group ≡ get_or s.round.publisher.groups.items g group
     → IsLoggedIn group writer → logged_by writer ≡ logged_of s
 writer-logged s g group writer gateway low is there =
-    there.logged (logged_of s) (subst (AreLogged (logged_of s)) (sym is) (gateway.logs g group (omega (arith, low, gateway.publisher.groups.count))))
+    there.logged (logged_of s) (subst (AreLogged (logged_of s)) (sym is) (gateway.logs g group (omega (arith, low, gateway.round.publisher.groups.count))))
 
 -- and each one, where it keeps as many as there are ticks
 pub writer-all : (second : Config) (lived : List GatewayStep) (s : Gateway) (g w : ℕ) → KeepsAll s → Stands second lived s
@@ -106,34 +106,34 @@ versions-all second lived s source keeps stands =
 -- ---- readers
 
 pub reader-there : (s : Gateway) (r i : ℕ) (group : ReaderGroup) → IsGateway s → r < length s.config.now.readgroup → i < length (read_group_at s.config.now r).reader
-    → group ≡ get_or s.subscriber.groups.items r group → i < reader_count group
+    → group ≡ get_or s.round.subscriber.groups.items r group → i < reader_count group
 reader-there s r i group gateway low within is =
-    let at = gateway.subscriber.groups.each r low group in
-    let same : reader_count group ≡ reader_count (get_or s.subscriber.groups.items r group) = ap (λ (x : ReaderGroup). reader_count x) is in
+    let at = gateway.round.subscriber.groups.each r low group in
+    let same : reader_count group ≡ reader_count (get_or s.round.subscriber.groups.items r group) = ap (λ (x : ReaderGroup). reader_count x) is in
     let seats : length (setting_of s.config.now r).seats ≡ length (read_group_at s.config.now r).reader = length-map (read_group_at s.config.now r).reader (seat_in s.config.now) in
     let index = ap (λ (n : ℕ). length (setting_of s.config.now n).seats) at.index in
     omega (arith, within, same, seats, index, at.made.readers.count)
 
 reading-stands : (second : Config) (lived : List GatewayStep) (s : Gateway) (r : ℕ) (group : ReaderGroup) → Stands second lived s → r < length s.config.now.readgroup
-    → group ≡ get_or s.subscriber.groups.items r group
+    → group ≡ get_or s.round.subscriber.groups.items r group
     → ReadingStands (setting_of second r) (plain (setting_of second r) (events second r (session_steps (sources_of s) lived))) group
 reading-stands second lived s r group stands low is =
     let steps = session_steps (sources_of s) lived in
     let setting = setting_of second r in
     subst (λ (x : ReaderGroup). ReadingStands setting (plain setting (events second r steps)) x) (sym is)
-    (stands.session.readings r (subst (λ (c : Config). r < length c.readgroup) (same-config second lived s stands) low) group)
+    (stands.session.round.readings r (subst (λ (c : Config). r < length c.readgroup) (same-config second lived s stands) low) group)
 
 pub reader-kept : (second : Config) (lived : List GatewayStep) (s : Gateway) (r i : ℕ) (group : ReaderGroup) (reader : Reader) → Stands second lived s → r < length s.config.now.readgroup
-    → group ≡ get_or s.subscriber.groups.items r group → IsKeptAt group i reader
+    → group ≡ get_or s.round.subscriber.groups.items r group → IsKeptAt group i reader
     → kept_by (seat_at (setting_of second r).seats i).meta.fields reader ≡ (reader_at second r i (session_steps (sources_of s) lived)).kept
 reader-kept second lived s r i group reader stands low is there =
     there (setting_of second r) (plain (setting_of second r) (events second r (session_steps (sources_of s) lived))) (reading-stands second lived s r group stands low is)
 
 pub reader-made : (s : Gateway) (r i : ℕ) (group : ReaderGroup) (reader : Reader) → IsGateway s → r < length s.config.now.readgroup
-    → group ≡ get_or s.subscriber.groups.items r group → IsMadeAt group i reader
+    → group ≡ get_or s.round.subscriber.groups.items r group → IsMadeAt group i reader
     → IsReaderOf (seat_at (setting_of s.config.now r).seats i).meta reader
 reader-made s r i group reader gateway low is there =
-    let at = gateway.subscriber.groups.each r low group in
+    let at = gateway.round.subscriber.groups.each r low group in
     let index = ap (λ (x : ReaderGroup). index_of x) is ∙ at.index in
     subst (λ (n : ℕ). IsReaderOf (seat_at (setting_of s.config.now n).seats i).meta reader) index
     (there s.config.now (subst (λ (x : ReaderGroup). IsMadeOf s.config.now x) (sym is) at.made))

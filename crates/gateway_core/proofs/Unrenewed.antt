@@ -9,7 +9,6 @@ use Rattle.session_model.specs.Lives.{Account, Stepped, account_of}
 use Rattle.session_model.specs.Sends.{IsRun, TellsJournal, TellsRun}
 use Rattle.session_model.specs.Turns.{TurnsHold}
 use Rattle.session_parts.specs.Ticking.{HaltsTick, HaltsTickBehind, HaltsTickIn}
-use Rattle.session_parts.proofs.Accounts.{flags-as}
 use Rattle.session_parts.proofs.Unrenewed.{of-plain, plain-account, plain-steps, run-back, run-in, to-plain, turns-back, turns-in}
 use Rattle.gateway_core.specs.declared.gateway.Gateway.{Gateway}
 use Rattle.gateway_core.specs.Lived.{GatewayStep, plan_again, session_steps}
@@ -26,17 +25,7 @@ as-stands p steps s stands = record {
   ticks = stands.ticks;
   pumps = stands.pumps;
   metas = stands.metas;
-  round = record {
-    moment = stands.moment;
-    groups = stands.groups;
-    senders = stands.senders;
-    outcomes = stands.outcomes;
-    sends = stands.sends;
-    readings = stands.readings;
-    tallies = stands.tallies;
-    receives = stands.receives;
-    flags = λ c there. stands.flags c there ∙ flags-as p steps c;
-  };
+  round = stands.round;
 }
 
 stands-of : (p : Plan) (steps : List Step) (s : Gateway) → IsRun p steps → AreStepsOf (ticks_of s) p steps → TurnsHold p steps → StandsAs p steps (account_of p steps) s → StandsAsSession p steps s
@@ -45,19 +34,11 @@ stands-of p steps s run steps_are turns stands = record {
   run = run;
   steps_are = steps_are;
   turns = turns;
-  moment = stands.round.moment;
   closed = stands.closed;
   ticks = stands.ticks;
   pumps = stands.pumps;
   metas = stands.metas;
-  groups = stands.round.groups;
-  senders = stands.round.senders;
-  outcomes = stands.round.outcomes;
-  sends = stands.round.sends;
-  readings = stands.round.readings;
-  tallies = stands.round.tallies;
-  receives = stands.round.receives;
-  flags = λ c there. stands.round.flags c there ∙ sym (flags-as p steps c);
+  round = stands.round;
 }
 
 session-in : (p : Plan) (steps : List Step) (s : Gateway) → StandsAsSession p steps s → LivesAsSession p (map Stepped steps) s

@@ -2,7 +2,6 @@
 use Rattle.std.specs.Prelude.{◌≡◌, ℕ, ◌+◌, ◌-◌, ◌*◌, ◌^◌, ◌<◌, ◌≤◌, Bool, true, false, List, length, vec_len, vec_capacity}
 use Rattle.std.specs.List.{HoldsAt}
 use Rattle.ps_config.specs.declared.parts.Config.{Config}
-use Rattle.pubsub_states.specs.Components.{counts_of}
 use Rattle.target_cells.specs.declared.origin.Origin.{Origin}
 use Rattle.version_cell.specs.Known.{Known}
 use Rattle.writer_group.specs.declared.sampled.Sampled.{Sampled}
@@ -10,7 +9,8 @@ use Rattle.writer_group.specs.Standing.{IsGood}
 use Rattle.session_model.specs.Counts.{most_ms}
 use Rattle.session_model.specs.Steps.{Plan}
 use Rattle.session_model.specs.Sets.{AreRowsOf}
-use Rattle.session_parts.specs.Holding.{AreAllLogged, HasBuffers, HoldPublisher, HoldSubscriber, MayAllGoOn}
+use Rattle.session_parts.specs.Holding.{AreAllLogged, MayAllGoOn}
+use Rattle.session_parts.specs.Rounds.{HoldRound}
 use Rattle.gateway_core.specs.declared.collected.Collected.{Collected}
 use Rattle.gateway_core.specs.declared.collected.Versions.{Versions}
 use Rattle.gateway_core.specs.declared.gateway.Left.{Left}
@@ -67,13 +67,10 @@ pub record HoldCollected (config : Config) (c : Collected) : Type 0 where
 pub record IsGateway (s : Gateway) : Type 0 where
   pub good : IsGood s.config.now
   pub collected : HoldCollected s.config.now s.collected
-  pub publisher : HoldPublisher s.config.now s.publisher
-  pub goes_on : MayAllGoOn s.config.now s.config.now.dataset s.left.ticks s.publisher.groups.items
-  pub logs : AreAllLogged (logged_of s) s.publisher.groups.items
-  pub subscriber : HoldSubscriber s.config.now s.subscriber
-  pub tree : s.tree.counts ≡ counts_of s.config.now
-  pub buffers : HasBuffers s.receiving
-  pub time : s.moment + s.left.ticks * most_ms < 2 ^ 64
+  pub round : HoldRound s.config.now s.round
+  pub goes_on : MayAllGoOn s.config.now s.config.now.dataset s.left.ticks s.round.publisher.groups.items
+  pub logs : AreAllLogged (logged_of s) s.round.publisher.groups.items
+  pub time : s.round.moment + s.left.ticks * most_ms < 2 ^ 64
   pub calls : s.left.ticks + s.left.pumps < 2 ^ 64
 
 -- what a call of `collect` is given belongs to the gateway

@@ -3,4 +3,3 @@ pub mod Sources
 pub mod Holding
 pub mod Standing
 pub mod Living
-pub mod Beginning

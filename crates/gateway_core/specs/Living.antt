@@ -12,16 +12,13 @@ use Rattle.session_model.specs.Deeds.{group_past}
 use Rattle.session_model.specs.Sends.{TellsJournal}
 use Rattle.session_model.specs.Keeping.{AreStepsOf}
 use Rattle.session_model.specs.Lives.{Account, IsRunIn, Lived, Renewed, Stepped, TurnsHoldIn, account_in, steps_in}
-use Rattle.session_parts.specs.Rounds.{Round, RoundStands}
+use Rattle.session_parts.specs.Rounds.{RoundStands}
 use Rattle.gateway_core.specs.declared.gateway.Gateway.{Gateway}
 use Rattle.gateway_core.specs.Lived.{GatewayStep, collects_in, plan_again, samples_after, session_steps}
 use Rattle.gateway_core.specs.Holding.{logged_of, plan_of, sampled_by, sources_of, ticks_of}
 use Rattle.gateway_core.specs.Standing.{HaveKept}
 
 -- ---- as a session
-
-abbrev pub round_of : Gateway → Round
-round_of s = record { moment = s.moment; tree = s.tree; publisher = s.publisher; subscriber = s.subscriber; receiving = s.receiving }
 
 -- its parts are as these steps, of which this became, leave those of a session in which no field was appended
 pub record StandsAs (p : Plan) (steps : List Step) (a : Account) (s : Gateway) : Type 0 where
@@ -30,7 +27,7 @@ pub record StandsAs (p : Plan) (steps : List Step) (a : Account) (s : Gateway) :
   pub ticks : ticks_in steps + s.left.ticks ≤ s.left.turns
   pub pumps : pumps_in steps + s.left.pumps ≡ ticks_in steps
   pub metas : metas_at p.config steps ≡ p.config.dataset
-  pub round : RoundStands p steps a (round_of s)
+  pub round : RoundStands p steps a s.round
 
 -- it stands where this life leaves a session
 pub record LivesAsSession (p : Plan) (life : List Lived) (s : Gateway) : Type 0 where

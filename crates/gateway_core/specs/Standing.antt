@@ -4,14 +4,13 @@ use Rattle.std.specs.List.{HoldsAt}
 use Rattle.ua_base.specs.Journal.{LinkState}
 use Rattle.ps_config.specs.declared.parts.Config.{Config}
 use Rattle.session_model.specs.Counts.{ticks_in, pumps_in, is_closed}
-use Rattle.session_model.specs.Steps.{Plan, Step, moment_of}
+use Rattle.session_model.specs.Steps.{Plan, Step}
 use Rattle.session_model.specs.Sets.{metas_at}
-use Rattle.session_model.specs.Deeds.{deeds}
 use Rattle.session_model.specs.Turns.{TurnsHold}
-use Rattle.session_model.specs.Sends.{IsRun, TellsRun, journal}
-use Rattle.session_model.specs.States.{flags_at}
+use Rattle.session_model.specs.Sends.{IsRun, TellsRun}
 use Rattle.session_model.specs.Keeping.{AreStepsOf}
-use Rattle.session_parts.specs.Standing.{AreReceivesIn, AreSendsIn, HasFlags, HaveOutcomes, HavePast, HaveRead, HaveSent, HaveTallied}
+use Rattle.session_model.specs.Lives.{account_of}
+use Rattle.session_parts.specs.Rounds.{RoundStands}
 use Rattle.session_parts.specs.Ticking as parts
 use Rattle.gateway_core.specs.declared.collected.StoreVersion.{StoreVersion}
 use Rattle.gateway_core.specs.declared.collected.Versions.{Versions}
@@ -27,19 +26,11 @@ pub record StandsAsSession (p : Plan) (steps : List Step) (s : Gateway) : Type 0
   pub run : IsRun p steps
   pub steps_are : AreStepsOf (ticks_of s) p steps
   pub turns : TurnsHold p steps
-  pub moment : s.moment ≡ moment_of steps
   pub closed : s.left.is_closed ≡ is_closed steps
   pub ticks : ticks_in steps + s.left.ticks ≤ s.left.turns
   pub pumps : pumps_in steps + s.left.pumps ≡ ticks_in steps
   pub metas : metas_at p.config steps ≡ p.config.dataset
-  pub groups : HavePast p.config (metas_at p.config steps) (deeds p steps) s.publisher.groups.items
-  pub senders : HaveSent p.config (deeds p steps) s.publisher.senders.items
-  pub outcomes : HaveOutcomes p steps s.publisher.sends.items
-  pub sends : AreSendsIn (journal p steps) s.publisher.link
-  pub readings : HaveRead p.config steps s.subscriber.groups.items
-  pub tallies : HaveTallied p.config steps s.subscriber.tallies.items
-  pub receives : AreReceivesIn (journal p steps) steps s.receiving
-  pub flags : HasFlags (flags_at p steps) s.tree
+  pub round : RoundStands p steps (account_of p steps) s.round
 
 -- ---- what was collected
 

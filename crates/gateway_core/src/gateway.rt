@@ -24,14 +24,12 @@ ghost use Rattle.gateway_core.specs.Lived.{Collect, GatewayStep, Pump, Tick, fir
 ghost use Rattle.gateway_core.specs.Holding.{CountsCollect, CountsPump, CountsTick, IsGateway, KeepsAll, KeepsCollected, MayPump, MayTake, MayTick, left_of, logged_of, sampled_by, sources_of};
 ghost use Rattle.gateway_core.specs.Standing.{HaltsTick, Leads, Stands};
 ghost use Rattle.gateway_core.specs.Living.{LeadsIn, StandsIn, writer_deeds_in};
-ghost use Rattle.gateway_core.specs.Beginning.{HasBegun};
 
 use crate::collected::Collected;
 use dataset_reader::Reader;
 use dataset_writer::Writer;
 use ps_config::Config;
-use pubsub_states::Tree;
-use session_parts::{Publisher, Receiving, Subscriber, Told};
+use session_parts::{Round, Told};
 use target_cells::Origin;
 use ua_base::{Link, Pumped, Ticked};
 use version_cell::Passes;
@@ -55,14 +53,9 @@ pub(crate) struct Left {
 #[derive(Drop)]
 pub struct Gateway<'c> {
     pub(crate) config: &'c Config,
-    /// Milliseconds since it was opened.
-    pub(crate) moment: u64,
     pub(crate) left: Left,
-    pub(crate) tree: Tree,
     pub(crate) collected: Collected,
-    pub(crate) publisher: Publisher,
-    pub(crate) subscriber: Subscriber,
-    pub(crate) receiving: Receiving,
+    pub(crate) round: Round,
 }
 
 impl<'c> Gateway<'c> {
@@ -118,32 +111,18 @@ impl<'c> Gateway<'c> {
         ensures memory { result ≡ Ticked.Memory → IsTrue L.takes_memory }
         ensures link { KeepsLink L.opened_with L.faults L.made L.openings link.old link.new }
     {
-        self.begin(ms, closing);
+        self.left.ticks -= 1;
+        self.left.pumps += 1;
+        self.left.is_closed = closing;
+        let moment = self.round.moment + ms;
         let told = Told {
             config: self.config,
             metas: self.config.dataset.as_slice(),
             rows: &self.collected.samples,
-            moment: self.moment,
+            moment,
             closing,
         };
-        self.publisher.pass_all(&told, &mut self.tree, link)
-    }
-
-    /// What a tick does before the groups' turns: time goes on, senders turn, timers expire, faults
-    /// of sends are cleared.
-    fn begin(&mut self, ms: u64, closing: bool)
-        requires may { MayTick ms closing self.old }
-        ensures begun { HasBegun ms closing self.old self.new }
-    {
-        self.left.ticks -= 1;
-        self.left.pumps += 1;
-        self.left.is_closed = closing;
-        self.moment += ms;
-        self.publisher.come_to(self.config, self.moment);
-        self.subscriber.expire(self.moment);
-        self.publisher.clear();
-        self.subscriber.tell(self.config, &mut self.tree);
-        self.publisher.tell(self.config, &mut self.tree);
+        self.round.tick(&told, link)
     }
 
     /// Receives what came, until nothing waits, a receive fails or 65,536 datagrams were taken;
@@ -169,15 +148,7 @@ impl<'c> Gateway<'c> {
         ensures link { KeepsLink L.opened_with L.faults L.made L.openings link.old link.new }
     {
         self.left.pumps -= 1;
-        let pumped = self.receiving.pump(
-            self.config,
-            &self.tree,
-            self.moment,
-            &mut self.subscriber,
-            link,
-        );
-        self.subscriber.tell(self.config, &mut self.tree);
-        pumped
+        self.round.pump(self.config, link)
     }
 
     /// A writer, by its group and its index in this. Its log keeps the first data frames, and each one where the gateway was opened
@@ -202,7 +173,7 @@ impl<'c> Gateway<'c> {
             → Stands second lived self.now → length (log_at (plan_again second) group index
             (session_steps (sources_of self.now) lived)) ≤ logged_of self.now }
     {
-        self.publisher.groups[usize::from(group)].writer(index)
+        self.round.publisher.groups[usize::from(group)].writer(index)
     }
 
     /// A reader, by its read group and its index in this.
@@ -220,7 +191,7 @@ impl<'c> Gateway<'c> {
         ensures made { IsReaderOf
             (seat_at (setting_of self.now.config.now group).seats index).meta result.now }
     {
-        self.subscriber.groups[usize::from(group)].reader(index)
+        self.round.subscriber.groups[usize::from(group)].reader(index)
     }
 
     /// How many sends were done, how many failed, and how many datagrams came. A count stops at
@@ -238,9 +209,9 @@ impl<'c> Gateway<'c> {
             ∷ counted (count_by is_got told) ∷ [] }
     {
         [
-            self.publisher.link.done,
-            self.publisher.link.failed,
-            self.receiving.received,
+            self.round.publisher.link.done,
+            self.round.publisher.link.failed,
+            self.round.receiving.received,
         ]
     }
 

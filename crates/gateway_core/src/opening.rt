@@ -1,10 +1,7 @@
 //! The opening of a gateway.
 ghost use Rattle.std.specs.Prelude.{◌≡◌, ◌≤◌, ◌+◌, [], ℕ, List, IfOk};
-ghost use Rattle.pubsub_states.specs.Components.{counts_of};
 ghost use Rattle.writer_group.specs.Standing.{IsGood};
 ghost use Rattle.session_model.specs.Counts.{life_ticks};
-ghost use Rattle.session_parts.specs.Holding.{HoldPublisher};
-ghost use Rattle.session_parts.specs.Ticking.{TellsFaults};
 ghost use Rattle.gateway_core.specs.Sources.{HaveSources};
 ghost use Rattle.gateway_core.specs.Holding.{IsGateway, left_of, logged_of, opening_left, sources_of};
 ghost use Rattle.gateway_core.specs.Standing.{Stands};
@@ -13,8 +10,7 @@ use crate::collected::Collected;
 use crate::gateway::{Gateway, Left};
 use crate::sources::sources_in;
 use ps_config::Config;
-use pubsub_states::Tree;
-use session_parts::{Receiving, publisher_of, subscriber_of};
+use session_parts::Round;
 use std::alloc::Global;
 use ua_base::NoMemory;
 
@@ -41,36 +37,20 @@ impl<'c> Gateway<'c> {
         ensures stands { IfOk result (λ s. Stands second.now [] s) }
     {
         let sources = sources_in(alloc, first, second)?;
-        let mut gateway = Gateway {
-            config: second,
-            moment: 0,
-            left: Left {
-                turns,
-                ticks: turns,
-                collects: turns,
-                pumps: 0,
-                is_closed: false,
-            },
-            tree: Tree::new(alloc, second)?,
-            collected: Collected::new(alloc, sources, logged)?,
-            publisher: publisher_of(alloc, second, turns, logged)?,
-            subscriber: subscriber_of(alloc, second)?,
-            receiving: Receiving::new(alloc)?,
+        let collected = Collected::new(alloc, sources, logged)?;
+        let round = Round::open(alloc, second, turns, logged)?;
+        let left = Left {
+            turns,
+            ticks: turns,
+            collects: turns,
+            pumps: 0,
+            is_closed: false,
         };
-        gateway.tell_groups();
-        Ok(gateway)
-    }
-
-    /// Tells the tree which groups have a fault.
-    fn tell_groups(&mut self)
-        requires good { IsGood self.old.config.now }
-        requires holds { HoldPublisher self.old.config.now self.old.publisher }
-        requires tree { self.old.tree.counts ≡ counts_of self.old.config.now }
-        ensures faults { TellsFaults self.old.config.now self.old.publisher
-            self.old.tree self.new.tree }
-        ensures counts { self.new.tree.counts ≡ self.old.tree.counts }
-        ensures rest { self.new ≡ record self.old { tree = self.new.tree } }
-    {
-        self.publisher.tell(self.config, &mut self.tree);
+        Ok(Gateway {
+            config: second,
+            left,
+            collected,
+            round,
+        })
     }
 }

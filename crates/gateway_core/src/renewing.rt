@@ -32,7 +32,6 @@ impl Gateway<'_> {
         ensures collected { KeepsCollected self.old self.new }
         ensures left { left_of self.new ≡ left_of self.old }
     {
-        self.subscriber.renew(self.config, key_group, &ring);
-        self.publisher.renew(key_group, ring)
+        self.round.renew(self.config, key_group, ring)
     }
 }

@@ -28,7 +28,7 @@ impl Gateway<'_> {
             → StandsIn second lived life self.now
             → result ≡ moment_of (steps_in life) }
     {
-        self.moment
+        self.round.moment
     }
 
     /// The state of a component (OPC 10000-14 6.2.1, PubSubState).
@@ -41,7 +41,7 @@ impl Gateway<'_> {
             → StandsIn second lived life self.now
             → result ≡ state_in (plan_again second) life component }
     {
-        self.tree.state_of(component)
+        self.round.tree.state_of(component)
     }
 
     /// How many datagrams a read group took, how many it refused for each cause, and how many parts it couldn't read.
@@ -54,7 +54,7 @@ impl Gateway<'_> {
             → StandsIn second lived life self.now
             → IsTallyOf ((account_in (plan_again second) life).readings read_group).answered result }
     {
-        self.subscriber.tallies[usize::from(read_group)]
+        self.round.subscriber.tallies[usize::from(read_group)]
     }
 
     /// What came of all sends and receives over the link.
@@ -65,7 +65,7 @@ impl Gateway<'_> {
             → StandsIn second lived life self.now
             → result ≡ link_of (account_in (plan_again second) life).journal (steps_in life) }
     {
-        link_end(&self.publisher, &self.receiving)
+        link_end(&self.round.publisher, &self.round.receiving)
     }
 
     /// The token that a key group's sender uses, and the last number that it used under this token: what a device stores, so that
@@ -79,6 +79,6 @@ impl Gateway<'_> {
             → StandsIn second lived life self.now
             → result ≡ standing_of (sender_in (plan_again second) life key_group) }
     {
-        self.publisher.senders[usize::from(key_group)].standing()
+        self.round.publisher.senders[usize::from(key_group)].standing()
     }
 }

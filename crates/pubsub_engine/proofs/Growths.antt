@@ -122,14 +122,14 @@ pub record Refreshes (config : Config) (set : ℕ) (old new : Publisher) : Type 
 -- the next growth is made, and the writers of its data set are refreshed
 pub record AppendsNext (old new : Session) (set : ℕ) (growth : Growth) : Type 0 where
   pub next : IsNext old.sets new.sets set growth
-  pub refreshes : Refreshes old.config.now set old.publisher new.publisher
-  pub changed : new ≡ record old { sets = new.sets; publisher = new.publisher }
+  pub refreshes : Refreshes old.config.now set old.round.publisher new.round.publisher
+  pub changed : new ≡ record old { sets = new.sets; round = record old.round { publisher = new.round.publisher } }
 
 pub appends-of : (old : Session) (sets : Sets) (publisher : Publisher) (set : ℕ) → (left : old.sets.made < length old.sets.later.items) → MakesNext old.sets sets set
     → sets.made ≡ old.sets.made + 1 → sets.full ≡ old.sets.full → length sets.later.items ≡ length old.sets.later.items
     → drop (old.sets.made + 1) sets.later.items ≡ drop (old.sets.made + 1) old.sets.later.items
-    → Refreshes old.config.now set old.publisher publisher
-    → AppendsNext old (record old { sets = sets; publisher = publisher }) set (growth-of old.sets left)
+    → Refreshes old.config.now set old.round.publisher publisher
+    → AppendsNext old (record old { sets = sets; round = record old.round { publisher = publisher } }) set (growth-of old.sets left)
 appends-of old sets publisher set left makes made full count later refreshes = record {
   next = next-of old.sets sets set left makes made full count later;
   refreshes = refreshes;
@@ -149,13 +149,15 @@ appended-session old new set growth session appends = subst IsSession (sym appen
   good = session.good;
   sets = next-holds old.config.now old.sets new.sets set growth session.sets next;
   samples = subst (λ (f : Vec MetaData Global). HoldSamples f.items old.samples) (sym next.full) session.samples;
-  publisher = holds-refreshed old.config.now set old.publisher new.publisher session.publisher appends.refreshes;
-  goes_on = subst (λ (m : List MetaData). MayAllGoOn old.config.now m old.left.ticks new.publisher.groups.items) (sym next.metas)
+  round = record {
+    publisher = holds-refreshed old.config.now set old.round.publisher new.round.publisher session.round.publisher appends.refreshes;
+    subscriber = session.round.subscriber;
+    tree = session.round.tree;
+    buffers = session.round.buffers;
+  };
+  goes_on = subst (λ (m : List MetaData). MayAllGoOn old.config.now m old.left.ticks new.round.publisher.groups.items) (sym next.metas)
       (refreshes.goes_on old.sets.metas.items (slice_set old.sets.metas.items growth.set growth.meta) old.left.ticks (same-but old.sets.metas.items growth.set growth.meta) session.goes_on);
   logged = refreshes.logs old.left.logged session.logged;
-  subscriber = session.subscriber;
-  tree = session.tree;
-  buffers = session.buffers;
   stores = session.stores;
   time = session.time;
   calls = session.calls;
@@ -164,8 +166,8 @@ appended-session old new set growth session appends = subst IsSession (sym appen
     next : IsNext old.sets new.sets set growth
     next = appends.next
 
-    refreshes : Refreshes old.config.now growth.set old.publisher new.publisher
-    refreshes = subst (λ (s : ℕ). Refreshes old.config.now s old.publisher new.publisher) appends.next.set_is appends.refreshes
+    refreshes : Refreshes old.config.now growth.set old.round.publisher new.round.publisher
+    refreshes = subst (λ (s : ℕ). Refreshes old.config.now s old.round.publisher new.round.publisher) appends.next.set_is appends.refreshes
 
 pub appended-keeps : (old new : Session) (set : ℕ) (growth : Growth) → AppendsNext old new set growth → KeepsPasses old new
 appended-keeps old new set growth appends = subst (KeepsPasses old) (sym appends.changed) (record {
@@ -207,10 +209,10 @@ pub record HasAppended (p : Plan) (before : List Step) (a : Account) (set : ℕ)
 
 appended-of : (p : Plan) (before : List Step) (a : Account) (set : ℕ) (field : Field) (old new : Session) → StandsAs p before a old
     → plan_of new ≡ plan_of old
-    → new ≡ record old { sets = new.sets; publisher = new.publisher }
-    → new.publisher ≡ record old.publisher { groups = new.publisher.groups }
+    → new ≡ record old { sets = new.sets; round = record old.round { publisher = new.round.publisher } }
+    → new.round.publisher ≡ record old.round.publisher { groups = new.round.publisher.groups }
     → new.sets.metas.items ≡ metas_at p.config (Append set field ∷ before)
-    → HavePast p.config (metas_at p.config (Append set field ∷ before)) (RefreshedSet set ∷ a.deeds) new.publisher.groups.items
+    → HavePast p.config (metas_at p.config (Append set field ∷ before)) (RefreshedSet set ∷ a.deeds) new.round.publisher.groups.items
     → StandsAs p (Append set field ∷ before) (stepped p before a (Append set field)) new
 appended-of p before a set field old new stands same changed parts metas past = record {
   plan = same ∙ stands.plan;
@@ -220,17 +222,17 @@ appended-of p before a set field old new stands same changed parts metas past = 
   metas = metas;
   stores_are = subst (λ (s : Session). HaveStored p.config (λ place. a.stores place.0 place.1) s.stores) (sym changed) stands.stores_are;
   round = record {
-    moment = ap (λ (s : Session). s.moment) changed ∙ stands.round.moment;
+    moment = ap (λ (s : Session). s.round.moment) changed ∙ stands.round.moment;
     groups = past;
     senders = subst (λ (q : Publisher). HaveSent p.config a.deeds q.senders.items) (sym parts) stands.round.senders;
     outcomes = subst (λ (q : Publisher). HaveOutcomesOf p.config a.sent a.failing q.sends.items) (sym parts) stands.round.outcomes;
     sends = subst (λ (q : Publisher). AreSendsIn a.journal q.link) (sym parts) stands.round.sends;
-    readings = subst (λ (s : Session). HaveReadings p.config a.readings s.subscriber.groups.items) (sym changed) stands.round.readings;
-    tallies = subst (λ (s : Session). HaveTallies p.config a.readings s.subscriber.tallies.items) (sym changed) stands.round.tallies;
+    readings = subst (λ (s : Session). HaveReadings p.config a.readings s.round.subscriber.groups.items) (sym changed) stands.round.readings;
+    tallies = subst (λ (s : Session). HaveTallies p.config a.readings s.round.subscriber.tallies.items) (sym changed) stands.round.tallies;
     receives =
-        let is : AreReceivesIn a.journal before new.receiving = subst (λ (s : Session). AreReceivesIn a.journal before s.receiving) (sym changed) stands.round.receives in
+        let is : AreReceivesIn a.journal before new.round.receiving = subst (λ (s : Session). AreReceivesIn a.journal before s.round.receiving) (sym changed) stands.round.receives in
         record { received = is.received; broken = is.broken; long = is.long; limit = is.limit };
-    flags = flags-appended p before a set field new.tree (subst (λ (s : Session). HasFlags (flags_by p.config before a) s.tree) (sym changed) stands.round.flags);
+    flags = flags-appended p before a set field new.round.tree (subst (λ (s : Session). HasFlags (flags_by p.config before a) s.round.tree) (sym changed) stands.round.flags);
   };
 }
 

@@ -2,8 +2,6 @@ pub mod Cutting
 pub mod NowSets
 pub mod TicksLeft
 pub mod Lives
-pub mod Begun
-pub mod Ending
 pub mod TickEnd
 pub mod Growths
 pub mod Seen

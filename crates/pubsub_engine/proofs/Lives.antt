@@ -9,7 +9,7 @@ use Rattle.session_model.specs.Sends.{IsRun}
 use Rattle.session_model.specs.Stores.{Store}
 use Rattle.session_model.specs.Turns.{TurnsHold}
 use Rattle.session_parts.specs.Standing.{IsTallyOf}
-use Rattle.session_parts.proofs.Accounts.{flags-as, same-flags}
+use Rattle.session_parts.proofs.Accounts.{same-flags}
 use Rattle.pubsub_engine.specs.declared.session.Session.{Session}
 use Rattle.pubsub_engine.specs.Holding.{ticks_of}
 use Rattle.pubsub_engine.specs.Standing.{Stands}
@@ -26,17 +26,7 @@ as-stands p steps s stands = record {
   pumps = stands.pumps;
   metas = stands.metas;
   stores_are = stands.stores_are;
-  round = record {
-    moment = stands.moment;
-    groups = stands.groups;
-    senders = stands.senders;
-    outcomes = stands.outcomes;
-    sends = stands.sends;
-    readings = stands.readings;
-    tallies = stands.tallies;
-    receives = stands.receives;
-    flags = λ c there. stands.flags c there ∙ flags-as p steps c;
-  };
+  round = stands.round;
 }
 
 pub stands-of : (p : Plan) (steps : List Step) (s : Session) → IsRun p steps → AreStepsOf (ticks_of s) p steps → TurnsHold p steps → StandsAs p steps (account_of p steps) s → Stands p steps s
@@ -45,20 +35,12 @@ stands-of p steps s run steps_are turns stands = record {
   run = run;
   steps_are = steps_are;
   turns = turns;
-  moment = stands.round.moment;
   closed = stands.closed;
   ticks = stands.ticks;
   pumps = stands.pumps;
   metas = stands.metas;
-  groups = stands.round.groups;
-  senders = stands.round.senders;
-  outcomes = stands.round.outcomes;
-  sends = stands.round.sends;
-  readings = stands.round.readings;
-  tallies = stands.round.tallies;
-  receives = stands.round.receives;
   stores_are = stands.stores_are;
-  flags = λ c there. stands.round.flags c there ∙ sym (flags-as p steps c);
+  round = stands.round;
 }
 
 -- ---- accounts that differ in readings and stores by their form alone
@@ -78,8 +60,8 @@ same-stands p steps a b s rest same stored stands = subst (λ (x : Account). Sta
     senders = stands.round.senders;
     outcomes = stands.round.outcomes;
     sends = stands.round.sends;
-    readings = λ r low d. subst (λ (x : Reading). ReadingStands (setting_in p.config r x) x.value (get_or s.subscriber.groups.items r d)) (same r) (stands.round.readings r low d);
-    tallies = λ r low d. subst (λ (x : Reading). IsTallyOf x.answered (get_or s.subscriber.tallies.items r d)) (same r) (stands.round.tallies r low d);
+    readings = λ r low d. subst (λ (x : Reading). ReadingStands (setting_in p.config r x) x.value (get_or s.round.subscriber.groups.items r d)) (same r) (stands.round.readings r low d);
+    tallies = λ r low d. subst (λ (x : Reading). IsTallyOf x.answered (get_or s.round.subscriber.tallies.items r d)) (same r) (stands.round.tallies r low d);
     receives = stands.round.receives;
     flags = λ c there. stands.round.flags c there ∙ same-flags p.config steps a (record a { readings = b.readings; stores = b.stores }) refl same c;
   };

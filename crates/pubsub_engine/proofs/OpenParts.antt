@@ -16,6 +16,7 @@ use Rattle.writer_group.specs.declared.sampled.Sampled.{Sampled}
 use Rattle.session_model.specs.Counts.{life_ticks}
 use Rattle.session_model.specs.Sets.{AreRowsOf}
 use Rattle.session_parts.specs.Holding.{AreAllLogged, MayAllGoOn}
+use Rattle.session_parts.specs.Rounds.{HoldRound, IsUnstepped}
 use Rattle.pubsub_engine.specs.declared.size.Append.{Append}
 use Rattle.pubsub_engine.specs.declared.sampling.Samples.{Samples}
 use Rattle.pubsub_engine.specs.declared.storing.Last.{Last}
@@ -27,7 +28,6 @@ use Rattle.pubsub_engine.specs.Standing.{Stands, opening_sample, samples_of}
 use Rattle.pubsub_engine.specs.Storing.{meta_at_place}
 use Rattle.pubsub_engine.proofs.OpenSets.{full-metas, grow-full}
 use Rattle.pubsub_engine.proofs.Places.{within-all}
-use Rattle.session_parts.proofs.Fresh.{IsFreshPublisher, IsFreshReceiving, IsFreshSubscriber, IsFreshTree, fresh-flags}
 
 -- ---- the parts
 
@@ -50,18 +50,16 @@ pub record IsFresh (appends : List Append) (turns logged : ℕ) (s : Session) : 
   pub few : turns ≤ life_ticks + 1
   pub one : 1 ≤ turns
   pub may : AreAppends s.config.now s.config.now.dataset appends
-  pub moment : s.moment ≡ 0
   pub left : s.left ≡ left_by turns logged
   pub sets : HoldSets s.config.now s.sets
   pub first : s.sets.metas.items ≡ s.config.now.dataset
   pub full : s.sets.full.items ≡ full_of s.config.now.dataset appends
   pub samples : IsFreshSamples (length s.config.now.dataset) s.samples
-  pub publisher : IsFreshPublisher s.config.now turns s.publisher
-  pub logs : AreAllLogged logged s.publisher.groups.items
-  pub subscriber : IsFreshSubscriber s.config.now s.subscriber
-  pub receiving : IsFreshReceiving s.receiving
+  pub holds : HoldRound s.config.now s.round
+  pub unstepped : (full : List MetaData) → IsUnstepped s.config.now full s.round
+  pub goes_on : MayAllGoOn s.config.now s.config.now.dataset turns s.round.publisher.groups.items
+  pub logs : AreAllLogged logged s.round.publisher.groups.items
   pub stores : AreFreshStores (length (readers s.config.now)) s.stores
-  pub tree : IsFreshTree s.config.now s.publisher s.tree
 
 -- new passes have seen nothing
 pub unseen-new : (cells : List CellData) (author : Option ℕ) (passes : List Known) → passes ≡ new_passes cells author → (k : ℕ) → k < length passes → (pass_at passes k).seen ≡ []
@@ -97,7 +95,7 @@ fresh-session appends turns logged s fresh =
     let ticks : s.left.ticks ≡ turns = ap (λ (l : Left). l.ticks) fresh.left in
     let pumps : s.left.pumps ≡ 0 = ap (λ (l : Left). l.pumps) fresh.left in
     let limit : s.left.stores ≡ turns = ap (λ (l : Left). l.stores) fresh.left in
-    let start : s.moment ≡ 0 = fresh.moment in
+    let start : s.round.moment ≡ 0 = (fresh.unstepped s.sets.full.items).moment in
     let few : turns ≤ 4398046511105 = fresh.few in
     record {
       good = fresh.good;
@@ -107,13 +105,10 @@ fresh-session appends turns logged s fresh =
         cut = fresh.samples.cut ∙ sym count;
         passes = fresh.samples.passes ∙ sym count;
       };
-      publisher = fresh.publisher.holds;
-      goes_on = subst (λ (t : ℕ). MayAllGoOn config s.sets.metas.items t s.publisher.groups.items) (sym ticks)
-          (subst (λ (l : List MetaData). MayAllGoOn config l turns s.publisher.groups.items) (sym fresh.first) fresh.publisher.goes_on);
-      logged = subst (λ (n : ℕ). AreAllLogged n s.publisher.groups.items) (sym (ap (λ (l : Left). l.logged) fresh.left)) fresh.logs;
-      subscriber = fresh.subscriber.holds;
-      tree = fresh.tree.counts ∙ fresh.tree.opening.counts;
-      buffers = fresh.receiving.room;
+      round = fresh.holds;
+      goes_on = subst (λ (t : ℕ). MayAllGoOn config s.sets.metas.items t s.round.publisher.groups.items) (sym ticks)
+          (subst (λ (l : List MetaData). MayAllGoOn config l turns s.round.publisher.groups.items) (sym fresh.first) fresh.goes_on);
+      logged = subst (λ (n : ℕ). AreAllLogged n s.round.publisher.groups.items) (sym (ap (λ (l : Left). l.logged) fresh.left)) fresh.logs;
       stores = record {
         count = fresh.stores.lasts;
         keepers = fresh.stores.keepers;
@@ -135,28 +130,15 @@ fresh-stands appends turns logged s fresh =
       run = tt;
       steps_are = tt;
       turns = tt;
-      moment = fresh.moment;
       closed = ap (λ (l : Left). l.is_closed) fresh.left;
       ticks = omega (arith, ticks, limit, fresh.one);
       pumps = omega (arith, pumps);
       metas = fresh.first;
-      groups = fresh.publisher.past;
-      senders = fresh.publisher.senders;
-      outcomes = fresh.publisher.sends;
-      sends = fresh.publisher.link;
-      readings = fresh.subscriber.read;
-      tallies = fresh.subscriber.tallied;
-      receives = record {
-        received = fresh.receiving.counts.0;
-        broken = fresh.receiving.counts.1;
-        long = fresh.receiving.counts.2;
-        limit = fresh.receiving.counts.3;
-      };
       stores_are = λ k place at.
           let low = within-all s.config.now k place at in
           record {
             last = λ d. fresh.stores.none k low d;
             seen = ap (map (λ (entry : Entry). row_in (meta_at_place s.config.now place).fields entry.row)) (fresh.stores.unseen k low);
           };
-      flags = fresh-flags s.sets.full.items s.config.now turns s.publisher s.tree fresh.good fresh.publisher fresh.tree;
+      round = fresh.unstepped s.sets.full.items;
     }

@@ -1,55 +1,44 @@
 -- A ring renews the keys of a key group: where it leaves the session.
-use Rattle.std.proofs.Common.{◌≡◌, sym, subst, ℕ, List}
+use Rattle.std.proofs.Common.{◌≡◌, sym, ap, subst, arith, ℕ, List}
+use Rattle.std.specs.Prelude.{Vec}
+use Rattle.std.specs.declared.alloc.Global.{Global}
 use Rattle.group_keys.specs.declared.key_set.KeySet.{KeySet}
-use Rattle.session_model.specs.Steps.{Plan, Step}
-use Rattle.session_model.specs.Lives.{Account, account_in, renewed, steps_in}
-use Rattle.session_parts.specs.declared.publisher.Publisher.{Publisher}
-use Rattle.session_parts.specs.declared.subscriber.Subscriber.{Subscriber}
-use Rattle.session_parts.specs.Holding.{AreAllLogged, HoldPublisher, HoldSubscriber, MayAllGoOn}
-use Rattle.session_parts.proofs.Rounds.{RenewsRound, round-renewed}
+use Rattle.writer_group.specs.declared.group.Group.{Group}
+use Rattle.session_model.specs.Steps.{Plan}
+use Rattle.session_model.specs.Lives.{account_in, steps_in}
+use Rattle.session_parts.specs.declared.round.Round.{Round}
+use Rattle.session_parts.specs.Holding.{AreAllLogged, MayAllGoOn}
+use Rattle.session_parts.specs.Rounds.{HoldRound, RoundRenews}
 use Rattle.pubsub_engine.specs.declared.session.Session.{Session}
 use Rattle.pubsub_engine.specs.Holding.{IsSession}
-use Rattle.pubsub_engine.specs.Living.{LeadsRenewed, StandsAs, round_of}
+use Rattle.pubsub_engine.specs.Living.{LeadsRenewed}
 
-pub renewed-session : (old : Session) (publisher : Publisher) (subscriber : Subscriber) → IsSession old → HoldPublisher old.config.now publisher → HoldSubscriber old.config.now subscriber
-    → publisher ≡ record old.publisher { senders = publisher.senders } → IsSession (record old { publisher = publisher; subscriber = subscriber })
-renewed-session old publisher subscriber session holds held parts = record {
+pub renewed-session : (old : Session) (round : Round) → IsSession old → HoldRound old.config.now round → round.publisher.groups ≡ old.round.publisher.groups → round.moment ≡ old.round.moment
+    → IsSession (record old { round = round })
+renewed-session old round session holds groups moment = record {
   good = session.good;
   sets = session.sets;
   samples = session.samples;
-  publisher = holds;
-  goes_on = subst (λ (q : Publisher). MayAllGoOn old.config.now old.sets.metas.items old.left.ticks q.groups.items) (sym parts) session.goes_on;
-  logged = subst (λ (q : Publisher). AreAllLogged old.left.logged q.groups.items) (sym parts) session.logged;
-  subscriber = held;
-  tree = session.tree;
-  buffers = session.buffers;
+  round = holds;
+  goes_on = subst (λ (v : Vec Group Global). MayAllGoOn old.config.now old.sets.metas.items old.left.ticks v.items) (sym groups) session.goes_on;
+  logged = subst (λ (v : Vec Group Global). AreAllLogged old.left.logged v.items) (sym groups) session.logged;
   stores = session.stores;
-  time = session.time;
+  time = omega (arith, session.time, moment);
   calls = session.calls;
 }
 
-renewed-of : (p : Plan) (steps : List Step) (a : Account) (k : ℕ) (sets : List KeySet) (old : Session) (publisher : Publisher) (subscriber : Subscriber)
-    → RenewsRound old.config.now k sets (round_of old) (round_of (record old { publisher = publisher; subscriber = subscriber })) → StandsAs p steps a old
-    → StandsAs p steps (renewed p.config k sets a) (record old { publisher = publisher; subscriber = subscriber })
-renewed-of p steps a k sets old publisher subscriber does stands = record {
-  plan = stands.plan;
-  closed = stands.closed;
-  ticks = stands.ticks;
-  pumps = stands.pumps;
-  metas = stands.metas;
-  stores_are = stands.stores_are;
-  round = round-renewed p steps a k sets (round_of old) (round_of new) (subst (λ (q : Plan). RenewsRound q.config k sets (round_of old) (round_of new)) stands.plan does) stands.round;
-}
-  where
-    new : Session
-    new = record old { publisher = publisher; subscriber = subscriber }
-
-pub renewed-lives : (k : ℕ) (sets : List KeySet) (old : Session) (publisher : Publisher) (subscriber : Subscriber)
-    → RenewsRound old.config.now k sets (round_of old) (round_of (record old { publisher = publisher; subscriber = subscriber }))
-    → LeadsRenewed k sets old (record old { publisher = publisher; subscriber = subscriber })
-renewed-lives k sets old publisher subscriber does p life stands = record {
+pub renewed-lives : (k : ℕ) (sets : List KeySet) (old : Session) (round : Round) → RoundRenews old.config.now k sets old.round round → LeadsRenewed k sets old (record old { round = round })
+renewed-lives k sets old round renews p life stands = record {
   run = stands.run;
   steps_are = stands.steps_are;
   turns = stands.turns;
-  parts = renewed-of p (steps_in life) (account_in p life) k sets old publisher subscriber does stands.parts;
+  parts = record {
+    plan = stands.parts.plan;
+    closed = stands.parts.closed;
+    ticks = stands.parts.ticks;
+    pumps = stands.parts.pumps;
+    metas = stands.parts.metas;
+    stores_are = stands.parts.stores_are;
+    round = renews p (steps_in life) (account_in p life) (ap (λ (q : Plan). q.config) stands.parts.plan) stands.parts.round;
+  };
 }

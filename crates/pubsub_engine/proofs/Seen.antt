@@ -30,20 +30,12 @@ stands-sampled old new changed p steps stands = subst (Stands p steps) (sym chan
   run = stands.run;
   steps_are = stands.steps_are;
   turns = stands.turns;
-  moment = stands.moment;
   closed = stands.closed;
   ticks = stands.ticks;
   pumps = stands.pumps;
   metas = stands.metas;
-  groups = stands.groups;
-  senders = stands.senders;
-  outcomes = stands.outcomes;
-  sends = stands.sends;
-  readings = stands.readings;
-  tallies = stands.tallies;
-  receives = stands.receives;
   stores_are = stands.stores_are;
-  flags = stands.flags;
+  round = stands.round;
 })
 
 -- in a life
@@ -68,12 +60,9 @@ session-sampled old new session changed samples = subst IsSession (sym changed) 
   good = session.good;
   sets = session.sets;
   samples = samples;
-  publisher = session.publisher;
+  round = session.round;
   goes_on = session.goes_on;
   logged = session.logged;
-  subscriber = session.subscriber;
-  tree = session.tree;
-  buffers = session.buffers;
   stores = session.stores;
   time = session.time;
   calls = session.calls;

@@ -22,10 +22,11 @@ use Rattle.session_model.specs.Events.{reader_indexes, stopped_below}
 use Rattle.session_model.specs.Lives.{Account, Lived, Stepped, account_in, account_of, flags_by, has_fault_by, is_ready_by, late_in, reading_after, ready_in, stepped, steps_in}
 use Rattle.session_model.specs.Readings.{Reading, answered_on, setting_in}
 use Rattle.session_parts.specs.declared.publisher.Publisher.{Publisher}
+use Rattle.session_parts.specs.declared.round.Round.{Round}
 use Rattle.session_parts.specs.declared.subscriber.Subscriber.{Subscriber}
 use Rattle.session_parts.specs.declared.tally.Tally.{Tally}
 use Rattle.session_parts.specs.Standing.{AreReceivesIn, AreSendsIn, HasFlags, HaveOutcomesOf, HavePast, HaveReadAll, HaveReadings, HaveSent, HaveTallies, IsTallyOf}
-use Rattle.session_parts.specs.Holding.{AreGroups, AreSenders, AreStillLogged}
+use Rattle.session_parts.specs.Holding.{AreGroups, AreSenders, AreStillLogged, HoldSubscriber}
 use Rattle.session_parts.specs.Refreshed.{AllGoOn, HaveDone}
 use Rattle.session_parts.specs.Befalling.{HaveStoppedBelow}
 use Rattle.session_parts.specs.Pumping.{TellsReaders}
@@ -60,13 +61,13 @@ is-on p before a id tree counts there flags =
     ∙ ap (λ (f : Flags). f.enabled) (flags (component_at p.config id) (subst (λ (c : Counts). IsAmong c (component_at p.config id)) (sym counts) found.0))
 
 pub was-on-as : (old : Session) (id : ℕ) → IsSession old → IsId (counts_of old.config.now) id → (p : Plan) (before : List Step) (a : Account) → StandsAs p before a old
-    → (changes.flags_at old.tree id).enabled ≡ is_on p.config before (component_at p.config id)
+    → (changes.flags_at old.round.tree id).enabled ≡ is_on p.config before (component_at p.config id)
 was-on-as old id session there p before a stands =
-    subst (λ (q : Plan). StandsAs q before a old → (changes.flags_at old.tree id).enabled ≡ is_on q.config before (component_at q.config id)) stands.plan
-    (λ at. is-on (plan_of old) before a id old.tree session.tree there at.round.flags) stands
+    subst (λ (q : Plan). StandsAs q before a old → (changes.flags_at old.round.tree id).enabled ≡ is_on q.config before (component_at q.config id)) stands.plan
+    (λ at. is-on (plan_of old) before a id old.round.tree session.round.tree there at.round.flags) stands
 
 pub was-on : (old : Session) (id : ℕ) → IsSession old → IsId (counts_of old.config.now) id → (p : Plan) (before : List Step) → Stands p before old
-    → (changes.flags_at old.tree id).enabled ≡ is_on p.config before (component_at p.config id)
+    → (changes.flags_at old.round.tree id).enabled ≡ is_on p.config before (component_at p.config id)
 was-on old id session there p before stands = was-on-as old id session there p before (account_of p before) (as-stands p before old stands)
 
 -- ---- answers
@@ -151,34 +152,37 @@ flags-disabled p before a id subscriber old mid new counts switched kept read to
 -- ---- enable
 
 pub record DoesEnable (id : ℕ) (component : Component) (old new : Session) : Type 0 where
-  pub changed : new ≡ record old { tree = new.tree; publisher = new.publisher }
-  pub parts : new.publisher ≡ record old.publisher { groups = new.publisher.groups }
+  pub changed : new ≡ record old { round = record old.round { tree = new.round.tree; publisher = new.round.publisher } }
+  pub parts : new.round.publisher ≡ record old.round.publisher { groups = new.round.publisher.groups }
   pub there : IsId (counts_of old.config.now) id
   pub running : IsRunning old
   pub is_component : component_at old.config.now id ≡ component
-  pub counts : old.tree.counts ≡ counts_of old.config.now
-  pub was : (changes.flags_at old.tree id).enabled ≡ false
-  pub switched : Changes (changes.Enable id) old.tree new.tree
-  pub past : HaveDone old.config.now (RefreshedBelow component) old.publisher.groups.items new.publisher.groups.items
+  pub counts : old.round.tree.counts ≡ counts_of old.config.now
+  pub was : (changes.flags_at old.round.tree id).enabled ≡ false
+  pub switched : Changes (changes.Enable id) old.round.tree new.round.tree
+  pub past : HaveDone old.config.now (RefreshedBelow component) old.round.publisher.groups.items new.round.publisher.groups.items
 
-pub enabled-session : (old : Session) (tree : TreeValue) (publisher : Publisher) → IsSession old → tree.counts ≡ old.tree.counts
-    → publisher ≡ record old.publisher { groups = publisher.groups } → AreGroups old.config.now publisher.groups.items
-    → AllGoOn old.config.now old.publisher.groups.items publisher.groups.items → AreStillLogged old.publisher.groups.items publisher.groups.items → IsSession (record old { tree = tree; publisher = publisher })
+pub enabled-session : (old : Session) (tree : TreeValue) (publisher : Publisher) → IsSession old → tree.counts ≡ old.round.tree.counts
+    → publisher ≡ record old.round.publisher { groups = publisher.groups } → AreGroups old.config.now publisher.groups.items
+    → AllGoOn old.config.now old.round.publisher.groups.items publisher.groups.items → AreStillLogged old.round.publisher.groups.items publisher.groups.items
+    → IsSession (record old { round = record old.round { tree = tree; publisher = publisher } })
 enabled-session old tree publisher session kept parts groups goes_on logs = record {
   good = session.good;
   sets = session.sets;
   samples = session.samples;
-  publisher = record {
-    groups = groups;
-    senders = subst (λ (q : Publisher). AreSenders old.config.now q.senders.items) (sym parts) session.publisher.senders;
-    reserved = subst (λ (q : Publisher). IsReserved q.out) (sym parts) session.publisher.reserved;
-    sends = ap (λ (q : Publisher). vec_len q.sends) parts ∙ session.publisher.sends;
+  round = record {
+    publisher = record {
+      groups = groups;
+      senders = subst (λ (q : Publisher). AreSenders old.config.now q.senders.items) (sym parts) session.round.publisher.senders;
+      reserved = subst (λ (q : Publisher). IsReserved q.out) (sym parts) session.round.publisher.reserved;
+      sends = ap (λ (q : Publisher). vec_len q.sends) parts ∙ session.round.publisher.sends;
+    };
+    subscriber = session.round.subscriber;
+    tree = kept ∙ session.round.tree;
+    buffers = session.round.buffers;
   };
   goes_on = goes_on old.sets.metas.items old.left.ticks session.goes_on;
   logged = logs old.left.logged session.logged;
-  subscriber = session.subscriber;
-  tree = kept ∙ session.tree;
-  buffers = session.buffers;
   stores = session.stores;
   time = session.time;
   calls = session.calls;
@@ -200,18 +204,18 @@ enabled-of before a id component old new does stands = record {
   metas = ap (λ (s : Session). s.sets.metas.items) does.changed ∙ stands.metas;
   stores_are = subst (λ (s : Session). HaveStored p.config (λ place. a.stores place.0 place.1) s.stores) (sym does.changed) stands.stores_are;
   round = record {
-    moment = ap (λ (s : Session). s.moment) does.changed ∙ stands.round.moment;
-    groups = subst (λ (c : Component). HavePast p.config (metas_at p.config before) (RefreshedBelow c ∷ a.deeds) new.publisher.groups.items) (sym does.is_component)
+    moment = ap (λ (s : Session). s.round.moment) does.changed ∙ stands.round.moment;
+    groups = subst (λ (c : Component). HavePast p.config (metas_at p.config before) (RefreshedBelow c ∷ a.deeds) new.round.publisher.groups.items) (sym does.is_component)
         (does.past (metas_at p.config before) a.deeds stands.round.groups);
     senders = subst (λ (q : Publisher). HaveSent p.config a.deeds q.senders.items) (sym does.parts) stands.round.senders;
     outcomes = subst (λ (q : Publisher). HaveOutcomesOf p.config a.sent a.failing q.sends.items) (sym does.parts) stands.round.outcomes;
     sends = subst (λ (q : Publisher). AreSendsIn a.journal q.link) (sym does.parts) stands.round.sends;
-    readings = subst (λ (s : Session). HaveReadings p.config a.readings s.subscriber.groups.items) (sym does.changed) stands.round.readings;
-    tallies = subst (λ (s : Session). HaveTallies p.config a.readings s.subscriber.tallies.items) (sym does.changed) stands.round.tallies;
+    readings = subst (λ (s : Session). HaveReadings p.config a.readings s.round.subscriber.groups.items) (sym does.changed) stands.round.readings;
+    tallies = subst (λ (s : Session). HaveTallies p.config a.readings s.round.subscriber.tallies.items) (sym does.changed) stands.round.tallies;
     receives =
-        let same : AreReceivesIn a.journal before new.receiving = subst (λ (s : Session). AreReceivesIn a.journal before s.receiving) (sym does.changed) stands.round.receives in
+        let same : AreReceivesIn a.journal before new.round.receiving = subst (λ (s : Session). AreReceivesIn a.journal before s.round.receiving) (sym does.changed) stands.round.receives in
         record { received = same.received; broken = same.broken; long = same.long; limit = same.limit };
-    flags = flags-enabled p before a id old.tree new.tree does.counts does.switched stands.round.flags;
+    flags = flags-enabled p before a id old.round.tree new.round.tree does.counts does.switched stands.round.flags;
   };
 }
   where
@@ -225,7 +229,7 @@ enabled-as p before a id component old new does stands =
     (λ at. record {
       may = record {
         there = does.there;
-        was = sym (is-on (plan_of old) before a id old.tree does.counts does.there at.round.flags) ∙ does.was;
+        was = sym (is-on (plan_of old) before a id old.round.tree does.counts does.there at.round.flags) ∙ does.was;
         running = sym at.closed ∙ does.running;
       };
       kept = ap ticks_of does.changed;
@@ -271,17 +275,37 @@ tallies-stopped config before id a tallies are r low d =
     (sym (answers-kept (setting_in config r (a.readings r)) (a.readings r) r (component_at config id) (reader_indexes config r) [])) (are r low d)
 
 pub record DoesDisable (id : ℕ) (component : Component) (old new : Session) (tree : TreeValue) : Type 0 where
-  pub changed : new ≡ record old { tree = new.tree; subscriber = new.subscriber }
-  pub parts : new.subscriber ≡ record old.subscriber { groups = new.subscriber.groups }
+  pub changed : new ≡ record old { round = record old.round { tree = new.round.tree; subscriber = new.round.subscriber } }
+  pub parts : new.round.subscriber ≡ record old.round.subscriber { groups = new.round.subscriber.groups }
   pub there : IsId (counts_of old.config.now) id
   pub running : IsRunning old
   pub is_component : component_at old.config.now id ≡ component
-  pub counts : old.tree.counts ≡ counts_of old.config.now
-  pub was : (changes.flags_at old.tree id).enabled ≡ true
-  pub switched : Changes (changes.Disable id) old.tree tree
-  pub kept : new.tree.counts ≡ tree.counts
-  pub stopped : HaveStoppedBelow old.config.now component old.subscriber new.subscriber
-  pub told : TellsReaders old.config.now new.subscriber tree new.tree
+  pub counts : old.round.tree.counts ≡ counts_of old.config.now
+  pub was : (changes.flags_at old.round.tree id).enabled ≡ true
+  pub switched : Changes (changes.Disable id) old.round.tree tree
+  pub kept : new.round.tree.counts ≡ tree.counts
+  pub stopped : HaveStoppedBelow old.config.now component old.round.subscriber new.round.subscriber
+  pub told : TellsReaders old.config.now new.round.subscriber tree new.round.tree
+
+pub disabled-session : (old : Session) (tree : TreeValue) (round : Round) → IsSession old → tree.counts ≡ old.round.tree.counts
+    → round ≡ record old.round { tree = round.tree; subscriber = round.subscriber } → round.tree.counts ≡ tree.counts → HoldSubscriber old.config.now round.subscriber
+    → IsSession (record old { round = round })
+disabled-session old tree round session switched rest kept held = subst (λ (x : Round). IsSession (record old { round = x })) (sym rest) (record {
+  good = session.good;
+  sets = session.sets;
+  samples = session.samples;
+  round = record {
+    publisher = session.round.publisher;
+    subscriber = held;
+    tree = kept ∙ switched ∙ session.round.tree;
+    buffers = session.round.buffers;
+  };
+  goes_on = session.goes_on;
+  logged = session.logged;
+  stores = session.stores;
+  time = session.time;
+  calls = session.calls;
+})
 
 disabled-of : (before : List Step) (a : Account) (id : ℕ) (component : Component) (old new : Session) (tree : TreeValue) → DoesDisable id component old new tree → StandsAs (plan_of old) before a old
     → StandsAs (plan_of old) (Disable id ∷ before) (stepped (plan_of old) before a (Disable id)) new
@@ -293,26 +317,26 @@ disabled-of before a id component old new tree does stands = record {
   metas = ap (λ (s : Session). s.sets.metas.items) does.changed ∙ stands.metas;
   stores_are = subst (λ (s : Session). HaveStored p.config (λ place. a.stores place.0 place.1) s.stores) (sym does.changed) stands.stores_are;
   round = record {
-    moment = ap (λ (s : Session). s.moment) does.changed ∙ stands.round.moment;
-    groups = subst (λ (s : Session). HavePast p.config (metas_at p.config before) a.deeds s.publisher.groups.items) (sym does.changed) stands.round.groups;
-    senders = subst (λ (s : Session). HaveSent p.config a.deeds s.publisher.senders.items) (sym does.changed) stands.round.senders;
-    outcomes = subst (λ (s : Session). HaveOutcomesOf p.config a.sent a.failing s.publisher.sends.items) (sym does.changed) stands.round.outcomes;
-    sends = subst (λ (s : Session). AreSendsIn a.journal s.publisher.link) (sym does.changed) stands.round.sends;
+    moment = ap (λ (s : Session). s.round.moment) does.changed ∙ stands.round.moment;
+    groups = subst (λ (s : Session). HavePast p.config (metas_at p.config before) a.deeds s.round.publisher.groups.items) (sym does.changed) stands.round.groups;
+    senders = subst (λ (s : Session). HaveSent p.config a.deeds s.round.publisher.senders.items) (sym does.changed) stands.round.senders;
+    outcomes = subst (λ (s : Session). HaveOutcomesOf p.config a.sent a.failing s.round.publisher.sends.items) (sym does.changed) stands.round.outcomes;
+    sends = subst (λ (s : Session). AreSendsIn a.journal s.round.publisher.link) (sym does.changed) stands.round.sends;
     readings = read;
     tallies = subst (λ (s : Subscriber). HaveTallies p.config (reading_after p.config before (Disable id) a) s.tallies.items) (sym does.parts)
-        (tallies-stopped p.config before id a old.subscriber.tallies.items stands.round.tallies);
+        (tallies-stopped p.config before id a old.round.subscriber.tallies.items stands.round.tallies);
     receives =
-        let same : AreReceivesIn a.journal before new.receiving = subst (λ (s : Session). AreReceivesIn a.journal before s.receiving) (sym does.changed) stands.round.receives in
+        let same : AreReceivesIn a.journal before new.round.receiving = subst (λ (s : Session). AreReceivesIn a.journal before s.round.receiving) (sym does.changed) stands.round.receives in
         record { received = same.received; broken = same.broken; long = same.long; limit = same.limit };
-    flags = flags-disabled p before a id new.subscriber old.tree tree new.tree does.counts does.switched does.kept read does.told stands.round.flags;
+    flags = flags-disabled p before a id new.round.subscriber old.round.tree tree new.round.tree does.counts does.switched does.kept read does.told stands.round.flags;
   };
 }
   where
     p : Plan
     p = plan_of old
 
-    read : HaveReadings old.config.now (reading_after old.config.now before (Disable id) a) new.subscriber.groups.items
-    read = subst (λ (c : Component). HaveReadAll old.config.now a.readings (λ r. stopped_below old.config.now r c []) new.subscriber.groups.items) (sym does.is_component)
+    read : HaveReadings old.config.now (reading_after old.config.now before (Disable id) a) new.round.subscriber.groups.items
+    read = subst (λ (c : Component). HaveReadAll old.config.now a.readings (λ r. stopped_below old.config.now r c []) new.round.subscriber.groups.items) (sym does.is_component)
         (does.stopped a.readings (λ r. []) stands.round.readings)
 
 pub disabled-as : (p : Plan) (before : List Step) (a : Account) (id : ℕ) (component : Component) (old new : Session) (tree : TreeValue) → DoesDisable id component old new tree → StandsAs p before a old
@@ -322,7 +346,7 @@ disabled-as p before a id component old new tree does stands =
     (λ at. record {
       may = record {
         there = does.there;
-        was = sym (is-on (plan_of old) before a id old.tree does.counts does.there at.round.flags) ∙ does.was;
+        was = sym (is-on (plan_of old) before a id old.round.tree does.counts does.there at.round.flags) ∙ does.was;
         running = sym at.closed ∙ does.running;
       };
       kept = ap ticks_of does.changed;

@@ -1,101 +1,133 @@
--- What a tick leaves of the session.
-use Rattle.std.proofs.Common.{◌≡◌, refl, sym, ap, ◌∙◌, subst, arith, ℕ, ◌+◌, ◌<◌, List, ◌∷◌, length, Bool, Option}
+-- A tick: what the groups are told of it, and where it leaves the session.
+use Rattle.std.proofs.Common.{◌≡◌, refl, sym, ap, ◌∙◌, subst, arith, ℕ, ◌+◌, ◌-◌, ◌<◌, ◌≤◌, Bool, true, false, List, ◌∷◌, length, Option}
+use Rattle.std.specs.Prelude.{◌||◌}
+use Rattle.std.specs.List.{AllZip}
+use Rattle.std.proofs.lemmas.Slice.Zip.{AllZip-long}
+use Rattle.dataset_meta.specs.Metas.{HasGrown, MetaData}
+use Rattle.row_words.specs.Belonging.{Belongs}
 use Rattle.ua_base.specs.Journal.{LinkState}
-use Rattle.pubsub_states.specs.Changes.{TreeValue}
-use Rattle.dataset_meta.specs.Metas.{HasGrown}
+use Rattle.writer_group.specs.declared.sampled.Sampled.{Sampled}
+use Rattle.session_model.specs.Counts.{is_closed, ticks_in}
 use Rattle.session_model.specs.Steps.{Plan, Step, Tick}
 use Rattle.session_model.specs.Sets.{AreRowsOf, metas_at, rows_cut}
-use Rattle.writer_group.specs.Parts.{group_at}
-use Rattle.std.proofs.Common.{get_or}
-use Rattle.std.specs.List.{AllZip}
-use Rattle.dataset_meta.specs.Metas.{MetaData}
-use Rattle.row_words.specs.Belonging.{Belongs}
-use Rattle.ps_config.specs.declared.parts.Config.{Config}
-use Rattle.pubsub_states.specs.Components.{counts_of}
-use Rattle.writer_group.specs.declared.group.Group.{Group}
-use Rattle.writer_group.specs.declared.sampled.Sampled.{Sampled}
-use Rattle.writer_group.specs.Standing.{AreMetas, IsGood, metas_for}
-use Rattle.session_parts.specs.declared.publisher.Told.{Told}
-use Rattle.session_parts.specs.Ticking.{IsToldOf, KnowsSpent, MayPassAll}
-use Rattle.pubsub_engine.proofs.NowSets.{metas-of}
-use Rattle.session_parts.proofs.Ticks.{go-one}
-use Rattle.session_parts.specs.declared.publisher.Publisher.{Publisher}
-use Rattle.pubsub_engine.specs.declared.sampling.Samples.{Samples}
-use Rattle.pubsub_engine.specs.declared.session.Session.{Session}
-use Rattle.session_parts.specs.Holding.{AreAllLogged, AreStillLogged, HoldPublisher, MayAllGoOn}
-use Rattle.pubsub_engine.specs.Holding.{HoldSamples, IsSession, KeepsPasses, MayTick, ticks_of}
-use Rattle.pubsub_engine.specs.Standing.{Leads, Stands}
-use Rattle.pubsub_engine.specs.Living.{LeadsIn, StandsAs, StandsIn}
-use Rattle.pubsub_engine.proofs.Lives.{stands-of}
 use Rattle.session_model.specs.Keeping.{AreStepsOf, MayComeOf}
 use Rattle.session_model.specs.Lives.{Account, IsRunOn, Lived, TurnsHoldOn, account_in, account_of, stepped, steps_in}
 use Rattle.session_model.specs.Sends.{TellsJournal}
-use Rattle.pubsub_engine.specs.Ticking.{HasBegun, tick_of}
-use Rattle.session_parts.specs.Ticking.{HasPassed}
-use Rattle.std.proofs.lemmas.Slice.Zip.{AllZip-long}
-use Rattle.pubsub_engine.proofs.Ending.{ends, may-come, same-ticks}
+use Rattle.session_parts.specs.declared.publisher.Told.{Told}
+use Rattle.session_parts.specs.Holding.{AreAllLogged, AreStillLogged, MayAllGoOn}
+use Rattle.session_parts.specs.Rounds.{HoldRound, RoundTicked, RoundTicks}
+use Rattle.session_parts.specs.Ticking.{IsToldOf, TickData}
+use Rattle.session_parts.proofs.Ended.{or-none}
+use Rattle.pubsub_engine.specs.declared.sampling.Samples.{Samples}
+use Rattle.pubsub_engine.specs.declared.session.Session.{Session}
+use Rattle.pubsub_engine.specs.Holding.{CountsTick, HoldSamples, IsSession, KeepsPasses, MayTick, ticks_needed, ticks_of}
+use Rattle.pubsub_engine.specs.Standing.{Leads, Stands}
+use Rattle.pubsub_engine.specs.Living.{LeadsIn, StandsAs, StandsIn}
+use Rattle.pubsub_engine.proofs.Lives.{stands-of}
 use Rattle.pubsub_engine.proofs.NowSets.{now-sets}
 
--- the session after turns, written over the one before
-abbrev after-of : (ms : ℕ) (old mid : Session) (publisher : Publisher) (tree : TreeValue) → Session
-after-of ms old mid publisher tree = record old {
-  moment = old.moment + ms;
-  left = mid.left;
-  tree = tree;
-  samples = mid.samples;
-  publisher = publisher;
-  subscriber = mid.subscriber;
+-- ---- what the groups are told
+
+-- a tick of a session
+abbrev pub tick_of : Plan → List Step → Account → ℕ → Bool → Session → TickData
+tick_of p before a ms closing s =
+    record { plan = p; before = before; account = a; ms = ms; closing = closing; samples = s.samples.taken.items }
+
+-- they are told of the session, with its last sample cut to the present data sets
+pub record TellsOf (ms : ℕ) (closing : Bool) (s : Session) (told : Told) : Type 0 where
+  pub config : told.config.now ≡ s.config.now
+  pub metas : told.metas.now ≡ s.sets.metas.items
+  pub rows : told.rows.now ≡ rows_cut s.sets.metas.items s.sets.full.items s.samples.taken.items
+  pub moment : told.moment ≡ s.round.moment + ms
+  pub closing_is : told.closing ≡ closing
+
+pub told-of : (ms : ℕ) (closing : Bool) (s : Session) (told : Told) → TellsOf ms closing s told → (p : Plan) (before : List Step) (a : Account) → StandsAs p before a s
+    → IsToldOf (tick_of p before a ms closing s) told
+told-of ms closing s told is p before a stands = record {
+  config = is.config ∙ ap (λ (q : Plan). q.config) stands.plan;
+  metas = is.metas ∙ stands.metas;
+  rows = is.rows
+      ∙ ap (λ (m : List MetaData). rows_cut m s.sets.full.items s.samples.taken.items) stands.metas
+      ∙ ap (λ (q : Plan). rows_cut (metas_at p.config before) q.full s.samples.taken.items) stands.plan;
+  moment = is.moment ∙ ap (λ (m : ℕ). m + ms) stands.round.moment;
+  closing = is.closing_is;
 }
 
-after-is : (ms : ℕ) (closing : Bool) (old mid s : Session) → HasBegun ms closing old mid → s ≡ record mid { publisher = s.publisher; tree = s.tree } → s ≡ after-of ms old mid s.publisher s.tree
-after-is ms closing old mid s begun rest = rest ∙ ap (λ (m : Session). record m { publisher = s.publisher; tree = s.tree }) begun.changed
+-- ---- the session
 
-pub ticked-session : (ms : ℕ) (closing : Bool) (old mid s : Session) → MayTick ms closing old → HasBegun ms closing old mid → s ≡ record mid { publisher = s.publisher; tree = s.tree }
-    → HoldPublisher old.config.now s.publisher → s.tree.counts ≡ old.tree.counts → MayAllGoOn old.config.now old.sets.metas.items mid.left.ticks s.publisher.groups.items
-    → AreStillLogged mid.publisher.groups.items s.publisher.groups.items → IsSession s
-ticked-session ms closing old mid s may begun rest holds counts goes logs = subst IsSession (sym (after-is ms closing old mid s begun rest)) (record {
+-- what a tick does to the parts of a session
+pub record DoesTick (ms : ℕ) (closing : Bool) (old new : Session) : Type 0 where
+  pub changed : new ≡ record old { left = new.left; samples = new.samples; round = new.round }
+  pub left : CountsTick closing old.left new.left
+  pub taken : new.samples ≡ record old.samples { cut = new.samples.cut }
+  pub rows : AllZip (λ (meta : MetaData) (sampled : Sampled). Belongs meta sampled.row.words) old.sets.metas.items new.samples.cut.items
+  pub holds : HoldRound old.config.now new.round
+  pub moment : new.round.moment ≡ old.round.moment + ms
+  pub goes_on : (turns : ℕ) → MayAllGoOn old.config.now old.sets.metas.items (turns + 1) old.round.publisher.groups.items
+      → MayAllGoOn old.config.now old.sets.metas.items turns new.round.publisher.groups.items
+  pub logs : AreStillLogged old.round.publisher.groups.items new.round.publisher.groups.items
+
+pub ticked-session : (ms : ℕ) (closing : Bool) (old new : Session) → MayTick ms closing old → DoesTick ms closing old new → IsSession new
+ticked-session ms closing old new may does = subst IsSession (sym does.changed) (record {
   good = session.good;
   sets = session.sets;
   samples = samples;
-  publisher = holds;
-  goes_on = goes;
-  logged = subst (λ (n : ℕ). AreAllLogged n s.publisher.groups.items) (sym begun.counts_tick.logged) (logs old.left.logged begun.logged);
-  subscriber = begun.subscriber;
-  tree = counts ∙ session.tree;
-  buffers = session.buffers;
+  round = does.holds;
+  goes_on = does.goes_on new.left.ticks (subst (λ (n : ℕ). MayAllGoOn old.config.now old.sets.metas.items n old.round.publisher.groups.items) (sym does.left.ticks) session.goes_on);
+  logged = subst (λ (n : ℕ). AreAllLogged n new.round.publisher.groups.items) (sym does.left.logged) (does.logs old.left.logged session.logged);
   stores = record {
     count = session.stores.count;
     keepers = session.stores.keepers;
-    room = λ k low. omega (arith, session.stores.room k low, begun.counts_tick.ticks, begun.counts_tick.pumps, begun.counts_tick.stores);
+    room = λ k low. omega (arith, session.stores.room k low, does.left.ticks, does.left.pumps, does.left.stores);
   };
-  time = omega (arith, session.time, begun.counts_tick.ticks, may.short);
-  calls = omega (arith, session.calls, begun.counts_tick.ticks, begun.counts_tick.pumps);
+  time = omega (arith, session.time, does.left.ticks, may.short, does.moment);
+  calls = omega (arith, session.calls, does.left.ticks, does.left.pumps);
 })
   where
     session : IsSession old
     session = may.session
 
-    samples : HoldSamples old.sets.full.items mid.samples
+    samples : HoldSamples old.sets.full.items new.samples
     samples = record {
-      rows = subst (λ (x : Samples). AreRowsOf old.sets.full.items x.taken.items) (sym begun.taken) session.samples.rows;
+      rows = subst (λ (x : Samples). AreRowsOf old.sets.full.items x.taken.items) (sym does.taken) session.samples.rows;
       cut = omega (
         arith,
-        mid.samples.cut.ok.0,
-        AllZip-long _ old.sets.metas.items mid.samples.cut.items begun.rows,
+        new.samples.cut.ok.0,
+        AllZip-long _ old.sets.metas.items new.samples.cut.items does.rows,
         AllZip-long HasGrown old.sets.metas.items old.sets.full.items (now-sets old.config.now old.sets session.sets).grow,
       );
-      passes = ap (λ (x : Samples). length x.passes) begun.taken ∙ session.samples.passes;
+      passes = ap (λ (x : Samples). length x.passes) does.taken ∙ session.samples.passes;
     }
 
-pub ticked-keeps : (ms : ℕ) (closing : Bool) (old mid s : Session) → HasBegun ms closing old mid → s ≡ record mid { publisher = s.publisher; tree = s.tree } → KeepsPasses old s
-ticked-keeps ms closing old mid s begun rest = subst (KeepsPasses old) (sym (after-is ms closing old mid s begun rest)) (record {
+pub ticked-keeps : (ms : ℕ) (closing : Bool) (old new : Session) → DoesTick ms closing old new → KeepsPasses old new
+ticked-keeps ms closing old new does = subst (KeepsPasses old) (sym does.changed) (record {
   plan = refl;
-  passes = ap (λ (x : Samples). x.passes) begun.taken;
-  sampled = ap (λ (x : Samples). x.taken) begun.taken;
+  passes = ap (λ (x : Samples). x.passes) does.taken;
+  sampled = ap (λ (x : Samples). x.taken) does.taken;
   keeper = refl;
-  stores = begun.counts_tick.stores;
-  logged = begun.counts_tick.logged;
+  stores = does.left.stores;
+  logged = does.left.logged;
 })
+
+-- ---- where it stands
+
+-- the closing tick didn't come yet
+not-closed : (p : Plan) (before : List Step) (a : Account) (ms : ℕ) (closing : Bool) (old : Session) → MayTick ms closing old → StandsAs p before a old → is_closed before ≡ false
+not-closed p before a ms closing old may stands = sym stands.closed ∙ may.running
+
+ticks-left : (closing : Bool) (before most left : ℕ) → before + left ≤ most + 1 → ticks_needed closing ≤ left → closing ≡ false → before < most
+ticks-left true before most left all needed is = absurd (let apart : true ≡ false → ⊥ = λ same. cc in apart is)
+ticks-left false before most left all needed is = omega (arith, all, needed)
+
+may-come : (p : Plan) (before : List Step) (a : Account) (ms : ℕ) (closing : Bool) (old : Session) → MayTick ms closing old → StandsAs p before a old
+    → MayComeOf (ticks_of old) p before ms closing old.samples.taken.items
+may-come p before a ms closing old may stands = record {
+  rows = subst (λ (q : Plan). AreRowsOf q.full old.samples.taken.items) stands.plan may.session.samples.rows;
+  short = may.short;
+  running = not-closed p before a ms closing old may stands;
+  left = ticks-left closing (ticks_in before) (ticks_of old) old.left.ticks stands.ticks may.left;
+  still = may.still;
+}
 
 -- where the groups' turns lead
 pub record Ticks (p : Plan) (before : List Step) (a : Account) (ms : ℕ) (closing : Bool) (old new : Session) (told after : Option LinkState) : Type 0 where
@@ -107,28 +139,31 @@ pub record Ticks (p : Plan) (before : List Step) (a : Account) (ms : ℕ) (closi
   pub stands : StandsAs p (Tick ms closing old.samples.taken.items done ∷ before) (stepped p before a (Tick ms closing old.samples.taken.items done)) new
   pub tells : TellsJournal a.journal told → TellsJournal (stepped p before a (Tick ms closing old.samples.taken.items done)).journal after
 
-pub ticked-as : (p : Plan) (before : List Step) (a : Account) (ms n : ℕ) (closing : Bool) (old mid s : Session) (told after : Option LinkState) → MayTick ms closing old → HasBegun ms closing old mid
-    → s ≡ record mid { publisher = s.publisher; tree = s.tree } → n ≡ length old.config.now.group → StandsAs p before a old
-    → HasPassed (tick_of p before a ms closing old) n s.publisher s.tree told after → Ticks p before a ms closing old s told after
-ticked-as p before a ms n closing old mid s told after may begun rest all stands passed = record {
-  done = whole.done;
-  run = whole.at.sent;
+pub ticked-as : (p : Plan) (before : List Step) (a : Account) (ms : ℕ) (closing : Bool) (told : Told) (old new : Session) (link after : Option LinkState) → MayTick ms closing old
+    → DoesTick ms closing old new → TellsOf ms closing old told → RoundTicks told old.round new.round link after → StandsAs p before a old → Ticks p before a ms closing old new link after
+ticked-as p before a ms closing told old new link after may does is ticks stands = record {
+  done = ticked.done;
+  run = ticked.run;
   may = subst (λ (m : ℕ). MayComeOf m p before ms closing old.samples.taken.items) (sym same) (may-come p before a ms closing old may stands);
   kept = same;
-  turns = λ g low. whole.holds g low;
-  stands = subst (StandsAs p (Tick ms closing old.samples.taken.items whole.done ∷ before) (stepped p before a (Tick ms closing old.samples.taken.items whole.done))) (sym rest)
-      (ends p before a ms closing old mid s.publisher s.tree whole.done may stands begun whole.at);
-  tells = whole.tells;
+  turns = ticked.turns;
+  stands = subst (StandsAs p (Tick ms closing old.samples.taken.items ticked.done ∷ before) (stepped p before a (Tick ms closing old.samples.taken.items ticked.done))) (sym does.changed) (record {
+    plan = stands.plan;
+    closed = does.left.is_closed ∙ sym (ap (λ (b : Bool). closing || b) (not-closed p before a ms closing old may stands) ∙ or-none closing);
+    ticks = omega (arith, stands.ticks, does.left.ticks, does.left.stores);
+    pumps = omega (arith, stands.pumps, does.left.pumps);
+    metas = stands.metas;
+    stores_are = stands.stores_are;
+    round = ticked.stands;
+  });
+  tells = ticked.tells;
 }
   where
-    count : n ≡ length p.config.group
-    count = all ∙ ap (λ (q : Plan). length q.config.group) stands.plan
+    ticked : RoundTicked (tick_of p before a ms closing old) new.round link after
+    ticked = ticks (tick_of p before a ms closing old) (told-of ms closing old told is p before a stands) stands.round
 
-    whole : HasPassed (tick_of p before a ms closing old) (length p.config.group) s.publisher s.tree told after
-    whole = subst (λ (m : ℕ). HasPassed (tick_of p before a ms closing old) m s.publisher s.tree told after) count passed
-
-    same : ticks_of s ≡ ticks_of old
-    same = ap ticks_of rest ∙ same-ticks ms closing old mid begun
+    same : ticks_of new ≡ ticks_of old
+    same = ap (λ (n : ℕ). n - 1) does.left.stores
 
 -- behind steps alone
 pub ticked-leads : (p : Plan) (before : List Step) (ms : ℕ) (closing : Bool) (old s : Session) (told after : Option LinkState) → Stands p before old
@@ -159,67 +194,3 @@ ticked-lives p life ms closing old s told after stands ticks = (
     tells = ticks.tells;
   },
 )
-
--- ---- what the turns are told
-
-pub to-told : (P : Config → List MetaData → Type 0) (c d : Config) (m n : List MetaData) → c ≡ d → m ≡ n → P d n → P c m
-to-told P c d m n same_config same_metas holds = subst (λ (x : Config). P x m) (sym same_config) (subst (λ (y : List MetaData). P d y) (sym same_metas) holds)
-
--- the turns are told of the session as its begin left it
-pub record TellsOf (ms : ℕ) (closing : Bool) (old mid : Session) (told : Told) : Type 0 where
-  pub config : told.config.now ≡ old.config.now
-  pub metas : told.metas.now ≡ old.sets.metas.items
-  pub rows : told.rows.now ≡ mid.samples.cut.items
-  pub moment : told.moment ≡ old.moment + ms
-  pub closing_is : told.closing ≡ closing
-
-pub tells-of : (ms : ℕ) (closing : Bool) (old mid : Session) (told : Told) → HasBegun ms closing old mid → told.config ≡ mid.config → told.metas.now ≡ mid.sets.metas.items
-    → told.rows.now ≡ mid.samples.cut.items → told.moment ≡ mid.moment → told.closing ≡ closing → TellsOf ms closing old mid told
-tells-of ms closing old mid told begun config metas rows moment closing_is = record {
-  config = ap (λ c. c.now) config ∙ ap (λ (s : Session). s.config.now) begun.changed;
-  metas = metas ∙ ap (λ (s : Session). s.sets.metas.items) begun.changed;
-  rows = rows;
-  moment = moment ∙ ap (λ (s : Session). s.moment) begun.changed;
-  closing_is = closing_is;
-}
-
-pub goes-told : (ms : ℕ) (closing : Bool) (old mid : Session) (told : Told) → HasBegun ms closing old mid → TellsOf ms closing old mid told
-    → MayAllGoOn told.config.now told.metas.now (mid.left.ticks + 1) mid.publisher.groups.items
-goes-told ms closing old mid told begun is =
-    to-told (λ (c : Config) (m : List MetaData). MayAllGoOn c m (mid.left.ticks + 1) mid.publisher.groups.items) told.config.now old.config.now told.metas.now old.sets.metas.items is.config is.metas
-    (subst (λ (n : ℕ). MayAllGoOn old.config.now old.sets.metas.items n mid.publisher.groups.items) (sym begun.counts_tick.ticks) begun.goes_on)
-
-pub may-pass-all : (ms : ℕ) (closing : Bool) (old mid : Session) (told : Told) → MayTick ms closing old → HasBegun ms closing old mid → TellsOf ms closing old mid told → MayPassAll told mid.publisher mid.tree
-may-pass-all ms closing old mid told may begun is = record {
-  good = subst IsGood (sym is.config) session.good;
-  holds = subst (λ (c : Config). HoldPublisher c mid.publisher) (sym is.config) begun.publisher;
-  metas_are = λ g low.
-      to-told (λ (c : Config) (m : List MetaData). AreMetas c (group_at c g) m) told.config.now old.config.now told.metas.now old.sets.metas.items is.config is.metas
-      (metas-of old.config.now old.sets.full.items old.sets.metas.items g (now-sets old.config.now old.sets session.sets) (subst (λ (c : Config). g < length c.group) is.config low));
-  rows_are = subst (λ (m : List MetaData). AllZip (λ (meta : MetaData) (sampled : Sampled). Belongs meta sampled.row.words) m told.rows.now) (sym is.metas)
-      (subst (λ (r : List Sampled). AllZip (λ (meta : MetaData) (sampled : Sampled). Belongs meta sampled.row.words) old.sets.metas.items r) (sym is.rows) begun.rows);
-  goes_on = λ g low d.
-      go-one (metas_for (group_at told.config.now g) told.metas.now) (group_at told.config.now g) mid.left.ticks (get_or mid.publisher.groups.items g d) (goes-told ms closing old mid told begun is g low d);
-  counts_are = begun.counts ∙ session.tree ∙ ap counts_of (sym is.config);
-  spent = subst (λ (c : Config). KnowsSpent c mid.publisher.senders.items mid.tree) (sym is.config) begun.spent;
-}
-  where
-    session : IsSession old
-    session = may.session
-
-pub told-of : (ms : ℕ) (closing : Bool) (old mid : Session) (told : Told) → HasBegun ms closing old mid → TellsOf ms closing old mid told → (p : Plan) (before : List Step) (a : Account)
-    → StandsAs p before a old → IsToldOf (tick_of p before a ms closing old) told
-told-of ms closing old mid told begun is p before a stands = record {
-  config = is.config ∙ ap (λ (q : Plan). q.config) stands.plan;
-  metas = is.metas ∙ stands.metas;
-  rows = is.rows ∙ begun.cut
-      ∙ ap (λ (m : List MetaData). rows_cut m old.sets.full.items old.samples.taken.items) stands.metas
-      ∙ ap (λ (q : Plan). rows_cut (metas_at p.config before) q.full old.samples.taken.items) stands.plan;
-  moment = is.moment ∙ ap (λ (m : ℕ). m + ms) stands.round.moment;
-  closing = is.closing_is;
-}
-
-pub goes-back : (ms turns : ℕ) (closing : Bool) (old mid : Session) (told : Told) (groups : List Group) → TellsOf ms closing old mid told → MayAllGoOn told.config.now told.metas.now turns groups
-    → MayAllGoOn old.config.now old.sets.metas.items turns groups
-goes-back ms turns closing old mid told groups is may =
-    to-told (λ (c : Config) (m : List MetaData). MayAllGoOn c m turns groups) old.config.now told.config.now old.sets.metas.items told.metas.now (sym is.config) (sym is.metas) may

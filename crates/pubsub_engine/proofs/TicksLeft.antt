@@ -12,8 +12,8 @@ pub one-left : (ms : ℕ) (closing : Bool) (s : Session) → MayTick ms closing 
 one-left ms closing s may = omega (arith, needs-one closing, may.left)
 
 -- the moment that the tick comes to is a number of 64 bits
-pub moment-fits : (ms : ℕ) (closing : Bool) (s : Session) → MayTick ms closing s → s.moment + ms < 2 ^ 64
-moment-fits ms closing s may = fits s.moment s.left.ticks may.session.time (one-left ms closing s may) may.short
+pub moment-fits : (ms : ℕ) (closing : Bool) (s : Session) → MayTick ms closing s → s.round.moment + ms < 2 ^ 64
+moment-fits ms closing s may = fits s.round.moment s.left.ticks may.session.time (one-left ms closing s may) may.short
   where
     fits : (moment left : ℕ) → moment + left * most_ms < 2 ^ 64 → 1 ≤ left → ms ≤ most_ms → moment + ms < 2 ^ 64
     fits moment left time one short = omega (arith, time, one, short)

@@ -169,18 +169,18 @@ few-sets s is = let count = (now-sets s.config.now s.sets is.sets).count in omeg
 pub record TellsParts (s : Session) (dones : List Done) (sets : ℕ) (closed : Closed) : Type 0 where
   pub count : sets ≡ length s.sets.metas.items
   pub histories : AreHistories s.samples.passes dones sets closed.histories
-  pub groups : (most : ℕ) (p : Plan) (steps : List Step) (a : Account) → HavePublished s.config.now most p steps a s.tree s.publisher
+  pub groups : (most : ℕ) (p : Plan) (steps : List Step) (a : Account) → HavePublished s.config.now most p steps a s.round.tree s.round.publisher
       → closed.groups ≡ map (group_end_by p steps a) (group_indexes p.config)
-  pub writers : (most : ℕ) (p : Plan) (steps : List Step) (a : Account) → HavePublished s.config.now most p steps a s.tree s.publisher
+  pub writers : (most : ℕ) (p : Plan) (steps : List Step) (a : Account) → HavePublished s.config.now most p steps a s.round.tree s.round.publisher
       → AllZip (IsWriterEndBy (log_after most p.config a.deeds) p steps a) (writer_places p.config) closed.writers
-  pub read_groups : (p : Plan) (steps : List Step) (a : Account) → HaveReceived s.config.now p steps a s.tree s.subscriber
+  pub read_groups : (p : Plan) (steps : List Step) (a : Account) → HaveReceived s.config.now p steps a s.round.tree s.round.subscriber
       → closed.read_groups ≡ map (read_group_end_by p steps a) (read_group_indexes p.config)
-  pub readers : (most : ℕ) (p : Plan) (steps : List Step) (a : Account) → HavePublished s.config.now most p steps a s.tree s.publisher → HaveReceived s.config.now p steps a s.tree s.subscriber
+  pub readers : (most : ℕ) (p : Plan) (steps : List Step) (a : Account) → HavePublished s.config.now most p steps a s.round.tree s.round.publisher → HaveReceived s.config.now p steps a s.round.tree s.round.subscriber
       → AllZip (IsToldBy (log_after most p.config a.deeds) p steps a) (reader_places p.config) closed.readers
   pub watches : closed.watches ≡ watches_in_bytes dones
-  pub link : (steps : List Step) (a : Account) → AreSendsIn a.journal s.publisher.link → AreReceivesIn a.journal steps s.receiving → closed.link ≡ link_of a.journal steps
+  pub link : (steps : List Step) (a : Account) → AreSendsIn a.journal s.round.publisher.link → AreReceivesIn a.journal steps s.round.receiving → closed.link ≡ link_of a.journal steps
 
-published : (p : Plan) (steps : List Step) (a : Account) (s : Session) → IsSession s → StandsAs p steps a s → HavePublished s.config.now (logged_of s) p steps a s.tree s.publisher
+published : (p : Plan) (steps : List Step) (a : Account) (s : Session) → IsSession s → StandsAs p steps a s → HavePublished s.config.now (logged_of s) p steps a s.round.tree s.round.publisher
 published p steps a s is stands = record {
   plan = sym (ap (λ (q : Plan). q.config) stands.plan);
   flags = stands.round.flags;
@@ -189,7 +189,7 @@ published p steps a s is stands = record {
   outcomes = stands.round.outcomes;
 }
 
-received : (p : Plan) (steps : List Step) (a : Account) (s : Session) → StandsAs p steps a s → HaveReceived s.config.now p steps a s.tree s.subscriber
+received : (p : Plan) (steps : List Step) (a : Account) (s : Session) → StandsAs p steps a s → HaveReceived s.config.now p steps a s.round.tree s.round.subscriber
 received p steps a s stands = record {
   plan = sym (ap (λ (q : Plan). q.config) stands.plan);
   flags = stands.round.flags;
@@ -208,10 +208,10 @@ closed-by p steps a s dones sets closed tells is stands = record {
   link = tells.link steps a stands.round.sends stands.round.receives;
 }
   where
-    out : HavePublished s.config.now (logged_of s) p steps a s.tree s.publisher
+    out : HavePublished s.config.now (logged_of s) p steps a s.round.tree s.round.publisher
     out = published p steps a s is stands
 
-    come : HaveReceived s.config.now p steps a s.tree s.subscriber
+    come : HaveReceived s.config.now p steps a s.round.tree s.round.subscriber
     come = received p steps a s stands
 
 plain-writers : (logs : ℕ → ℕ → List (ℕ × ℕ)) (p : Plan) (steps : List Step) (places : List MemberPlace) (ends : List WriterEnd) → AllZip (IsWriterEndBy logs p steps (account_of p steps)) places ends

@@ -5,7 +5,6 @@ use Rattle.dataset_meta.specs.Metas.{MetaData, grown}
 use Rattle.ps_config.specs.declared.parts.Config.{Config}
 use Rattle.ps_config.specs.Rooms.{is_fixed}
 use Rattle.ps_config.specs.Sound.{readers}
-use Rattle.pubsub_states.specs.Components.{counts_of}
 use Rattle.target_cells.specs.Keeping.{TargetsData, metas_of}
 use Rattle.version_cell.specs.Known.{Known}
 use Rattle.version_cell.specs.Cells.{CellData, IsCell}
@@ -17,7 +16,8 @@ use Rattle.writer_group.specs.Standing.{IsGood}
 use Rattle.session_model.specs.Counts.{most_ms}
 use Rattle.session_model.specs.Steps.{Plan}
 use Rattle.session_model.specs.Sets.{AreFit, MayAppend, GrowTo, AreRowsOf, meta_in}
-use Rattle.session_parts.specs.Holding.{AreAllLogged, HasBuffers, HoldPublisher, HoldSubscriber, MayAllGoOn}
+use Rattle.session_parts.specs.Holding.{AreAllLogged, MayAllGoOn}
+use Rattle.session_parts.specs.Rounds.{HoldRound}
 use Rattle.pubsub_engine.specs.declared.size.Append.{Append}
 use Rattle.pubsub_engine.specs.declared.sets.Sets.{Sets}
 use Rattle.pubsub_engine.specs.declared.sets.Growth.{Growth}
@@ -124,14 +124,11 @@ pub record IsSession (s : Session) : Type 0 where
   pub good : IsGood s.config.now
   pub sets : HoldSets s.config.now s.sets
   pub samples : HoldSamples s.sets.full.items s.samples
-  pub publisher : HoldPublisher s.config.now s.publisher
-  pub goes_on : MayAllGoOn s.config.now s.sets.metas.items s.left.ticks s.publisher.groups.items
-  pub logged : AreAllLogged s.left.logged s.publisher.groups.items
-  pub subscriber : HoldSubscriber s.config.now s.subscriber
-  pub tree : s.tree.counts ≡ counts_of s.config.now
-  pub buffers : HasBuffers s.receiving
+  pub round : HoldRound s.config.now s.round
+  pub goes_on : MayAllGoOn s.config.now s.sets.metas.items s.left.ticks s.round.publisher.groups.items
+  pub logged : AreAllLogged s.left.logged s.round.publisher.groups.items
   pub stores : HoldStores s.config.now s.left.stores (s.left.ticks + s.left.pumps) s.stores
-  pub time : s.moment + s.left.ticks * most_ms < 2 ^ 64
+  pub time : s.round.moment + s.left.ticks * most_ms < 2 ^ 64
   pub calls : s.left.ticks + s.left.pumps < 2 ^ 64
 
 -- the closing tick didn't come yet

@@ -2,7 +2,6 @@ pub mod Holding
 pub mod Storing
 pub mod Standing
 pub mod Living
-pub mod Ticking
 pub mod Authored
 pub mod LifeEnds
 pub mod Ending

@@ -8,13 +8,10 @@ use Rattle.session_model.specs.Sets.{metas_at}
 use Rattle.session_model.specs.Sends.{TellsJournal}
 use Rattle.session_model.specs.Keeping.{AreStepsOf}
 use Rattle.session_model.specs.Lives.{Account, IsRunIn, Lived, Renewed, Stepped, TurnsHoldIn, account_in, steps_in}
-use Rattle.session_parts.specs.Rounds.{Round, RoundStands}
+use Rattle.session_parts.specs.Rounds.{RoundStands}
 use Rattle.pubsub_engine.specs.declared.session.Session.{Session}
 use Rattle.pubsub_engine.specs.Holding.{plan_of, ticks_of}
 use Rattle.pubsub_engine.specs.Storing.{HaveStored}
-
-abbrev pub round_of : Session → Round
-round_of s = record { moment = s.moment; tree = s.tree; publisher = s.publisher; subscriber = s.subscriber; receiving = s.receiving }
 
 -- its parts are as these steps, of which this became, leave them
 pub record StandsAs (p : Plan) (steps : List Step) (a : Account) (s : Session) : Type 0 where
@@ -24,7 +21,7 @@ pub record StandsAs (p : Plan) (steps : List Step) (a : Account) (s : Session) :
   pub pumps : pumps_in steps + s.left.pumps ≡ ticks_in steps
   pub metas : s.sets.metas.items ≡ metas_at p.config steps
   pub stores_are : HaveStored p.config (λ place. a.stores place.0 place.1) s.stores
-  pub round : RoundStands p steps a (round_of s)
+  pub round : RoundStands p steps a s.round
 
 -- it stands where this life leaves it
 pub record StandsIn (p : Plan) (life : List Lived) (s : Session) : Type 0 where

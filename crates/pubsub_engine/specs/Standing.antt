@@ -10,16 +10,16 @@ use Rattle.reader_group.specs.Members.{seat_at}
 use Rattle.reader_group.specs.Settings.{setting_of}
 use Rattle.writer_group.specs.declared.sampled.Sampled.{Sampled}
 use Rattle.session_model.specs.Counts.{ticks_in, pumps_in, is_closed}
-use Rattle.session_model.specs.Steps.{Plan, Step, moment_of}
+use Rattle.session_model.specs.Steps.{Plan, Step}
 use Rattle.session_model.specs.Sets.{metas_at}
-use Rattle.session_model.specs.Deeds.{deeds, logs_at}
+use Rattle.session_model.specs.Deeds.{logs_at}
 use Rattle.session_model.specs.Turns.{TurnsHold}
-use Rattle.session_model.specs.Sends.{IsRun, TellsRun, journal}
+use Rattle.session_model.specs.Sends.{IsRun, TellsRun}
 use Rattle.session_model.specs.Stores.{Store, stores}
-use Rattle.session_model.specs.States.{flags_at}
 use Rattle.session_model.specs.Closing.{MemberPlace}
 use Rattle.session_model.specs.Keeping.{AreStepsOf}
-use Rattle.session_parts.specs.Standing.{AreReceivesIn, AreSendsIn, HasFlags, HaveOutcomes, HavePast, HaveRead, HaveSent, HaveTallied}
+use Rattle.session_model.specs.Lives.{account_of}
+use Rattle.session_parts.specs.Rounds.{RoundStands}
 use Rattle.pubsub_engine.specs.declared.session.Session.{Session}
 use Rattle.pubsub_engine.specs.Holding.{plan_of, ticks_of}
 use Rattle.pubsub_engine.specs.Logs.{log_by}
@@ -49,20 +49,12 @@ pub record Stands (p : Plan) (steps : List Step) (s : Session) : Type 0 where
   pub run : IsRun p steps
   pub steps_are : AreStepsOf (ticks_of s) p steps
   pub turns : TurnsHold p steps
-  pub moment : s.moment ≡ moment_of steps
   pub closed : s.left.is_closed ≡ is_closed steps
   pub ticks : ticks_in steps + s.left.ticks ≤ ticks_of s + 1
   pub pumps : pumps_in steps + s.left.pumps ≡ ticks_in steps
   pub metas : s.sets.metas.items ≡ metas_at p.config steps
-  pub groups : HavePast p.config (metas_at p.config steps) (deeds p steps) s.publisher.groups.items
-  pub senders : HaveSent p.config (deeds p steps) s.publisher.senders.items
-  pub outcomes : HaveOutcomes p steps s.publisher.sends.items
-  pub sends : AreSendsIn (journal p steps) s.publisher.link
-  pub readings : HaveRead p.config steps s.subscriber.groups.items
-  pub tallies : HaveTallied p.config steps s.subscriber.tallies.items
-  pub receives : AreReceivesIn (journal p steps) steps s.receiving
   pub stores_are : HaveStored p.config (λ place. stores p.config place.0 place.1 steps) s.stores
-  pub flags : HasFlags (flags_at p steps) s.tree
+  pub round : RoundStands p steps (account_of p steps) s.round
 
 -- where one step more leads from one session and link to another: what the link tells is then the journal, if it was before
 pub record Leads (p : Plan) (before : List Step) (step : Step) (told after : Option LinkState) (s : Session) : Type 0 where

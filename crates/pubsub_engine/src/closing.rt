@@ -50,15 +50,20 @@ impl Session<'_> {
         each_held_row_has_its_number();
         let sets = self.sets.metas.len() as u8;
         let histories = histories(alloc, &self.samples, sets, dones)?;
-        let groups = group_ends(alloc, self.config, &self.tree, &self.publisher)?;
-        let writers = writer_ends(alloc, self.config, &self.tree, &self.publisher)?;
-        let read_groups = read_group_ends(alloc, self.config, &self.tree, &self.subscriber)?;
+        let groups = group_ends(alloc, self.config, &self.round.tree, &self.round.publisher)?;
+        let writers = writer_ends(alloc, self.config, &self.round.tree, &self.round.publisher)?;
+        let read_groups = read_group_ends(
+            alloc,
+            self.config,
+            &self.round.tree,
+            &self.round.subscriber,
+        )?;
         let readers = reader_ends(
             alloc,
             self.config,
-            &self.tree,
-            &self.publisher,
-            &self.subscriber,
+            &self.round.tree,
+            &self.round.publisher,
+            &self.round.subscriber,
         )?;
         let watches = watches(alloc, dones)?;
         Ok(Closed {
@@ -68,7 +73,7 @@ impl Session<'_> {
             read_groups: Parts::new(read_groups),
             readers: Parts::new(readers),
             watches: Parts::new(watches),
-            link: link_end(&self.publisher, &self.receiving),
+            link: link_end(&self.round.publisher, &self.round.receiving),
         })
     }
 }

@@ -21,8 +21,7 @@ use crate::storing::Stores;
 use arrayvec::ArrayVec;
 use cell_bank::Bank;
 use ps_config::{Config, ReaderPart};
-use pubsub_states::Tree;
-use session_parts::{Receiving, publisher_of, subscriber_of};
+use session_parts::Round;
 use std::alloc::Global;
 use std::sync::Wait;
 use target_cells::Targets;
@@ -90,25 +89,23 @@ impl<'c> Session<'c> {
             turns,
         )?;
         let samples = Samples::new(alloc, passes, sets.metas.len())?;
-        let mut session = Session {
+        let round = Round::open(alloc, config, turns, size.logged)?;
+        let stores = Stores::new(alloc, keeper, readers.len())?;
+        let left = Left {
+            ticks: turns,
+            pumps: 0,
+            stores: turns,
+            logged: size.logged,
+            is_closed: false,
+        };
+        let session = Session {
             config,
-            moment: 0,
-            left: Left {
-                ticks: turns,
-                pumps: 0,
-                stores: turns,
-                logged: size.logged,
-                is_closed: false,
-            },
-            tree: Tree::new(alloc, config)?,
+            left,
             sets,
             samples,
-            publisher: publisher_of(alloc, config, turns, size.logged)?,
-            subscriber: subscriber_of(alloc, config)?,
-            receiving: Receiving::new(alloc)?,
-            stores: Stores::new(alloc, keeper, readers.len())?,
+            round,
+            stores,
         };
-        session.tell_groups();
         Ok(Opening {
             session,
             bank,

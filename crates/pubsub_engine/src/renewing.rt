@@ -32,7 +32,6 @@ impl Session<'_> {
         ensures appends { appends_left self.new ≡ appends_left self.old }
         ensures left { left_of self.new ≡ left_of self.old }
     {
-        self.subscriber.renew(self.config, key_group, &ring);
-        self.publisher.renew(key_group, ring)
+        self.round.renew(self.config, key_group, ring)
     }
 }

@@ -16,19 +16,14 @@ ghost use Rattle.session_model.specs.Lives.{Lived, Stepped, account_in};
 ghost use Rattle.pubsub_engine.specs.LifeEnds.{logs_in};
 ghost use Rattle.pubsub_engine.specs.Living.{KeepsLife, LeadsIn, StandsIn};
 ghost use Rattle.pubsub_engine.specs.Standing.{IsOriginFrom, IsOriginWith, IsOriginOf, KeepsStands, Leads, Stands, sampled_by, samples_of};
-ghost use Rattle.pubsub_engine.specs.Ticking.{HasBegun};
-ghost use Rattle.pubsub_states.specs.Components.{counts_of};
-ghost use Rattle.session_parts.specs.Holding.{HoldPublisher};
-ghost use Rattle.session_parts.specs.Ticking.{HaltsTick, HaltsTickIn, TellsFaults};
-ghost use Rattle.writer_group.specs.Standing.{IsGood};
+ghost use Rattle.session_parts.specs.Ticking.{HaltsTick, HaltsTickIn};
 
 use crate::sampling::Samples;
 use crate::sets::Sets;
 use crate::storing::Stores;
 use cell_bank::Bank;
 use ps_config::Config;
-use pubsub_states::Tree;
-use session_parts::{Publisher, Receiving, Subscriber, Told};
+use session_parts::{Round, Told};
 use std::alloc::Global;
 use std::sync::Wait;
 use target_cells::{Origin, Targets};
@@ -54,15 +49,10 @@ pub(crate) struct Left {
 #[derive(Drop)]
 pub struct Session<'c> {
     pub(crate) config: &'c Config,
-    /// Milliseconds since it was opened.
-    pub(crate) moment: u64,
     pub(crate) left: Left,
-    pub(crate) tree: Tree,
     pub(crate) sets: Sets,
     pub(crate) samples: Samples,
-    pub(crate) publisher: Publisher,
-    pub(crate) subscriber: Subscriber,
-    pub(crate) receiving: Receiving,
+    pub(crate) round: Round,
     pub(crate) stores: Stores,
 }
 
@@ -162,44 +152,19 @@ impl<'c> Session<'c> {
         ensures memory { result ≡ Ticked.Memory → IsTrue L.takes_memory }
         ensures link { KeepsLink L.opened_with L.faults L.made L.openings link.old link.new }
     {
-        self.begin(ms, closing);
+        self.left.ticks -= 1;
+        self.left.pumps += 1;
+        self.left.is_closed = closing;
+        self.samples.cut_to(&self.sets);
+        let moment = self.round.moment + ms;
         let told = Told {
             config: self.config,
             metas: &self.sets.metas,
             rows: &self.samples.cut,
-            moment: self.moment,
+            moment,
             closing,
         };
-        self.publisher.pass_all(&told, &mut self.tree, link)
-    }
-
-    /// What a tick does before the groups' turns: time goes on, senders turn, timers expire, faults of sends are cleared.
-    fn begin(&mut self, ms: u64, closing: bool)
-        requires may { MayTick ms closing self.old }
-        ensures begun { HasBegun ms closing self.old self.new }
-    {
-        self.left.ticks -= 1;
-        self.left.pumps += 1;
-        self.left.is_closed = closing;
-        self.moment += ms;
-        self.publisher.come_to(self.config, self.moment);
-        self.subscriber.expire(self.moment);
-        self.publisher.clear();
-        self.subscriber.tell(self.config, &mut self.tree);
-        self.publisher.tell(self.config, &mut self.tree);
-        self.samples.cut_to(&self.sets);
-    }
-
-    /// Tells the tree which groups have a fault.
-    pub(crate) fn tell_groups(&mut self)
-        requires good { IsGood self.old.config.now }
-        requires holds { HoldPublisher self.old.config.now self.old.publisher }
-        requires tree { self.old.tree.counts ≡ counts_of self.old.config.now }
-        ensures faults { TellsFaults self.old.config.now self.old.publisher self.old.tree self.new.tree }
-        ensures counts { self.new.tree.counts ≡ self.old.tree.counts }
-        ensures rest { self.new ≡ record self.old { tree = self.new.tree } }
-    {
-        self.publisher.tell(self.config, &mut self.tree);
+        self.round.tick(&told, link)
     }
 
     /// Receives what came, until nothing waits, a receive fails or 65,536 datagrams were taken; each goes to each Operational read
@@ -228,16 +193,9 @@ impl<'c> Session<'c> {
         ensures link { KeepsLink L.opened_with L.faults L.made L.openings link.old link.new }
     {
         self.left.pumps -= 1;
-        let pumped = self.receiving.pump(
-            self.config,
-            &self.tree,
-            self.moment,
-            &mut self.subscriber,
-            link,
-        );
-        self.subscriber.tell(self.config, &mut self.tree);
+        let pumped = self.round.pump(self.config, link);
         self.stores
-            .store_all(rt, self.config, &self.subscriber, targets);
+            .store_all(rt, self.config, &self.round.subscriber, targets);
         pumped
     }
 
@@ -255,7 +213,7 @@ impl<'c> Session<'c> {
         ensures rest { KeepsPasses self.old self.new }
     {
         let set = self.sets.append();
-        self.publisher.refresh_set(self.config, set);
+        self.round.publisher.refresh_set(self.config, set);
         set
     }
 
@@ -276,6 +234,7 @@ impl<'c> Session<'c> {
             → IsOriginFrom (logs_in (logged_of self.now) p life) p place
             ((account_in p life).stores place.0 place.1) result }
     {
-        self.stores.origin(self.config, &self.publisher, reader)
+        self.stores
+            .origin(self.config, &self.round.publisher, reader)
     }
 }

@@ -27,7 +27,7 @@ impl Session<'_> {
         ensures lives { (p : Plan) (life : List Lived) → StandsIn p life self.now
             → result ≡ moment_of (steps_in life) }
     {
-        self.moment
+        self.round.moment
     }
 
     /// The state of a component (OPC 10000-14 6.2.1, PubSubState).
@@ -39,7 +39,7 @@ impl Session<'_> {
         ensures lives { (p : Plan) (life : List Lived) → StandsIn p life self.now
             → result ≡ state_in p life component }
     {
-        self.tree.state_of(component)
+        self.round.tree.state_of(component)
     }
 
     /// The reader with this index in a read group: the row that it holds and the number of that row's message, why it waits, and its
@@ -53,7 +53,7 @@ impl Session<'_> {
         ensures lives { (p : Plan) (life : List Lived) → StandsIn p life self.now
             → IsReaderIn p (account_in p life).readings (read_group, index) result.now }
     {
-        self.subscriber.groups[usize::from(read_group)].reader(index)
+        self.round.subscriber.groups[usize::from(read_group)].reader(index)
     }
 
     /// How many datagrams a read group took, how many it refused for each cause, and how many parts it couldn't read.
@@ -65,7 +65,7 @@ impl Session<'_> {
         ensures lives { (p : Plan) (life : List Lived) → StandsIn p life self.now
             → IsTallyOf ((account_in p life).readings read_group).answered result }
     {
-        self.subscriber.tallies[usize::from(read_group)]
+        self.round.subscriber.tallies[usize::from(read_group)]
     }
 
     /// What came of all sends and receives over the link.
@@ -75,7 +75,7 @@ impl Session<'_> {
         ensures lives { (p : Plan) (life : List Lived) → StandsIn p life self.now
             → result ≡ link_of (account_in p life).journal (steps_in life) }
     {
-        link_end(&self.publisher, &self.receiving)
+        link_end(&self.round.publisher, &self.round.receiving)
     }
 
     /// The token that a key group's sender uses, and the last number that it used under this token: what a device stores, so that
@@ -88,6 +88,6 @@ impl Session<'_> {
         ensures lives { (p : Plan) (life : List Lived) → StandsIn p life self.now
             → result ≡ standing_of (sender_in p life key_group) }
     {
-        self.publisher.senders[usize::from(key_group)].standing()
+        self.round.publisher.senders[usize::from(key_group)].standing()
     }
 }

@@ -33,10 +33,10 @@ impl Session<'_> {
         ensures appends { appends_left self.new ≡ appends_left self.old }
         ensures left { left_of self.new ≡ left_of self.old }
     {
-        match self.tree.enable(id) {
+        match self.round.tree.enable(id) {
             Switched::Done => {
-                let component = self.tree.components().component(id);
-                self.publisher.refresh_below(self.config, component);
+                let component = self.round.tree.components().component(id);
+                self.round.publisher.refresh_below(self.config, component);
                 Switched::Done
             }
             Switched::InvalidState => Switched::InvalidState,
@@ -64,11 +64,10 @@ impl Session<'_> {
         ensures appends { appends_left self.new ≡ appends_left self.old }
         ensures left { left_of self.new ≡ left_of self.old }
     {
-        match self.tree.disable(id) {
+        match self.round.tree.disable(id) {
             Switched::Done => {
-                let component = self.tree.components().component(id);
-                self.subscriber.stop_below(self.config, component);
-                self.subscriber.tell(self.config, &mut self.tree);
+                let component = self.round.tree.components().component(id);
+                self.round.stop_below(self.config, component);
                 Switched::Done
             }
             Switched::InvalidState => Switched::InvalidState,

@@ -8,7 +8,6 @@ use Rattle.dataset_meta.specs.Metas.{MetaData}
 use Rattle.dataset_writer.specs.declared.writer.Writer.{Writer}
 use Rattle.ua_base.specs.Journal.{LinkState}
 use Rattle.ps_config.specs.declared.parts.Config.{Config}
-use Rattle.ps_config.specs.declared.parts.GroupPart.{GroupPart}
 use Rattle.pubsub_states.specs.declared.component.Component.TheVariants.{Group as GroupOf}
 use Rattle.pubsub_states.specs.Changes.{TreeValue}
 use Rattle.writer_group.specs.declared.group.Group.{Group}
@@ -17,6 +16,7 @@ use Rattle.session_model.specs.Deeds.{Deed, CameTo, group_indexes, is_rekeyed, r
 use Rattle.writer_group.specs.Parts.{group_at}
 use Rattle.session_model.specs.Sends.{Send, last_sends, last_failed, send_entries}
 use Rattle.session_parts.specs.declared.publisher.Publisher.{Publisher}
+use Rattle.session_parts.specs.Holding.{MayAllGoOn}
 use Rattle.session_parts.specs.Ticking.{TickData, GoesOnAt, HasPassed, Holds, deeds_to, IsAt, NoneFailedFrom, OthersStay, TakesPart, TellsSoFar, begun, now_of}
 use Rattle.session_model.proofs.Sending.{silent-all}
 use Rattle.session_parts.proofs.Counting.{fold-more}
@@ -80,12 +80,14 @@ go-none config metas turns all groups is may = record {
   left = λ g at low. subst (λ (n : ℕ). GoesOnAt config metas n g groups) (sym is) (may g low);
 }
 
-pub go-one : (metas : ℕ → MetaData) (part : GroupPart) (turns : ℕ) (group : Group) → MayGoOn metas part (turns + 1) group → MayGoOn metas part 1 group
-go-one metas part turns group may = record {
-  left = All-weaker (λ (writer : Writer). turns + 1 ≤ writer.left) (λ (writer : Writer). 1 ≤ writer.left) (λ writer low. omega (arith, low)) group.writers.items may.left;
-  holds = may.holds;
-  lived = may.lived;
-}
+-- each group may go on for one turn, where it may for some
+pub go-one : (config : Config) (metas : List MetaData) (turns : ℕ) (groups : List Group) → 1 ≤ turns → MayAllGoOn config metas turns groups → MayAllGoOn config metas 1 groups
+go-one config metas turns groups some may g low d =
+    let goes : MayGoOn (metas_for (group_at config g) metas) (group_at config g) turns (get_or groups g d) = may g low d in record {
+      left = All-weaker (λ (writer : Writer). turns ≤ writer.left) (λ (writer : Writer). 1 ≤ writer.left) (λ writer more. omega (arith, some, more)) (get_or groups g d).writers.items goes.left;
+      holds = goes.holds;
+      lived = goes.lived;
+    }
 
 pub go-more : (config : Config) (metas : List MetaData) (turns n : ℕ) (old new : List Group) → n < length config.group → OthersStay n old new
     → ((turns : ℕ) → GoesOnAt config metas (turns + 1) n old → GoesOnAt config metas turns n new)

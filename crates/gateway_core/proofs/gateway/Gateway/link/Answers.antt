@@ -7,7 +7,7 @@ use Rattle.gateway_core.proofs.gateway.Gateway.link.Goals as goal
 pub returns-clause-stands : goal.returns-clause-stands
 returns-clause-stands c = λ second lived stands.
     let steps = steps_of c.args.self.now lived in
-    c.link_end.ensures (journal (plan_again second) steps) steps stands.session.sends stands.session.receives
+    c.link_end.ensures (journal (plan_again second) steps) steps stands.session.round.sends stands.session.round.receives
 
 pub returns-clause-lives : goal.returns-clause-lives
 returns-clause-lives c = λ second lived life stands.

@@ -16,48 +16,34 @@ returns-clause-gateway g c =
     let old = c.args.self.now in
     let left : Left = record old.left { pumps = old.left.pumps - 1 } in
     let counts : CountsPump old.left left = record { pumps = omega (arith, c.requires.may.left); rest = refl } in
-    pumped-gateway old left c.tell.new.tree c.pump-pumped.new.subscriber c.pump-pumped.new.self c.requires.may.gateway counts c.tell.ensures.counts
-    c.pump-pumped.ensures.holds c.pump-pumped.ensures.room
+    pumped-gateway old left c.pump.new.self c.requires.may.gateway counts c.pump.ensures.holds c.pump.ensures.rest
 
 pub returns-clause-lives : goal.returns-clause-lives
 returns-clause-lives g c =
     λ second lived life stands.
     let old = c.args.self.now in
-    let new : Gateway = record old {
-      left = record old.left { pumps = old.left.pumps - 1 };
-      tree = c.tell.new.tree;
-      subscriber = c.pump-pumped.new.subscriber;
-      receiving = c.pump-pumped.new.self;
-    } in
+    let new : Gateway = record old { left = record old.left { pumps = old.left.pumps - 1 }; round = c.pump.new.self } in
     let told = g.L.Link.told c.args.link.now in
-    let after = g.L.Link.told c.pump-pumped.new.link in
-    let does : DoesPump old new c.pump-pumped.result.taken told after = record {
+    let after = g.L.Link.told c.pump.new.link in
+    let does : DoesPump old new c.pump.result.taken told after = record {
       changed = refl;
       left = record { pumps = omega (arith, c.requires.may.left); rest = refl };
-      counts = c.requires.may.gateway.tree;
-      kept = c.tell.ensures.counts;
-      pumps = c.pump-pumped.ensures.pumps;
-      told_readers = c.tell.ensures.told;
+      pumped = c.pump.ensures.pumped;
     } in
-    let leads = pumps-live (plan_again second) life old new c.pump-pumped.result.taken told after does stands.session in (
-      c.pump-pumped.ensures.pumps.entries,
-      lives-pumped second lived life c.pump-pumped.ensures.pumps.entries old new told after refl does.left stands leads,
-      c.pump-pumped.ensures.pumps.taken_are,
+    let leads = pumps-live (plan_again second) life old new c.pump.result.taken told after does stands.session in (
+      leads.0,
+      lives-pumped second lived life leads.0 old new told after refl does.left stands leads.1,
+      leads.2,
     )
 
 pub returns-clause-leads : goal.returns-clause-leads
 returns-clause-leads g c =
     λ second lived stands.
     let old = c.args.self.now in
-    let new : Gateway = record old {
-      left = record old.left { pumps = old.left.pumps - 1 };
-      tree = c.tell.new.tree;
-      subscriber = c.pump-pumped.new.subscriber;
-      receiving = c.pump-pumped.new.self;
-    } in
+    let new : Gateway = record old { left = record old.left { pumps = old.left.pumps - 1 }; round = c.pump.new.self } in
     let steps = steps_of old lived in
     let leads = returns-clause-lives g c second lived (map Stepped steps) (stands-in second lived old stands) in (
       leads.0,
-      leads-back second lived steps (Pump leads.0) (SessionPump leads.0) (g.L.Link.told c.args.link.now) (g.L.Link.told c.pump-pumped.new.link) new refl leads.1,
+      leads-back second lived steps (Pump leads.0) (SessionPump leads.0) (g.L.Link.told c.args.link.now) (g.L.Link.told c.pump.new.link) new refl leads.1,
       leads.2,
     )

@@ -11,7 +11,7 @@ returns-clause-session c =
     let old = c.args.self.now in
     let left = c.requires.may.left in
     let e = c.append-set.ensures in
-    let refreshes : Refreshes old.config.now c.append-set.result old.publisher c.refresh_set.new.self = record {
+    let refreshes : Refreshes old.config.now c.append-set.result old.round.publisher c.refresh_set.new.self = record {
       groups = c.refresh_set.ensures.groups;
       past = c.refresh_set.ensures.past;
       goes_on = c.refresh_set.ensures.goes_on;
@@ -19,7 +19,7 @@ returns-clause-session c =
       rest = c.refresh_set.ensures.rest;
     } in
     let appends = appends-of old c.append-set.new.self c.refresh_set.new.self c.append-set.result left e.metas e.made e.full e.count e.later refreshes in
-    let new : Session = record old { sets = c.append-set.new.self; publisher = c.refresh_set.new.self } in
+    let new : Session = record old { sets = c.append-set.new.self; round = record old.round { publisher = c.refresh_set.new.self } } in
     appended-session old new c.append-set.result (growth-of old.sets left) c.requires.may.session appends
 
 pub returns-clause-appended : goal.returns-clause-appended
@@ -27,7 +27,7 @@ returns-clause-appended c =
     let old = c.args.self.now in
     let left = c.requires.may.left in
     let e = c.append-set.ensures in
-    let refreshes : Refreshes old.config.now c.append-set.result old.publisher c.refresh_set.new.self = record {
+    let refreshes : Refreshes old.config.now c.append-set.result old.round.publisher c.refresh_set.new.self = record {
       groups = c.refresh_set.ensures.groups;
       past = c.refresh_set.ensures.past;
       goes_on = c.refresh_set.ensures.goes_on;
@@ -35,7 +35,7 @@ returns-clause-appended c =
       rest = c.refresh_set.ensures.rest;
     } in
     let appends = appends-of old c.append-set.new.self c.refresh_set.new.self c.append-set.result left e.metas e.made e.full e.count e.later refreshes in
-    let new : Session = record old { sets = c.append-set.new.self; publisher = c.refresh_set.new.self } in
+    let new : Session = record old { sets = c.append-set.new.self; round = record old.round { publisher = c.refresh_set.new.self } } in
     λ p steps stands. appended p steps old new c.append-set.result (growth-of old.sets left) c.requires.may appends stands
 
 pub returns-clause-lives : goal.returns-clause-lives
@@ -43,7 +43,7 @@ returns-clause-lives c =
     let old = c.args.self.now in
     let left = c.requires.may.left in
     let e = c.append-set.ensures in
-    let refreshes : Refreshes old.config.now c.append-set.result old.publisher c.refresh_set.new.self = record {
+    let refreshes : Refreshes old.config.now c.append-set.result old.round.publisher c.refresh_set.new.self = record {
       groups = c.refresh_set.ensures.groups;
       past = c.refresh_set.ensures.past;
       goes_on = c.refresh_set.ensures.goes_on;
@@ -51,7 +51,7 @@ returns-clause-lives c =
       rest = c.refresh_set.ensures.rest;
     } in
     let appends = appends-of old c.append-set.new.self c.refresh_set.new.self c.append-set.result left e.metas e.made e.full e.count e.later refreshes in
-    let new : Session = record old { sets = c.append-set.new.self; publisher = c.refresh_set.new.self } in
+    let new : Session = record old { sets = c.append-set.new.self; round = record old.round { publisher = c.refresh_set.new.self } } in
     λ p life stands.
     appended-lives p life old new c.append-set.result stands (appended-as p (steps_in life) (account_in p life) old new c.append-set.result (growth-of old.sets left) c.requires.may appends stands.parts)
 
@@ -60,7 +60,7 @@ returns-clause-next c =
     let old = c.args.self.now in
     let left = c.requires.may.left in
     let e = c.append-set.ensures in
-    let refreshes : Refreshes old.config.now c.append-set.result old.publisher c.refresh_set.new.self = record {
+    let refreshes : Refreshes old.config.now c.append-set.result old.round.publisher c.refresh_set.new.self = record {
       groups = c.refresh_set.ensures.groups;
       past = c.refresh_set.ensures.past;
       goes_on = c.refresh_set.ensures.goes_on;
@@ -68,7 +68,7 @@ returns-clause-next c =
       rest = c.refresh_set.ensures.rest;
     } in
     let appends = appends-of old c.append-set.new.self c.refresh_set.new.self c.append-set.result left e.metas e.made e.full e.count e.later refreshes in
-    let new : Session = record old { sets = c.append-set.new.self; publisher = c.refresh_set.new.self } in
+    let new : Session = record old { sets = c.append-set.new.self; round = record old.round { publisher = c.refresh_set.new.self } } in
     appended-next old new c.append-set.result (growth-of old.sets left) appends
 
 pub returns-clause-rest : goal.returns-clause-rest
@@ -76,7 +76,7 @@ returns-clause-rest c =
     let old = c.args.self.now in
     let left = c.requires.may.left in
     let e = c.append-set.ensures in
-    let refreshes : Refreshes old.config.now c.append-set.result old.publisher c.refresh_set.new.self = record {
+    let refreshes : Refreshes old.config.now c.append-set.result old.round.publisher c.refresh_set.new.self = record {
       groups = c.refresh_set.ensures.groups;
       past = c.refresh_set.ensures.past;
       goes_on = c.refresh_set.ensures.goes_on;
@@ -84,5 +84,5 @@ returns-clause-rest c =
       rest = c.refresh_set.ensures.rest;
     } in
     let appends = appends-of old c.append-set.new.self c.refresh_set.new.self c.append-set.result left e.metas e.made e.full e.count e.later refreshes in
-    let new : Session = record old { sets = c.append-set.new.self; publisher = c.refresh_set.new.self } in
+    let new : Session = record old { sets = c.append-set.new.self; round = record old.round { publisher = c.refresh_set.new.self } } in
     appended-keeps old new c.append-set.result (growth-of old.sets left) appends

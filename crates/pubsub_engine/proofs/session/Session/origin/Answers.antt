@@ -15,11 +15,11 @@ returns c =
     record {
       origin = λ p steps place stands at.
           c.origin.ensures (logged_of s) p (metas_at p.config steps) (deeds p steps) (λ it. stores p.config it.0 it.1 steps) place (sym (ap (λ (plan : Plan). plan.config) stands.plan))
-          c.requires.session.logged stands.groups stands.stores_are at;
+          c.requires.session.logged stands.round.groups stands.stores_are at;
       whole = λ keeps p steps place stands at.
           subst (λ (logs : ℕ → ℕ → List (ℕ × ℕ)). IsOriginWith logs p steps place c.origin.result) (logs-whole (logged_of s) (ticks_of s) p steps stands.steps_are keeps)
           (c.origin.ensures (logged_of s) p (metas_at p.config steps) (deeds p steps) (λ it. stores p.config it.0 it.1 steps) place (sym (ap (λ (plan : Plan). plan.config) stands.plan))
-          c.requires.session.logged stands.groups stands.stores_are at);
+          c.requires.session.logged stands.round.groups stands.stores_are at);
       lives = λ p life place stands at.
           c.origin.ensures (logged_of s) p (metas_at p.config (steps_in life)) (account_in p life).deeds (λ it. (account_in p life).stores it.0 it.1) place
           (sym (ap (λ (plan : Plan). plan.config) stands.parts.plan)) c.requires.session.logged stands.parts.round.groups stands.parts.stores_are at;

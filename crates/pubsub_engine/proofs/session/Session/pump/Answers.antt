@@ -10,8 +10,7 @@ returns-clause-session g c =
     let old = c.args.self.now in
     let left : Left = record old.left { pumps = old.left.pumps - 1 } in
     let counts : CountsPump old.left left = record { pumps = omega (arith, c.requires.may.left); rest = refl } in
-    pumped-session old left c.tell.new.tree c.pump-pumped.new.subscriber c.pump-pumped.new.self c.store_all.new.self c.requires.may.session counts c.tell.ensures.counts
-    c.pump-pumped.ensures.holds c.pump-pumped.ensures.room c.store_all.ensures.left
+    pumped-session old left c.pump-pumped.new.self c.store_all.new.self c.requires.may.session counts c.pump-pumped.ensures.holds c.pump-pumped.ensures.rest c.store_all.ensures.left
 
 pub returns-clause-leads : goal.returns-clause-leads
 returns-clause-leads g c =
@@ -19,9 +18,7 @@ returns-clause-leads g c =
     let old = c.args.self.now in
     let new : Session = record old {
       left = record old.left { pumps = old.left.pumps - 1 };
-      tree = c.tell.new.tree;
-      subscriber = c.pump-pumped.new.subscriber;
-      receiving = c.pump-pumped.new.self;
+      round = c.pump-pumped.new.self;
       stores = c.store_all.new.self;
     } in
     let told = g.L.Link.told c.args.link.now in
@@ -29,13 +26,10 @@ returns-clause-leads g c =
     let does : DoesPump old new c.pump-pumped.result.taken told after = record {
       changed = refl;
       left = record { pumps = omega (arith, c.requires.may.left); rest = refl };
-      counts = c.requires.may.session.tree;
-      kept = c.tell.ensures.counts;
-      pumps = c.pump-pumped.ensures.pumps;
-      told_readers = c.tell.ensures.told;
+      pumped = c.pump-pumped.ensures.pumped;
       stored = c.store_all.ensures.stored;
     } in
-    (c.pump-pumped.ensures.pumps.entries, pumps-lead p before old new c.pump-pumped.result.taken told after does stands, c.pump-pumped.ensures.pumps.taken_are)
+    pumps-lead p before old new c.pump-pumped.result.taken told after does stands
 
 pub returns-clause-lives : goal.returns-clause-lives
 returns-clause-lives g c =
@@ -43,9 +37,7 @@ returns-clause-lives g c =
     let old = c.args.self.now in
     let new : Session = record old {
       left = record old.left { pumps = old.left.pumps - 1 };
-      tree = c.tell.new.tree;
-      subscriber = c.pump-pumped.new.subscriber;
-      receiving = c.pump-pumped.new.self;
+      round = c.pump-pumped.new.self;
       stores = c.store_all.new.self;
     } in
     let told = g.L.Link.told c.args.link.now in
@@ -53,10 +45,7 @@ returns-clause-lives g c =
     let does : DoesPump old new c.pump-pumped.result.taken told after = record {
       changed = refl;
       left = record { pumps = omega (arith, c.requires.may.left); rest = refl };
-      counts = c.requires.may.session.tree;
-      kept = c.tell.ensures.counts;
-      pumps = c.pump-pumped.ensures.pumps;
-      told_readers = c.tell.ensures.told;
+      pumped = c.pump-pumped.ensures.pumped;
       stored = c.store_all.ensures.stored;
     } in
-    (c.pump-pumped.ensures.pumps.entries, pumps-live p life old new c.pump-pumped.result.taken told after does stands, c.pump-pumped.ensures.pumps.taken_are)
+    pumps-live p life old new c.pump-pumped.result.taken told after does stands
