@@ -22,11 +22,11 @@ use Rattle.writer_group.specs.Turns.{settings_of, writer_past}
 use Rattle.session_model.specs.Steps.{Plan}
 use Rattle.session_model.specs.Sets.{metas_at}
 use Rattle.session_model.specs.Deeds.{Deed, deeds, group_past, log_at, writer_deeds}
-use Rattle.session_model.specs.Lives.{Lived, account_in, steps_in}
+use Rattle.session_model.specs.Lives.{Lived, account_in, log_in, steps_in}
 use Rattle.session_model.specs.Events.{events, reader_at}
 use Rattle.session_parts.specs.Standing.{HavePast}
 use Rattle.gateway_core.specs.declared.gateway.Gateway.{Gateway}
-use Rattle.session_model.proofs.Ticks.{log-few}
+use Rattle.session_model.proofs.Ticks.{log-few, log-few-in}
 use Rattle.gateway_core.specs.Lived.{GatewayStep, Collect, Pump, Tick, collects_in, first_kept, last_store, no_origin, plan_again, session_steps, version_by, versions_kept}
 use Rattle.gateway_core.specs.Holding.{IsGateway, KeepsAll, logged_of, sources_of}
 use Rattle.gateway_core.specs.Standing.{Stands}
@@ -86,6 +86,12 @@ writer-all second lived s g w keeps stands =
     let steps = session_steps (sources_of s) lived in
     let few = log-few (plan_again second) g w steps in let ticks = stands.session.ticks in omega (arith, few, ticks, keeps)
 
+-- in a life
+pub writer-all-in : (second : Config) (lived : List GatewayStep) (life : List Lived) (s : Gateway) (g w : ℕ) → KeepsAll s → StandsIn second lived life s
+    → length (log_in (plan_again second) life g w) ≤ logged_of s
+writer-all-in second lived life s g w keeps stands =
+    let few = log-few-in (plan_again second) g w life in let ticks = stands.session.parts.ticks in omega (arith, few, ticks, keeps)
+
 -- ---- versions
 
 -- no more are kept than were collected, and that of store 0
@@ -98,10 +104,9 @@ kept-few source (Tick ms closing done ∷ before) = kept-few source before
 kept-few source (Pump entries ∷ before) = kept-few source before
 
 -- so all are kept, where as many are as there are ticks
-pub versions-all : (second : Config) (lived : List GatewayStep) (s : Gateway) (source : ℕ) → KeepsAll s → Stands second lived s
+pub versions-all : (lived : List GatewayStep) (s : Gateway) (source : ℕ) → KeepsAll s → collects_in lived + s.left.collects ≤ s.left.turns
     → first_kept (logged_of s) (versions_kept source lived) ≡ versions_kept source lived
-versions-all second lived s source keeps stands =
-    first-all (logged_of s) (versions_kept source lived) (let few = kept-few source lived in let collects = stands.collects in omega (arith, few, collects, keeps))
+versions-all lived s source keeps collects = first-all (logged_of s) (versions_kept source lived) (let few = kept-few source lived in omega (arith, few, collects, keeps))
 
 -- ---- readers
 

@@ -15,7 +15,7 @@ ghost use Rattle.session_model.specs.Closing.{is_datagram, is_got, is_send_faile
 ghost use Rattle.session_model.specs.Counts.{most_taken};
 ghost use Rattle.session_model.specs.Deeds.{log_at, writer_deeds};
 ghost use Rattle.session_model.specs.Events.{reader_at};
-ghost use Rattle.session_model.specs.Lives.{Lived, account_in};
+ghost use Rattle.session_model.specs.Lives.{Lived, account_in, log_in};
 ghost use Rattle.session_model.specs.Sends.{journal};
 ghost use Rattle.session_model.specs.Steps.{Pump as SessionPump, Tick as SessionTick};
 ghost use Rattle.session_parts.specs.Showing.{IsReaderIn};
@@ -172,6 +172,9 @@ impl<'c> Gateway<'c> {
         ensures all { KeepsAll self.now → (second : ConfigValue) (lived : List GatewayStep)
             → Stands second lived self.now → length (log_at (plan_again second) group index
             (session_steps (sources_of self.now) lived)) ≤ logged_of self.now }
+        ensures all_lives { KeepsAll self.now → (second : ConfigValue) (lived : List GatewayStep)
+            (life : List Lived) → StandsIn second lived life self.now
+            → length (log_in (plan_again second) life group index) ≤ logged_of self.now }
     {
         self.round.publisher.groups[usize::from(group)].writer(index)
     }
@@ -231,6 +234,10 @@ impl<'c> Gateway<'c> {
             result ≡ version_in (first_kept (logged_of self.now) (versions_kept source lived)) store }
         ensures all { KeepsAll self.now → (second : ConfigValue) (lived : List GatewayStep)
             → Stands second lived self.now
+            → let source = slice_index_or (sources_of self.now) set 0 in
+            result ≡ version_in (versions_kept source lived) store }
+        ensures all_lives { KeepsAll self.now → (second : ConfigValue) (lived : List GatewayStep)
+            (life : List Lived) → StandsIn second lived life self.now
             → let source = slice_index_or (sources_of self.now) set 0 in
             result ≡ version_in (versions_kept source lived) store }
     {

@@ -35,7 +35,8 @@ use Rattle.reader_group.specs.Settings.{group_at as read_group_at, no_group as n
 use Rattle.session_model.specs.Steps.{Plan, Step}
 use Rattle.session_model.specs.Deeds.{deeds, group_indexes, logs_cut}
 use Rattle.session_model.specs.Events.{events, read_group_indexes, reader_at}
-use Rattle.session_model.specs.Lives.{Account, account_of}
+use Rattle.session_model.specs.Keeping.{AreStepsOf}
+use Rattle.session_model.specs.Lives.{Account, Lived, account_in, account_of, log_in, steps_in}
 use Rattle.session_model.specs.Closing.{IsClosedAfter, IsClosedWith, IsReaderEnd, IsWriterEndWith, MemberPlace, reader_places, writer_places}
 use Rattle.session_parts.specs.Showing.{link_of}
 use Rattle.session_parts.specs.Standing.{AreReceivesIn, AreSendsIn}
@@ -43,12 +44,12 @@ use Rattle.pubsub_engine.specs.declared.session.Session.{Session}
 use Rattle.pubsub_engine.specs.Authored.{AreHistories, AreInOrder, AreLooksAt, watches_in_bytes}
 use Rattle.pubsub_engine.specs.Holding.{IsSession, KeepsWholeLogs, logged_of, plan_of, ticks_of}
 use Rattle.pubsub_engine.specs.Standing.{Stands}
-use Rattle.pubsub_engine.specs.Living.{StandsAs}
+use Rattle.pubsub_engine.specs.Living.{StandsAs, StandsIn}
 use Rattle.pubsub_engine.specs.Logs.{log_after, log_by}
 use Rattle.pubsub_engine.specs.Ending.{HavePublished, HaveReceived}
-use Rattle.pubsub_engine.specs.LifeEnds.{HasVersion, IsClosedBy, IsToldBy, IsWriterEndBy, group_end_by, read_group_end_by, reader_in}
+use Rattle.pubsub_engine.specs.LifeEnds.{HasVersion, IsClosedBy, IsClosedIn, IsClosedWhole, IsToldBy, IsWriterEndBy, group_end_by, logs_in, read_group_end_by, reader_in}
 use Rattle.pubsub_engine.proofs.Lives.{as-stands}
-use Rattle.session_model.proofs.Ticks.{logs-whole}
+use Rattle.session_model.proofs.Ticks.{log-whole-in, logs-whole}
 use Rattle.pubsub_engine.proofs.ByPlace.{IsPlace, are-places, parts-by-place, writer-count}
 use Rattle.pubsub_engine.proofs.NowSets.{now-sets}
 use Rattle.pubsub_engine.proofs.Pairing.{pairs-length, pairs-map, pairs-weaker}
@@ -247,6 +248,14 @@ pub is-whole : (p : Plan) (steps : List Step) (s : Session) (closed : Closed) �
     → IsClosedAfter p steps closed
 is-whole p steps s closed keeps stands is =
     subst (λ (logs : ℕ → ℕ → List (ℕ × ℕ)). IsClosedWith logs p steps closed) (logs-whole (logged_of s) (ticks_of s) p steps stands.steps_are keeps) is
+
+-- in a life
+pub logs-lived : (p : Plan) (life : List Lived) (s : Session) → KeepsWholeLogs s → AreStepsOf (ticks_of s) p (steps_in life) → logs_in (logged_of s) p life ≡ log_in p life
+logs-lived p life s keeps are = λ i g w. log-whole-in (logged_of s) (ticks_of s) p life are keeps g w i
+
+pub is-whole-lived : (p : Plan) (life : List Lived) (s : Session) (closed : Closed) → KeepsWholeLogs s → StandsIn p life s → IsClosedIn (logged_of s) p life closed → IsClosedWhole p life closed
+is-whole-lived p life s closed keeps stands is =
+    subst (λ (logs : ℕ → ℕ → List (ℕ × ℕ)). IsClosedBy logs p (steps_in life) (account_in p life) closed) (logs-lived p life s keeps stands.steps_are) is
 
 pub is-closed-of : (steps : List Step) (a : Account) (s : Session) (dones : List Done) (sets : ℕ) (closed : Closed) → TellsParts s dones sets closed → IsSession s → StandsAs (plan_of s) steps a s
     → AreLooksAt (readers s.config.now) dones → IsClosedOf s.config.now closed

@@ -20,7 +20,7 @@ use Rattle.session_model.specs.Answers.{causes_by, counted, taken_by}
 use Rattle.session_model.specs.Closing.{MemberPlace, Shows, reader_places, writer_places}
 use Rattle.session_model.specs.Deeds.{group_indexes}
 use Rattle.session_model.specs.Events.{read_group_indexes}
-use Rattle.session_model.specs.Lives.{Account, Lived, account_in, state_by, steps_in}
+use Rattle.session_model.specs.Lives.{Account, Lived, account_in, log_in, state_by, steps_in}
 use Rattle.session_parts.specs.Showing.{link_of}
 use Rattle.pubsub_engine.specs.Logs.{log_after, log_by}
 
@@ -74,3 +74,7 @@ logs_in most p life = log_after most p.config (account_in p life).deeds
 -- in a life
 abbrev pub IsClosedIn : ℕ → Plan → List Lived → Closed → Type 0
 IsClosedIn most p life closed = IsClosedBy (logs_in most p life) p (steps_in life) (account_in p life) closed
+
+-- with all data frames of each writer
+abbrev pub IsClosedWhole : Plan → List Lived → Closed → Type 0
+IsClosedWhole p life closed = IsClosedBy (log_in p life) p (steps_in life) (account_in p life) closed

@@ -8,7 +8,7 @@ ghost use Rattle.session_model.specs.Lives.{Lived};
 ghost use Rattle.pubsub_engine.specs.Holding.{IsSession, KeepsWholeLogs, logged_of, passes_of, plan_of};
 ghost use Rattle.pubsub_engine.specs.Standing.{Stands};
 ghost use Rattle.pubsub_engine.specs.Living.{StandsIn};
-ghost use Rattle.pubsub_engine.specs.LifeEnds.{IsClosedIn};
+ghost use Rattle.pubsub_engine.specs.LifeEnds.{IsClosedIn, IsClosedWhole};
 ghost use Rattle.pubsub_engine.specs.Authored.{AreHistories, AreInOrder, AreLooksAt, HasThreads, IsAuthored, byte_of, filled, watch_of, watches_in_bytes, watches_of};
 ghost use Rattle.app_threads.specs.Items.{versions_in};
 ghost use Rattle.ps_config.specs.Sound.{readers};
@@ -43,6 +43,8 @@ impl Session<'_> {
             → AreLooksAt (readers (plan_of self.entry).config) dones.now → IsClosedOf (plan_of self.entry).config closed) }
         ensures lives { (p : Plan) (life : List Lived) → StandsIn p life self.entry
             → IfOk result (IsClosedIn (logged_of self.entry) p life) }
+        ensures whole_lives { KeepsWholeLogs self.entry → (p : Plan) (life : List Lived)
+            → StandsIn p life self.entry → IfOk result (IsClosedWhole p life) }
         ensures of_lives { IfOk result (λ closed. (life : List Lived)
             → StandsIn (plan_of self.entry) life self.entry
             → AreLooksAt (readers (plan_of self.entry).config) dones.now → IsClosedOf (plan_of self.entry).config closed) }
@@ -52,7 +54,12 @@ impl Session<'_> {
         let histories = histories(alloc, &self.samples, sets, dones)?;
         let groups = group_ends(alloc, self.config, &self.round.tree, &self.round.publisher)?;
         let writers = writer_ends(alloc, self.config, &self.round.tree, &self.round.publisher)?;
-        let read_groups = read_group_ends(alloc, self.config, &self.round.tree, &self.round.subscriber)?;
+        let read_groups = read_group_ends(
+            alloc,
+            self.config,
+            &self.round.tree,
+            &self.round.subscriber,
+        )?;
         let readers = reader_ends(
             alloc,
             self.config,

@@ -12,7 +12,7 @@ ghost use Rattle.session_model.specs.Counts.{most_taken};
 ghost use Rattle.session_model.specs.Closing.{MemberPlace, is_datagram, reader_places};
 ghost use Rattle.session_model.specs.Deeds.{logs_cut};
 ghost use Rattle.pubsub_engine.specs.Holding.{AddsOneAtMost, AreTargetsOf, ChangesSamples, ChangesStores, CountsPump, CountsTick, IsBankOf, IsRunning, IsSession, KeepsPasses, KeepsWholeLogs, MayAppendNext, MayPump, MayTick, appends_left, keeper_of, left_of, logged_of, passes_of, plan_of};
-ghost use Rattle.session_model.specs.Lives.{Lived, Stepped, account_in};
+ghost use Rattle.session_model.specs.Lives.{Lived, Stepped, account_in, log_in};
 ghost use Rattle.pubsub_engine.specs.LifeEnds.{logs_in};
 ghost use Rattle.pubsub_engine.specs.Living.{KeepsLife, LeadsIn, StandsIn};
 ghost use Rattle.pubsub_engine.specs.Standing.{IsOriginFrom, IsOriginWith, IsOriginOf, KeepsStands, Leads, Stands, sampled_by, samples_of};
@@ -233,6 +233,9 @@ impl<'c> Session<'c> {
             → slice_get (reader_places p.config) reader ≡ Some place
             → IsOriginFrom (logs_in (logged_of self.now) p life) p place
             ((account_in p life).stores place.0 place.1) result }
+        ensures whole_lives { KeepsWholeLogs self.now → (p : Plan) (life : List Lived) (place : MemberPlace)
+            → StandsIn p life self.now → slice_get (reader_places p.config) reader ≡ Some place
+            → IsOriginFrom (log_in p life) p place ((account_in p life).stores place.0 place.1) result }
     {
         self.stores
             .origin(self.config, &self.round.publisher, reader)

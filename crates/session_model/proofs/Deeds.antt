@@ -9,7 +9,7 @@ use Rattle.pubsub_states.specs.declared.component.Component.TheVariants.{Group}
 use Rattle.writer_group.specs.declared.sampled.Sampled.{Sampled}
 use Rattle.writer_group.specs.Turns.{GroupDeed, RefreshedWriter}
 use Rattle.session_model.specs.Steps.{Plan, Step}
-use Rattle.session_model.specs.Turns.{HoldsTurn, HoldsIfTurned, deeds_before}
+use Rattle.session_model.specs.Turns.{HoldsTurn, HoldsIfTurned, deeds_before, deeds_till}
 use Rattle.session_model.specs.Deeds.{Deed, RefreshedBelow, CameTo, TookTurn, group_past, group_indexes, turn_input, is_rekeyed, rekeyed, has_turn, turn_of, turned_on, tick_deeds, deeds, refreshed_where}
 use Rattle.writer_group.specs.Parts.{group_at}
 
@@ -79,11 +79,16 @@ fold-end : {X : Type 0} (f : X → ℕ → X) (x : X) (ks : List ℕ) (k : ℕ) 
 fold-end f x [] k = refl
 fold-end f x (j ∷ ks) k = fold-end f (f x j) ks k
 
+-- the next group's turn, whatever was done before the tick
+pub next-till : (p : Plan) (before : List Step) (now : ℕ) (closing : Bool) (samples : List Sampled) (earlier : List Deed) (g : ℕ)
+    → deeds_till p before now closing samples earlier (suc g) ≡ turned_on p before now closing samples (deeds_till p before now closing samples earlier g) g
+next-till p before now closing samples earlier g =
+    ap (fold (turned_on p before now closing samples) (rekeyed p.config now earlier)) (range-end 0 g ∙ ap (λ (k : ℕ). range_with_len 0 g ++ k ∷ []) (omega arith))
+    ∙ fold-end (turned_on p before now closing samples) (rekeyed p.config now earlier) (range_with_len 0 g) g
+
 pub next-turned : (p : Plan) (before : List Step) (now : ℕ) (closing : Bool) (samples : List Sampled) (g : ℕ)
     → deeds_before p before now closing samples (suc g) ≡ turned_on p before now closing samples (deeds_before p before now closing samples g) g
-next-turned p before now closing samples g =
-    ap (fold (turned_on p before now closing samples) (rekeyed p.config now (deeds p before))) (range-end 0 g ∙ ap (λ (k : ℕ). range_with_len 0 g ++ k ∷ []) (omega arith))
-    ∙ fold-end (turned_on p before now closing samples) (rekeyed p.config now (deeds p before)) (range_with_len 0 g) g
+next-turned p before now closing samples g = next-till p before now closing samples (deeds p before) g
 
 hold-to : (p : Plan) (before : List Step) (now : ℕ) (closing : Bool) (samples : List Sampled) (P : List Deed → Type 0) → TickHolds p before now closing samples P → HoldsTick p before now closing samples → (g : ℕ) → g ≤ length p.config.group
     → P (rekeyed p.config now (deeds p before)) → P (deeds_before p before now closing samples g)

@@ -6,8 +6,9 @@ use Rattle.std.proofs.lemmas.Bool.Decides.{nat_tests}
 use Rattle.std.proofs.lemmas.List.{take_all}
 use Rattle.dataset_meta.specs.Rows.{cons_if}
 use Rattle.pubsub_model.specs.Frames.{PlacedFrame, Whole, Change, Alive}
-use Rattle.pubsub_model.specs.Cadence.{Settings, WriterTurn, WriterDeed, Refreshed, HadTurn, cadence, answer, is_fresh, next_place}
+use Rattle.pubsub_model.specs.Cadence.{Settings, WriterTurn, WriterDeed, Refreshed, HadTurn, cadence, answer, is_fresh, log_of, next_place}
 use Rattle.pubsub_model.proofs.CadenceLaws.{length-log_of}
+use Rattle.group_keys.specs.declared.key_set.KeySet.{KeySet}
 use Rattle.ps_config.specs.declared.parts.Config.{Config}
 use Rattle.pubsub_states.specs.declared.component.Component.{Component}
 use Rattle.pubsub_states.specs.declared.component.Component.TheVariants.{Group}
@@ -16,13 +17,14 @@ use Rattle.dataset_writer.specs.Turns.{model_settings}
 use Rattle.writer_group.specs.Payloads.{writer_at}
 use Rattle.writer_group.specs.Turns.{GroupDeed, GroupTurn, HadGroupTurn, settings_of, took_by, writer_past}
 use Rattle.session_model.specs.Steps.{Plan, Step, Enable, Disable, Append, Tick, Pump, moment_of}
-use Rattle.session_model.specs.Deeds.{Deed, RefreshedBelow, RefreshedSet, CameTo, TookTurn, deeds, component_at, group_past, group_indexes, writer_indexes, refreshed_where, is_writer_below, is_writer_of, is_rekeyed, rekeyed, has_turn, turn_of, log_at, logs_at, logs_cut, tick_deeds, writer_deeds}
+use Rattle.session_model.specs.Deeds.{Deed, RefreshedBelow, RefreshedSet, RenewedKeys, CameTo, TookTurn, deeds, component_at, group_past, group_indexes, writer_indexes, refreshed_where, is_writer_below, is_writer_of, is_rekeyed, rekeyed, has_turn, turn_of, log_at, logs_at, logs_cut, tick_deeds}
 use Rattle.writer_group.specs.Parts.{group_at}
-use Rattle.session_model.specs.Turns.{deeds_before}
+use Rattle.session_model.specs.Turns.{deeds_till}
 use Rattle.session_model.specs.Counts.{ticks_in}
+use Rattle.session_model.specs.Lives.{Lived, Renewed, Stepped, account_in, log_in, steps_in}
 use Rattle.session_model.specs.Keeping.{AreStepsOf}
 use Rattle.session_model.proofs.Lasting.{ticks-few}
-use Rattle.session_model.proofs.Deeds.{next-turned, refreshed-keeps}
+use Rattle.session_model.proofs.Deeds.{next-till, refreshed-keeps}
 use Rattle.pubsub_model.proofs.AnswerPlaces.{next-count}
 use Rattle.pubsub_model.specs.Answers.{places_used}
 
@@ -104,19 +106,25 @@ most-wider : (config : Config) (g w less more : ℕ) (deeds : List Deed) → les
 unfolding AtMost
 most-wider config g w less more deeds le h = omega (arith, le, h)
 
-most-to : (p : Plan) (before : List Step) (now : ℕ) (closing : Bool) (samples : List Sampled) (g w most k : ℕ) → AtMost p.config g w most (rekeyed p.config now (deeds p before)) → AtMost p.config g w (so_many most g k) (deeds_before p before now closing samples k)
-most-to p before now closing samples g w most zero h = most-wider p.config g w most (so_many most g 0) (deeds_before p before now closing samples 0) (omega arith) h
-most-to p before now closing samples g w most (suc k) h =
-    let earlier = deeds_before p before now closing samples k in
-    subst (AtMost p.config g w (so_many most g (suc k))) (sym (next-turned p before now closing samples k))
-    (most-wider p.config g w (so_many most g k + (if k == g then 1 else 0)) (so_many most g (suc k)) (cons_if (has_turn p before now closing earlier k) (TookTurn k (turn_of p before now closing samples earlier k)) earlier) (step-many most g k (k == g) refl)
-    (own-most p.config g w (so_many most g k) k (k == g) (has_turn p before now closing earlier k) (turn_of p before now closing samples earlier k) earlier refl (most-to p before now closing samples g w most k h)))
+most-to : (p : Plan) (before : List Step) (now : ℕ) (closing : Bool) (samples : List Sampled) (earlier : List Deed) (g w most k : ℕ) → AtMost p.config g w most (rekeyed p.config now earlier)
+    → AtMost p.config g w (so_many most g k) (deeds_till p before now closing samples earlier k)
+most-to p before now closing samples earlier g w most zero h = most-wider p.config g w most (so_many most g 0) (deeds_till p before now closing samples earlier 0) (omega arith) h
+most-to p before now closing samples earlier g w most (suc k) h =
+    let so_far = deeds_till p before now closing samples earlier k in
+    subst (AtMost p.config g w (so_many most g (suc k))) (sym (next-till p before now closing samples earlier k))
+    (most-wider p.config g w (so_many most g k + (if k == g then 1 else 0)) (so_many most g (suc k)) (cons_if (has_turn p before now closing so_far k) (TookTurn k (turn_of p before now closing samples so_far k)) so_far) (step-many most g k (k == g) refl)
+    (own-most p.config g w (so_many most g k) k (k == g) (has_turn p before now closing so_far k) (turn_of p before now closing samples so_far k) so_far refl (most-to p before now closing samples earlier g w most k h)))
 
-most-tick : (p : Plan) (before : List Step) (now : ℕ) (closing : Bool) (samples : List Sampled) (g w most : ℕ) → AtMost p.config g w most (deeds p before) → AtMost p.config g w (most + 1) (tick_deeds p before now closing samples (deeds p before))
-most-tick p before now closing samples g w most h =
-    most-wider p.config g w (so_many most g (length p.config.group)) (most + 1) (tick_deeds p before now closing samples (deeds p before)) (grind (arith, nat_tests))
-    (most-to p before now closing samples g w most (length p.config.group)
-    (most-rekeyed p.config now (deeds p before) g w most (group_indexes p.config) (CameTo now ∷ deeds p before) (most-came p.config now g w most (deeds p before) h)))
+most-tick : (p : Plan) (before : List Step) (now : ℕ) (closing : Bool) (samples : List Sampled) (earlier : List Deed) (g w most : ℕ) → AtMost p.config g w most earlier
+    → AtMost p.config g w (most + 1) (tick_deeds p before now closing samples earlier)
+most-tick p before now closing samples earlier g w most h =
+    most-wider p.config g w (so_many most g (length p.config.group)) (most + 1) (tick_deeds p before now closing samples earlier) (grind (arith, nat_tests))
+    (most-to p before now closing samples earlier g w most (length p.config.group)
+    (most-rekeyed p.config now earlier g w most (group_indexes p.config) (CameTo now ∷ earlier) (most-came p.config now g w most earlier h)))
+
+most-renewed : (config : Config) (k : ℕ) (sets : List KeySet) (g w most : ℕ) (earlier : List Deed) → AtMost config g w most earlier → AtMost config g w most (RenewedKeys k sets ∷ earlier)
+unfolding AtMost
+most-renewed config k sets g w most earlier h = h
 
 most-none : (config : Config) (g w : ℕ) → AtMost config g w 0 []
 unfolding AtMost had
@@ -127,20 +135,38 @@ most-at p g w [] = most-none p.config g w
 most-at p g w (Enable id ∷ before) = most-below p.config (component_at p.config id) g w (ticks_in before) (deeds p before) (most-at p g w before)
 most-at p g w (Disable id ∷ before) = most-at p g w before
 most-at p g w (Append set field ∷ before) = most-set p.config set g w (ticks_in before) (deeds p before) (most-at p g w before)
-most-at p g w (Tick ms closing samples done ∷ before) = most-tick p before (moment_of before + ms) closing samples g w (ticks_in before) (most-at p g w before)
+most-at p g w (Tick ms closing samples done ∷ before) = most-tick p before (moment_of before + ms) closing samples (deeds p before) g w (ticks_in before) (most-at p g w before)
 most-at p g w (Pump entries ∷ before) = most-at p g w before
+
+-- in a life
+most-in : (p : Plan) (g w : ℕ) (life : List Lived) → AtMost p.config g w (ticks_in (steps_in life)) (account_in p life).deeds
+most-in p g w [] = most-none p.config g w
+most-in p g w (Stepped (Enable id) ∷ before) = most-below p.config (component_at p.config id) g w (ticks_in (steps_in before)) (account_in p before).deeds (most-in p g w before)
+most-in p g w (Stepped (Disable id) ∷ before) = most-in p g w before
+most-in p g w (Stepped (Append set field) ∷ before) = most-set p.config set g w (ticks_in (steps_in before)) (account_in p before).deeds (most-in p g w before)
+most-in p g w (Stepped (Tick ms closing samples done) ∷ before) =
+    most-tick p (steps_in before) (moment_of (steps_in before) + ms) closing samples (account_in p before).deeds g w (ticks_in (steps_in before)) (most-in p g w before)
+most-in p g w (Stepped (Pump entries) ∷ before) = most-in p g w before
+most-in p g w (Renewed k sets ∷ before) = most-renewed p.config k sets g w (ticks_in (steps_in before)) (account_in p before).deeds (most-in p g w before)
 
 most-use : (config : Config) (g w most : ℕ) (deeds : List Deed) → AtMost config g w most deeds → had (writer_past w (group_past config g deeds)) ≤ most
 unfolding AtMost
 most-use config g w most deeds h = h
 
+few-of : (config : Config) (g w most : ℕ) (deeds : List Deed) → AtMost config g w most deeds
+    → length (log_of (model_settings (settings_of (writer_at (group_at config g) w))) (writer_past w (group_past config g deeds))) ≤ most
+few-of config g w most deeds h =
+    let s = model_settings (settings_of (writer_at (group_at config g) w)) in
+    let past = writer_past w (group_past config g deeds) in
+    let count = length-log_of s past in let next = next-had s past in let turns = most-use config g w most deeds h in omega (arith, count, next, turns)
+
 -- a log is no longer than there were ticks
 pub log-few : (p : Plan) (g w : ℕ) (steps : List Step) → length (log_at p g w steps) ≤ ticks_in steps
-log-few p g w steps =
-    let s = model_settings (settings_of (writer_at (group_at p.config g) w)) in
-    let past = writer_deeds p g w steps in
-    let count = length-log_of s past in let next = next-had s past in let most = most-use p.config g w (ticks_in steps) (deeds p steps) (most-at p g w steps) in
-    omega (arith, count, next, most)
+log-few p g w steps = few-of p.config g w (ticks_in steps) (deeds p steps) (most-at p g w steps)
+
+-- nor in a life
+pub log-few-in : (p : Plan) (g w : ℕ) (life : List Lived) → length (log_in p life g w) ≤ ticks_in (steps_in life)
+log-few-in p g w life = few-of p.config g w (ticks_in (steps_in life)) (account_in p life).deeds (most-in p g w life)
 
 -- logs that keep more data frames than ticks may come, the closing one aside, keep all
 pub logs-whole : (most ticks : ℕ) (p : Plan) (steps : List Step) → AreStepsOf ticks p steps → ticks < most → logs_cut most p steps ≡ logs_at p steps
@@ -151,3 +177,10 @@ logs-whole most ticks p steps are less = λ i g w. whole g w i
         let few : length (log_at p g w steps) ≤ ticks_in steps = log-few p g w steps in
         let came : ticks_in steps ≤ ticks + 1 = ticks-few ticks p steps are in
         take_all most (log_at p g w steps) (omega (arith, few, came, less))
+
+-- so do they in a life
+pub log-whole-in : (most ticks : ℕ) (p : Plan) (life : List Lived) → AreStepsOf ticks p (steps_in life) → ticks < most → (g w : ℕ) → take most (log_in p life g w) ≡ log_in p life g w
+log-whole-in most ticks p life are less g w =
+    let few : length (log_in p life g w) ≤ ticks_in (steps_in life) = log-few-in p g w life in
+    let came : ticks_in (steps_in life) ≤ ticks + 1 = ticks-few ticks p (steps_in life) are in
+    take_all most (log_in p life g w) (omega (arith, few, came, less))

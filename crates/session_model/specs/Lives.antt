@@ -1,6 +1,11 @@
 -- What a session lives through where rings renew its keys, the latest first, and what becomes of it: as after steps alone, but that a key group's sender
 -- and the read groups that share its keys go on with those of its last ring.
 use Rattle.std.specs.Prelude.{◌≡◌, ◌<◌, ⊤, ℕ, ◌+◌, List, [], ◌∷◌, ◌++◌, length, map, zip, count_by, Bool, true, false, ◌||◌}
+use Rattle.pubsub_model.specs.Cadence.{log_of}
+use Rattle.dataset_writer.specs.Turns.{model_settings}
+use Rattle.writer_group.specs.Parts.{group_at as write_group_at}
+use Rattle.writer_group.specs.Payloads.{writer_at}
+use Rattle.writer_group.specs.Turns.{settings_of, writer_past}
 use Rattle.group_keys.specs.declared.key_set.KeySet.{KeySet}
 use Rattle.message_guard.specs.Protection.{keys_in}
 use Rattle.ua_base.specs.Journal.{Entry}
@@ -15,7 +20,7 @@ use Rattle.pubsub_states.specs.declared.flags.Flags.{Flags}
 use Rattle.pubsub_states.specs.declared.state.State.{State}
 use Rattle.pubsub_states.specs.States.{state_of}
 use Rattle.session_model.specs.Steps.{Plan, Step, Enable, Disable, Append, Tick, Pump, is_on, moment_of}
-use Rattle.session_model.specs.Deeds.{Deed, RefreshedBelow, RefreshedSet, RenewedKeys, component_at, deeds, is_spent, tick_deeds}
+use Rattle.session_model.specs.Deeds.{Deed, RefreshedBelow, RefreshedSet, RenewedKeys, component_at, deeds, group_past, is_spent, tick_deeds}
 use Rattle.session_model.specs.Turns.{HoldsIfTurned, deeds_till}
 use Rattle.session_model.specs.Sends.{IsPump, is_done_by, is_failing, journal, last_failed, last_sends, send_entries, sent_by}
 use Rattle.session_model.specs.Events.{got_all, stopped_below}
@@ -106,6 +111,11 @@ abbrev pub account_in : Plan → List Lived → Account
 account_in p [] = account_of p []
 account_in p (Stepped step ∷ before) = stepped p (steps_in before) (account_in p before) step
 account_in p (Renewed keygroup sets ∷ before) = renewed p.config keygroup sets (account_in p before)
+
+-- what the writer logged in a life: the place and the version of each of its data frames
+abbrev pub log_in : Plan → List Lived → ℕ → ℕ → List (ℕ × ℕ)
+log_in p life g w =
+    log_of (model_settings (settings_of (writer_at (write_group_at p.config g) w))) (writer_past w (group_past p.config g (account_in p life).deeds))
 
 -- ---- what each step keeps to
 

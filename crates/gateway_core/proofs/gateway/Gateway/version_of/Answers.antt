@@ -27,4 +27,10 @@ pub returns-clause-all : goal.returns-clause-all
 returns-clause-all c = λ keeps second lived stands.
     let s = c.args.self.now in
     returns-clause-first c second lived stands
-    ∙ ap (λ (l : List StoreVersion). version_in l c.args.store) (versions-all second lived s (get_or (sources_of s) c.args.set 0) keeps stands)
+    ∙ ap (λ (l : List StoreVersion). version_in l c.args.store) (versions-all lived s (get_or (sources_of s) c.args.set 0) keeps stands.collects)
+
+pub returns-clause-all_lives : goal.returns-clause-all_lives
+returns-clause-all_lives c = λ keeps second lived life stands.
+    let s = c.args.self.now in
+    returns-clause-lives c second lived life stands
+    ∙ ap (λ (l : List StoreVersion). version_in l c.args.store) (versions-all lived s (get_or (sources_of s) c.args.set 0) keeps stands.collects)

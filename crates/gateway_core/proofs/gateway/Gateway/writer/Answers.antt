@@ -1,5 +1,5 @@
 use Rattle.std.proofs.Common.{ap, ◌∙◌, ℕ, get_or}
-use Rattle.gateway_core.proofs.Members.{writer-all, writer-lived, writer-lives, writer-logged, writer-there}
+use Rattle.gateway_core.proofs.Members.{writer-all, writer-all-in, writer-lived, writer-lives, writer-logged, writer-there}
 use Rattle.gateway_core.proofs.gateway.Gateway.writer.Goals as goal
 
 pub writer-requires : goal.writer-requires
@@ -23,4 +23,5 @@ returns c =
       logged = writer-logged s c.args.group group c.writer.result.now c.requires.gateway c.requires.group
           (c.index.ensures ∙ ap (λ (n : ℕ). get_or s.round.publisher.groups.items n group) c.from.ensures) c.writer.ensures.logs;
       all = λ keeps second lived stands. writer-all second lived s c.args.group c.args.index keeps stands;
+      all_lives = λ keeps second lived life stands. writer-all-in second lived life s c.args.group c.args.index keeps stands;
     }

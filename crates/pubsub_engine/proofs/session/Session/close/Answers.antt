@@ -12,7 +12,7 @@ use Rattle.pubsub_engine.specs.LifeEnds.{IsToldBy, IsWriterEndBy}
 use Rattle.pubsub_engine.specs.Logs.{log_after}
 use Rattle.pubsub_engine.proofs.Lives.{as-stands}
 use Rattle.pubsub_engine.proofs.Watched.{same-watches}
-use Rattle.pubsub_engine.proofs.Whole.{TellsParts, closed-by, few-sets, is-closed, is-closed-of, is-whole, passes-count}
+use Rattle.pubsub_engine.proofs.Whole.{TellsParts, closed-by, few-sets, is-closed, is-closed-of, is-whole, is-whole-lived, passes-count}
 use Rattle.pubsub_engine.proofs.session.Session.close.Goals as goal
 
 pub overflow_cast-sets : goal.overflow_cast-sets
@@ -58,5 +58,7 @@ returns c =
       watches = λ order. tells.watches ∙ same-watches dones order;
       of = λ steps stands looks. is-closed-of steps (account_of (plan_of s) steps) s dones sets closed tells c.requires.session (as-stands (plan_of s) steps s stands) looks;
       lives = λ p life stands. closed-by p (steps_in life) (account_in p life) s dones sets closed tells c.requires.session stands.parts;
+      whole_lives = λ keeps p life stands.
+          is-whole-lived p life s closed keeps stands (closed-by p (steps_in life) (account_in p life) s dones sets closed tells c.requires.session stands.parts);
       of_lives = λ life stands looks. is-closed-of (steps_in life) (account_in (plan_of s) life) s dones sets closed tells c.requires.session stands.parts looks;
     }

@@ -6,7 +6,8 @@ use Rattle.session_model.specs.Lives.{account_in, steps_in}
 use Rattle.session_model.specs.Stores.{stores}
 use Rattle.session_model.proofs.Ticks.{logs-whole}
 use Rattle.pubsub_engine.specs.Holding.{logged_of, ticks_of}
-use Rattle.pubsub_engine.specs.Standing.{IsOriginWith}
+use Rattle.pubsub_engine.specs.Standing.{IsOriginFrom, IsOriginWith}
+use Rattle.pubsub_engine.proofs.Whole.{logs-lived}
 use Rattle.pubsub_engine.proofs.session.Session.origin.Goals as goal
 
 pub returns : goal.returns
@@ -23,4 +24,8 @@ returns c =
       lives = λ p life place stands at.
           c.origin.ensures (logged_of s) p (metas_at p.config (steps_in life)) (account_in p life).deeds (λ it. (account_in p life).stores it.0 it.1) place
           (sym (ap (λ (plan : Plan). plan.config) stands.parts.plan)) c.requires.session.logged stands.parts.round.groups stands.parts.stores_are at;
+      whole_lives = λ keeps p life place stands at.
+          subst (λ (logs : ℕ → ℕ → List (ℕ × ℕ)). IsOriginFrom logs p place ((account_in p life).stores place.0 place.1) c.origin.result) (logs-lived p life s keeps stands.steps_are)
+          (c.origin.ensures (logged_of s) p (metas_at p.config (steps_in life)) (account_in p life).deeds (λ it. (account_in p life).stores it.0 it.1) place
+          (sym (ap (λ (plan : Plan). plan.config) stands.parts.plan)) c.requires.session.logged stands.parts.round.groups stands.parts.stores_are at);
     }
