@@ -4,8 +4,8 @@
 // usage: device CONFIG PORT PEER-PORT SECONDS     (both ports of 127.0.0.1)
 //
 // A configuration with a key group has one, with one key: the numbers used under its token are kept in CONFIG.used (docs/KEYS.md).
-// example_publisher keeps the same file, and either program goes on behind the other. Two at a time mustn't: CONFIG.used.lock keeps a
-// second device away, and example_publisher has to find PORT, which is the one in its configuration, taken.
+// example_publisher keeps the same file, and either program goes on behind the other. No two may run at once: CONFIG.used.lock keeps a
+// second device away, and where PORT is that of the configuration, example_publisher finds it taken.
 #define _POSIX_C_SOURCE 200809L
 #include "uapubsub.h"
 #include <arpa/inet.h>
@@ -79,8 +79,7 @@ static uint64_t milliseconds_since(const struct timespec *begun) {
 static uint32_t number_of(const char *word, long most) {
     char *rest;
     long number = strtol(word, &rest, 10);
-    if (word[0] < '0' || word[0] > '9' || *rest != '\0' || number < 1 || number > most)
-        fail(USAGE);
+    if (word[0] < '0' || word[0] > '9' || *rest != '\0' || number < 1 || number > most) fail(USAGE);
     return (uint32_t)number;
 }
 
@@ -246,7 +245,7 @@ static void publish(struct device *device, uint64_t now) {
     }
     if (status != UAP_NONE && status != UAP_SPENT) fail("cannot publish");
     if (status == UAP_SPENT && !device->spent) fprintf(stderr, "device: the token has no numbers left: give the key group a later one\n");
-    device->spent = status == UAP_SPENT;
+    if (status == UAP_SPENT) device->spent = true;
 }
 
 // ---- subscribing
@@ -320,7 +319,7 @@ int main(int count, char **words) {
     setvbuf(stdout, NULL, _IOLBF, 0);
     clock_gettime(CLOCK_MONOTONIC, &device.begun);
     run(&device, (uint64_t)seconds * 1000);
-    printf("sent %lu, failed %lu, taken %lu, unreadable %lu, not ours %lu, refused %lu (last for %" PRIu32 ")\n", counts->sent, counts->failed,
+    printf("sent %lu, failed %lu, taken %lu, unreadable %lu, not ours %lu, refused %lu (last reason %" PRIu32 ")\n", counts->sent, counts->failed,
            counts->taken, counts->unreadable, counts->others, counts->refused, counts->last_refusal);
     uap_close(&device.publisher);
     uap_close(&device.subscriber);
