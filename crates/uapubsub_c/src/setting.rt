@@ -1,10 +1,10 @@
 //! Setting fields.
-ghost use Rattle.std.specs.Prelude.{◌≡◌, ◌≢◌, IsErr};
+ghost use Rattle.std.specs.Prelude.{◌≡◌, ◌≢◌, [], ◌∷◌, IsErr};
 ghost use Rattle.ua_values.specs.Blobs.{blob_of};
 ghost use Rattle.ua_values.specs.Texts.{text_of};
 ghost use Rattle.device_sides.specs.Sides.{HasSetStatus};
 ghost use Rattle.uapubsub_c.specs.Getting.{IsSubscriberSide, PublisherIs, PublisherMoves};
-ghost use Rattle.uapubsub_c.specs.Handles.{HasBytesIn, HasScalarIn, HasSetIn, HasTextIn, IsReady, IsSound, Leaves, Tells};
+ghost use Rattle.uapubsub_c.specs.Handles.{HasBytesIn, HasScalarIn, HasSetIn, HasTextIn, IsOneOf, IsReady, IsSound, Leaves, Tells};
 ghost use Rattle.uapubsub_c.specs.Setting.{IsBytesMisfit, IsCodeMisfit, IsScalarMisfit, IsTextMisfit, IsValueMisfit, SetsNoField};
 
 use crate::guid::GuidBytes;
@@ -30,6 +30,7 @@ pub extern "C" fn uapubsub_set_scalar(
     word: u64,
 ) -> u32
     requires { IsReady handle.old }
+    ensures answers { IsOneOf (CLOSED ∷ OK ∷ MISFIT ∷ INDEX ∷ OTHER_SIDE ∷ []) result }
     ensures ready { IsReady handle.new }
     ensures set { result ≡ OK → Leaves handle.old handle.new (HasScalarIn set field kind word) }
     ensures misfit { result ≡ MISFIT
@@ -48,6 +49,7 @@ pub extern "C" fn uapubsub_set_scalar(
 
 fn set_scalar_in(kept: &mut Kept, set: u8, field: u8, kind: u32, word: u64) -> u32
     requires { IsSound kept.old }
+    ensures answers { IsOneOf (OK ∷ MISFIT ∷ INDEX ∷ OTHER_SIDE ∷ []) result }
     ensures sound { IsSound kept.new }
     ensures set { result ≡ OK → HasScalarIn set field kind word kept.old kept.new }
     ensures misfit { result ≡ MISFIT
@@ -82,6 +84,7 @@ pub extern "C" fn uapubsub_set_text(
     text: &[u8],
 ) -> u32
     requires { IsReady handle.old }
+    ensures answers { IsOneOf (BAD_TEXT ∷ CLOSED ∷ OK ∷ MISFIT ∷ INDEX ∷ OTHER_SIDE ∷ []) result }
     ensures ready { IsReady handle.new }
     ensures set { result ≡ OK → Leaves handle.old handle.new (HasTextIn set field text.now) }
     ensures misfit { result ≡ MISFIT
@@ -107,6 +110,7 @@ pub extern "C" fn uapubsub_set_bytes(
     bytes: &[u8],
 ) -> u32
     requires { IsReady handle.old }
+    ensures answers { IsOneOf (BAD_TEXT ∷ CLOSED ∷ OK ∷ MISFIT ∷ INDEX ∷ OTHER_SIDE ∷ []) result }
     ensures ready { IsReady handle.new }
     ensures set { result ≡ OK → Leaves handle.old handle.new (HasBytesIn set field bytes.now) }
     ensures misfit { result ≡ MISFIT
@@ -132,6 +136,7 @@ pub extern "C" fn uapubsub_set_guid(
     guid: &GuidBytes,
 ) -> u32
     requires { IsReady handle.old }
+    ensures answers { IsOneOf (CLOSED ∷ OK ∷ MISFIT ∷ INDEX ∷ OTHER_SIDE ∷ []) result }
     ensures ready { IsReady handle.new }
     ensures set { result ≡ OK
         → Leaves handle.old handle.new (HasSetIn set field (Value.Guid guid.now.bytes) 0) }
@@ -154,6 +159,7 @@ pub extern "C" fn uapubsub_set_field_status(
     status: u32,
 ) -> u32
     requires { IsReady handle.old }
+    ensures answers { IsOneOf (CLOSED ∷ OK ∷ MISFIT ∷ INDEX ∷ OTHER_SIDE ∷ []) result }
     ensures ready { IsReady handle.new }
     ensures set { result ≡ OK
         → Leaves handle.old handle.new (PublisherMoves (HasSetStatus set field status)) }
@@ -173,6 +179,7 @@ pub extern "C" fn uapubsub_set_field_status(
 
 fn set_status_in(kept: &mut Kept, set: u8, field: u8, status: u32) -> u32
     requires { IsSound kept.old }
+    ensures answers { IsOneOf (OK ∷ MISFIT ∷ INDEX ∷ OTHER_SIDE ∷ []) result }
     ensures sound { IsSound kept.new }
     ensures set { result ≡ OK → PublisherMoves (HasSetStatus set field status) kept.old kept.new }
     ensures misfit { result ≡ MISFIT → PublisherIs (IsCodeMisfit set field status) kept.old }
@@ -196,6 +203,7 @@ fn set_status_in(kept: &mut Kept, set: u8, field: u8, status: u32) -> u32
 /// Sets a field of the handle's publisher, Good.
 fn set_field(alloc: Global, handle: &mut Handle, set: u8, field: u8, value: &Value) -> u32
     requires { IsReady handle.old }
+    ensures answers { IsOneOf (CLOSED ∷ OK ∷ MISFIT ∷ INDEX ∷ OTHER_SIDE ∷ []) result }
     ensures ready { IsReady handle.new }
     ensures set { result ≡ OK → Leaves handle.old handle.new (HasSetIn set field value.now 0) }
     ensures misfit { result ≡ MISFIT
@@ -215,6 +223,7 @@ fn set_field(alloc: Global, handle: &mut Handle, set: u8, field: u8, value: &Val
 
 fn set_in(kept: &mut Kept, set: u8, field: u8, value: &Value) -> u32
     requires { IsSound kept.old }
+    ensures answers { IsOneOf (OK ∷ MISFIT ∷ INDEX ∷ OTHER_SIDE ∷ []) result }
     ensures sound { IsSound kept.new }
     ensures set { result ≡ OK → HasSetIn set field value.now 0 kept.old kept.new }
     ensures misfit { result ≡ MISFIT → PublisherIs (IsValueMisfit set field value.now) kept.old }
