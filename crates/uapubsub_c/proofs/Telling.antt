@@ -8,7 +8,7 @@ use Rattle.device_sides.specs.Readings.{HasNoMisfit, IsReaderAt, Keeps, meta_for
 use Rattle.device_sides.specs.declared.publisher.Publisher.{Publisher as PublisherValue}
 use Rattle.device_sides.specs.declared.subscriber.Subscriber.{Subscriber as SubscriberValue}
 use Rattle.uapubsub_c.specs.Getting.{IsPublisherSide, IsReaderIn, IsSubscriberSide, KeepsIn, PublisherIs}
-use Rattle.uapubsub_c.specs.Handles.{IsOneOf}
+use Rattle.uapubsub_c.specs.Handles.{IsOneOf, IsUnset}
 use Rattle.uapubsub_c.specs.declared.kept.Kept.{Kept}
 use Rattle.uapubsub_c.specs.declared.kept.Kept.TheVariants.{Publisher, Subscriber}
 
@@ -64,6 +64,11 @@ not-publisher (Subscriber subscriber) not = tt
 pub not-subscriber : (kept : Kept) → ((subscriber : SubscriberValue) → kept ≡ Subscriber subscriber → ⊥) → IsPublisherSide kept
 not-subscriber (Subscriber subscriber) not = absurd (not subscriber refl)
 not-subscriber (Publisher publisher) not = tt
+
+-- a side that wasn't touched
+pub unset-same : (kept : Kept) → IsUnset kept kept
+unset-same (Publisher publisher) = record { rows = refl; rest = refl }
+unset-same (Subscriber subscriber) = refl
 
 -- ---- statuses
 

@@ -119,6 +119,21 @@ HasScalarIn set field number word (Publisher old) (Publisher new) = SetsWord set
 HasScalarIn set field number word (Publisher old) (Subscriber new) = ⊥
 HasScalarIn set field number word (Subscriber old) new = ⊥
 
+-- the publisher has the rows that it had, and nothing else of it changed
+pub record SetsNothing (old new : PublisherValue) : Type 0 where
+  pub rows : new.rows.items ≡ old.rows.items
+  pub rest : new ≡ record old { rows = new.rows }
+
+-- the same of a side: of a subscriber nothing changed
+abbrev pub IsUnset : Kept → Kept → Type 0
+IsUnset (Publisher old) (Publisher new) = SetsNothing old new
+IsUnset (Publisher old) (Subscriber new) = ⊥
+IsUnset (Subscriber old) new = new ≡ Subscriber old
+
+-- what the handle holds, if anything, it still holds, with no row set
+abbrev pub StaysUnset : Handle → Handle → Type 0
+StaysUnset old new = (kept : Kept) → Holds kept old → Tells new (IsUnset kept)
+
 -- the sender of a publisher's key group is at this token, with this number used last
 abbrev pub StandsIn : ℕ → ℕ → ℕ → Kept → Type 0
 StandsIn keygroup token used (Publisher publisher) = StandsAt keygroup publisher (token, used)

@@ -113,6 +113,7 @@ pub extern "C" fn uapubsub_get_text(
         → Tells handle.old (KeepsIn group reader (HasSuch field IsNoText)) }
     ensures room { result ≡ ROOM → Tells handle.old
         (KeepsIn group reader (HasSuch field (IsLongerText buffer.old count.new))) }
+    ensures untold { result ≢ OK → result ≢ ROOM → count.new ≡ count.old }
     ensures index { result ≡ INDEX → Tells handle.old (HasNoFieldIn group reader field) }
     ensures other_side { result ≡ OTHER_SIDE → Tells handle.old IsPublisherSide }
     ensures closed { result ≡ CLOSED → handle.old.is_open ≡ 0 }
@@ -147,6 +148,7 @@ pub extern "C" fn uapubsub_get_bytes(
         → Tells handle.old (KeepsIn group reader (HasSuch field IsNoBlob)) }
     ensures room { result ≡ ROOM → Tells handle.old
         (KeepsIn group reader (HasSuch field (IsLongerBlob buffer.old count.new))) }
+    ensures untold { result ≢ OK → result ≢ ROOM → count.new ≡ count.old }
     ensures index { result ≡ INDEX → Tells handle.old (HasNoFieldIn group reader field) }
     ensures other_side { result ≡ OTHER_SIDE → Tells handle.old IsPublisherSide }
     ensures closed { result ≡ CLOSED → handle.old.is_open ≡ 0 }
@@ -164,6 +166,7 @@ fn lay_text(value: &Value, buffer: &mut [u8], count: &mut usize) -> u32
     ensures rest { result ≢ OK → buffer.new ≡ buffer.old }
     ensures misfit { result ≡ MISFIT → IsNoText value.now }
     ensures room { result ≡ ROOM → IsLongerText buffer.old count.new value.now }
+    ensures untold { result ≢ OK → result ≢ ROOM → count.new ≡ count.old }
     ensures not_none { result ≢ NONE }
     ensures not_index { result ≢ INDEX }
     ensures not_other_side { result ≢ OTHER_SIDE }
@@ -182,6 +185,7 @@ fn lay_blob(value: &Value, buffer: &mut [u8], count: &mut usize) -> u32
     ensures rest { result ≢ OK → buffer.new ≡ buffer.old }
     ensures misfit { result ≡ MISFIT → IsNoBlob value.now }
     ensures room { result ≡ ROOM → IsLongerBlob buffer.old count.new value.now }
+    ensures untold { result ≢ OK → result ≢ ROOM → count.new ≡ count.old }
     ensures not_none { result ≢ NONE }
     ensures not_index { result ≢ INDEX }
     ensures not_other_side { result ≢ OTHER_SIDE }
@@ -200,6 +204,7 @@ fn lay_in(bytes: &[u8], buffer: &mut [u8], count: &mut usize) -> u32
     ensures rest { result ≢ OK → buffer.new ≡ buffer.old }
     ensures count { result ≡ ROOM → count.new ≡ length bytes.now }
     ensures room { result ≡ ROOM → length buffer.old < count.new }
+    ensures untold { result ≢ OK → result ≢ ROOM → count.new ≡ count.old }
     ensures not_misfit { result ≢ MISFIT }
     ensures not_none { result ≢ NONE }
     ensures not_index { result ≢ INDEX }
@@ -230,6 +235,7 @@ pub extern "C" fn uapubsub_get_guid(
     ensures stays { Stays handle.old handle.new }
     ensures got { result ≡ OK → Tells handle.old
         (KeepsIn group reader (HasFieldValue field (Value.Guid guid.new.bytes))) }
+    ensures untold { result ≢ OK → guid.new ≡ guid.old }
     ensures no_row { result ≡ NONE → Tells handle.old (KeepsIn group reader HoldsNone) }
     ensures misfit { result ≡ MISFIT
         → Tells handle.old (KeepsIn group reader (HasSuch field IsNoGuid)) }
@@ -247,6 +253,7 @@ pub extern "C" fn uapubsub_get_guid(
 fn guid_of(value: &Value, guid: &mut GuidBytes) -> u32
     ensures answers { IsOneOf (OK ∷ MISFIT ∷ []) result }
     ensures is { result ≡ OK → value.now ≡ Value.Guid guid.new.bytes }
+    ensures untold { result ≢ OK → guid.new ≡ guid.old }
     ensures misfit { result ≡ MISFIT → IsNoGuid value.now }
     ensures not_none { result ≢ NONE }
     ensures not_index { result ≢ INDEX }
@@ -278,6 +285,7 @@ pub extern "C" fn uapubsub_get_field_status(
     ensures stays { Stays handle.old handle.new }
     ensures got { result ≡ OK → Tells handle.old
         (KeepsIn group reader (HasFieldStatus field status.new)) }
+    ensures untold { result ≢ OK → status.new ≡ status.old }
     ensures no_row { result ≡ NONE → Tells handle.old (KeepsIn group reader HoldsNone) }
     ensures index { result ≡ INDEX → Tells handle.old (HasNoFieldIn group reader field) }
     ensures other_side { result ≡ OTHER_SIDE → Tells handle.old IsPublisherSide }

@@ -128,6 +128,8 @@ pub extern "C" fn uapubsub_publisher_standing(
     ensures ready { IsReady handle.new }
     ensures stays { Stays handle.old handle.new }
     ensures stands { result ≡ OK → Tells handle.old (StandsIn keygroup token.new used.new) }
+    ensures token { result ≢ OK → token.new ≡ token.old }
+    ensures used { result ≢ OK → used.new ≡ used.old }
     ensures index { result ≡ INDEX → Tells handle.old (PublisherIs (HasNoKeyGroup keygroup)) }
     ensures other_side { result ≡ OTHER_SIDE → Tells handle.old IsSubscriberSide }
     ensures closed { result ≡ CLOSED → handle.old.is_open ≡ 0 }
@@ -144,6 +146,8 @@ fn standing_of(kept: &Kept, keygroup: u8, token: &mut u32, used: &mut u32) -> u3
     requires { IsSound kept.now }
     ensures answers { IsOneOf (OK ∷ INDEX ∷ OTHER_SIDE ∷ []) result }
     ensures stands { result ≡ OK → StandsIn keygroup token.new used.new kept.now }
+    ensures token { result ≢ OK → token.new ≡ token.old }
+    ensures used { result ≢ OK → used.new ≡ used.old }
     ensures index { result ≡ INDEX → PublisherIs (HasNoKeyGroup keygroup) kept.now }
     ensures other_side { result ≡ OTHER_SIDE → IsSubscriberSide kept.now }
     ensures not_closed { result ≢ CLOSED }

@@ -4,7 +4,7 @@ ghost use Rattle.ua_values.specs.Blobs.{blob_of};
 ghost use Rattle.ua_values.specs.Texts.{text_of};
 ghost use Rattle.device_sides.specs.Sides.{HasSetStatus};
 ghost use Rattle.uapubsub_c.specs.Getting.{IsSubscriberSide, PublisherIs, PublisherMoves};
-ghost use Rattle.uapubsub_c.specs.Handles.{HasBytesIn, HasScalarIn, HasSetIn, HasTextIn, IsOneOf, IsReady, IsSound, Leaves, Tells};
+ghost use Rattle.uapubsub_c.specs.Handles.{HasBytesIn, HasScalarIn, HasSetIn, HasTextIn, IsOneOf, IsReady, IsSound, IsUnset, Leaves, StaysUnset, Tells};
 ghost use Rattle.uapubsub_c.specs.Setting.{IsBytesMisfit, IsCodeMisfit, IsScalarMisfit, IsTextMisfit, IsValueMisfit, SetsNoField};
 
 use crate::guid::GuidBytes;
@@ -37,6 +37,7 @@ pub extern "C" fn uapubsub_set_scalar(
         → Tells handle.old (PublisherIs (IsScalarMisfit set field kind word)) }
     ensures index { result ≡ INDEX → Tells handle.old (PublisherIs (SetsNoField set field)) }
     ensures other_side { result ≡ OTHER_SIDE → Tells handle.old IsSubscriberSide }
+    ensures unset { result ≢ OK → StaysUnset handle.old handle.new }
     ensures closed { result ≡ CLOSED → handle.old.is_open ≡ 0 }
 {
     let Some(mut kept) = handle.take(alloc) else {
@@ -56,6 +57,7 @@ fn set_scalar_in(kept: &mut Kept, set: u8, field: u8, kind: u32, word: u64) -> u
         → PublisherIs (IsScalarMisfit set field kind word) kept.old }
     ensures index { result ≡ INDEX → PublisherIs (SetsNoField set field) kept.old }
     ensures other_side { result ≡ OTHER_SIDE → IsSubscriberSide kept.old }
+    ensures unset { result ≢ OK → IsUnset kept.old kept.new }
     ensures not_closed { result ≢ CLOSED }
 {
     let Kept::Publisher(publisher) = kept else {
@@ -91,6 +93,7 @@ pub extern "C" fn uapubsub_set_text(
         → Tells handle.old (PublisherIs (IsTextMisfit set field text.now)) }
     ensures index { result ≡ INDEX → Tells handle.old (PublisherIs (SetsNoField set field)) }
     ensures other_side { result ≡ OTHER_SIDE → Tells handle.old IsSubscriberSide }
+    ensures unset { result ≢ OK → StaysUnset handle.old handle.new }
     ensures bad_text { result ≡ BAD_TEXT → IsErr (text_of text.now) }
     ensures closed { result ≡ CLOSED → handle.old.is_open ≡ 0 }
 {
@@ -117,6 +120,7 @@ pub extern "C" fn uapubsub_set_bytes(
         → Tells handle.old (PublisherIs (IsBytesMisfit set field bytes.now)) }
     ensures index { result ≡ INDEX → Tells handle.old (PublisherIs (SetsNoField set field)) }
     ensures other_side { result ≡ OTHER_SIDE → Tells handle.old IsSubscriberSide }
+    ensures unset { result ≢ OK → StaysUnset handle.old handle.new }
     ensures bad_text { result ≡ BAD_TEXT → IsErr (blob_of bytes.now) }
     ensures closed { result ≡ CLOSED → handle.old.is_open ≡ 0 }
 {
@@ -144,6 +148,7 @@ pub extern "C" fn uapubsub_set_guid(
         → Tells handle.old (PublisherIs (IsValueMisfit set field (Value.Guid guid.now.bytes))) }
     ensures index { result ≡ INDEX → Tells handle.old (PublisherIs (SetsNoField set field)) }
     ensures other_side { result ≡ OTHER_SIDE → Tells handle.old IsSubscriberSide }
+    ensures unset { result ≢ OK → StaysUnset handle.old handle.new }
     ensures closed { result ≡ CLOSED → handle.old.is_open ≡ 0 }
 {
     set_field(alloc, handle, set, field, &Value::Guid(guid.bytes))
@@ -167,6 +172,7 @@ pub extern "C" fn uapubsub_set_field_status(
         → Tells handle.old (PublisherIs (IsCodeMisfit set field status)) }
     ensures index { result ≡ INDEX → Tells handle.old (PublisherIs (SetsNoField set field)) }
     ensures other_side { result ≡ OTHER_SIDE → Tells handle.old IsSubscriberSide }
+    ensures unset { result ≢ OK → StaysUnset handle.old handle.new }
     ensures closed { result ≡ CLOSED → handle.old.is_open ≡ 0 }
 {
     let Some(mut kept) = handle.take(alloc) else {
@@ -185,6 +191,7 @@ fn set_status_in(kept: &mut Kept, set: u8, field: u8, status: u32) -> u32
     ensures misfit { result ≡ MISFIT → PublisherIs (IsCodeMisfit set field status) kept.old }
     ensures index { result ≡ INDEX → PublisherIs (SetsNoField set field) kept.old }
     ensures other_side { result ≡ OTHER_SIDE → IsSubscriberSide kept.old }
+    ensures unset { result ≢ OK → IsUnset kept.old kept.new }
     ensures not_closed { result ≢ CLOSED }
 {
     let Kept::Publisher(publisher) = kept else {
@@ -210,6 +217,7 @@ fn set_field(alloc: Global, handle: &mut Handle, set: u8, field: u8, value: &Val
         → Tells handle.old (PublisherIs (IsValueMisfit set field value.now)) }
     ensures index { result ≡ INDEX → Tells handle.old (PublisherIs (SetsNoField set field)) }
     ensures other_side { result ≡ OTHER_SIDE → Tells handle.old IsSubscriberSide }
+    ensures unset { result ≢ OK → StaysUnset handle.old handle.new }
     ensures not_text { result ≢ BAD_TEXT }
     ensures closed { result ≡ CLOSED → handle.old.is_open ≡ 0 }
 {
@@ -229,6 +237,7 @@ fn set_in(kept: &mut Kept, set: u8, field: u8, value: &Value) -> u32
     ensures misfit { result ≡ MISFIT → PublisherIs (IsValueMisfit set field value.now) kept.old }
     ensures index { result ≡ INDEX → PublisherIs (SetsNoField set field) kept.old }
     ensures other_side { result ≡ OTHER_SIDE → IsSubscriberSide kept.old }
+    ensures unset { result ≢ OK → IsUnset kept.old kept.new }
     ensures not_text { result ≢ BAD_TEXT }
     ensures not_closed { result ≢ CLOSED }
 {

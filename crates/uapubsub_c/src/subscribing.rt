@@ -75,6 +75,7 @@ pub extern "C" fn uapubsub_subscriber_datagram(
     ensures other_side { result ≡ OTHER_SIDE → Tells handle.old IsPublisherSide }
     ensures not { result ≢ OK → result < 100 → Stays handle.old handle.new }
     ensures bytes { result ≢ OK → result < 100 → bytes.new ≡ bytes.old }
+    ensures untold { result ≢ OK → taken.new ≡ taken.old }
     ensures closed { result ≡ CLOSED → handle.old.is_open ≡ 0 }
 {
     let Some(mut kept) = handle.take(alloc) else {
@@ -103,6 +104,7 @@ fn datagram_in(
     ensures other_side { result ≡ OTHER_SIDE → IsPublisherSide kept.old }
     ensures not { result ≢ OK → result < 100 → kept.new ≡ kept.old }
     ensures bytes { result ≢ OK → result < 100 → bytes.new ≡ bytes.old }
+    ensures untold { result ≢ OK → taken.new ≡ taken.old }
     ensures not_closed { result ≢ CLOSED }
 {
     let Kept::Subscriber(subscriber) = kept else {
@@ -238,6 +240,7 @@ pub extern "C" fn uapubsub_reader_why(
     ensures stays { Stays handle.old handle.new }
     ensures held { result ≡ OK → Tells handle.old (KeepsIn group reader (HoldsAfter why.new)) }
     ensures waits { result ≡ NONE → Tells handle.old (KeepsIn group reader (WaitsFor why.new)) }
+    ensures untold { result ≢ OK → result ≢ NONE → why.new ≡ why.old }
     ensures index { result ≡ INDEX → Tells handle.old (SubscriberIs (IsNoReader group reader)) }
     ensures other_side { result ≡ OTHER_SIDE → Tells handle.old IsPublisherSide }
     ensures closed { result ≡ CLOSED → handle.old.is_open ≡ 0 }
@@ -255,6 +258,7 @@ fn why_of(kept: &Kept, group: u8, reader: u8, why: &mut u32) -> u32
     ensures answers { IsOneOf (OK ∷ NONE ∷ OTHER_SIDE ∷ INDEX ∷ []) result }
     ensures held { result ≡ OK → KeepsIn group reader (HoldsAfter why.new) kept.now }
     ensures waits { result ≡ NONE → KeepsIn group reader (WaitsFor why.new) kept.now }
+    ensures untold { result ≢ OK → result ≢ NONE → why.new ≡ why.old }
     ensures index { result ≡ INDEX → SubscriberIs (IsNoReader group reader) kept.now }
     ensures other_side { result ≡ OTHER_SIDE → IsPublisherSide kept.now }
     ensures not_closed { result ≢ CLOSED }
@@ -299,6 +303,7 @@ pub extern "C" fn uapubsub_reader_number(
     ensures stays { Stays handle.old handle.new }
     ensures number { result ≡ OK → Tells handle.old (KeepsIn group reader (HasNumber number.new)) }
     ensures none { result ≡ NONE → Tells handle.old (KeepsIn group reader HasNoNumber) }
+    ensures untold { result ≢ OK → number.new ≡ number.old }
     ensures index { result ≡ INDEX → Tells handle.old (SubscriberIs (IsNoReader group reader)) }
     ensures other_side { result ≡ OTHER_SIDE → Tells handle.old IsPublisherSide }
     ensures closed { result ≡ CLOSED → handle.old.is_open ≡ 0 }
@@ -316,6 +321,7 @@ fn message_number_of(kept: &Kept, group: u8, reader: u8, number: &mut u16) -> u3
     ensures answers { IsOneOf (OK ∷ NONE ∷ OTHER_SIDE ∷ INDEX ∷ []) result }
     ensures number { result ≡ OK → KeepsIn group reader (HasNumber number.new) kept.now }
     ensures none { result ≡ NONE → KeepsIn group reader HasNoNumber kept.now }
+    ensures untold { result ≢ OK → number.new ≡ number.old }
     ensures index { result ≡ INDEX → SubscriberIs (IsNoReader group reader) kept.now }
     ensures other_side { result ≡ OTHER_SIDE → IsPublisherSide kept.now }
     ensures not_closed { result ≢ CLOSED }

@@ -1,13 +1,15 @@
-use Rattle.std.proofs.Common.{List, ap, subst, sym, ◌∙◌}
+use Rattle.std.proofs.Common.{List, ap, subst, sym, ◌∙◌, refl}
 use Rattle.std.proofs.lemmas.Option.{none-some, same_Some}
 use Rattle.ua_values.specs.declared.kind.Kind.{Kind}
 use Rattle.dataset_meta.specs.Metas.{MetaData}
 use Rattle.device_sides.specs.Sides.{HasNoField, IsWordMisfit}
-use Rattle.device_sides.specs.declared.publisher.Publisher.{Publisher}
+use Rattle.device_sides.specs.declared.publisher.Publisher.{Publisher as PublisherValue}
 use Rattle.uapubsub_c.specs.Getting.{PublisherIs}
 use Rattle.uapubsub_c.specs.Setting.{IsScalarMisfit, SetsNoField}
 use Rattle.uapubsub_c.specs.declared.kept.Kept.{Kept}
-use Rattle.uapubsub_c.proofs.Telling.{not-publisher}
+use Rattle.uapubsub_c.specs.Handles.{IsUnset}
+use Rattle.uapubsub_c.specs.declared.kept.Kept.TheVariants.{Publisher}
+use Rattle.uapubsub_c.proofs.Telling.{not-publisher, unset-same}
 use Rattle.uapubsub_c.proofs.setting.set_scalar_in.Goals as goal
 
 pub returns-in_default-kind_numbered-clause-misfit : goal.returns-in_default-kind_numbered-clause-misfit
@@ -25,7 +27,22 @@ returns-then-has_field-clause-misfit c = λ misfit.
 pub returns-else-has_field-clause-index : goal.returns-else-has_field-clause-index
 returns-else-has_field-clause-index c = λ index.
     subst (λ (kept : Kept). PublisherIs (SetsNoField c.args.set c.args.field) kept) (sym c.in-Publisher.is)
-    (subst (λ (metas : List MetaData). HasNoField metas c.args.set c.args.field) (ap (λ (publisher : Publisher). publisher.config.dataset) c.set_word.ensures.rest) c.if-has_field.ensures.not)
+    (subst (λ (metas : List MetaData). HasNoField metas c.args.set c.args.field) (ap (λ (publisher : PublisherValue). publisher.config.dataset) c.set_word.ensures.rest) c.if-has_field.ensures.not)
 
 pub returns-in_default-clause-other_side : goal.returns-in_default-clause-other_side
 returns-in_default-clause-other_side c = λ is. not-publisher c.args.kept.now c.in_default.not-Publisher
+
+pub returns-in_default-clause-unset : goal.returns-in_default-clause-unset
+returns-in_default-clause-unset c = λ not. unset-same c.args.kept.now
+
+pub returns-in_default-kind_numbered-clause-unset : goal.returns-in_default-kind_numbered-clause-unset
+returns-in_default-kind_numbered-clause-unset c = λ not.
+    subst (λ (kept : Kept). IsUnset kept (Publisher c.in-Publisher.publisher)) (sym c.in-Publisher.is) (record { rows = refl; rest = refl })
+
+pub returns-then-has_field-clause-unset : goal.returns-then-has_field-clause-unset
+returns-then-has_field-clause-unset c = λ not.
+    subst (λ (kept : Kept). IsUnset kept (Publisher c.set_word.new.self)) (sym c.in-Publisher.is) (record { rows = c.if-set_word.ensures.unset; rest = c.set_word.ensures.rest })
+
+pub returns-else-has_field-clause-unset : goal.returns-else-has_field-clause-unset
+returns-else-has_field-clause-unset c = λ not.
+    subst (λ (kept : Kept). IsUnset kept (Publisher c.set_word.new.self)) (sym c.in-Publisher.is) (record { rows = c.if-set_word.ensures.unset; rest = c.set_word.ensures.rest })
