@@ -5,7 +5,7 @@ use Rattle.group_keys.specs.KeySets.{encrypting_length}
 use Rattle.group_keys.specs.declared.key_set.KeySet.{KeySet}
 use Rattle.message_guard.specs.Protection.{keys_in}
 use Rattle.device_sides.specs.Readings.{HasKeysRenewed}
-use Rattle.device_sides.specs.Sides.{HasLongKeys, HasRenewed, IsBehind, IsEarlier, MayNotResume, ReadsLongKeys, ReadsNoKeys}
+use Rattle.device_sides.specs.Sides.{HasLongKeys, HasRenewed, IsBehind, IsEarlier, MayNotResume, MayNotResumeConfigured, ReadsLongKeys, ReadsNoKeys}
 use Rattle.device_sides.specs.declared.publisher.Publisher.{Publisher}
 use Rattle.device_sides.specs.declared.subscriber.Subscriber.{Subscriber}
 use Rattle.uapubsub_c.specs.declared.keys.KeySetWords.{KeySetWords}
@@ -53,6 +53,11 @@ pub record MakesNoRing (keygroup : ℕ) (sets : List KeySetWords) (publisher : P
   pub long : Bool
   pub is_long : HasLongKeys publisher.config keygroup long
   pub none : MakeNoRing long sets
+
+-- the publisher has the key group, of whose sender numbers would come again with the key sets of the configuration
+pub record RepeatsConfigured (keygroup now used : ℕ) (publisher : Publisher) : Type 0 where
+  pub within : keygroup < length publisher.config.keygroup
+  pub may_not : MayNotResumeConfigured keygroup now used publisher
 
 -- of that length they make no ring, or that of the moment is of an earlier token, or numbers would come twice with them
 pub record MayNotResumeWith (keygroup now token used : ℕ) (sets : List KeySetWords) (publisher : Publisher) : Type 0 where

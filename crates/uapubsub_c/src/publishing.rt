@@ -1,10 +1,10 @@
 //! The publisher's calls, but those that set fields.
 ghost use Rattle.std.specs.Prelude.{◌≡◌, ◌≢◌, ◌<◌, [], ◌∷◌, length};
 ghost use Rattle.device_sides.specs.Coming.{ComesTo};
-ghost use Rattle.device_sides.specs.Sides.{IsBehindConfigured, MayNotResumeConfigured};
+ghost use Rattle.device_sides.specs.Sides.{IsBehindConfigured};
 ghost use Rattle.uapubsub_c.specs.Getting.{IsSubscriberSide, PublisherIs, PublisherMoves};
 ghost use Rattle.uapubsub_c.specs.Handles.{HandsOver, IsOneOf, IsReady, IsRefused, IsSound, Leaves, OpensPublisher, StandsIn, Stays, Tells};
-ghost use Rattle.uapubsub_c.specs.Keys.{HasNoKeyGroup, HasRenewedTo, IsBehindWith, MakesNoRing, MayNotResumeWith};
+ghost use Rattle.uapubsub_c.specs.Keys.{HasNoKeyGroup, HasRenewedTo, IsBehindWith, MakesNoRing, MayNotResumeWith, RepeatsConfigured};
 ghost use Rattle.uapubsub_c.specs.Nexts.{HandsNext, WaitsWith};
 
 use crate::handle::Handle;
@@ -179,7 +179,7 @@ pub extern "C" fn uapubsub_publisher_resume(
     ensures behind { result ≡ OK
         → Leaves handle.old handle.new (PublisherMoves (IsBehindConfigured keygroup now used)) }
     ensures bad_keys { result ≡ BAD_KEYS
-        → Tells handle.old (PublisherIs (MayNotResumeConfigured keygroup now used)) }
+        → Tells handle.old (PublisherIs (RepeatsConfigured keygroup now used)) }
     ensures index { result ≡ INDEX → Tells handle.old (PublisherIs (HasNoKeyGroup keygroup)) }
     ensures other_side { result ≡ OTHER_SIDE → Tells handle.old IsSubscriberSide }
     ensures not { result ≢ OK → Stays handle.old handle.new }
@@ -200,7 +200,7 @@ fn resume_in(kept: &mut Kept, keygroup: u8, now: u64, used: u32) -> u32
     ensures behind { result ≡ OK
         → PublisherMoves (IsBehindConfigured keygroup now used) kept.old kept.new }
     ensures bad_keys { result ≡ BAD_KEYS
-        → PublisherIs (MayNotResumeConfigured keygroup now used) kept.old }
+        → PublisherIs (RepeatsConfigured keygroup now used) kept.old }
     ensures index { result ≡ INDEX → PublisherIs (HasNoKeyGroup keygroup) kept.old }
     ensures other_side { result ≡ OTHER_SIDE → IsSubscriberSide kept.old }
     ensures not { result ≢ OK → kept.new ≡ kept.old }

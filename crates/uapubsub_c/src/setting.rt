@@ -5,7 +5,7 @@ ghost use Rattle.ua_values.specs.Texts.{text_of};
 ghost use Rattle.device_sides.specs.Sides.{HasSetStatus};
 ghost use Rattle.uapubsub_c.specs.Getting.{IsSubscriberSide, PublisherIs, PublisherMoves};
 ghost use Rattle.uapubsub_c.specs.Handles.{HasBytesIn, HasScalarIn, HasSetIn, HasTextIn, IsOneOf, IsReady, IsSound, IsUnset, Leaves, StaysUnset, Tells};
-ghost use Rattle.uapubsub_c.specs.Setting.{IsBytesMisfit, IsCodeMisfit, IsScalarMisfit, IsTextMisfit, IsValueMisfit, SetsNoField};
+ghost use Rattle.uapubsub_c.specs.Setting.{IsBytesMisfit, IsCodeMisfit, IsScalarMisfit, IsTextMisfit, IsValueMisfit, SetsField, SetsNoField};
 
 use crate::guid::GuidBytes;
 use crate::handle::Handle;
@@ -35,6 +35,7 @@ pub extern "C" fn uapubsub_set_scalar(
     ensures set { result ≡ OK → Leaves handle.old handle.new (HasScalarIn set field kind word) }
     ensures misfit { result ≡ MISFIT
         → Tells handle.old (PublisherIs (IsScalarMisfit set field kind word)) }
+    ensures there { result ≡ MISFIT → Tells handle.old (PublisherIs (SetsField set field)) }
     ensures index { result ≡ INDEX → Tells handle.old (PublisherIs (SetsNoField set field)) }
     ensures other_side { result ≡ OTHER_SIDE → Tells handle.old IsSubscriberSide }
     ensures unset { result ≢ OK → StaysUnset handle.old handle.new }
@@ -55,6 +56,7 @@ fn set_scalar_in(kept: &mut Kept, set: u8, field: u8, kind: u32, word: u64) -> u
     ensures set { result ≡ OK → HasScalarIn set field kind word kept.old kept.new }
     ensures misfit { result ≡ MISFIT
         → PublisherIs (IsScalarMisfit set field kind word) kept.old }
+    ensures there { result ≡ MISFIT → PublisherIs (SetsField set field) kept.old }
     ensures index { result ≡ INDEX → PublisherIs (SetsNoField set field) kept.old }
     ensures other_side { result ≡ OTHER_SIDE → IsSubscriberSide kept.old }
     ensures unset { result ≢ OK → IsUnset kept.old kept.new }
@@ -63,16 +65,16 @@ fn set_scalar_in(kept: &mut Kept, set: u8, field: u8, kind: u32, word: u64) -> u
     let Kept::Publisher(publisher) = kept else {
         return OTHER_SIDE;
     };
+    if !publisher.has_field(set, field) {
+        return INDEX;
+    }
     let Some(kind) = kind_numbered(kind) else {
         return MISFIT;
     };
     if publisher.set_word(set, field, kind, word) {
-        return OK;
-    }
-    if publisher.has_field(set, field) {
-        MISFIT
+        OK
     } else {
-        INDEX
+        MISFIT
     }
 }
 
@@ -91,6 +93,7 @@ pub extern "C" fn uapubsub_set_text(
     ensures set { result ≡ OK → Leaves handle.old handle.new (HasTextIn set field text.now) }
     ensures misfit { result ≡ MISFIT
         → Tells handle.old (PublisherIs (IsTextMisfit set field text.now)) }
+    ensures there { result ≡ MISFIT → Tells handle.old (PublisherIs (SetsField set field)) }
     ensures index { result ≡ INDEX → Tells handle.old (PublisherIs (SetsNoField set field)) }
     ensures other_side { result ≡ OTHER_SIDE → Tells handle.old IsSubscriberSide }
     ensures unset { result ≢ OK → StaysUnset handle.old handle.new }
@@ -118,6 +121,7 @@ pub extern "C" fn uapubsub_set_bytes(
     ensures set { result ≡ OK → Leaves handle.old handle.new (HasBytesIn set field bytes.now) }
     ensures misfit { result ≡ MISFIT
         → Tells handle.old (PublisherIs (IsBytesMisfit set field bytes.now)) }
+    ensures there { result ≡ MISFIT → Tells handle.old (PublisherIs (SetsField set field)) }
     ensures index { result ≡ INDEX → Tells handle.old (PublisherIs (SetsNoField set field)) }
     ensures other_side { result ≡ OTHER_SIDE → Tells handle.old IsSubscriberSide }
     ensures unset { result ≢ OK → StaysUnset handle.old handle.new }
@@ -146,6 +150,7 @@ pub extern "C" fn uapubsub_set_guid(
         → Leaves handle.old handle.new (HasSetIn set field (Value.Guid guid.now.bytes) 0) }
     ensures misfit { result ≡ MISFIT
         → Tells handle.old (PublisherIs (IsValueMisfit set field (Value.Guid guid.now.bytes))) }
+    ensures there { result ≡ MISFIT → Tells handle.old (PublisherIs (SetsField set field)) }
     ensures index { result ≡ INDEX → Tells handle.old (PublisherIs (SetsNoField set field)) }
     ensures other_side { result ≡ OTHER_SIDE → Tells handle.old IsSubscriberSide }
     ensures unset { result ≢ OK → StaysUnset handle.old handle.new }
@@ -170,6 +175,7 @@ pub extern "C" fn uapubsub_set_field_status(
         → Leaves handle.old handle.new (PublisherMoves (HasSetStatus set field status)) }
     ensures misfit { result ≡ MISFIT
         → Tells handle.old (PublisherIs (IsCodeMisfit set field status)) }
+    ensures there { result ≡ MISFIT → Tells handle.old (PublisherIs (SetsField set field)) }
     ensures index { result ≡ INDEX → Tells handle.old (PublisherIs (SetsNoField set field)) }
     ensures other_side { result ≡ OTHER_SIDE → Tells handle.old IsSubscriberSide }
     ensures unset { result ≢ OK → StaysUnset handle.old handle.new }
@@ -189,6 +195,7 @@ fn set_status_in(kept: &mut Kept, set: u8, field: u8, status: u32) -> u32
     ensures sound { IsSound kept.new }
     ensures set { result ≡ OK → PublisherMoves (HasSetStatus set field status) kept.old kept.new }
     ensures misfit { result ≡ MISFIT → PublisherIs (IsCodeMisfit set field status) kept.old }
+    ensures there { result ≡ MISFIT → PublisherIs (SetsField set field) kept.old }
     ensures index { result ≡ INDEX → PublisherIs (SetsNoField set field) kept.old }
     ensures other_side { result ≡ OTHER_SIDE → IsSubscriberSide kept.old }
     ensures unset { result ≢ OK → IsUnset kept.old kept.new }
@@ -215,6 +222,7 @@ fn set_field(alloc: Global, handle: &mut Handle, set: u8, field: u8, value: &Val
     ensures set { result ≡ OK → Leaves handle.old handle.new (HasSetIn set field value.now 0) }
     ensures misfit { result ≡ MISFIT
         → Tells handle.old (PublisherIs (IsValueMisfit set field value.now)) }
+    ensures there { result ≡ MISFIT → Tells handle.old (PublisherIs (SetsField set field)) }
     ensures index { result ≡ INDEX → Tells handle.old (PublisherIs (SetsNoField set field)) }
     ensures other_side { result ≡ OTHER_SIDE → Tells handle.old IsSubscriberSide }
     ensures unset { result ≢ OK → StaysUnset handle.old handle.new }
@@ -235,6 +243,7 @@ fn set_in(kept: &mut Kept, set: u8, field: u8, value: &Value) -> u32
     ensures sound { IsSound kept.new }
     ensures set { result ≡ OK → HasSetIn set field value.now 0 kept.old kept.new }
     ensures misfit { result ≡ MISFIT → PublisherIs (IsValueMisfit set field value.now) kept.old }
+    ensures there { result ≡ MISFIT → PublisherIs (SetsField set field) kept.old }
     ensures index { result ≡ INDEX → PublisherIs (SetsNoField set field) kept.old }
     ensures other_side { result ≡ OTHER_SIDE → IsSubscriberSide kept.old }
     ensures unset { result ≢ OK → IsUnset kept.old kept.new }

@@ -2,7 +2,7 @@ use Rattle.std.proofs.Common.{subst, sym, ◌∙◌}
 use Rattle.uapubsub_c.specs.declared.kept.Kept.{Kept}
 use Rattle.uapubsub_c.specs.Getting.{IsSubscriberSide, PublisherIs}
 use Rattle.uapubsub_c.specs.Handles.{HasSetIn, IsUnset}
-use Rattle.uapubsub_c.specs.Setting.{IsValueMisfit, SetsNoField}
+use Rattle.uapubsub_c.specs.Setting.{IsValueMisfit, SetsField, SetsNoField}
 use Rattle.std.proofs.lemmas.Option.{same_Some}
 use Rattle.uapubsub_c.proofs.setting.set_field.Goals as goal
 
@@ -45,4 +45,11 @@ returns-clause-unset c = λ not kept holds. record {
   holds = c.put.ensures.held;
   is = subst (λ (was : Kept). IsUnset was c.set_in-answer.new.kept) (sym (same_Some kept c.in-Some.kept.value (sym holds.held ∙ c.in-Some.ensures.held.held)))
       (subst (λ (was : Kept). IsUnset was c.set_in-answer.new.kept) c.deref_mut.ensures.value (c.set_in-answer.ensures.unset not));
+}
+
+pub returns-clause-there : goal.returns-clause-there
+returns-clause-there c = λ is. record {
+  kept = c.in-Some.kept.value;
+  holds = c.in-Some.ensures.held;
+  is = subst (λ (kept : Kept). PublisherIs (SetsField c.args.set c.args.field) kept) c.deref_mut.ensures.value (c.set_in-answer.ensures.there is);
 }

@@ -1,9 +1,9 @@
 use Rattle.std.proofs.Common.{List, ap, subst, sym}
 use Rattle.dataset_meta.specs.Metas.{MetaData}
-use Rattle.device_sides.specs.Sides.{HasNoField}
+use Rattle.device_sides.specs.Sides.{HasField, HasNoField}
 use Rattle.device_sides.specs.declared.publisher.Publisher.{Publisher as PublisherValue}
 use Rattle.uapubsub_c.specs.Getting.{PublisherIs}
-use Rattle.uapubsub_c.specs.Setting.{IsValueMisfit, SetsNoField}
+use Rattle.uapubsub_c.specs.Setting.{IsValueMisfit, SetsField, SetsNoField}
 use Rattle.uapubsub_c.specs.declared.kept.Kept.{Kept}
 use Rattle.uapubsub_c.specs.Handles.{IsUnset}
 use Rattle.uapubsub_c.specs.declared.kept.Kept.TheVariants.{Publisher}
@@ -31,3 +31,8 @@ returns-then-has_field-clause-unset c = λ not.
 pub returns-else-has_field-clause-unset : goal.returns-else-has_field-clause-unset
 returns-else-has_field-clause-unset c = λ not.
     subst (λ (kept : Kept). IsUnset kept (Publisher c.set.new.self)) (sym c.in-Publisher.is) (record { rows = c.if-set.ensures.unset; rest = c.set.ensures.rest })
+
+pub returns-then-has_field-clause-there : goal.returns-then-has_field-clause-there
+returns-then-has_field-clause-there c = λ misfit.
+    subst (λ (kept : Kept). PublisherIs (SetsField c.args.set c.args.field) kept) (sym c.in-Publisher.is)
+    (subst (λ (metas : List MetaData). HasField metas c.args.set c.args.field) (ap (λ (publisher : PublisherValue). publisher.config.dataset) c.set.ensures.rest) c.if-has_field.ensures.there)
