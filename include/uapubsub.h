@@ -8,8 +8,11 @@
  *   - malloc, realloc and free are those of one allocator, which aligns to 16.
  *   - Moments are milliseconds of one clock of the program, for each handle, and don't fall.
  *
- * What a program doesn't owe: a null pointer, an index out of range, a call of a closed handle, of the other side, a second opening, a
- * value that the field doesn't have, a buffer that is too short and whatever bytes come from a socket are answered by a status.
+ * Indexes count from 0, in the configuration's order. An index is a uint8_t: the compiler cuts a wider one (-Wconversion warns).
+ *
+ * What a program doesn't owe: a null pointer (also with the length 0), an index out of range, a call of a closed handle, of the other
+ * side, a second opening, a value that the field doesn't have, a buffer that is too short and whatever bytes come from a socket are
+ * answered by a status.
  */
 #ifndef UAPUBSUB_H
 #define UAPUBSUB_H
@@ -18,6 +21,10 @@
 #include <stddef.h>
 #include <stdint.h>
 #include <string.h>
+
+#if UINTPTR_MAX != 0xffffffffffffffff
+#error "libuapubsub_c.a is for x86-64, with pointers of 64 bits"
+#endif
 
 #ifdef __cplusplus
 extern "C" {

@@ -65,6 +65,7 @@ pub extern "C" fn uapubsub_publisher_next(
         → Leaves handle.old handle.new (PublisherMoves (ComesTo now Next.Datagram)) }
     ensures room { result ≡ ROOM → length buffer.old < count.new }
     ensures needs { result ≡ ROOM → Tells handle.new (PublisherIs (WaitsWith count.new)) }
+    ensures untold { result ≢ OK → result ≢ ROOM → count.new ≡ 0 }
     ensures other_side { result ≡ OTHER_SIDE → Tells handle.old IsSubscriberSide }
     ensures stays { result ≡ OTHER_SIDE → Stays handle.old handle.new }
     ensures closed { result ≡ CLOSED → handle.old.is_open ≡ 0 }
@@ -90,6 +91,7 @@ fn next_of(kept: &mut Kept, now: u64, buffer: &mut [u8], count: &mut usize) -> u
     ensures waits { result ≡ ROOM → PublisherMoves (ComesTo now Next.Datagram) kept.old kept.new }
     ensures room { result ≡ ROOM → length buffer.old < count.new }
     ensures needs { result ≡ ROOM → PublisherIs (WaitsWith count.new) kept.new }
+    ensures untold { result ≢ OK → result ≢ ROOM → count.new ≡ count.old }
     ensures other_side { result ≡ OTHER_SIDE → IsSubscriberSide kept.old }
     ensures stays { result ≡ OTHER_SIDE → kept.new ≡ kept.old }
     ensures not_closed { result ≢ CLOSED }
