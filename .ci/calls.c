@@ -7,6 +7,12 @@
 
 enum { TURNS = 10000, COPIES = 10, EXTRA = 64 };
 
+// The structs are laid out as those of the crate are.
+_Static_assert(sizeof(struct uap_handle) == 16 && offsetof(struct uap_handle, held) == 8, "Handle");
+_Static_assert(sizeof(struct uap_key_set) == 80 && offsetof(struct uap_key_set, nonce) == 4 && offsetof(struct uap_key_set, from_ms) == 8, "KeySetWords");
+_Static_assert(offsetof(struct uap_key_set, signing) == 16 && offsetof(struct uap_key_set, encrypting) == 48, "KeySetWords");
+_Static_assert(sizeof(struct uap_taken) == 12 && sizeof(struct uap_guid) == 16, "TakenWords, GuidBytes");
+
 static char left[1 << 16], right[1 << 16];
 static size_t left_length, right_length;
 static uint64_t state;

@@ -75,7 +75,7 @@ static void demand_of_readers(struct uap_handle *handle, uint8_t group, uint8_t 
 static void demand_of_key_groups(struct uap_handle *handle, uint8_t keygroup, uint32_t status) {
     uint32_t token, used;
     DEMAND(uap_publisher_standing(handle, keygroup, &token, &used) == status && uap_publisher_resume(handle, keygroup, 0, 9) == status);
-    DEMAND(uap_publisher_renew(handle, keygroup, &keys, 1) == status);
+    DEMAND(uap_publisher_resume_with(handle, keygroup, 0, 2, 9, &keys, 1) == status && uap_publisher_renew(handle, keygroup, &keys, 1) == status);
 }
 
 static void demand_of_read_groups(struct uap_handle *handle, uint8_t group, uint32_t status) {
@@ -120,6 +120,7 @@ static void check_null_inputs(struct uap_handle *publisher, struct uap_handle *s
     demand_of_names(publisher, NULL, 0, NULL, UAP_NULL);
     DEMAND(uap_set_text(publisher, 0, 0, NULL) == UAP_NULL && uap_set_bytes(publisher, 0, 0, NULL, 0) == UAP_NULL);
     DEMAND(uap_set_guid(publisher, 0, 0, NULL) == UAP_NULL && uap_publisher_renew(publisher, 0, NULL, 0) == UAP_NULL);
+    DEMAND(uap_publisher_resume_with(publisher, 0, 0, 2, 9, NULL, 0) == UAP_NULL);
     DEMAND(uap_subscriber_datagram(subscriber, 0, 0, NULL, 0, &taken) == UAP_NULL && uap_subscriber_renew(subscriber, 0, NULL, 0) == UAP_NULL);
 }
 

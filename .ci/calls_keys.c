@@ -198,6 +198,60 @@ static void check_subscriber_renewed(const struct renewal *it) {
     DEMAND(uap_close(&second) == UAP_OK);
 }
 
+// A publisher that starts again with the second key, which came by a renewal: behind the number that it told last, in that key group alone.
+static void check_renewed_resumed(const struct renewal *it) {
+    struct uap_handle publisher = UAP_CLOSED_HANDLE, subscriber = UAP_CLOSED_HANDLE, fresh = UAP_CLOSED_HANDLE;
+    struct datagram before[GROUPS], behind[GROUPS], last[GROUPS];
+    const struct uap_key_set set = key_set(it->new_token, 0, it->new_digit);
+    const struct uap_key_set sets[] = {set, key_set(it->new_token + 1, 150, 0xe)};
+    uint32_t token, used;
+    open_sides(&publisher, &subscriber, first_keys);
+    DEMAND(uap_subscriber_open(&fresh, second_keys, sizeof second_keys - 1) == UAP_OK);
+    DEMAND(uap_publisher_renew(&publisher, it->keygroup, &set, 1) == UAP_OK && uap_subscriber_renew(&subscriber, it->group, sets, 2) == UAP_OK);
+    turn(&publisher, 100, 1, before);
+    DEMAND(is_under(&before[it->group], it->new_token, 1) && takes(&subscriber, it->group, 100, &before[it->group]));
+    DEMAND(uap_publisher_standing(&publisher, it->keygroup, &token, &used) == UAP_OK && uap_close(&publisher) == UAP_OK);
+    open_publisher(&publisher, first_keys);
+    DEMAND(uap_publisher_resume_with(&publisher, it->keygroup, 0, token, used, sets, 2) == UAP_OK);
+    DEMAND(stands(&publisher, it->keygroup, it->new_token, 1) && stands(&publisher, !it->keygroup, renewals[!it->keygroup].token, 0));
+    turn(&publisher, 100, 2, behind);
+    DEMAND(is_under(&behind[it->group], it->new_token, 2) && header_of(&behind[it->other_group]).number == 1);
+    DEMAND(answer(&subscriber, it->group, 200, &behind[it->group]) == UAP_OK);
+    DEMAND(takes(&fresh, it->group, 200, &behind[it->group]) && reads(&fresh, it->group, 2));
+    turn(&publisher, 200, 3, last);
+    DEMAND(is_under(&last[it->group], it->new_token + 1, 1) && takes(&subscriber, it->group, 300, &last[it->group]) && reads(&subscriber, it->group, 3));
+    close_sides(&publisher, &subscriber);
+    DEMAND(uap_close(&fresh) == UAP_OK);
+}
+
+// With a lower token or number, or with key sets that make no ring, nothing changes; a later token passes the numbers over.
+static void check_resumed_with(const struct renewal *it) {
+    struct uap_handle publisher = UAP_CLOSED_HANDLE;
+    struct datagram both[GROUPS];
+    const struct uap_key_set set = key_set(it->new_token, 0, it->new_digit), old = key_set(it->token, 0, it->digit);
+    const struct uap_key_set late = key_set(it->new_token, 1, it->new_digit);
+    const struct uap_key_set sets[] = {old, key_set(it->new_token, 150, it->new_digit)};
+    struct uap_key_set many[17];
+    for (uint32_t i = 0; i < 17; i++) many[i] = key_set(it->new_token + i, i, it->new_digit);
+    open_publisher(&publisher, first_keys);
+    DEMAND(uap_publisher_resume_with(&publisher, it->keygroup, 0, it->new_token, 700, &set, 1) == UAP_OK && stands(&publisher, it->keygroup, it->new_token, 700));
+    DEMAND(uap_publisher_resume_with(&publisher, it->keygroup, 0, it->new_token, 699, &set, 1) == UAP_BAD_KEYS);
+    DEMAND(uap_publisher_resume_with(&publisher, it->keygroup, 0, it->token, 800, &old, 1) == UAP_BAD_KEYS);
+    DEMAND(uap_publisher_resume_with(&publisher, it->keygroup, 0, it->new_token + 1, 800, &set, 1) == UAP_BAD_KEYS);
+    DEMAND(uap_publisher_resume_with(&publisher, it->keygroup, 0, it->new_token, 800, &set, 0) == UAP_BAD_KEYS);
+    DEMAND(uap_publisher_resume_with(&publisher, it->keygroup, 0, it->new_token, 800, &late, 1) == UAP_BAD_KEYS);
+    DEMAND(uap_publisher_resume_with(&publisher, it->keygroup, 0, it->new_token, 800, many, 17) == UAP_BAD_KEYS);
+    DEMAND(uap_publisher_resume_with(&publisher, 2, 0, it->new_token, 800, &set, 1) == UAP_INDEX);
+    DEMAND(stands(&publisher, it->keygroup, it->new_token, 700));
+    turn(&publisher, 100, 1, both);
+    DEMAND(is_under(&both[it->group], it->new_token, 701) && header_of(&both[it->other_group]).number == 1);
+    DEMAND(uap_publisher_resume_with(&publisher, it->keygroup, 149, it->new_token, 900, sets, 2) == UAP_BAD_KEYS);
+    DEMAND(uap_publisher_resume_with(&publisher, it->keygroup, 150, it->new_token, 900, sets, 2) == UAP_OK && stands(&publisher, it->keygroup, it->new_token, 900));
+    DEMAND(uap_publisher_resume_with(&publisher, it->keygroup, 16, it->new_token, 3, many, 16) == UAP_OK);
+    DEMAND(stands(&publisher, it->keygroup, it->new_token + 15, 3));
+    DEMAND(uap_close(&publisher) == UAP_OK);
+}
+
 // Both sides with the second key: a datagram under its token that the first signing key signed is refused.
 static void check_old_signature(const struct renewal *it) {
     struct uap_handle publisher = UAP_CLOSED_HANDLE, forger = UAP_CLOSED_HANDLE, subscriber = UAP_CLOSED_HANDLE;
@@ -286,6 +340,8 @@ void check_keys(void) {
     for (size_t i = 0; i < sizeof renewals / sizeof *renewals; i++) {
         check_publisher_renewed(&renewals[i]);
         check_subscriber_renewed(&renewals[i]);
+        check_renewed_resumed(&renewals[i]);
+        check_resumed_with(&renewals[i]);
         check_old_signature(&renewals[i]);
     }
     check_spelled();

@@ -100,7 +100,7 @@ static void check_others(void) {
     const size_t before = held;
     open_sides(&publisher, &subscriber, small);
     asked = 0;
-    DEMAND(uap_publisher_resume(&publisher, 0, 0, 50) == UAP_OK);
+    DEMAND(uap_publisher_resume(&publisher, 0, 0, 50) == UAP_OK && uap_publisher_resume_with(&publisher, 0, 0, 1, 60, sets, 2) == UAP_OK);
     for (uint32_t now = 100; now < 1000; now += 100) {
         DEMAND(uap_set_u32(&publisher, 0, 0, now) == UAP_OK && next(&publisher, now, &datagram) == UAP_OK);
         DEMAND(uap_subscriber_datagram(&subscriber, 0, now, datagram.bytes, datagram.length, &taken) == UAP_OK && reads(&subscriber, 0, now));

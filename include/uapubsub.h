@@ -8,8 +8,11 @@
  *   - malloc, realloc and free are those of one allocator, which aligns to 16.
  *   - Moments are milliseconds of one clock of the program, for each handle, and don't fall.
  *
- * What a program doesn't owe: a null pointer, an index out of range, a call of a closed handle, of the other side, a second opening, a
- * value that the field doesn't have, a buffer that is too short and whatever bytes come from a socket are answered by a status.
+ * Indexes count from 0, in the configuration's order. An index is a uint8_t: the compiler cuts a wider one (-Wconversion warns).
+ *
+ * What a program doesn't owe: a null pointer (also with the length 0), an index out of range, a call of a closed handle, of the other
+ * side, a second opening, a value that the field doesn't have, a buffer that is too short and whatever bytes come from a socket are
+ * answered by a status.
  */
 #ifndef UAPUBSUB_H
 #define UAPUBSUB_H
@@ -18,6 +21,10 @@
 #include <stddef.h>
 #include <stdint.h>
 #include <string.h>
+
+#if UINTPTR_MAX != 0xffffffffffffffff
+#error "libuapubsub_c.a is for x86-64, with pointers of 64 bits"
+#endif
 
 #ifdef __cplusplus
 extern "C" {
@@ -33,12 +40,12 @@ enum {
     UAP_OTHER_SIDE = 5,  /* the handle is a subscriber's, and the call a publisher's, or the other way about */
     UAP_MEMORY = 6,      /* memory ran out */
     UAP_REFUSED = 7,     /* the configuration is refused: uap_config_check says why */
-    UAP_INDEX = 8,       /* there is no such data set, field, key group, group, writer, read group or reader */
+    UAP_INDEX = 8,       /* there is no such data set, field, key group, group, writer, read group or reader, or the read group has no keys */
     UAP_MISFIT = 9,      /* the field doesn't have this kind, this value or this status: of another kind, longer than its cap, or without quality */
     UAP_ROOM = 10,       /* the buffer is too short */
     UAP_SPENT = 11,      /* a group that is due can have no turn: fewer than 1,024 numbers are left under its token */
-    UAP_BAD_TEXT = 12,   /* the text isn't UTF-8, or has more than 256 bytes */
-    UAP_BAD_KEYS = 13,   /* the key sets make no ring of the key group, or a number would be used again */
+    UAP_BAD_TEXT = 12,   /* the text isn't UTF-8, or the text or the bytes have more than 256 bytes */
+    UAP_BAD_KEYS = 13,   /* the key sets make no ring of the key group, or are of an earlier token, or a number would be used again */
 
     /* Why a datagram is refused. */
     UAP_HEADER_SHORT = 101,     /* it ends before its header does */
@@ -80,7 +87,7 @@ struct uap_handle {
 
 #define UAP_CLOSED_HANDLE {0, NULL}
 
-/* The keys of one token. An AES-128 key is the first 16 bytes of `encrypting`. */
+/* The keys of one token. An AES-128 key is the first 16 bytes of `encrypting`. The moment `from_ms` is of the clock of `now_ms`. */
 struct uap_key_set {
     uint32_t token;
     uint8_t nonce[4];
@@ -111,8 +118,8 @@ uint32_t uapubsub_publisher_open(struct uap_handle *handle, const uint8_t *text,
 uint32_t uapubsub_publisher_next(struct uap_handle *handle, uint64_t now_ms, uint8_t *buffer, size_t room, size_t *length);
 uint32_t uapubsub_publisher_standing(struct uap_handle *handle, uint8_t keygroup, uint32_t *token, uint32_t *used);
 uint32_t uapubsub_publisher_resume(struct uap_handle *handle, uint8_t keygroup, uint64_t now_ms, uint32_t used);
-uint32_t uapubsub_publisher_resume_with(struct uap_handle *handle, uint8_t keygroup, uint64_t now_ms, uint32_t used, const struct uap_key_set *sets,
-                                        size_t count);
+uint32_t uapubsub_publisher_resume_with(struct uap_handle *handle, uint8_t keygroup, uint64_t now_ms, uint32_t token, uint32_t used,
+                                        const struct uap_key_set *sets, size_t count);
 uint32_t uapubsub_publisher_renew(struct uap_handle *handle, uint8_t keygroup, const struct uap_key_set *sets, size_t count);
 uint32_t uapubsub_writer_enable(struct uap_handle *handle, uint8_t group, uint8_t writer);
 uint32_t uapubsub_writer_disable(struct uap_handle *handle, uint8_t group, uint8_t writer);
@@ -301,21 +308,25 @@ static inline uint32_t uap_publisher_standing(struct uap_handle *handle, uint8_t
 }
 
 /* A key group goes on behind `used` numbers of the configuration's last key set whose moment has come: what a device calls after a
- * restart, where the key in use stands in the configuration. A ring that uap_publisher_renew gave is dropped. */
+ * restart, before its first uap_publisher_next, where the key in use stands in the configuration: `used` is of the token that
+ * uap_publisher_standing then tells. A ring that uap_publisher_renew gave is dropped. UAP_BAD_KEYS: that token is lower than the one in use,
+ * or is that one with a greater number used. */
 static inline uint32_t uap_publisher_resume(struct uap_handle *handle, uint8_t keygroup, uint64_t now_ms, uint32_t used) {
     if (handle == NULL) return UAP_NULL;
     return uapubsub_publisher_resume(handle, keygroup, now_ms, used);
 }
 
-/* The same with other key sets, as `uap_publisher_renew` has them: what a device calls after a restart, before its first datagram, with the
- * ring that it was last renewed with, and stored beside token and number. */
-static inline uint32_t uap_publisher_resume_with(struct uap_handle *handle, uint8_t keygroup, uint64_t now_ms, uint32_t used,
+/* The same with other key sets, as `uap_publisher_renew` has them: what a device calls after a restart with the ring that it was renewed
+ * with last. `token` and `used` are those that uap_publisher_standing told last, or a greater number. UAP_BAD_KEYS also where the key set of
+ * the moment is of an earlier token: what was used under that one isn't known. Under a later token `used` numbers are passed over. */
+static inline uint32_t uap_publisher_resume_with(struct uap_handle *handle, uint8_t keygroup, uint64_t now_ms, uint32_t token, uint32_t used,
                                                  const struct uap_key_set *sets, size_t count) {
     if (handle == NULL || sets == NULL) return UAP_NULL;
-    return uapubsub_publisher_resume_with(handle, keygroup, now_ms, used, sets, count);
+    return uapubsub_publisher_resume_with(handle, keygroup, now_ms, token, used, sets, count);
 }
 
-/* A key group goes on with other key sets, at most 16, in the order of their tokens and moments, the first from 0. */
+/* A key group goes on with other key sets, at most 16, in the order of their tokens and moments, the first from 0. The keys in use stay until
+ * one with a higher token comes to its moment. */
 static inline uint32_t uap_publisher_renew(struct uap_handle *handle, uint8_t keygroup, const struct uap_key_set *sets, size_t count) {
     if (handle == NULL || sets == NULL) return UAP_NULL;
     return uapubsub_publisher_renew(handle, keygroup, sets, count);
@@ -498,7 +509,8 @@ static inline uint32_t uap_reader_disable(struct uap_handle *handle, uint8_t gro
     return uapubsub_reader_disable(handle, group, reader);
 }
 
-/* A read group goes on with other key sets, as `uap_publisher_renew` has them. */
+/* A read group goes on with other key sets, as `uap_publisher_renew` has them, at once: what is still sent under a token that they lack is
+ * refused. */
 static inline uint32_t uap_subscriber_renew(struct uap_handle *handle, uint8_t group, const struct uap_key_set *sets, size_t count) {
     if (handle == NULL || sets == NULL) return UAP_NULL;
     return uapubsub_subscriber_renew(handle, group, sets, count);
@@ -510,14 +522,16 @@ static inline uint32_t uap_reader_why(struct uap_handle *handle, uint8_t group, 
     return uapubsub_reader_why(handle, group, reader, why);
 }
 
-/* The number of the message that the held row was last made of. */
+/* The number of the message that the held row was last made of. UAP_NONE where no row is held, or the reader goes by no numbers. */
 static inline uint32_t uap_reader_number(struct uap_handle *handle, uint8_t group, uint8_t reader, uint16_t *number) {
     if (handle == NULL || number == NULL) return UAP_NULL;
     return uapubsub_reader_number(handle, group, reader, number);
 }
 
-/* All datagrams that are due, laid one behind another into `buffer`, with their lengths, at most `most`. UAP_NONE where that was all;
- * UAP_ROOM where another may wait, for which there was no room, or there were `most`: call again with an empty buffer. */
+/* All datagrams that are due, laid one behind another into `buffer`, with their lengths, at most `most`. Whatever the status but UAP_NULL,
+ * `count` of them were laid, and are to be sent. UAP_NONE: that was all. UAP_SPENT: that was all of the groups that may have a turn.
+ * UAP_ROOM: there were `most`, or the next one has no room behind them: send these, and call again. UAP_ROOM with none: the buffer is too
+ * short for the next one, or `most` is 0. */
 static inline uint32_t uap_publisher_tick(struct uap_handle *handle, uint64_t now_ms, void *buffer, size_t room, size_t *lengths, size_t most,
                                          size_t *count) {
     if (handle == NULL || buffer == NULL || lengths == NULL || count == NULL) return UAP_NULL;

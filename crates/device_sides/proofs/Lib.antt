@@ -3,6 +3,7 @@ pub mod Keys
 pub mod Looks
 pub mod Places
 pub mod Refreshing
+pub mod Rising
 pub mod RowLists
 pub mod Sending
 pub mod Telling

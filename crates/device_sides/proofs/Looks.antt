@@ -93,7 +93,7 @@ looked-so place now looked old mid new was is rows senders left but counted coun
     }
 
 -- an element of a list that isn't empty
-some-side : (sides : List Side) (place : ℕ) → place < length sides → Side
+pub some-side : (sides : List Side) (place : ℕ) → place < length sides → Side
 some-side [] place low = absurd (omega (arith, low))
 some-side (side ∷ sides) place low = side
 
@@ -230,16 +230,17 @@ all-done now held so old new count all config rows senders none far is = record 
   none_waits = none;
 }
 
-made-some-by : (now place made : ℕ) (held : Bool) (old mid new : Publisher) → mid.config ≡ old.config → mid.rows.items ≡ old.rows.items → mid.senders.items ≡ old.senders.items
+made-some-by : (now place made : ℕ) (held : Bool) (old mid new : Publisher) → place < length mid.sides.items → mid.config ≡ old.config → mid.rows.items ≡ old.rows.items → mid.senders.items ≡ old.senders.items
     → SoFar (Does old.config now old.rows.items old.senders.items) place held old.sides.items mid.sides.items → HasLooked place now (Made made) mid new → new.handed < new.made
     → HasMadeSome now old.senders.items old.sides.items new
-made-some-by now place made held old mid new config rows senders far looked waits =
+made-some-by now place made held old mid new low config rows senders far looked waits =
     let new_config = looked.config ∙ config in
     let new_rows = looked.rows ∙ rows in
     record {
       did = far.did;
       passed = far.passed;
       mid = mid.sides.items;
+      within = omega (arith, low, far.count_is);
       done = does-there now old.senders.items old new far.did old.sides.items mid.sides.items new_config new_rows far.done;
       turn = subst (λ (n : ℕ). HoldsAt (λ (was : Side). HoldsAt (HasItsTurn new.config now new.rows.items old.senders.items new.out new.made was) new.sides.items n) mid.sides.items n) (sym far.count_is)
           (λ d e.
@@ -259,10 +260,10 @@ made-some-by now place made held old mid new config rows senders far looked wait
     }
 
 -- a look behind which a datagram waits, where none did before, had a turn
-pub made-some : (now place : ℕ) (held : Bool) (looked : Looked) (old mid new : Publisher) → mid.config ≡ old.config → mid.rows.items ≡ old.rows.items
+pub made-some : (now place : ℕ) (held : Bool) (looked : Looked) (old mid new : Publisher) → place < length mid.sides.items → mid.config ≡ old.config → mid.rows.items ≡ old.rows.items
     → mid.senders.items ≡ old.senders.items → mid.made ≤ mid.handed
     → SoFar (Does old.config now old.rows.items old.senders.items) place held old.sides.items mid.sides.items → HasLooked place now looked mid new → new.handed < new.made
     → HasMadeSome now old.senders.items old.sides.items new
-made-some now place held Idle old mid new config rows senders none far looked waits = absurd (omega (arith, none, waits, looked.counts.0, looked.counts.1))
-made-some now place held Held old mid new config rows senders none far looked waits = absurd (omega (arith, none, waits, looked.counts.0, looked.counts.1))
-made-some now place held (Made made) old mid new config rows senders none far looked waits = made-some-by now place made held old mid new config rows senders far looked waits
+made-some now place held Idle old mid new low config rows senders none far looked waits = absurd (omega (arith, none, waits, looked.counts.0, looked.counts.1))
+made-some now place held Held old mid new low config rows senders none far looked waits = absurd (omega (arith, none, waits, looked.counts.0, looked.counts.1))
+made-some now place held (Made made) old mid new low config rows senders none far looked waits = made-some-by now place made held old mid new low config rows senders far looked waits

@@ -116,6 +116,7 @@ pub record HasMadeSome (now : ℕ) (senders : List SenderState) (sides : List Si
   pub did : List Looked
   pub passed : All IsPassed did
   pub mid : List Side
+  pub within : length did < length mid
   pub done : AllDid (Does new.config now new.rows.items senders) did sides mid
   pub turn : HoldsAt (λ was. HoldsAt (HasItsTurn new.config now new.rows.items senders new.out new.made was)
       new.sides.items (length did)) mid (length did)

@@ -1,3 +1,4 @@
+pub mod Calls
 pub mod Coming
 pub mod Looking
 pub mod Raising

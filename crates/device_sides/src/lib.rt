@@ -3,6 +3,7 @@
 #![tactic(auto)]
 
 mod asked;
+mod laws;
 mod listening;
 mod looking;
 mod making;
@@ -14,6 +15,7 @@ mod subscriber;
 mod words;
 
 pub use asked::{Next, NoValue};
+pub use laws::no_sender_falls_back;
 pub use listening::Listening;
 pub use publisher::Publisher;
 pub use side::Side;

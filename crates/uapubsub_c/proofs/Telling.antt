@@ -1,5 +1,5 @@
 -- What a handle tells of a reader.
-use Rattle.std.proofs.Common.{◌≡◌, ℕ, ◌<◌, List, [], ◌∷◌, length, get_or, refl, arith}
+use Rattle.std.proofs.Common.{◌≡◌, ◌≢◌, ◌⊎◌, ℕ, ◌<◌, List, [], ◌∷◌, ◌++◌, length, get_or, inl, inr, refl, arith}
 use Rattle.dataset_meta.specs.Metas.{MetaData}
 use Rattle.dataset_reader.specs.declared.reader.Reader.{Reader}
 use Rattle.dataset_reader.specs.Kept.{Kept as ReaderKept}
@@ -8,6 +8,7 @@ use Rattle.device_sides.specs.Readings.{HasNoMisfit, IsReaderAt, Keeps, meta_for
 use Rattle.device_sides.specs.declared.publisher.Publisher.{Publisher as PublisherValue}
 use Rattle.device_sides.specs.declared.subscriber.Subscriber.{Subscriber as SubscriberValue}
 use Rattle.uapubsub_c.specs.Getting.{IsPublisherSide, IsReaderIn, IsSubscriberSide, KeepsIn, PublisherIs}
+use Rattle.uapubsub_c.specs.Handles.{IsOneOf, IsUnset}
 use Rattle.uapubsub_c.specs.declared.kept.Kept.{Kept}
 use Rattle.uapubsub_c.specs.declared.kept.Kept.TheVariants.{Publisher, Subscriber}
 
@@ -63,3 +64,28 @@ not-publisher (Subscriber subscriber) not = tt
 pub not-subscriber : (kept : Kept) → ((subscriber : SubscriberValue) → kept ≡ Subscriber subscriber → ⊥) → IsPublisherSide kept
 not-subscriber (Subscriber subscriber) not = absurd (not subscriber refl)
 not-subscriber (Publisher publisher) not = tt
+
+-- a side that wasn't touched
+pub unset-same : (kept : Kept) → IsUnset kept kept
+unset-same (Publisher publisher) = record { rows = refl; rest = refl }
+unset-same (Subscriber subscriber) = refl
+
+-- ---- statuses
+
+-- one of the first of these
+pub one-of-first : (first others : List ℕ) (status : ℕ) → IsOneOf first status → IsOneOf (first ++ others) status
+one-of-first [] others status is = absurd is
+one-of-first (one ∷ first) others status (inl is) = inl is
+one-of-first (one ∷ first) others status (inr is) = inr (one-of-first first others status is)
+
+-- one of three, and not the last one
+pub one-of-two : (one two three status : ℕ) → IsOneOf (one ∷ two ∷ three ∷ []) status → status ≢ three → IsOneOf (one ∷ two ∷ []) status
+one-of-two one two three status (inl is) not = inl is
+one-of-two one two three status (inr (inl is)) not = inr (inl is)
+one-of-two one two three status (inr (inr (inl is))) not = absurd (not is)
+one-of-two one two three status (inr (inr (inr is))) not = absurd is
+
+-- one more
+pub one-of-more : (P : Type 0) (first : ℕ) (others : List ℕ) (status : ℕ) → P ⊎ IsOneOf others status → P ⊎ IsOneOf (first ∷ others) status
+one-of-more P first others status (inl is) = inl is
+one-of-more P first others status (inr is) = inr (inr is)

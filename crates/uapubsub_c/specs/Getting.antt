@@ -141,6 +141,11 @@ pub record IsFieldNamed (config : Config) (set : ℕ) (name : List ℕ) (index :
   pub within : set < length config.dataset
   pub named : HoldsAt (λ meta. IsPlaceOf meta.fields name index) config.dataset set
 
+-- no data set whose index is a byte has this name
+abbrev pub HasNoSetNamed : Config → List ℕ → Type 0
+HasNoSetNamed config name =
+    (index : ℕ) → index < 256 → index < length config.dataset → HoldsAt (λ meta. meta.name ≢ name) config.dataset index
+
 -- where there is a data set with this index, none of its fields has this name
 abbrev pub HasNoFieldNamed : Config → ℕ → List ℕ → Type 0
 HasNoFieldNamed config set name =

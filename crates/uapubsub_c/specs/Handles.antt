@@ -1,5 +1,5 @@
 -- What a handle holds, and how a call leaves it.
-use Rattle.std.specs.Prelude.{◌≡◌, ◌≢◌, ℕ, ◌-◌, [], ◌++◌, List, drop, length, slice_index_or, Ok, IsErr, Some, IfSome, IsSome}
+use Rattle.std.specs.Prelude.{◌≡◌, ◌≢◌, ◌⊎◌, ℕ, ◌-◌, [], ◌∷◌, ◌++◌, List, drop, length, slice_index_or, Ok, IsErr, Some, IfSome, IsSome}
 use Rattle.std.specs.List.{AllZip}
 use Rattle.ua_values.specs.declared.kind.Kind.{Kind}
 use Rattle.ua_values.specs.declared.value.Value.{Value}
@@ -18,6 +18,11 @@ use Rattle.device_sides.specs.Sides.{AreOpeningListenings, AreOpeningSides, HasS
 use Rattle.uapubsub_c.specs.declared.handle.Handle.{Handle}
 use Rattle.uapubsub_c.specs.declared.kept.Kept.{Kept}
 use Rattle.uapubsub_c.specs.declared.kept.Kept.TheVariants.{Publisher, Subscriber}
+
+-- the status is one of these
+abbrev pub IsOneOf : List ℕ → ℕ → Type 0
+IsOneOf [] status = ⊥
+IsOneOf (first ∷ others) status = (status ≡ first) ⊎ IsOneOf others status
 
 -- it may be called
 abbrev pub IsSound : Kept → Type 0
@@ -67,7 +72,7 @@ IsRefusal Memory = ⊥
 IsRefusal (Refused code path) = Unit {0}
 
 -- the handle holds a publisher of the configuration that the text is: each data set has its opening row, each key group a sender behind
--- the numbers that the configuration tells of, and each group stands before its first turn, with all writers on
+-- the numbers that the configuration tells of, and each group stands before its first turn, with all writers on; no datagram waits
 pub record OpensPublisher (text : List ℕ) (handle : Handle) : Type 0 where
   pub publisher : PublisherValue
   pub holds : Holds (Publisher publisher) handle
@@ -75,6 +80,7 @@ pub record OpensPublisher (text : List ℕ) (handle : Handle) : Type 0 where
   pub rows : AllZip IsOpeningRow publisher.config.dataset publisher.rows.items
   pub senders : AllZip IsOpeningSender publisher.config.keygroup publisher.senders.items
   pub sides : AreOpeningSides publisher.config publisher.sides.items
+  pub none_waits : publisher.made ≡ 0
 
 -- the handle holds a subscriber of the configuration that the text is: each read group stands before anything, with all readers on
 pub record OpensSubscriber (text : List ℕ) (handle : Handle) : Type 0 where
@@ -112,6 +118,21 @@ abbrev pub HasScalarIn : ℕ → ℕ → ℕ → ℕ → Kept → Kept → Type 
 HasScalarIn set field number word (Publisher old) (Publisher new) = SetsWord set field number word old new
 HasScalarIn set field number word (Publisher old) (Subscriber new) = ⊥
 HasScalarIn set field number word (Subscriber old) new = ⊥
+
+-- the publisher has the rows that it had, and nothing else of it changed
+pub record SetsNothing (old new : PublisherValue) : Type 0 where
+  pub rows : new.rows.items ≡ old.rows.items
+  pub rest : new ≡ record old { rows = new.rows }
+
+-- the same of a side: of a subscriber nothing changed
+abbrev pub IsUnset : Kept → Kept → Type 0
+IsUnset (Publisher old) (Publisher new) = SetsNothing old new
+IsUnset (Publisher old) (Subscriber new) = ⊥
+IsUnset (Subscriber old) new = new ≡ Subscriber old
+
+-- what the handle holds, if anything, it still holds, with no row set
+abbrev pub StaysUnset : Handle → Handle → Type 0
+StaysUnset old new = (kept : Kept) → Holds kept old → Tells new (IsUnset kept)
 
 -- the sender of a publisher's key group is at this token, with this number used last
 abbrev pub StandsIn : ℕ → ℕ → ℕ → Kept → Type 0

@@ -5,7 +5,7 @@ use Rattle.group_keys.specs.KeySets.{encrypting_length}
 use Rattle.group_keys.specs.declared.key_set.KeySet.{KeySet}
 use Rattle.message_guard.specs.Protection.{keys_in}
 use Rattle.device_sides.specs.Readings.{HasKeysRenewed}
-use Rattle.device_sides.specs.Sides.{HasLongKeys, HasRenewed, IsBehind, MayNotResume, ReadsLongKeys, ReadsNoKeys}
+use Rattle.device_sides.specs.Sides.{HasLongKeys, HasRenewed, IsBehind, IsEarlier, MayNotResume, MayNotResumeConfigured, ReadsLongKeys, ReadsNoKeys}
 use Rattle.device_sides.specs.declared.publisher.Publisher.{Publisher}
 use Rattle.device_sides.specs.declared.subscriber.Subscriber.{Subscriber}
 use Rattle.uapubsub_c.specs.declared.keys.KeySetWords.{KeySetWords}
@@ -34,11 +34,13 @@ pub record HasRenewedTo (keygroup : ℕ) (sets : List KeySetWords) (old new : Pu
   pub is_long : HasLongKeys old.config keygroup long
   pub is : HasRenewed keygroup (key_sets_in long sets) old new
 
--- the publisher's key group goes on behind so many numbers of these key sets, of the length of its own keys (IsBehind)
-pub record IsBehindWith (keygroup now used : ℕ) (sets : List KeySetWords) (old new : Publisher) : Type 0 where
+-- the publisher's key group goes on behind so many numbers of these key sets, of the length of its own keys (IsBehind), and that of the moment is of no
+-- earlier token than this
+pub record IsBehindWith (keygroup now token used : ℕ) (sets : List KeySetWords) (old new : Publisher) : Type 0 where
   pub long : Bool
   pub is_long : HasLongKeys old.config keygroup long
   pub is : IsBehind keygroup now used (key_sets_in long sets) old new
+  pub no_earlier : ¬ IsEarlier now token (key_sets_in long sets)
 
 -- the subscriber's read group goes on with these key sets, of the length of its key group's keys, and nothing else changed
 pub record HasKeysRenewedTo (group : ℕ) (sets : List KeySetWords) (old new : Subscriber) : Type 0 where
@@ -52,11 +54,16 @@ pub record MakesNoRing (keygroup : ℕ) (sets : List KeySetWords) (publisher : P
   pub is_long : HasLongKeys publisher.config keygroup long
   pub none : MakeNoRing long sets
 
--- of that length they make no ring, or numbers would come twice with them
-pub record MayNotResumeWith (keygroup now used : ℕ) (sets : List KeySetWords) (publisher : Publisher) : Type 0 where
+-- the publisher has the key group, of whose sender numbers would come again with the key sets of the configuration
+pub record RepeatsConfigured (keygroup now used : ℕ) (publisher : Publisher) : Type 0 where
+  pub within : keygroup < length publisher.config.keygroup
+  pub may_not : MayNotResumeConfigured keygroup now used publisher
+
+-- of that length they make no ring, or that of the moment is of an earlier token, or numbers would come twice with them
+pub record MayNotResumeWith (keygroup now token used : ℕ) (sets : List KeySetWords) (publisher : Publisher) : Type 0 where
   pub long : Bool
   pub is_long : HasLongKeys publisher.config keygroup long
-  pub why : MakeNoRing long sets ⊎ MayNotResume keygroup now used (key_sets_in long sets) publisher
+  pub why : MakeNoRing long sets ⊎ (IsEarlier now token (key_sets_in long sets) ⊎ MayNotResume keygroup now used (key_sets_in long sets) publisher)
 
 -- of the length of the keys of the subscriber's read group the key sets make no ring
 pub record MakesNoRingRead (group : ℕ) (sets : List KeySetWords) (subscriber : Subscriber) : Type 0 where

@@ -6,8 +6,12 @@ use Rattle.ua_values.specs.declared.value.Value.TheVariants.{ByteString, String}
 use Rattle.ua_values.specs.Blobs.{blob_of}
 use Rattle.ua_values.specs.Texts.{text_of}
 use Rattle.ua_binary.specs.Types.{kind_with}
-use Rattle.device_sides.specs.Sides.{HasNoField, IsMisfit, IsStatusMisfit, IsWordMisfit}
+use Rattle.device_sides.specs.Sides.{HasField, HasNoField, IsMisfit, IsStatusMisfit, IsWordMisfit}
 use Rattle.device_sides.specs.declared.publisher.Publisher.{Publisher}
+
+-- the publisher has this field of this data set
+abbrev pub SetsField : ℕ → ℕ → Publisher → Type 0
+SetsField set field publisher = HasField publisher.config.dataset set field
 
 -- the publisher has no such data set or field
 abbrev pub SetsNoField : ℕ → ℕ → Publisher → Type 0

@@ -1,7 +1,7 @@
 //! Judging a configuration.
-ghost use Rattle.std.specs.Prelude.{◌≡◌, ◌≢◌, ◌≤◌, IsOk, IfOk, IfErr, length};
+ghost use Rattle.std.specs.Prelude.{◌≡◌, ◌≢◌, ◌≤◌, [], ◌∷◌, IsOk, IfOk, IfErr, length};
 ghost use Rattle.ps_config.specs.Reading.{configuration, IsEnd};
-ghost use Rattle.uapubsub_c.specs.Handles.{IsRefusal, IsRefused};
+ghost use Rattle.uapubsub_c.specs.Handles.{IsOneOf, IsRefusal, IsRefused};
 
 use crate::laying::lay;
 use crate::status::{MEMORY, OK, REFUSED};
@@ -17,6 +17,7 @@ pub extern "C" fn uapubsub_config_check(
     error: &mut [u8],
     written: &mut usize,
 ) -> u32
+    ensures answers { IsOneOf (OK ∷ REFUSED ∷ MEMORY ∷ []) result }
     ensures ok { result ≡ OK → IsOk (configuration text.now) }
     ensures refused { result ≡ REFUSED → IsRefused text.now }
     ensures room { written.new ≤ length error.old }
@@ -39,6 +40,7 @@ fn judge(alloc: Global, text: &[u8]) -> Result<(), ConfigEnd>
 
 /// Lays the line of a refusal.
 fn tell(alloc: Global, end: &ConfigEnd, error: &mut [u8], written: &mut usize) -> u32
+    ensures answers { IsOneOf (REFUSED ∷ MEMORY ∷ []) result }
     ensures refused { result ≡ REFUSED → IsRefusal end.now }
     ensures not_ok { result ≢ OK }
     ensures room { written.new ≤ length error.old }

@@ -1,8 +1,8 @@
 //! Getting fields.
-ghost use Rattle.std.specs.Prelude.{◌≡◌, ◌≢◌, ◌<◌, IfOk, IfErr, length};
+ghost use Rattle.std.specs.Prelude.{◌≡◌, ◌≢◌, ◌<◌, [], ◌∷◌, IfOk, IfErr, length};
 ghost use Rattle.device_sides.specs.Readings.{HasFieldStatus, HasFieldValue, HoldsNone};
 ghost use Rattle.uapubsub_c.specs.Getting.{GetsBytes, GetsText, HasNoFieldIn, HasScalarAt, HasSuch, IsBlobLaid, IsLaidOut, IsLongerBlob, IsLongerText, IsNoBlob, IsNoGuid, IsNoText, IsOtherKindIn, IsPublisherSide, IsTextLaid, KeepsIn};
-ghost use Rattle.uapubsub_c.specs.Handles.{IsReady, IsSound, Stays, Tells};
+ghost use Rattle.uapubsub_c.specs.Handles.{IsOneOf, IsReady, IsSound, Stays, Tells};
 
 use crate::guid::GuidBytes;
 use crate::handle::Handle;
@@ -26,6 +26,7 @@ pub extern "C" fn uapubsub_get_scalar(
     word: &mut u64,
 ) -> u32
     requires { IsReady handle.old }
+    ensures answers { IsOneOf (CLOSED ∷ OTHER_SIDE ∷ OK ∷ INDEX ∷ NONE ∷ MISFIT ∷ []) result }
     ensures ready { IsReady handle.new }
     ensures stays { Stays handle.old handle.new }
     ensures word { result ≡ OK → Tells handle.old (HasScalarAt group reader field kind word.new) }
@@ -46,6 +47,7 @@ pub extern "C" fn uapubsub_get_scalar(
 
 fn word_in(kept: &Kept, group: u8, reader: u8, field: u8, kind: u32, word: &mut u64) -> u32
     requires { IsSound kept.now }
+    ensures answers { IsOneOf (OTHER_SIDE ∷ OK ∷ INDEX ∷ NONE ∷ MISFIT ∷ []) result }
     ensures word { result ≡ OK → HasScalarAt group reader field kind word.new kept.now }
     ensures untold { result ≢ OK → word.new ≡ word.old }
     ensures no_row { result ≡ NONE → KeepsIn group reader HoldsNone kept.now }
@@ -70,6 +72,7 @@ fn word_in(kept: &Kept, group: u8, reader: u8, field: u8, kind: u32, word: &mut 
 }
 
 fn status_of(none: NoValue) -> u32
+    ensures answers { IsOneOf (INDEX ∷ NONE ∷ MISFIT ∷ []) result }
     ensures not_ok { result ≢ OK }
     ensures no_row { result ≡ NONE → none ≡ NoValue.NoRow }
     ensures misfit { result ≡ MISFIT → none ≡ NoValue.Misfit }
@@ -98,6 +101,8 @@ pub extern "C" fn uapubsub_get_text(
     count: &mut usize,
 ) -> u32
     requires { IsReady handle.old }
+    ensures answers { IsOneOf
+        (OK ∷ ROOM ∷ MISFIT ∷ CLOSED ∷ OTHER_SIDE ∷ INDEX ∷ NONE ∷ []) result }
     ensures ready { IsReady handle.new }
     ensures stays { Stays handle.old handle.new }
     ensures got { result ≡ OK
@@ -108,6 +113,7 @@ pub extern "C" fn uapubsub_get_text(
         → Tells handle.old (KeepsIn group reader (HasSuch field IsNoText)) }
     ensures room { result ≡ ROOM → Tells handle.old
         (KeepsIn group reader (HasSuch field (IsLongerText buffer.old count.new))) }
+    ensures untold { result ≢ OK → result ≢ ROOM → count.new ≡ count.old }
     ensures index { result ≡ INDEX → Tells handle.old (HasNoFieldIn group reader field) }
     ensures other_side { result ≡ OTHER_SIDE → Tells handle.old IsPublisherSide }
     ensures closed { result ≡ CLOSED → handle.old.is_open ≡ 0 }
@@ -130,6 +136,8 @@ pub extern "C" fn uapubsub_get_bytes(
     count: &mut usize,
 ) -> u32
     requires { IsReady handle.old }
+    ensures answers { IsOneOf
+        (OK ∷ ROOM ∷ MISFIT ∷ CLOSED ∷ OTHER_SIDE ∷ INDEX ∷ NONE ∷ []) result }
     ensures ready { IsReady handle.new }
     ensures stays { Stays handle.old handle.new }
     ensures got { result ≡ OK
@@ -140,6 +148,7 @@ pub extern "C" fn uapubsub_get_bytes(
         → Tells handle.old (KeepsIn group reader (HasSuch field IsNoBlob)) }
     ensures room { result ≡ ROOM → Tells handle.old
         (KeepsIn group reader (HasSuch field (IsLongerBlob buffer.old count.new))) }
+    ensures untold { result ≢ OK → result ≢ ROOM → count.new ≡ count.old }
     ensures index { result ≡ INDEX → Tells handle.old (HasNoFieldIn group reader field) }
     ensures other_side { result ≡ OTHER_SIDE → Tells handle.old IsPublisherSide }
     ensures closed { result ≡ CLOSED → handle.old.is_open ≡ 0 }
@@ -152,10 +161,12 @@ pub extern "C" fn uapubsub_get_bytes(
 
 /// Lays the bytes of a String.
 fn lay_text(value: &Value, buffer: &mut [u8], count: &mut usize) -> u32
+    ensures answers { IsOneOf (OK ∷ ROOM ∷ MISFIT ∷ []) result }
     ensures laid { result ≡ OK → IsTextLaid value.now buffer.old buffer.new count.new }
     ensures rest { result ≢ OK → buffer.new ≡ buffer.old }
     ensures misfit { result ≡ MISFIT → IsNoText value.now }
     ensures room { result ≡ ROOM → IsLongerText buffer.old count.new value.now }
+    ensures untold { result ≢ OK → result ≢ ROOM → count.new ≡ count.old }
     ensures not_none { result ≢ NONE }
     ensures not_index { result ≢ INDEX }
     ensures not_other_side { result ≢ OTHER_SIDE }
@@ -169,10 +180,12 @@ fn lay_text(value: &Value, buffer: &mut [u8], count: &mut usize) -> u32
 
 /// Lays the bytes of a ByteString.
 fn lay_blob(value: &Value, buffer: &mut [u8], count: &mut usize) -> u32
+    ensures answers { IsOneOf (OK ∷ ROOM ∷ MISFIT ∷ []) result }
     ensures laid { result ≡ OK → IsBlobLaid value.now buffer.old buffer.new count.new }
     ensures rest { result ≢ OK → buffer.new ≡ buffer.old }
     ensures misfit { result ≡ MISFIT → IsNoBlob value.now }
     ensures room { result ≡ ROOM → IsLongerBlob buffer.old count.new value.now }
+    ensures untold { result ≢ OK → result ≢ ROOM → count.new ≡ count.old }
     ensures not_none { result ≢ NONE }
     ensures not_index { result ≢ INDEX }
     ensures not_other_side { result ≢ OTHER_SIDE }
@@ -186,10 +199,12 @@ fn lay_blob(value: &Value, buffer: &mut [u8], count: &mut usize) -> u32
 
 /// Lays bytes at the front of the buffer, if it has room for them.
 fn lay_in(bytes: &[u8], buffer: &mut [u8], count: &mut usize) -> u32
+    ensures answers { IsOneOf (OK ∷ ROOM ∷ []) result }
     ensures laid { result ≡ OK → IsLaidOut bytes.now buffer.old buffer.new count.new }
     ensures rest { result ≢ OK → buffer.new ≡ buffer.old }
     ensures count { result ≡ ROOM → count.new ≡ length bytes.now }
     ensures room { result ≡ ROOM → length buffer.old < count.new }
+    ensures untold { result ≢ OK → result ≢ ROOM → count.new ≡ count.old }
     ensures not_misfit { result ≢ MISFIT }
     ensures not_none { result ≢ NONE }
     ensures not_index { result ≢ INDEX }
@@ -215,10 +230,12 @@ pub extern "C" fn uapubsub_get_guid(
     guid: &mut GuidBytes,
 ) -> u32
     requires { IsReady handle.old }
+    ensures answers { IsOneOf (OK ∷ MISFIT ∷ CLOSED ∷ OTHER_SIDE ∷ INDEX ∷ NONE ∷ []) result }
     ensures ready { IsReady handle.new }
     ensures stays { Stays handle.old handle.new }
     ensures got { result ≡ OK → Tells handle.old
         (KeepsIn group reader (HasFieldValue field (Value.Guid guid.new.bytes))) }
+    ensures untold { result ≢ OK → guid.new ≡ guid.old }
     ensures no_row { result ≡ NONE → Tells handle.old (KeepsIn group reader HoldsNone) }
     ensures misfit { result ≡ MISFIT
         → Tells handle.old (KeepsIn group reader (HasSuch field IsNoGuid)) }
@@ -234,7 +251,9 @@ pub extern "C" fn uapubsub_get_guid(
 
 /// The bytes of a Guid.
 fn guid_of(value: &Value, guid: &mut GuidBytes) -> u32
+    ensures answers { IsOneOf (OK ∷ MISFIT ∷ []) result }
     ensures is { result ≡ OK → value.now ≡ Value.Guid guid.new.bytes }
+    ensures untold { result ≢ OK → guid.new ≡ guid.old }
     ensures misfit { result ≡ MISFIT → IsNoGuid value.now }
     ensures not_none { result ≢ NONE }
     ensures not_index { result ≢ INDEX }
@@ -261,10 +280,12 @@ pub extern "C" fn uapubsub_get_field_status(
     status: &mut u32,
 ) -> u32
     requires { IsReady handle.old }
+    ensures answers { IsOneOf (OK ∷ CLOSED ∷ OTHER_SIDE ∷ INDEX ∷ NONE ∷ []) result }
     ensures ready { IsReady handle.new }
     ensures stays { Stays handle.old handle.new }
     ensures got { result ≡ OK → Tells handle.old
         (KeepsIn group reader (HasFieldStatus field status.new)) }
+    ensures untold { result ≢ OK → status.new ≡ status.old }
     ensures no_row { result ≡ NONE → Tells handle.old (KeepsIn group reader HoldsNone) }
     ensures index { result ≡ INDEX → Tells handle.old (HasNoFieldIn group reader field) }
     ensures other_side { result ≡ OTHER_SIDE → Tells handle.old IsPublisherSide }
@@ -288,6 +309,7 @@ fn field_of(
     field: u8,
 ) -> Result<(Value, u32), u32>
     requires { IsReady handle.old }
+    ensures answers { IfErr result (IsOneOf (CLOSED ∷ OTHER_SIDE ∷ INDEX ∷ NONE ∷ [])) }
     ensures ready { IsReady handle.new }
     ensures stays { Stays handle.old handle.new }
     ensures value { IfOk result (λ x. Tells handle.old
@@ -315,6 +337,7 @@ fn field_of(
 
 fn field_in(kept: &Kept, group: u8, reader: u8, field: u8) -> Result<(Value, u32), u32>
     requires { IsSound kept.now }
+    ensures answers { IfErr result (IsOneOf (OTHER_SIDE ∷ INDEX ∷ NONE ∷ [])) }
     ensures value { IfOk result (λ x. KeepsIn group reader (HasFieldValue field x.0) kept.now) }
     ensures status { IfOk result (λ x. KeepsIn group reader (HasFieldStatus field x.1) kept.now) }
     ensures not_ok { IfErr result (λ status. status ≢ OK) }

@@ -1,6 +1,6 @@
 //! Handles.
-ghost use Rattle.std.specs.Prelude.{◌≡◌, ◌≢◌, ◌⊎◌, IfSome, IfNone};
-ghost use Rattle.uapubsub_c.specs.Handles.{Holds, IsReady, IsSound};
+ghost use Rattle.std.specs.Prelude.{◌≡◌, ◌≢◌, [], ◌∷◌, IfSome, IfNone};
+ghost use Rattle.uapubsub_c.specs.Handles.{Holds, IsOneOf, IsReady, IsSound};
 
 use crate::kept::Kept;
 use crate::loose::Loose;
@@ -53,7 +53,7 @@ impl Handle {
         ensures ready { IsReady self.new }
         ensures held { result ≡ OK → Holds kept self.new }
         ensures not { result ≢ OK → self.new ≡ self.old }
-        ensures answers { (result ≡ OK) ⊎ (result ≡ MEMORY) }
+        ensures answers { IsOneOf (OK ∷ MEMORY ∷ []) result }
     {
         match Box::new(alloc, kept) {
             Ok(kept) => {

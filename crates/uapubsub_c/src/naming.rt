@@ -1,7 +1,7 @@
 //! Indexes by names.
-ghost use Rattle.std.specs.Prelude.{◌≡◌, ◌≢◌};
-ghost use Rattle.uapubsub_c.specs.Getting.{HasNoFieldNamed, IsFieldNamed, IsSetNamed};
-ghost use Rattle.uapubsub_c.specs.Handles.{IsReady, Stays, Tells, config_in};
+ghost use Rattle.std.specs.Prelude.{◌≡◌, ◌≢◌, [], ◌∷◌};
+ghost use Rattle.uapubsub_c.specs.Getting.{HasNoFieldNamed, HasNoSetNamed, IsFieldNamed, IsSetNamed};
+ghost use Rattle.uapubsub_c.specs.Handles.{IsOneOf, IsReady, Stays, Tells, config_in};
 
 use crate::handle::Handle;
 use crate::status::{BAD_TEXT, CLOSED, INDEX, OK};
@@ -18,10 +18,14 @@ pub extern "C" fn uapubsub_set_index(
     index: &mut u8,
 ) -> u32
     requires { IsReady handle.old }
+    ensures answers { IsOneOf (CLOSED ∷ OK ∷ INDEX ∷ []) result }
     ensures ready { IsReady handle.new }
     ensures stays { Stays handle.old handle.new }
     ensures named { result ≡ OK
         → Tells handle.old (λ kept. IsSetNamed (config_in kept) name.now index.new) }
+    ensures none { result ≡ INDEX
+        → Tells handle.old (λ kept. HasNoSetNamed (config_in kept) name.now) }
+    ensures untold { result ≢ OK → index.new ≡ index.old }
     ensures closed { result ≡ CLOSED → handle.old.is_open ≡ 0 }
 {
     let Some(kept) = handle.take(alloc) else {
@@ -33,7 +37,10 @@ pub extern "C" fn uapubsub_set_index(
 }
 
 fn set_of(config: &Config, name: &[u8], index: &mut u8) -> u32
+    ensures answers { IsOneOf (OK ∷ INDEX ∷ []) result }
     ensures named { result ≡ OK → IsSetNamed config.now name.now index.new }
+    ensures none { result ≡ INDEX → HasNoSetNamed config.now name.now }
+    ensures untold { result ≢ OK → index.new ≡ index.old }
     ensures not_closed { result ≢ CLOSED }
 {
     let metas = config.dataset.as_slice();
@@ -56,12 +63,14 @@ pub extern "C" fn uapubsub_field_index(
     index: &mut u8,
 ) -> u32
     requires { IsReady handle.old }
+    ensures answers { IsOneOf (CLOSED ∷ OK ∷ INDEX ∷ BAD_TEXT ∷ []) result }
     ensures ready { IsReady handle.new }
     ensures stays { Stays handle.old handle.new }
     ensures named { result ≡ OK
         → Tells handle.old (λ kept. IsFieldNamed (config_in kept) set name.now index.new) }
     ensures none { result ≡ INDEX
         → Tells handle.old (λ kept. HasNoFieldNamed (config_in kept) set name.now) }
+    ensures untold { result ≢ OK → index.new ≡ index.old }
     ensures closed { result ≡ CLOSED → handle.old.is_open ≡ 0 }
 {
     let Some(kept) = handle.take(alloc) else {
@@ -73,8 +82,10 @@ pub extern "C" fn uapubsub_field_index(
 }
 
 fn field_of(config: &Config, set: u8, name: &[u8], index: &mut u8) -> u32
+    ensures answers { IsOneOf (OK ∷ INDEX ∷ BAD_TEXT ∷ []) result }
     ensures named { result ≡ OK → IsFieldNamed config.now set name.now index.new }
     ensures none { result ≡ INDEX → HasNoFieldNamed config.now set name.now }
+    ensures untold { result ≢ OK → index.new ≡ index.old }
     ensures not_closed { result ≢ CLOSED }
 {
     let metas = config.dataset.as_slice();

@@ -1,11 +1,11 @@
 //! The publisher's calls, but those that set fields.
-ghost use Rattle.std.specs.Prelude.{◌≡◌, ◌≢◌, ◌<◌, length};
+ghost use Rattle.std.specs.Prelude.{◌≡◌, ◌≢◌, ◌<◌, [], ◌∷◌, length};
 ghost use Rattle.device_sides.specs.Coming.{ComesTo};
-ghost use Rattle.device_sides.specs.Sides.{IsBehindConfigured, MayNotResumeConfigured};
+ghost use Rattle.device_sides.specs.Sides.{IsBehindConfigured};
 ghost use Rattle.uapubsub_c.specs.Getting.{IsSubscriberSide, PublisherIs, PublisherMoves};
-ghost use Rattle.uapubsub_c.specs.Handles.{HandsOver, IsReady, IsRefused, IsSound, Leaves, OpensPublisher, StandsIn, Stays, Tells};
-ghost use Rattle.uapubsub_c.specs.Keys.{HasNoKeyGroup, HasRenewedTo, IsBehindWith, MakesNoRing, MayNotResumeWith};
-ghost use Rattle.uapubsub_c.specs.Nexts.{HandsNext};
+ghost use Rattle.uapubsub_c.specs.Handles.{HandsOver, IsOneOf, IsReady, IsRefused, IsSound, Leaves, OpensPublisher, StandsIn, Stays, Tells};
+ghost use Rattle.uapubsub_c.specs.Keys.{HasNoKeyGroup, HasRenewedTo, IsBehindWith, MakesNoRing, MayNotResumeWith, RepeatsConfigured};
+ghost use Rattle.uapubsub_c.specs.Nexts.{HandsNext, WaitsWith};
 
 use crate::handle::Handle;
 use crate::kept::Kept;
@@ -22,9 +22,11 @@ use std::alloc::Global;
 #[unsafe(no_mangle)]
 pub extern "C" fn uapubsub_publisher_open(alloc: Global, handle: &mut Handle, text: &[u8]) -> u32
     requires { IsReady handle.old }
+    ensures answers { IsOneOf (OPENED ∷ REFUSED ∷ OK ∷ MEMORY ∷ []) result }
     ensures ready { IsReady handle.new }
     ensures opened { result ≡ OK → OpensPublisher text.now handle.new }
     ensures refused { result ≡ REFUSED → IsRefused text.now }
+    ensures was_closed { result ≡ OK → handle.old.is_open ≡ 0 }
     ensures was_open { result ≡ OPENED → handle.old.is_open ≢ 0 }
     ensures not { result ≢ OK → handle.new ≡ handle.old }
 {
@@ -50,6 +52,7 @@ pub extern "C" fn uapubsub_publisher_next(
     count: &mut usize,
 ) -> u32
     requires { IsReady handle.old }
+    ensures answers { IsOneOf (CLOSED ∷ OK ∷ NONE ∷ SPENT ∷ ROOM ∷ OTHER_SIDE ∷ []) result }
     ensures ready { IsReady handle.new }
     ensures laid { result ≡ OK → Tells handle.new (HandsOver buffer.old buffer.new count.new) }
     ensures rest { result ≢ OK → buffer.new ≡ buffer.old }
@@ -61,6 +64,8 @@ pub extern "C" fn uapubsub_publisher_next(
     ensures waits { result ≡ ROOM
         → Leaves handle.old handle.new (PublisherMoves (ComesTo now Next.Datagram)) }
     ensures room { result ≡ ROOM → length buffer.old < count.new }
+    ensures needs { result ≡ ROOM → Tells handle.new (PublisherIs (WaitsWith count.new)) }
+    ensures untold { result ≢ OK → result ≢ ROOM → count.new ≡ 0 }
     ensures other_side { result ≡ OTHER_SIDE → Tells handle.old IsSubscriberSide }
     ensures stays { result ≡ OTHER_SIDE → Stays handle.old handle.new }
     ensures closed { result ≡ CLOSED → handle.old.is_open ≡ 0 }
@@ -76,6 +81,7 @@ pub extern "C" fn uapubsub_publisher_next(
 
 fn next_of(kept: &mut Kept, now: u64, buffer: &mut [u8], count: &mut usize) -> u32
     requires { IsSound kept.old }
+    ensures answers { IsOneOf (OK ∷ NONE ∷ SPENT ∷ ROOM ∷ OTHER_SIDE ∷ []) result }
     ensures sound { IsSound kept.new }
     ensures laid { result ≡ OK → HandsOver buffer.old buffer.new count.new kept.new }
     ensures rest { result ≢ OK → buffer.new ≡ buffer.old }
@@ -84,6 +90,8 @@ fn next_of(kept: &mut Kept, now: u64, buffer: &mut [u8], count: &mut usize) -> u
     ensures spent { result ≡ SPENT → PublisherMoves (ComesTo now Next.Spent) kept.old kept.new }
     ensures waits { result ≡ ROOM → PublisherMoves (ComesTo now Next.Datagram) kept.old kept.new }
     ensures room { result ≡ ROOM → length buffer.old < count.new }
+    ensures needs { result ≡ ROOM → PublisherIs (WaitsWith count.new) kept.new }
+    ensures untold { result ≢ OK → result ≢ ROOM → count.new ≡ count.old }
     ensures other_side { result ≡ OTHER_SIDE → IsSubscriberSide kept.old }
     ensures stays { result ≡ OTHER_SIDE → kept.new ≡ kept.old }
     ensures not_closed { result ≢ CLOSED }
@@ -118,9 +126,12 @@ pub extern "C" fn uapubsub_publisher_standing(
     used: &mut u32,
 ) -> u32
     requires { IsReady handle.old }
+    ensures answers { IsOneOf (CLOSED ∷ OK ∷ INDEX ∷ OTHER_SIDE ∷ []) result }
     ensures ready { IsReady handle.new }
     ensures stays { Stays handle.old handle.new }
     ensures stands { result ≡ OK → Tells handle.old (StandsIn keygroup token.new used.new) }
+    ensures token { result ≢ OK → token.new ≡ token.old }
+    ensures used { result ≢ OK → used.new ≡ used.old }
     ensures index { result ≡ INDEX → Tells handle.old (PublisherIs (HasNoKeyGroup keygroup)) }
     ensures other_side { result ≡ OTHER_SIDE → Tells handle.old IsSubscriberSide }
     ensures closed { result ≡ CLOSED → handle.old.is_open ≡ 0 }
@@ -135,7 +146,10 @@ pub extern "C" fn uapubsub_publisher_standing(
 
 fn standing_of(kept: &Kept, keygroup: u8, token: &mut u32, used: &mut u32) -> u32
     requires { IsSound kept.now }
+    ensures answers { IsOneOf (OK ∷ INDEX ∷ OTHER_SIDE ∷ []) result }
     ensures stands { result ≡ OK → StandsIn keygroup token.new used.new kept.now }
+    ensures token { result ≢ OK → token.new ≡ token.old }
+    ensures used { result ≢ OK → used.new ≡ used.old }
     ensures index { result ≡ INDEX → PublisherIs (HasNoKeyGroup keygroup) kept.now }
     ensures other_side { result ≡ OTHER_SIDE → IsSubscriberSide kept.now }
     ensures not_closed { result ≢ CLOSED }
@@ -162,11 +176,12 @@ pub extern "C" fn uapubsub_publisher_resume(
     used: u32,
 ) -> u32
     requires { IsReady handle.old }
+    ensures answers { IsOneOf (CLOSED ∷ OK ∷ BAD_KEYS ∷ INDEX ∷ OTHER_SIDE ∷ []) result }
     ensures ready { IsReady handle.new }
     ensures behind { result ≡ OK
         → Leaves handle.old handle.new (PublisherMoves (IsBehindConfigured keygroup now used)) }
     ensures bad_keys { result ≡ BAD_KEYS
-        → Tells handle.old (PublisherIs (MayNotResumeConfigured keygroup now used)) }
+        → Tells handle.old (PublisherIs (RepeatsConfigured keygroup now used)) }
     ensures index { result ≡ INDEX → Tells handle.old (PublisherIs (HasNoKeyGroup keygroup)) }
     ensures other_side { result ≡ OTHER_SIDE → Tells handle.old IsSubscriberSide }
     ensures not { result ≢ OK → Stays handle.old handle.new }
@@ -182,11 +197,12 @@ pub extern "C" fn uapubsub_publisher_resume(
 
 fn resume_in(kept: &mut Kept, keygroup: u8, now: u64, used: u32) -> u32
     requires { IsSound kept.old }
+    ensures answers { IsOneOf (OK ∷ BAD_KEYS ∷ INDEX ∷ OTHER_SIDE ∷ []) result }
     ensures sound { IsSound kept.new }
     ensures behind { result ≡ OK
         → PublisherMoves (IsBehindConfigured keygroup now used) kept.old kept.new }
     ensures bad_keys { result ≡ BAD_KEYS
-        → PublisherIs (MayNotResumeConfigured keygroup now used) kept.old }
+        → PublisherIs (RepeatsConfigured keygroup now used) kept.old }
     ensures index { result ≡ INDEX → PublisherIs (HasNoKeyGroup keygroup) kept.old }
     ensures other_side { result ≡ OTHER_SIDE → IsSubscriberSide kept.old }
     ensures not { result ≢ OK → kept.new ≡ kept.old }
@@ -206,22 +222,25 @@ fn resume_in(kept: &mut Kept, keygroup: u8, now: u64, used: u32) -> u32
 }
 
 /// The same with these key sets, in the order of their tokens and moments, at most 16: as `uapubsub_publisher_renew` gave them before a
-/// restart. BAD_KEYS also where they make no ring.
+/// restart. Token and number are those that `uapubsub_publisher_standing` told last. BAD_KEYS also where the key sets make no ring, or
+/// that of the moment is of an earlier token.
 #[unsafe(no_mangle)]
 pub extern "C" fn uapubsub_publisher_resume_with(
     alloc: Global,
     handle: &mut Handle,
     keygroup: u8,
     now: u64,
+    token: u32,
     used: u32,
     sets: &[KeySetWords],
 ) -> u32
     requires { IsReady handle.old }
+    ensures answers { IsOneOf (CLOSED ∷ OK ∷ BAD_KEYS ∷ INDEX ∷ OTHER_SIDE ∷ []) result }
     ensures ready { IsReady handle.new }
     ensures behind { result ≡ OK
-        → Leaves handle.old handle.new (PublisherMoves (IsBehindWith keygroup now used sets.now)) }
+        → Leaves handle.old handle.new (PublisherMoves (IsBehindWith keygroup now token used sets.now)) }
     ensures bad_keys { result ≡ BAD_KEYS
-        → Tells handle.old (PublisherIs (MayNotResumeWith keygroup now used sets.now)) }
+        → Tells handle.old (PublisherIs (MayNotResumeWith keygroup now token used sets.now)) }
     ensures index { result ≡ INDEX → Tells handle.old (PublisherIs (HasNoKeyGroup keygroup)) }
     ensures other_side { result ≡ OTHER_SIDE → Tells handle.old IsSubscriberSide }
     ensures not { result ≢ OK → Stays handle.old handle.new }
@@ -230,18 +249,26 @@ pub extern "C" fn uapubsub_publisher_resume_with(
     let Some(mut kept) = handle.take(alloc) else {
         return CLOSED;
     };
-    let status = resume_with_in(&mut kept, keygroup, now, used, sets);
+    let status = resume_with_in(&mut kept, keygroup, now, token, used, sets);
     handle.put(kept);
     status
 }
 
-fn resume_with_in(kept: &mut Kept, keygroup: u8, now: u64, used: u32, sets: &[KeySetWords]) -> u32
+fn resume_with_in(
+    kept: &mut Kept,
+    keygroup: u8,
+    now: u64,
+    token: u32,
+    used: u32,
+    sets: &[KeySetWords],
+) -> u32
     requires { IsSound kept.old }
+    ensures answers { IsOneOf (OK ∷ BAD_KEYS ∷ INDEX ∷ OTHER_SIDE ∷ []) result }
     ensures sound { IsSound kept.new }
     ensures behind { result ≡ OK
-        → PublisherMoves (IsBehindWith keygroup now used sets.now) kept.old kept.new }
+        → PublisherMoves (IsBehindWith keygroup now token used sets.now) kept.old kept.new }
     ensures bad_keys { result ≡ BAD_KEYS
-        → PublisherIs (MayNotResumeWith keygroup now used sets.now) kept.old }
+        → PublisherIs (MayNotResumeWith keygroup now token used sets.now) kept.old }
     ensures index { result ≡ INDEX → PublisherIs (HasNoKeyGroup keygroup) kept.old }
     ensures other_side { result ≡ OTHER_SIDE → IsSubscriberSide kept.old }
     ensures not { result ≢ OK → kept.new ≡ kept.old }
@@ -256,7 +283,7 @@ fn resume_with_in(kept: &mut Kept, keygroup: u8, now: u64, used: u32, sets: &[Ke
     let Some(ring) = ring_of_words(long, sets) else {
         return BAD_KEYS;
     };
-    if publisher.resume_with(keygroup, now, used, ring) {
+    if publisher.resume_with(keygroup, now, token, used, ring) {
         OK
     } else {
         BAD_KEYS
@@ -273,6 +300,7 @@ pub extern "C" fn uapubsub_publisher_renew(
     sets: &[KeySetWords],
 ) -> u32
     requires { IsReady handle.old }
+    ensures answers { IsOneOf (CLOSED ∷ OK ∷ BAD_KEYS ∷ INDEX ∷ OTHER_SIDE ∷ []) result }
     ensures ready { IsReady handle.new }
     ensures renewed { result ≡ OK
         → Leaves handle.old handle.new (PublisherMoves (HasRenewedTo keygroup sets.now)) }
@@ -293,6 +321,7 @@ pub extern "C" fn uapubsub_publisher_renew(
 
 fn renew_in(kept: &mut Kept, keygroup: u8, sets: &[KeySetWords]) -> u32
     requires { IsSound kept.old }
+    ensures answers { IsOneOf (OK ∷ BAD_KEYS ∷ INDEX ∷ OTHER_SIDE ∷ []) result }
     ensures sound { IsSound kept.new }
     ensures renewed { result ≡ OK
         → PublisherMoves (HasRenewedTo keygroup sets.now) kept.old kept.new }

@@ -1,11 +1,11 @@
 //! Setting fields.
-ghost use Rattle.std.specs.Prelude.{◌≡◌, ◌≢◌, IsErr};
+ghost use Rattle.std.specs.Prelude.{◌≡◌, ◌≢◌, [], ◌∷◌, IsErr};
 ghost use Rattle.ua_values.specs.Blobs.{blob_of};
 ghost use Rattle.ua_values.specs.Texts.{text_of};
 ghost use Rattle.device_sides.specs.Sides.{HasSetStatus};
 ghost use Rattle.uapubsub_c.specs.Getting.{IsSubscriberSide, PublisherIs, PublisherMoves};
-ghost use Rattle.uapubsub_c.specs.Handles.{HasBytesIn, HasScalarIn, HasSetIn, HasTextIn, IsReady, IsSound, Leaves, Tells};
-ghost use Rattle.uapubsub_c.specs.Setting.{IsBytesMisfit, IsCodeMisfit, IsScalarMisfit, IsTextMisfit, IsValueMisfit, SetsNoField};
+ghost use Rattle.uapubsub_c.specs.Handles.{HasBytesIn, HasScalarIn, HasSetIn, HasTextIn, IsOneOf, IsReady, IsSound, IsUnset, Leaves, StaysUnset, Tells};
+ghost use Rattle.uapubsub_c.specs.Setting.{IsBytesMisfit, IsCodeMisfit, IsScalarMisfit, IsTextMisfit, IsValueMisfit, SetsField, SetsNoField};
 
 use crate::guid::GuidBytes;
 use crate::handle::Handle;
@@ -30,12 +30,15 @@ pub extern "C" fn uapubsub_set_scalar(
     word: u64,
 ) -> u32
     requires { IsReady handle.old }
+    ensures answers { IsOneOf (CLOSED ∷ OK ∷ MISFIT ∷ INDEX ∷ OTHER_SIDE ∷ []) result }
     ensures ready { IsReady handle.new }
     ensures set { result ≡ OK → Leaves handle.old handle.new (HasScalarIn set field kind word) }
     ensures misfit { result ≡ MISFIT
         → Tells handle.old (PublisherIs (IsScalarMisfit set field kind word)) }
+    ensures there { result ≡ MISFIT → Tells handle.old (PublisherIs (SetsField set field)) }
     ensures index { result ≡ INDEX → Tells handle.old (PublisherIs (SetsNoField set field)) }
     ensures other_side { result ≡ OTHER_SIDE → Tells handle.old IsSubscriberSide }
+    ensures unset { result ≢ OK → StaysUnset handle.old handle.new }
     ensures closed { result ≡ CLOSED → handle.old.is_open ≡ 0 }
 {
     let Some(mut kept) = handle.take(alloc) else {
@@ -48,27 +51,30 @@ pub extern "C" fn uapubsub_set_scalar(
 
 fn set_scalar_in(kept: &mut Kept, set: u8, field: u8, kind: u32, word: u64) -> u32
     requires { IsSound kept.old }
+    ensures answers { IsOneOf (OK ∷ MISFIT ∷ INDEX ∷ OTHER_SIDE ∷ []) result }
     ensures sound { IsSound kept.new }
     ensures set { result ≡ OK → HasScalarIn set field kind word kept.old kept.new }
     ensures misfit { result ≡ MISFIT
         → PublisherIs (IsScalarMisfit set field kind word) kept.old }
+    ensures there { result ≡ MISFIT → PublisherIs (SetsField set field) kept.old }
     ensures index { result ≡ INDEX → PublisherIs (SetsNoField set field) kept.old }
     ensures other_side { result ≡ OTHER_SIDE → IsSubscriberSide kept.old }
+    ensures unset { result ≢ OK → IsUnset kept.old kept.new }
     ensures not_closed { result ≢ CLOSED }
 {
     let Kept::Publisher(publisher) = kept else {
         return OTHER_SIDE;
     };
+    if !publisher.has_field(set, field) {
+        return INDEX;
+    }
     let Some(kind) = kind_numbered(kind) else {
         return MISFIT;
     };
     if publisher.set_word(set, field, kind, word) {
-        return OK;
-    }
-    if publisher.has_field(set, field) {
-        MISFIT
+        OK
     } else {
-        INDEX
+        MISFIT
     }
 }
 
@@ -82,12 +88,15 @@ pub extern "C" fn uapubsub_set_text(
     text: &[u8],
 ) -> u32
     requires { IsReady handle.old }
+    ensures answers { IsOneOf (BAD_TEXT ∷ CLOSED ∷ OK ∷ MISFIT ∷ INDEX ∷ OTHER_SIDE ∷ []) result }
     ensures ready { IsReady handle.new }
     ensures set { result ≡ OK → Leaves handle.old handle.new (HasTextIn set field text.now) }
     ensures misfit { result ≡ MISFIT
         → Tells handle.old (PublisherIs (IsTextMisfit set field text.now)) }
+    ensures there { result ≡ MISFIT → Tells handle.old (PublisherIs (SetsField set field)) }
     ensures index { result ≡ INDEX → Tells handle.old (PublisherIs (SetsNoField set field)) }
     ensures other_side { result ≡ OTHER_SIDE → Tells handle.old IsSubscriberSide }
+    ensures unset { result ≢ OK → StaysUnset handle.old handle.new }
     ensures bad_text { result ≡ BAD_TEXT → IsErr (text_of text.now) }
     ensures closed { result ≡ CLOSED → handle.old.is_open ≡ 0 }
 {
@@ -107,12 +116,15 @@ pub extern "C" fn uapubsub_set_bytes(
     bytes: &[u8],
 ) -> u32
     requires { IsReady handle.old }
+    ensures answers { IsOneOf (BAD_TEXT ∷ CLOSED ∷ OK ∷ MISFIT ∷ INDEX ∷ OTHER_SIDE ∷ []) result }
     ensures ready { IsReady handle.new }
     ensures set { result ≡ OK → Leaves handle.old handle.new (HasBytesIn set field bytes.now) }
     ensures misfit { result ≡ MISFIT
         → Tells handle.old (PublisherIs (IsBytesMisfit set field bytes.now)) }
+    ensures there { result ≡ MISFIT → Tells handle.old (PublisherIs (SetsField set field)) }
     ensures index { result ≡ INDEX → Tells handle.old (PublisherIs (SetsNoField set field)) }
     ensures other_side { result ≡ OTHER_SIDE → Tells handle.old IsSubscriberSide }
+    ensures unset { result ≢ OK → StaysUnset handle.old handle.new }
     ensures bad_text { result ≡ BAD_TEXT → IsErr (blob_of bytes.now) }
     ensures closed { result ≡ CLOSED → handle.old.is_open ≡ 0 }
 {
@@ -132,13 +144,16 @@ pub extern "C" fn uapubsub_set_guid(
     guid: &GuidBytes,
 ) -> u32
     requires { IsReady handle.old }
+    ensures answers { IsOneOf (CLOSED ∷ OK ∷ MISFIT ∷ INDEX ∷ OTHER_SIDE ∷ []) result }
     ensures ready { IsReady handle.new }
     ensures set { result ≡ OK
         → Leaves handle.old handle.new (HasSetIn set field (Value.Guid guid.now.bytes) 0) }
     ensures misfit { result ≡ MISFIT
         → Tells handle.old (PublisherIs (IsValueMisfit set field (Value.Guid guid.now.bytes))) }
+    ensures there { result ≡ MISFIT → Tells handle.old (PublisherIs (SetsField set field)) }
     ensures index { result ≡ INDEX → Tells handle.old (PublisherIs (SetsNoField set field)) }
     ensures other_side { result ≡ OTHER_SIDE → Tells handle.old IsSubscriberSide }
+    ensures unset { result ≢ OK → StaysUnset handle.old handle.new }
     ensures closed { result ≡ CLOSED → handle.old.is_open ≡ 0 }
 {
     set_field(alloc, handle, set, field, &Value::Guid(guid.bytes))
@@ -154,13 +169,16 @@ pub extern "C" fn uapubsub_set_field_status(
     status: u32,
 ) -> u32
     requires { IsReady handle.old }
+    ensures answers { IsOneOf (CLOSED ∷ OK ∷ MISFIT ∷ INDEX ∷ OTHER_SIDE ∷ []) result }
     ensures ready { IsReady handle.new }
     ensures set { result ≡ OK
         → Leaves handle.old handle.new (PublisherMoves (HasSetStatus set field status)) }
     ensures misfit { result ≡ MISFIT
         → Tells handle.old (PublisherIs (IsCodeMisfit set field status)) }
+    ensures there { result ≡ MISFIT → Tells handle.old (PublisherIs (SetsField set field)) }
     ensures index { result ≡ INDEX → Tells handle.old (PublisherIs (SetsNoField set field)) }
     ensures other_side { result ≡ OTHER_SIDE → Tells handle.old IsSubscriberSide }
+    ensures unset { result ≢ OK → StaysUnset handle.old handle.new }
     ensures closed { result ≡ CLOSED → handle.old.is_open ≡ 0 }
 {
     let Some(mut kept) = handle.take(alloc) else {
@@ -173,11 +191,14 @@ pub extern "C" fn uapubsub_set_field_status(
 
 fn set_status_in(kept: &mut Kept, set: u8, field: u8, status: u32) -> u32
     requires { IsSound kept.old }
+    ensures answers { IsOneOf (OK ∷ MISFIT ∷ INDEX ∷ OTHER_SIDE ∷ []) result }
     ensures sound { IsSound kept.new }
     ensures set { result ≡ OK → PublisherMoves (HasSetStatus set field status) kept.old kept.new }
     ensures misfit { result ≡ MISFIT → PublisherIs (IsCodeMisfit set field status) kept.old }
+    ensures there { result ≡ MISFIT → PublisherIs (SetsField set field) kept.old }
     ensures index { result ≡ INDEX → PublisherIs (SetsNoField set field) kept.old }
     ensures other_side { result ≡ OTHER_SIDE → IsSubscriberSide kept.old }
+    ensures unset { result ≢ OK → IsUnset kept.old kept.new }
     ensures not_closed { result ≢ CLOSED }
 {
     let Kept::Publisher(publisher) = kept else {
@@ -196,12 +217,15 @@ fn set_status_in(kept: &mut Kept, set: u8, field: u8, status: u32) -> u32
 /// Sets a field of the handle's publisher, Good.
 fn set_field(alloc: Global, handle: &mut Handle, set: u8, field: u8, value: &Value) -> u32
     requires { IsReady handle.old }
+    ensures answers { IsOneOf (CLOSED ∷ OK ∷ MISFIT ∷ INDEX ∷ OTHER_SIDE ∷ []) result }
     ensures ready { IsReady handle.new }
     ensures set { result ≡ OK → Leaves handle.old handle.new (HasSetIn set field value.now 0) }
     ensures misfit { result ≡ MISFIT
         → Tells handle.old (PublisherIs (IsValueMisfit set field value.now)) }
+    ensures there { result ≡ MISFIT → Tells handle.old (PublisherIs (SetsField set field)) }
     ensures index { result ≡ INDEX → Tells handle.old (PublisherIs (SetsNoField set field)) }
     ensures other_side { result ≡ OTHER_SIDE → Tells handle.old IsSubscriberSide }
+    ensures unset { result ≢ OK → StaysUnset handle.old handle.new }
     ensures not_text { result ≢ BAD_TEXT }
     ensures closed { result ≡ CLOSED → handle.old.is_open ≡ 0 }
 {
@@ -215,11 +239,14 @@ fn set_field(alloc: Global, handle: &mut Handle, set: u8, field: u8, value: &Val
 
 fn set_in(kept: &mut Kept, set: u8, field: u8, value: &Value) -> u32
     requires { IsSound kept.old }
+    ensures answers { IsOneOf (OK ∷ MISFIT ∷ INDEX ∷ OTHER_SIDE ∷ []) result }
     ensures sound { IsSound kept.new }
     ensures set { result ≡ OK → HasSetIn set field value.now 0 kept.old kept.new }
     ensures misfit { result ≡ MISFIT → PublisherIs (IsValueMisfit set field value.now) kept.old }
+    ensures there { result ≡ MISFIT → PublisherIs (SetsField set field) kept.old }
     ensures index { result ≡ INDEX → PublisherIs (SetsNoField set field) kept.old }
     ensures other_side { result ≡ OTHER_SIDE → IsSubscriberSide kept.old }
+    ensures unset { result ≢ OK → IsUnset kept.old kept.new }
     ensures not_text { result ≢ BAD_TEXT }
     ensures not_closed { result ≢ CLOSED }
 {

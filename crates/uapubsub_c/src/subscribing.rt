@@ -1,8 +1,8 @@
 //! The subscriber's calls, but those that get fields.
-ghost use Rattle.std.specs.Prelude.{◌≡◌, ◌≢◌, ◌<◌, ◌≤◌, ◌⊎◌, IfOk, IfErr};
+ghost use Rattle.std.specs.Prelude.{◌≡◌, ◌≢◌, ◌<◌, ◌≤◌, ◌⊎◌, [], ◌∷◌, IfOk, IfErr};
 ghost use Rattle.device_sides.specs.Readings.{HaveExpired, IsNoReader};
 ghost use Rattle.uapubsub_c.specs.Getting.{HasNoNumber, HasNoReadGroup, HasNumber, HoldsAfter, IsPublisherSide, IsReaderIn, IsRefusedFor, IsTaken, KeepsIn, SubscriberIs, SubscriberMoves, WaitsFor, taken_in};
-ghost use Rattle.uapubsub_c.specs.Handles.{IsReady, IsRefused, IsSound, Leaves, OpensSubscriber, Stays, Tells};
+ghost use Rattle.uapubsub_c.specs.Handles.{IsOneOf, IsReady, IsRefused, IsSound, Leaves, OpensSubscriber, Stays, Tells};
 ghost use Rattle.uapubsub_c.specs.Keys.{HasKeysRenewedTo, HasNoSecuredReadGroup, MakesNoRingRead};
 ghost use Rattle.uapubsub_c.specs.Numbers.{why_number};
 
@@ -34,9 +34,11 @@ pub struct TakenWords {
 #[unsafe(no_mangle)]
 pub extern "C" fn uapubsub_subscriber_open(alloc: Global, handle: &mut Handle, text: &[u8]) -> u32
     requires { IsReady handle.old }
+    ensures answers { IsOneOf (OPENED ∷ REFUSED ∷ OK ∷ MEMORY ∷ []) result }
     ensures ready { IsReady handle.new }
     ensures opened { result ≡ OK → OpensSubscriber text.now handle.new }
     ensures refused { result ≡ REFUSED → IsRefused text.now }
+    ensures was_closed { result ≡ OK → handle.old.is_open ≡ 0 }
     ensures was_open { result ≡ OPENED → handle.old.is_open ≢ 0 }
     ensures not { result ≢ OK → handle.new ≡ handle.old }
 {
@@ -63,6 +65,7 @@ pub extern "C" fn uapubsub_subscriber_datagram(
     taken: &mut TakenWords,
 ) -> u32
     requires { IsReady handle.old }
+    ensures answers { (100 ≤ result) ⊎ IsOneOf (CLOSED ∷ OK ∷ INDEX ∷ OTHER_SIDE ∷ []) result }
     ensures ready { IsReady handle.new }
     ensures taken { result ≡ OK → Leaves handle.old handle.new
         (SubscriberMoves (IsTaken group now bytes.old bytes.new taken.new)) }
@@ -71,6 +74,8 @@ pub extern "C" fn uapubsub_subscriber_datagram(
     ensures index { result ≡ INDEX → Tells handle.old (SubscriberIs (HasNoReadGroup group)) }
     ensures other_side { result ≡ OTHER_SIDE → Tells handle.old IsPublisherSide }
     ensures not { result ≢ OK → result < 100 → Stays handle.old handle.new }
+    ensures bytes { result ≢ OK → result < 100 → bytes.new ≡ bytes.old }
+    ensures untold { result ≢ OK → taken.new ≡ taken.old }
     ensures closed { result ≡ CLOSED → handle.old.is_open ≡ 0 }
 {
     let Some(mut kept) = handle.take(alloc) else {
@@ -89,6 +94,7 @@ fn datagram_in(
     taken: &mut TakenWords,
 ) -> u32
     requires { IsSound kept.old }
+    ensures answers { (100 ≤ result) ⊎ IsOneOf (OK ∷ INDEX ∷ OTHER_SIDE ∷ []) result }
     ensures sound { IsSound kept.new }
     ensures taken { result ≡ OK → SubscriberMoves
         (IsTaken group now bytes.old bytes.new taken.new) kept.old kept.new }
@@ -97,6 +103,8 @@ fn datagram_in(
     ensures index { result ≡ INDEX → SubscriberIs (HasNoReadGroup group) kept.old }
     ensures other_side { result ≡ OTHER_SIDE → IsPublisherSide kept.old }
     ensures not { result ≢ OK → result < 100 → kept.new ≡ kept.old }
+    ensures bytes { result ≢ OK → result < 100 → bytes.new ≡ bytes.old }
+    ensures untold { result ≢ OK → taken.new ≡ taken.old }
     ensures not_closed { result ≢ CLOSED }
 {
     let Kept::Subscriber(subscriber) = kept else {
@@ -126,6 +134,7 @@ fn words_of(taken: Taken) -> TakenWords
 #[unsafe(no_mangle)]
 pub extern "C" fn uapubsub_subscriber_expire(alloc: Global, handle: &mut Handle, now: u64) -> u32
     requires { IsReady handle.old }
+    ensures answers { IsOneOf (CLOSED ∷ OK ∷ OTHER_SIDE ∷ []) result }
     ensures ready { IsReady handle.new }
     ensures expired { result ≡ OK
         → Leaves handle.old handle.new (SubscriberMoves (HaveExpired now)) }
@@ -143,6 +152,7 @@ pub extern "C" fn uapubsub_subscriber_expire(alloc: Global, handle: &mut Handle,
 
 fn expire_in(kept: &mut Kept, now: u64) -> u32
     requires { IsSound kept.old }
+    ensures answers { IsOneOf (OK ∷ OTHER_SIDE ∷ []) result }
     ensures sound { IsSound kept.new }
     ensures expired { result ≡ OK → SubscriberMoves (HaveExpired now) kept.old kept.new }
     ensures other_side { result ≡ OTHER_SIDE → IsPublisherSide kept.old }
@@ -165,6 +175,7 @@ pub extern "C" fn uapubsub_subscriber_renew(
     sets: &[KeySetWords],
 ) -> u32
     requires { IsReady handle.old }
+    ensures answers { IsOneOf (CLOSED ∷ OK ∷ BAD_KEYS ∷ INDEX ∷ OTHER_SIDE ∷ []) result }
     ensures ready { IsReady handle.new }
     ensures renewed { result ≡ OK
         → Leaves handle.old handle.new (SubscriberMoves (HasKeysRenewedTo group sets.now)) }
@@ -186,6 +197,7 @@ pub extern "C" fn uapubsub_subscriber_renew(
 
 fn renew_in(kept: &mut Kept, group: u8, sets: &[KeySetWords]) -> u32
     requires { IsSound kept.old }
+    ensures answers { IsOneOf (OK ∷ BAD_KEYS ∷ INDEX ∷ OTHER_SIDE ∷ []) result }
     ensures sound { IsSound kept.new }
     ensures renewed { result ≡ OK
         → SubscriberMoves (HasKeysRenewedTo group sets.now) kept.old kept.new }
@@ -223,10 +235,12 @@ pub extern "C" fn uapubsub_reader_why(
     why: &mut u32,
 ) -> u32
     requires { IsReady handle.old }
+    ensures answers { IsOneOf (CLOSED ∷ OK ∷ NONE ∷ OTHER_SIDE ∷ INDEX ∷ []) result }
     ensures ready { IsReady handle.new }
     ensures stays { Stays handle.old handle.new }
     ensures held { result ≡ OK → Tells handle.old (KeepsIn group reader (HoldsAfter why.new)) }
     ensures waits { result ≡ NONE → Tells handle.old (KeepsIn group reader (WaitsFor why.new)) }
+    ensures untold { result ≢ OK → result ≢ NONE → why.new ≡ why.old }
     ensures index { result ≡ INDEX → Tells handle.old (SubscriberIs (IsNoReader group reader)) }
     ensures other_side { result ≡ OTHER_SIDE → Tells handle.old IsPublisherSide }
     ensures closed { result ≡ CLOSED → handle.old.is_open ≡ 0 }
@@ -241,8 +255,10 @@ pub extern "C" fn uapubsub_reader_why(
 
 fn why_of(kept: &Kept, group: u8, reader: u8, why: &mut u32) -> u32
     requires { IsSound kept.now }
+    ensures answers { IsOneOf (OK ∷ NONE ∷ OTHER_SIDE ∷ INDEX ∷ []) result }
     ensures held { result ≡ OK → KeepsIn group reader (HoldsAfter why.new) kept.now }
     ensures waits { result ≡ NONE → KeepsIn group reader (WaitsFor why.new) kept.now }
+    ensures untold { result ≢ OK → result ≢ NONE → why.new ≡ why.old }
     ensures index { result ≡ INDEX → SubscriberIs (IsNoReader group reader) kept.now }
     ensures other_side { result ≡ OTHER_SIDE → IsPublisherSide kept.now }
     ensures not_closed { result ≢ CLOSED }
@@ -282,10 +298,12 @@ pub extern "C" fn uapubsub_reader_number(
     number: &mut u16,
 ) -> u32
     requires { IsReady handle.old }
+    ensures answers { IsOneOf (CLOSED ∷ OK ∷ NONE ∷ OTHER_SIDE ∷ INDEX ∷ []) result }
     ensures ready { IsReady handle.new }
     ensures stays { Stays handle.old handle.new }
     ensures number { result ≡ OK → Tells handle.old (KeepsIn group reader (HasNumber number.new)) }
     ensures none { result ≡ NONE → Tells handle.old (KeepsIn group reader HasNoNumber) }
+    ensures untold { result ≢ OK → number.new ≡ number.old }
     ensures index { result ≡ INDEX → Tells handle.old (SubscriberIs (IsNoReader group reader)) }
     ensures other_side { result ≡ OTHER_SIDE → Tells handle.old IsPublisherSide }
     ensures closed { result ≡ CLOSED → handle.old.is_open ≡ 0 }
@@ -300,8 +318,10 @@ pub extern "C" fn uapubsub_reader_number(
 
 fn message_number_of(kept: &Kept, group: u8, reader: u8, number: &mut u16) -> u32
     requires { IsSound kept.now }
+    ensures answers { IsOneOf (OK ∷ NONE ∷ OTHER_SIDE ∷ INDEX ∷ []) result }
     ensures number { result ≡ OK → KeepsIn group reader (HasNumber number.new) kept.now }
     ensures none { result ≡ NONE → KeepsIn group reader HasNoNumber kept.now }
+    ensures untold { result ≢ OK → number.new ≡ number.old }
     ensures index { result ≡ INDEX → SubscriberIs (IsNoReader group reader) kept.now }
     ensures other_side { result ≡ OTHER_SIDE → IsPublisherSide kept.now }
     ensures not_closed { result ≢ CLOSED }
@@ -322,7 +342,7 @@ fn message_number_of(kept: &Kept, group: u8, reader: u8, number: &mut u16) -> u3
 fn reader_of(kept: &Kept, group: u8, reader: u8) -> Result<&Reader, u32>
     requires { IsSound kept.now }
     ensures reader { IfOk result (λ value. IsReaderIn group reader value.now kept.now) }
-    ensures not { IfErr result (λ status. (status ≡ OTHER_SIDE) ⊎ (status ≡ INDEX)) }
+    ensures answers { IfErr result (IsOneOf (OTHER_SIDE ∷ INDEX ∷ [])) }
     ensures index { IfErr result (λ status. status ≡ INDEX
         → SubscriberIs (IsNoReader group reader) kept.now) }
     ensures other_side { IfErr result (λ status. status ≡ OTHER_SIDE → IsPublisherSide kept.now) }

@@ -1,9 +1,9 @@
 //! Writers and readers that are switched on and off.
-ghost use Rattle.std.specs.Prelude.{◌≡◌, ◌≢◌, true, false};
+ghost use Rattle.std.specs.Prelude.{◌≡◌, ◌≢◌, [], ◌∷◌, true, false};
 ghost use Rattle.device_sides.specs.Readings.{HasReaderSwitched, IsNoReader};
 ghost use Rattle.device_sides.specs.Sides.{HasNoWriter, HasWriterSwitched};
 ghost use Rattle.uapubsub_c.specs.Getting.{IsPublisherSide, IsSubscriberSide, PublisherIs, PublisherMoves, SubscriberIs, SubscriberMoves};
-ghost use Rattle.uapubsub_c.specs.Handles.{IsReady, IsSound, Leaves, Stays, Tells};
+ghost use Rattle.uapubsub_c.specs.Handles.{IsOneOf, IsReady, IsSound, Leaves, Stays, Tells};
 
 use crate::handle::Handle;
 use crate::kept::Kept;
@@ -19,6 +19,7 @@ pub extern "C" fn uapubsub_writer_enable(
     writer: u8,
 ) -> u32
     requires { IsReady handle.old }
+    ensures answers { IsOneOf (CLOSED ∷ OK ∷ INDEX ∷ OTHER_SIDE ∷ []) result }
     ensures ready { IsReady handle.new }
     ensures switched { result ≡ OK
         → Leaves handle.old handle.new (PublisherMoves (HasWriterSwitched group writer true)) }
@@ -39,6 +40,7 @@ pub extern "C" fn uapubsub_writer_disable(
     writer: u8,
 ) -> u32
     requires { IsReady handle.old }
+    ensures answers { IsOneOf (CLOSED ∷ OK ∷ INDEX ∷ OTHER_SIDE ∷ []) result }
     ensures ready { IsReady handle.new }
     ensures switched { result ≡ OK
         → Leaves handle.old handle.new (PublisherMoves (HasWriterSwitched group writer false)) }
@@ -52,6 +54,7 @@ pub extern "C" fn uapubsub_writer_disable(
 
 fn switch_writer(alloc: Global, handle: &mut Handle, group: u8, writer: u8, on: bool) -> u32
     requires { IsReady handle.old }
+    ensures answers { IsOneOf (CLOSED ∷ OK ∷ INDEX ∷ OTHER_SIDE ∷ []) result }
     ensures ready { IsReady handle.new }
     ensures switched { result ≡ OK
         → Leaves handle.old handle.new (PublisherMoves (HasWriterSwitched group writer on)) }
@@ -70,6 +73,7 @@ fn switch_writer(alloc: Global, handle: &mut Handle, group: u8, writer: u8, on: 
 
 fn switch_writer_in(kept: &mut Kept, group: u8, writer: u8, on: bool) -> u32
     requires { IsSound kept.old }
+    ensures answers { IsOneOf (OK ∷ INDEX ∷ OTHER_SIDE ∷ []) result }
     ensures sound { IsSound kept.new }
     ensures switched { result ≡ OK
         → PublisherMoves (HasWriterSwitched group writer on) kept.old kept.new }
@@ -97,6 +101,7 @@ pub extern "C" fn uapubsub_reader_enable(
     reader: u8,
 ) -> u32
     requires { IsReady handle.old }
+    ensures answers { IsOneOf (CLOSED ∷ OK ∷ INDEX ∷ OTHER_SIDE ∷ []) result }
     ensures ready { IsReady handle.new }
     ensures switched { result ≡ OK
         → Leaves handle.old handle.new (SubscriberMoves (HasReaderSwitched group reader true)) }
@@ -117,6 +122,7 @@ pub extern "C" fn uapubsub_reader_disable(
     reader: u8,
 ) -> u32
     requires { IsReady handle.old }
+    ensures answers { IsOneOf (CLOSED ∷ OK ∷ INDEX ∷ OTHER_SIDE ∷ []) result }
     ensures ready { IsReady handle.new }
     ensures switched { result ≡ OK
         → Leaves handle.old handle.new (SubscriberMoves (HasReaderSwitched group reader false)) }
@@ -130,6 +136,7 @@ pub extern "C" fn uapubsub_reader_disable(
 
 fn switch_reader(alloc: Global, handle: &mut Handle, group: u8, reader: u8, on: bool) -> u32
     requires { IsReady handle.old }
+    ensures answers { IsOneOf (CLOSED ∷ OK ∷ INDEX ∷ OTHER_SIDE ∷ []) result }
     ensures ready { IsReady handle.new }
     ensures switched { result ≡ OK
         → Leaves handle.old handle.new (SubscriberMoves (HasReaderSwitched group reader on)) }
@@ -148,6 +155,7 @@ fn switch_reader(alloc: Global, handle: &mut Handle, group: u8, reader: u8, on: 
 
 fn switch_reader_in(kept: &mut Kept, group: u8, reader: u8, on: bool) -> u32
     requires { IsSound kept.old }
+    ensures answers { IsOneOf (OK ∷ INDEX ∷ OTHER_SIDE ∷ []) result }
     ensures sound { IsSound kept.new }
     ensures switched { result ≡ OK
         → SubscriberMoves (HasReaderSwitched group reader on) kept.old kept.new }

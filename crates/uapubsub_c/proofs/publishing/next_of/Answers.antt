@@ -45,3 +45,6 @@ returns-in-Spent-clause-spent c = λ is.
 
 pub returns-in_default-clause-other_side : goal.returns-in_default-clause-other_side
 returns-in_default-clause-other_side c = λ is. not-publisher c.args.kept.now c.in_default.not-Publisher
+
+pub returns-then-datagram-buffer-clause-needs : goal.returns-then-datagram-buffer-clause-needs
+returns-then-datagram-buffer-clause-needs c = λ is. ap length c.datagram-datagram.ensures

@@ -1,6 +1,6 @@
-use Rattle.std.proofs.Common.{List, inl, inr, subst, sym}
+use Rattle.std.proofs.Common.{◌⊎◌, List, inl, inr, subst, sym}
 use Rattle.group_keys.specs.declared.key_set.KeySet.{KeySet}
-use Rattle.device_sides.specs.Sides.{IsBehind, MayNotResume}
+use Rattle.device_sides.specs.Sides.{IsBehind, IsEarlier, MayNotResume}
 use Rattle.uapubsub_c.specs.Getting.{PublisherIs, PublisherMoves}
 use Rattle.uapubsub_c.specs.Keys.{HasNoKeyGroup, IsBehindWith, MayNotResumeWith}
 use Rattle.uapubsub_c.specs.declared.kept.Kept.{Kept}
@@ -10,27 +10,28 @@ use Rattle.uapubsub_c.proofs.publishing.resume_with_in.Goals as goal
 
 pub returns-then-resume_with-clause-behind : goal.returns-then-resume_with-clause-behind
 returns-then-resume_with-clause-behind c = λ ok.
-    subst (λ (kept : Kept). PublisherMoves (IsBehindWith c.args.keygroup c.args.now c.args.used c.args.sets.now) kept (Publisher c.resume_with.new.self)) (sym c.in-Publisher.is)
+    subst (λ (kept : Kept). PublisherMoves (IsBehindWith c.args.keygroup c.args.now c.args.token c.args.used c.args.sets.now) kept (Publisher c.resume_with.new.self)) (sym c.in-Publisher.is)
     (record {
       long = c.in-Some.long;
       is_long = c.in-Some.ensures.long;
       is = subst (λ (sets : List KeySet). IsBehind c.args.keygroup c.args.now c.args.used sets c.in-Publisher.publisher c.resume_with.new.self) c.in-Some-ring_of_words.ensures.sets
           c.if-resume_with.ensures.behind;
+      no_earlier = subst (λ (sets : List KeySet). ¬ IsEarlier c.args.now c.args.token sets) c.in-Some-ring_of_words.ensures.sets c.if-resume_with.ensures.no_earlier;
     })
 
 pub returns-else-resume_with-clause-bad_keys : goal.returns-else-resume_with-clause-bad_keys
 returns-else-resume_with-clause-bad_keys c = λ bad.
-    subst (λ (kept : Kept). PublisherIs (MayNotResumeWith c.args.keygroup c.args.now c.args.used c.args.sets.now) kept) (sym c.in-Publisher.is)
+    subst (λ (kept : Kept). PublisherIs (MayNotResumeWith c.args.keygroup c.args.now c.args.token c.args.used c.args.sets.now) kept) (sym c.in-Publisher.is)
     (record {
       long = c.in-Some.long;
       is_long = c.in-Some.ensures.long;
-      why = inr (subst (λ (sets : List KeySet). MayNotResume c.args.keygroup c.args.now c.args.used sets c.in-Publisher.publisher) c.in-Some-ring_of_words.ensures.sets
-          c.if-resume_with.ensures.refused);
+      why = inr (subst (λ (sets : List KeySet). IsEarlier c.args.now c.args.token sets ⊎ MayNotResume c.args.keygroup c.args.now c.args.used sets c.in-Publisher.publisher)
+          c.in-Some-ring_of_words.ensures.sets c.if-resume_with.ensures.refused);
     })
 
 pub returns-in_default-ring_of_words-clause-bad_keys : goal.returns-in_default-ring_of_words-clause-bad_keys
 returns-in_default-ring_of_words-clause-bad_keys c = λ bad.
-    subst (λ (kept : Kept). PublisherIs (MayNotResumeWith c.args.keygroup c.args.now c.args.used c.args.sets.now) kept) (sym c.in-Publisher.is)
+    subst (λ (kept : Kept). PublisherIs (MayNotResumeWith c.args.keygroup c.args.now c.args.token c.args.used c.args.sets.now) kept) (sym c.in-Publisher.is)
     (record {
       long = c.in-Some.long;
       is_long = c.in-Some.ensures.long;

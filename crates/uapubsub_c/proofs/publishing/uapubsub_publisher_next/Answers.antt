@@ -55,3 +55,10 @@ returns-clause-other_side c = λ is. record {
   holds = c.in-Some.ensures.held;
   is = subst (λ (kept : Kept). IsSubscriberSide kept) c.deref_mut.ensures.value (c.next_of-status.ensures.other_side is);
 }
+
+pub returns-clause-needs : goal.returns-clause-needs
+returns-clause-needs c = λ is. record {
+  kept = c.next_of-status.new.kept;
+  holds = c.put.ensures.held;
+  is = c.next_of-status.ensures.needs is;
+}

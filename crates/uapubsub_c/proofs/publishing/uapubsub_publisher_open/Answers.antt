@@ -8,4 +8,5 @@ returns-in-Ok-clause-opened c = λ ok. record {
   rows = c.in-Ok.ensures.rows;
   senders = c.in-Ok.ensures.senders;
   sides = c.in-Ok.ensures.sides;
+  none_waits = c.in-Ok.ensures.none_waits;
 }

@@ -1,8 +1,8 @@
 use Rattle.std.proofs.Common.{subst}
 use Rattle.uapubsub_c.specs.declared.kept.Kept.{Kept}
-use Rattle.device_sides.specs.Sides.{IsBehindConfigured, MayNotResumeConfigured}
+use Rattle.device_sides.specs.Sides.{IsBehindConfigured}
 use Rattle.uapubsub_c.specs.Getting.{IsSubscriberSide, PublisherIs, PublisherMoves}
-use Rattle.uapubsub_c.specs.Keys.{HasNoKeyGroup}
+use Rattle.uapubsub_c.specs.Keys.{HasNoKeyGroup, RepeatsConfigured}
 use Rattle.uapubsub_c.proofs.publishing.uapubsub_publisher_resume.Goals as goal
 
 pub returns-clause-behind : goal.returns-clause-behind
@@ -19,7 +19,7 @@ pub returns-clause-bad_keys : goal.returns-clause-bad_keys
 returns-clause-bad_keys c = λ bad. record {
   kept = c.in-Some.kept.value;
   holds = c.in-Some.ensures.held;
-  is = subst (λ (kept : Kept). PublisherIs (MayNotResumeConfigured c.args.keygroup c.args.now c.args.used) kept) c.deref_mut.ensures.value (c.resume_in-status.ensures.bad_keys bad);
+  is = subst (λ (kept : Kept). PublisherIs (RepeatsConfigured c.args.keygroup c.args.now c.args.used) kept) c.deref_mut.ensures.value (c.resume_in-status.ensures.bad_keys bad);
 }
 
 pub returns-clause-index : goal.returns-clause-index

@@ -10,7 +10,7 @@ returns-clause-behind c = λ ok. record {
   is = c.resume_with_in-status.new.kept;
   held = c.in-Some.ensures.held;
   holds = c.put.ensures.held;
-  moved = subst (λ (kept : Kept). PublisherMoves (IsBehindWith c.args.keygroup c.args.now c.args.used c.args.sets.now) kept c.resume_with_in-status.new.kept)
+  moved = subst (λ (kept : Kept). PublisherMoves (IsBehindWith c.args.keygroup c.args.now c.args.token c.args.used c.args.sets.now) kept c.resume_with_in-status.new.kept)
       c.deref_mut.ensures.value (c.resume_with_in-status.ensures.behind ok);
 }
 
@@ -18,7 +18,7 @@ pub returns-clause-bad_keys : goal.returns-clause-bad_keys
 returns-clause-bad_keys c = λ bad. record {
   kept = c.in-Some.kept.value;
   holds = c.in-Some.ensures.held;
-  is = subst (λ (kept : Kept). PublisherIs (MayNotResumeWith c.args.keygroup c.args.now c.args.used c.args.sets.now) kept) c.deref_mut.ensures.value
+  is = subst (λ (kept : Kept). PublisherIs (MayNotResumeWith c.args.keygroup c.args.now c.args.token c.args.used c.args.sets.now) kept) c.deref_mut.ensures.value
       (c.resume_with_in-status.ensures.bad_keys bad);
 }
 

@@ -1,8 +1,9 @@
-use Rattle.std.proofs.Common.{subst}
+use Rattle.std.proofs.Common.{subst, sym, ◌∙◌}
 use Rattle.uapubsub_c.specs.declared.kept.Kept.{Kept}
 use Rattle.uapubsub_c.specs.Getting.{IsSubscriberSide, PublisherIs}
-use Rattle.uapubsub_c.specs.Handles.{HasSetIn}
-use Rattle.uapubsub_c.specs.Setting.{IsValueMisfit, SetsNoField}
+use Rattle.uapubsub_c.specs.Handles.{HasSetIn, IsUnset}
+use Rattle.uapubsub_c.specs.Setting.{IsValueMisfit, SetsField, SetsNoField}
+use Rattle.std.proofs.lemmas.Option.{same_Some}
 use Rattle.uapubsub_c.proofs.setting.set_field.Goals as goal
 
 pub returns-clause-set : goal.returns-clause-set
@@ -33,4 +34,22 @@ returns-clause-other_side c = λ is. record {
   kept = c.in-Some.kept.value;
   holds = c.in-Some.ensures.held;
   is = subst (λ (kept : Kept). IsSubscriberSide kept) c.deref_mut.ensures.value (c.set_in-answer.ensures.other_side is);
+}
+
+pub returns-in_default-clause-unset : goal.returns-in_default-clause-unset
+returns-in_default-clause-unset c = λ not kept holds. absurd (holds.is_open c.in_default.ensures.was_closed)
+
+pub returns-clause-unset : goal.returns-clause-unset
+returns-clause-unset c = λ not kept holds. record {
+  kept = c.set_in-answer.new.kept;
+  holds = c.put.ensures.held;
+  is = subst (λ (was : Kept). IsUnset was c.set_in-answer.new.kept) (sym (same_Some kept c.in-Some.kept.value (sym holds.held ∙ c.in-Some.ensures.held.held)))
+      (subst (λ (was : Kept). IsUnset was c.set_in-answer.new.kept) c.deref_mut.ensures.value (c.set_in-answer.ensures.unset not));
+}
+
+pub returns-clause-there : goal.returns-clause-there
+returns-clause-there c = λ is. record {
+  kept = c.in-Some.kept.value;
+  holds = c.in-Some.ensures.held;
+  is = subst (λ (kept : Kept). PublisherIs (SetsField c.args.set c.args.field) kept) c.deref_mut.ensures.value (c.set_in-answer.ensures.there is);
 }

@@ -1,7 +1,7 @@
 use Rattle.std.proofs.Common.{refl}
 use Rattle.ua_values.specs.declared.value.Value.TheVariants.{ByteString}
 use Rattle.uapubsub_c.specs.Setting.{IsBytesMisfit, IsValueMisfit}
-use Rattle.uapubsub_c.proofs.Telling.{publisher-too}
+use Rattle.uapubsub_c.proofs.Telling.{publisher-too, unset-same}
 use Rattle.uapubsub_c.proofs.setting.uapubsub_set_bytes.Goals as goal
 
 pub returns-in-Ok-clause-set : goal.returns-in-Ok-clause-set
@@ -30,3 +30,6 @@ returns-in-Ok-clause-bad_text c = λ bad. absurd (c.set_field.ensures.not_text b
 
 pub returns-in-Err-clause-bad_text : goal.returns-in-Err-clause-bad_text
 returns-in-Err-clause-bad_text c = λ bad. rw (← c.in-Err.ensures) refl
+
+pub returns-in-Err-clause-unset : goal.returns-in-Err-clause-unset
+returns-in-Err-clause-unset c = λ not kept holds. record { kept = kept; holds = holds; is = unset-same kept }

@@ -1,8 +1,10 @@
-use Rattle.std.proofs.Common.{subst}
+use Rattle.std.proofs.Common.{subst, sym, ◌∙◌}
 use Rattle.uapubsub_c.specs.declared.kept.Kept.{Kept}
 use Rattle.device_sides.specs.Sides.{HasSetStatus}
 use Rattle.uapubsub_c.specs.Getting.{IsSubscriberSide, PublisherIs, PublisherMoves}
-use Rattle.uapubsub_c.specs.Setting.{IsCodeMisfit, SetsNoField}
+use Rattle.uapubsub_c.specs.Setting.{IsCodeMisfit, SetsField, SetsNoField}
+use Rattle.uapubsub_c.specs.Handles.{IsUnset}
+use Rattle.std.proofs.lemmas.Option.{same_Some}
 use Rattle.uapubsub_c.proofs.setting.uapubsub_set_field_status.Goals as goal
 
 pub returns-clause-set : goal.returns-clause-set
@@ -34,4 +36,22 @@ returns-clause-other_side c = λ is. record {
   kept = c.in-Some.kept.value;
   holds = c.in-Some.ensures.held;
   is = subst (λ (kept : Kept). IsSubscriberSide kept) c.deref_mut.ensures.value (c.set_status_in-answer.ensures.other_side is);
+}
+
+pub returns-in_default-clause-unset : goal.returns-in_default-clause-unset
+returns-in_default-clause-unset c = λ not kept holds. absurd (holds.is_open c.in_default.ensures.was_closed)
+
+pub returns-clause-unset : goal.returns-clause-unset
+returns-clause-unset c = λ not kept holds. record {
+  kept = c.set_status_in-answer.new.kept;
+  holds = c.put.ensures.held;
+  is = subst (λ (was : Kept). IsUnset was c.set_status_in-answer.new.kept) (sym (same_Some kept c.in-Some.kept.value (sym holds.held ∙ c.in-Some.ensures.held.held)))
+      (subst (λ (was : Kept). IsUnset was c.set_status_in-answer.new.kept) c.deref_mut.ensures.value (c.set_status_in-answer.ensures.unset not));
+}
+
+pub returns-clause-there : goal.returns-clause-there
+returns-clause-there c = λ is. record {
+  kept = c.in-Some.kept.value;
+  holds = c.in-Some.ensures.held;
+  is = subst (λ (kept : Kept). PublisherIs (SetsField c.args.set c.args.field) kept) c.deref_mut.ensures.value (c.set_status_in-answer.ensures.there is);
 }

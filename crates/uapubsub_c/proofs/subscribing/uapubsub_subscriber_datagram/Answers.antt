@@ -1,6 +1,8 @@
-use Rattle.std.proofs.Common.{subst}
+use Rattle.std.proofs.Common.{◌≤◌, [], ◌∷◌, subst}
 use Rattle.uapubsub_c.specs.declared.kept.Kept.{Kept}
 use Rattle.uapubsub_c.specs.Getting.{HasNoReadGroup, IsPublisherSide, IsRefusedFor, IsTaken, SubscriberIs, SubscriberMoves}
+use Rattle.uapubsub_c.specs.declared.status.TheConstants.{CLOSED, INDEX, OK, OTHER_SIDE}
+use Rattle.uapubsub_c.proofs.Telling.{one-of-more}
 use Rattle.uapubsub_c.proofs.subscribing.uapubsub_subscriber_datagram.Goals as goal
 
 pub returns-clause-taken : goal.returns-clause-taken
@@ -36,3 +38,7 @@ returns-clause-other_side c = λ is. record {
   holds = c.in-Some.ensures.held;
   is = subst (λ (kept : Kept). IsPublisherSide kept) c.deref_mut.ensures.value (c.datagram_in-status.ensures.other_side is);
 }
+
+pub returns-clause-answers : goal.returns-clause-answers
+returns-clause-answers c =
+    one-of-more (100 ≤ c.datagram_in-status.result) CLOSED (OK ∷ INDEX ∷ OTHER_SIDE ∷ []) c.datagram_in-status.result c.datagram_in-status.ensures.answers

@@ -23,7 +23,8 @@ loop-g-init c =
 pub returns-then-is_waiting-clause-came : goal.returns-then-is_waiting-clause-came
 returns-then-is_waiting-clause-came c =
     let invariant = c.loop-g.invariant in
-    made-some c.args.now c.loop-g.g c.loop-g.held c.look_at-looked.result c.args.self.now c.loop-g.self c.look_at-looked.new.self invariant.config invariant.rows invariant.senders invariant.none_waits
+    let low : c.loop-g.g < length c.loop-g.self.sides.items = omega (arith, c.loop-g-test.true, c.len-g-end.ensures, c.args.self.now.sides.ok.0, invariant.count) in
+    made-some c.args.now c.loop-g.g c.loop-g.held c.look_at-looked.result c.args.self.now c.loop-g.self c.look_at-looked.new.self low invariant.config invariant.rows invariant.senders invariant.none_waits
     invariant.far c.look_at-looked.ensures.looked c.if-is_waiting.ensures.there
 
 pub returns-then-is_waiting-clause-config : goal.returns-then-is_waiting-clause-config

@@ -1,0 +1,138 @@
+-- Senders that never fall back.
+use Rattle.std.proofs.Common.{◌≡◌, ℕ, zero, suc, ◌<◌, ◌≤◌, ◌⊎◌, inl, inr, Bool, true, false, List, [], ◌∷◌, length, get_or, set, nat_lt, refl, sym, ap, subst, arith, ◌∙◌}
+use Rattle.std.specs.Prelude.{Option, Some, None, if◌then◌else◌}
+use Rattle.std.proofs.lemmas.Bool.{cases_lt}
+use Rattle.std.proofs.lemmas.Bool.Decides.{nat_tests}
+use Rattle.std.proofs.lemmas.List.{get_or_default, get_or_past}
+use Rattle.group_keys.specs.KeySets.{current}
+use Rattle.group_keys.specs.declared.key_set.KeySet.{KeySet}
+use Rattle.message_guard.specs.declared.keys.TokenKeys.{TokenKeys}
+use Rattle.message_guard.specs.declared.mode.Mode.{Mode}
+use Rattle.message_guard.specs.Protection.{keys_in}
+use Rattle.message_guard.specs.Senders.{SenderState, renewed, turned, turned_by}
+use Rattle.ps_config.specs.declared.parts.Config.{Config}
+use Rattle.ps_config.specs.Headers.{mode_of}
+use Rattle.writer_group.specs.Parts.{group_at}
+use Rattle.writer_group.specs.Sealing.{advanced_by}
+use Rattle.writer_group.proofs.Joining.{advanced-used}
+use Rattle.device_sides.specs.Calls.{AreCalled, Call, Came, FallBackNever, IsCalled, IsNoLess, Other, Renewed, Resumed}
+use Rattle.device_sides.specs.Coming.{Comes, ComesTo, turned_to}
+use Rattle.device_sides.specs.Sides.{HasNumbered, HasRenewed, IsBecome, IsBehind, numbered}
+use Rattle.device_sides.specs.declared.asked.Next.{Next}
+use Rattle.device_sides.specs.declared.asked.Next.TheVariants.{Datagram, Nothing, Spent}
+use Rattle.device_sides.specs.declared.publisher.Publisher.{Publisher}
+use Rattle.device_sides.specs.declared.side.Side.{Side}
+use Rattle.device_sides.proofs.Looks.{some-side}
+use Rattle.device_sides.proofs.Sending.{no_sender}
+
+-- ---- one sender
+
+same-less : (s : SenderState) → IsNoLess s s
+same-less s = inr (refl, omega arith)
+
+less-less : (a b c : SenderState) → IsNoLess a b → IsNoLess b c → IsNoLess a c
+less-less a b c (inl one) (inl other) = inl (omega (arith, one, other))
+less-less a b c (inl one) (inr other) = let token = other.0 in inl (omega (arith, one, token))
+less-less a b c (inr one) (inl other) = let token = one.0 in inl (omega (arith, token, other))
+less-less a b c (inr one) (inr other) = let used = one.1 in let more = other.1 in inr (one.0 ∙ other.0, omega (arith, used, more))
+
+turned-set : (s : SenderState) (set : KeySet) (b : Bool) → nat_lt s.keys.token set.token ≡ b
+    → IsNoLess s (if b then record s { keys = keys_in set; used = 0; fronted = None } else s)
+turned-set s set true higher = inl (grind (arith, nat_tests))
+turned-set s set false higher = same-less s
+
+turned-less-by : (s : SenderState) (set : Option KeySet) → IsNoLess s (turned_by s set)
+turned-less-by s None = same-less s
+turned-less-by s (Some set) = turned-set s set (nat_lt s.keys.token set.token) refl
+
+turned-less : (now : ℕ) (s : SenderState) → IsNoLess s (turned s now)
+turned-less now s = turned-less-by s (current s.sets now)
+
+advanced-keys : (mode : Mode) (s : SenderState) (count : ℕ) → (advanced_by mode s count).keys ≡ s.keys
+advanced-keys mode s zero = refl
+advanced-keys mode s (suc count) = advanced-keys mode s count
+
+advanced-less : (mode : Mode) (s : SenderState) (count : ℕ) → IsNoLess s (advanced_by mode s count)
+advanced-less mode s count = inr (sym (ap (λ (k : TokenKeys). k.token) (advanced-keys mode s count)), omega (arith, advanced-used mode s count))
+
+-- ---- all senders
+
+never-same : (l : List SenderState) → FallBackNever l l
+never-same [] = tt
+never-same (s ∷ l) = (same-less s, never-same l)
+
+never-never : (a b c : List SenderState) → FallBackNever a b → FallBackNever b c → FallBackNever a c
+never-never [] [] [] one other = tt
+never-never [] [] (z ∷ c) one other = absurd other
+never-never [] (y ∷ b) c one other = absurd one
+never-never (x ∷ a) [] c one other = absurd one
+never-never (x ∷ a) (y ∷ b) [] one other = absurd other
+never-never (x ∷ a) (y ∷ b) (z ∷ c) one other = (less-less x y z one.0 other.0, never-never a b c one.1 other.1)
+
+never-turned : (now : ℕ) (l : List SenderState) → FallBackNever l (turned_to now l)
+never-turned now [] = tt
+never-turned now (s ∷ l) = (turned-less now s, never-turned now l)
+
+never-set : (l : List SenderState) (k : ℕ) (y : SenderState) → IsNoLess (get_or l k y) y → FallBackNever l (set l k y)
+never-set [] k y less = tt
+never-set (s ∷ l) zero y less = (less, never-same l)
+never-set (s ∷ l) (suc k) y less = (same-less s, never-set l k y less)
+
+never-same-as : (old new : List SenderState) → new ≡ old → FallBackNever old new
+never-same-as old new same = subst (λ (l : List SenderState). FallBackNever old l) (sym same) (never-same old)
+
+-- ---- calls
+
+become-less : (keygroup : Option ℕ) (change : SenderState → SenderState) (old new : List SenderState) → ((s : SenderState) → IsNoLess s (change s)) → IsBecome keygroup change old new
+    → FallBackNever old new
+become-less None change old new less is = never-same-as old new is
+become-less (Some k) change old new less is =
+    let y = change (get_or old k no_sender) in
+    subst (λ (l : List SenderState). FallBackNever old l) (sym (is no_sender)) (never-set old k y (at (cases_lt k (length old))))
+  where
+    at : (k < length old) ⊎ (length old ≤ k) → IsNoLess (get_or old k (change (get_or old k no_sender))) (change (get_or old k no_sender))
+    at (inl low) =
+        subst (λ (s : SenderState). IsNoLess s (change (get_or old k no_sender))) (get_or_default old k no_sender (change (get_or old k no_sender)) low) (less (get_or old k no_sender))
+    at (inr past) =
+        subst (λ (s : SenderState). IsNoLess s (change (get_or old k no_sender))) (sym (get_or_past old k (change (get_or old k no_sender)) past)) (same-less (change (get_or old k no_sender)))
+
+numbered-less : (config : Config) (index made : ℕ) (old new : List SenderState) → HasNumbered config index made old new → FallBackNever old new
+numbered-less config index made old new has =
+    become-less (group_at config index).keygroup (numbered config index made) old new (λ s. advanced-less (mode_of (group_at config index).security) s made) has
+
+comes-less : (now : ℕ) (next : Next) (senders : List SenderState) (sides : List Side) (new : Publisher) → Comes now next senders sides new → FallBackNever senders new.senders.items
+comes-less now Datagram senders sides new comes =
+    let d = some-side comes.mid (length comes.did) comes.within in
+    numbered-less new.config (get_or comes.mid (length comes.did) d).index new.made senders new.senders.items (comes.numbers d)
+comes-less now Nothing senders sides new comes = never-same-as senders new.senders.items comes.senders_are
+comes-less now Spent senders sides new comes = never-same-as senders new.senders.items comes.senders_are
+
+came-less : (now : ℕ) (next : Next) (old new : Publisher) → ComesTo now next old new → FallBackNever old.senders.items new.senders.items
+came-less now next old new comes = by_case (cases_lt old.handed old.made)
+  where
+    by_case : (old.handed < old.made) ⊎ (old.made ≤ old.handed) → FallBackNever old.senders.items new.senders.items
+    by_case (inl waits) = never-same-as old.senders.items new.senders.items (ap (λ (p : Publisher). p.senders.items) (comes.waited waits).stays)
+    by_case (inr none) =
+        let came = comes.came none in
+        never-never old.senders.items (turned_to now old.senders.items) new.senders.items (never-turned now old.senders.items)
+        (comes-less now next (turned_to now old.senders.items) came.sides new came.came)
+
+renewed-less : (keygroup : ℕ) (sets : List KeySet) (old new : Publisher) → HasRenewed keygroup sets old new → FallBackNever old.senders.items new.senders.items
+renewed-less keygroup sets old new has =
+    become-less (Some keygroup) (λ s. renewed s sets) old.senders.items new.senders.items (λ s. same-less s) has.is
+
+resumed-less : (keygroup now used : ℕ) (sets : List KeySet) (old new : Publisher) → IsBehind keygroup now used sets old new → FallBackNever old.senders.items new.senders.items
+resumed-less keygroup now used sets old new behind =
+    let y = get_or new.senders.items keygroup no_sender in
+    subst (λ (l : List SenderState). FallBackNever old.senders.items l) (sym (behind.others no_sender)) (never-set old.senders.items keygroup y (behind.no_lower y no_sender))
+
+called-less : (call : Call) (old new : Publisher) → IsCalled call old new → FallBackNever old.senders.items new.senders.items
+called-less (Came now next) old new is = came-less now next old new is
+called-less (Renewed keygroup sets) old new is = renewed-less keygroup sets old new is
+called-less (Resumed keygroup now used sets) old new is = resumed-less keygroup now used sets old new is
+called-less Other old new is = never-same-as old.senders.items new.senders.items is
+
+pub never-falls : (calls : List Call) (old new : Publisher) → AreCalled calls old new → FallBackNever old.senders.items new.senders.items
+never-falls [] old new are = never-same-as old.senders.items new.senders.items (ap (λ (p : Publisher). p.senders.items) are)
+never-falls (call ∷ calls) old new are =
+    never-never old.senders.items are.0.senders.items new.senders.items (called-less call old are.0 are.1.0) (never-falls calls are.0 new are.1.1)

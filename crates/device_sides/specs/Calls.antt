@@ -1,0 +1,34 @@
+-- The calls of a publisher, one after another, and what they make of its senders.
+use Rattle.std.specs.Prelude.{◌≡◌, ℕ, List, [], ◌∷◌}
+use Rattle.std.specs.List.{AllZip}
+use Rattle.group_keys.specs.declared.key_set.KeySet.{KeySet}
+use Rattle.message_guard.specs.Senders.{SenderState}
+use Rattle.device_sides.specs.declared.asked.Next.{Next}
+use Rattle.device_sides.specs.declared.publisher.Publisher.{Publisher}
+use Rattle.device_sides.specs.Coming.{ComesTo}
+use Rattle.device_sides.specs.Sides.{HasRenewed, IsBehind, IsNoLower}
+
+-- it comes to a moment, a key group is renewed, or goes on behind so many numbers; or all senders stay
+pub data Call : Type 0 where
+  Came : (now : ℕ) (next : Next) → Call
+  Renewed : (keygroup : ℕ) (sets : List KeySet) → Call
+  Resumed : (keygroup now used : ℕ) (sets : List KeySet) → Call
+  Other : Call
+
+abbrev pub IsCalled : Call → Publisher → Publisher → Type 0
+IsCalled (Came now next) old new = ComesTo now next old new
+IsCalled (Renewed keygroup sets) old new = HasRenewed keygroup sets old new
+IsCalled (Resumed keygroup now used sets) old new = IsBehind keygroup now used sets old new
+IsCalled Other old new = new.senders.items ≡ old.senders.items
+
+-- the first first
+abbrev pub AreCalled : List Call → Publisher → Publisher → Type 0
+AreCalled [] old new = new ≡ old
+AreCalled (call ∷ calls) old new = (mid : Publisher) × (IsCalled call old mid × AreCalled calls mid new)
+
+-- its token is no lower than it was, and under the same token neither is the number that was used last
+abbrev pub IsNoLess : SenderState → SenderState → Type 0
+IsNoLess was is = IsNoLower (was.keys.token, was.used) (is.keys.token, is.used)
+
+abbrev pub FallBackNever : List SenderState → List SenderState → Type 0
+FallBackNever old new = AllZip IsNoLess old new

@@ -1,0 +1,12 @@
+//! A law of publishers: the contract of a function that does nothing.
+ghost use Rattle.std.specs.Prelude.{List};
+ghost use Rattle.device_sides.specs.declared.publisher.Publisher.{Publisher};
+ghost use Rattle.device_sides.specs.Calls.{AreCalled, Call, FallBackNever};
+
+/// Over any list of calls of a publisher no sender of a key group falls back: its token is never lower, and under the same token
+/// neither is the number that was used last. So the numbers of a turn, which are those that follow it (`HasNumbered`), are given
+/// nowhere else under their token.
+pub fn no_sender_falls_back()
+    ensures { (calls : List Call) (old new : Publisher)
+        → AreCalled calls old new → FallBackNever old.senders.items new.senders.items }
+{}
