@@ -1,12 +1,14 @@
 //! The calls by their names, and what is kept from line to line.
+use crate::case_line::CaseLine;
 use crate::guards::GuardRows;
 use crate::joiners::{self, JoinerRows};
-use crate::random::{line_of, name_of};
+use crate::metas::data_set;
+use crate::random::{chunk_line, line_of, name_of};
 use crate::row_calls::RowCalls;
 use crate::timers::TimerRows;
 use crate::windows::WindowRows;
 use crate::{frames, headers, metas, numbers, payloads, security, slots, values};
-use case_lines::{Answer, Line, LineFault, Numbers, Tally, told};
+use case_lines::{Answer, LineFault, Numbers, Tally, told};
 use std::alloc::Global;
 
 /// What is kept from line to line: the machines that the calls speak of.
@@ -32,48 +34,38 @@ impl Bench {
         }
     }
 
-    pub fn answer(&mut self, line: &mut Line) -> Answer {
-        match line.word()? {
-            "random" => self.random(line),
-            "random_chunks" => self.random_chunks(line),
-            call => self.call(call, line),
-        }
+    pub fn answer(&mut self, line: &str) -> Answer {
+        let mut line = CaseLine::new(line);
+        let answer = match line.word() {
+            "random" => self.random(&mut line),
+            "random_chunks" => self.random_chunks(&mut line),
+            call => self.call(call, &mut line),
+        };
+        line.checked(answer)
     }
 
     /// `random SEED COUNT LONGEST CALL ..`: the answers to so many lines, each the words of the call and at most so many
     /// bytes
-    fn random(&mut self, line: &mut Line) -> Answer {
-        let mut numbers = Numbers::new(line.u64()?);
-        let (count, longest) = (line.u32()?, line.u64()?);
+    fn random(&mut self, line: &mut CaseLine) -> Answer {
+        let mut numbers = Numbers::new(line.u64());
+        let (count, longest) = (line.u32(), line.u64());
         let words = line.rest();
         let mut tally = Tally::new(self.alloc);
         for _ in 0..count {
-            let bytes = numbers.bytes(self.alloc, longest)?;
-            let line = line_of(self.alloc, words, &bytes)?;
+            let line = line_of(self.alloc, words, &mut numbers, longest)?;
             self.tell(&mut tally, line.as_str())?;
         }
         told(self.alloc, &tally)
     }
 
-    /// `random_chunks SEED COUNT`: the answers to so many chunks of at most 24 bytes, of numbers that go up, of which some are
-    /// of another total, past their message's end or too long; each whole message is told too
-    fn random_chunks(&mut self, line: &mut Line) -> Answer {
-        let mut numbers = Numbers::new(line.u64()?);
-        let count = line.u32()?;
+    /// `random_chunks SEED COUNT`: the answers to so many chunks by chance; each whole message is told too
+    fn random_chunks(&mut self, line: &mut CaseLine) -> Answer {
+        let mut numbers = Numbers::new(line.u64());
+        let count = line.u32();
         let mut tally = Tally::new(self.alloc);
         self.joiner.anew()?;
         for index in 0..count {
-            let late = u32::from(numbers.below(8) == 7);
-            let number = (index / 16).wrapping_add(late) % 65536;
-            let offset = numbers.below(5) * 8;
-            let total = match numbers.below(8) {
-                6 => 24,
-                7 => 4097,
-                _ => 32,
-            };
-            let bytes = numbers.bytes(self.alloc, 24)?;
-            let words = format!(in self.alloc; "chunk {number} {offset} {total}")?;
-            let line = line_of(self.alloc, words.as_str(), &bytes)?;
+            let line = chunk_line(self.alloc, index, &mut numbers)?;
             self.tell(&mut tally, line.as_str())?;
             self.tell(&mut tally, "joined")?;
         }
@@ -82,15 +74,16 @@ impl Bench {
 
     /// Counts the answer to one line.
     fn tell(&mut self, tally: &mut Tally, made: &str) -> Result<(), LineFault> {
-        let mut line = Line::new(made);
-        let call = line.word()?;
-        if let Some(answer) = self.call(call, &mut line)? {
+        let mut line = CaseLine::new(made);
+        let call = line.word();
+        let answer = self.call(call, &mut line);
+        if let Some(answer) = line.checked(answer)? {
             tally.add(self.alloc, name_of(answer.as_str()), answer.as_str())?;
         }
         Ok(())
     }
 
-    fn call(&mut self, call: &str, line: &mut Line) -> Answer {
+    fn call(&mut self, call: &str, line: &mut CaseLine) -> Answer {
         let alloc = self.alloc;
         match call {
             "read_variant" => values::read_variant(alloc, line),
@@ -106,20 +99,20 @@ impl Bench {
             "text" => values::text(alloc, line),
             "blob" => values::blob(alloc, line),
             "fits" => values::fits(alloc, line),
-            "read_frame" => frames::read_frame(alloc, line),
-            "rewrite_frame" => frames::rewrite_frame(alloc, line),
-            "prefixes_of_frame" => frames::prefixes_of_frame(alloc, line),
             "read_front" => frames::read_front(alloc, line),
             "read_header" => headers::read_header(alloc, line),
             "spell_header" => headers::spell_header(alloc, line),
             "plan" => payloads::plan(alloc, line),
             "split" => payloads::split(alloc, line),
             "write_sizes" => payloads::write_sizes(alloc, line),
-            "raw_size" => slots::raw_size(alloc, line),
-            "read_raw" => slots::read_raw(alloc, line),
-            "read_raw_behind" => slots::read_raw_behind(alloc, line),
-            "prefixes_of_raw" => slots::prefixes_of_raw(alloc, line),
-            "write_raw" => slots::write_raw(alloc, line),
+            "read_frame"
+            | "rewrite_frame"
+            | "prefixes_of_frame"
+            | "raw_size"
+            | "read_raw"
+            | "read_raw_behind"
+            | "prefixes_of_raw"
+            | "write_raw" => { of_data_set(alloc, call, line) }
             "slots" => slots::slots(alloc, line),
             "take" => slots::take(alloc, line),
             "place" => slots::place(alloc, line),
@@ -138,7 +131,7 @@ impl Bench {
     }
 
     /// The calls of what is kept from line to line.
-    fn kept(&mut self, call: &str, line: &mut Line) -> Answer {
+    fn kept(&mut self, call: &str, line: &mut CaseLine) -> Answer {
         let alloc = self.alloc;
         match call {
             "joiner" => self.joiner.anew(),
@@ -158,7 +151,7 @@ impl Bench {
     }
 
     /// The calls of senders and guards.
-    fn guarded(&mut self, call: &str, line: &mut Line) -> Answer {
+    fn guarded(&mut self, call: &str, line: &mut CaseLine) -> Answer {
         let alloc = self.alloc;
         match call {
             "keysets" => self.guards.keysets(),
@@ -174,5 +167,21 @@ impl Bench {
             "open" => self.guards.open(alloc, line),
             call => self.rows.answer(alloc, call, line),
         }
+    }
+}
+
+/// `CALL META ..`: what a call tells of a data set
+fn of_data_set(alloc: Global, call: &str, line: &mut CaseLine) -> Answer {
+    let meta = data_set(alloc, line.word())?;
+    match call {
+        "read_frame" => frames::read_frame(alloc, &meta, line),
+        "rewrite_frame" => frames::rewrite_frame(alloc, &meta, line),
+        "prefixes_of_frame" => frames::prefixes_of_frame(alloc, &meta, line),
+        "raw_size" => slots::raw_size(alloc, &meta),
+        "read_raw" => slots::read_raw(alloc, &meta, line),
+        "read_raw_behind" => slots::read_raw_behind(alloc, &meta, line),
+        "prefixes_of_raw" => slots::prefixes_of_raw(alloc, &meta, line),
+        "write_raw" => slots::write_raw(alloc, &meta, line),
+        _ => Err(LineFault::Call),
     }
 }

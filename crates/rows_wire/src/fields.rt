@@ -203,7 +203,7 @@ fn put_one(meta: &Meta, patch: &mut Patch, put: &Put) -> Result<(), LineFault>
 }
 
 /// The data set of these fields.
-fn meta_of(fields: Vec<Field>, major: u32, minor: u32, quality: bool) -> Result<Meta, LineFault>
+pub fn meta_of(fields: Vec<Field>, major: u32, minor: u32, quality: bool) -> Result<Meta, LineFault>
     ensures fields { IfOk result (λ meta. meta.fields ≡ fields.items) }
     ensures major { IfOk result (λ meta. meta.major ≡ major) }
     ensures quality { IfOk result (λ meta. meta.quality ≡ quality) }

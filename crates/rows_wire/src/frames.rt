@@ -4,9 +4,9 @@ ghost use Rattle.row_words.specs.Belonging.{Belongs};
 ghost use Rattle.row_words.specs.Patches.{IsPatchOf};
 ghost use Rattle.frame_codec.specs.Words.{IsFrameOf};
 
-use crate::metas::data_set;
+use crate::case_line::CaseLine;
 use crate::tries::{is_filled, short_of};
-use case_lines::{Answer, Line, LineFault, Shown, refused, said, told_bytes};
+use case_lines::{Answer, LineFault, Shown, refused, said, told_bytes};
 use dataset_meta::Meta;
 use frame_codec::{
     Frame, FrameFault, FrameKind, read_frame as read_one, read_front as read_first, write_frame,
@@ -17,34 +17,36 @@ use std::fmt::Write;
 use ua_binary::{Cursor, Pen};
 
 /// `read_frame META BYTES`: the frame, or the fault
-pub fn read_frame(alloc: Global, line: &mut Line) -> Answer {
-    let meta = data_set(alloc, line.word()?)?;
-    let bytes = line.bytes(alloc)?;
-    match read_one(&meta, &bytes) {
-        Ok(frame) => Ok(Some(frame_text(alloc, &meta, &frame)?)),
+pub fn read_frame(alloc: Global, meta: &Meta, line: &mut CaseLine) -> Answer {
+    match read_one(meta, &line.bytes(alloc)) {
+        Ok(frame) => frame_text(alloc, meta, &frame),
         Err(fault) => refused(alloc, &fault),
     }
 }
 
 /// `rewrite_frame META BYTES`: the frame that the bytes are read as, written; or that a room of one byte less isn't refused with
 /// nothing written
-pub fn rewrite_frame(alloc: Global, line: &mut Line) -> Answer {
-    let meta = data_set(alloc, line.word()?)?;
-    let bytes = line.bytes(alloc)?;
-    let Ok(frame) = read_one(&meta, &bytes) else {
-        return Err(LineFault::Condition);
-    };
+pub fn rewrite_frame(alloc: Global, meta: &Meta, line: &mut CaseLine) -> Answer {
+    match read_one(meta, &line.bytes(alloc)) {
+        Ok(frame) => rewritten(alloc, meta, &frame),
+        Err(_) => Err(LineFault::Condition),
+    }
+}
+
+fn rewritten(alloc: Global, meta: &Meta, frame: &Frame) -> Answer
+    requires { IsFrameOf meta.now frame.now }
+{
     let mut room = [0; 2048];
     let mut pen = Pen {
         bytes: &mut room,
         at: 0,
     };
-    let done = write_frame(&mut pen, &meta, &frame).is_ok();
+    let done = write_frame(&mut pen, meta, frame).is_ok();
     let at = pen.at;
     if !done || at > room.len() {
         return said(alloc, "Room");
     }
-    if is_refused(&meta, &frame, at) {
+    if is_refused(meta, frame, at) {
         told_bytes(alloc, &room[..at])
     } else {
         said(alloc, "fits in less")
@@ -65,12 +67,11 @@ fn is_refused(meta: &Meta, frame: &Frame, len: usize) -> bool
 }
 
 /// `prefixes_of_frame META BYTES`: how many proper prefixes are Short
-pub fn prefixes_of_frame(alloc: Global, line: &mut Line) -> Answer {
-    let meta = data_set(alloc, line.word()?)?;
-    let bytes = line.bytes(alloc)?;
+pub fn prefixes_of_frame(alloc: Global, meta: &Meta, line: &mut CaseLine) -> Answer {
+    let bytes = line.bytes(alloc);
     let mut short = 0_usize;
     for len in 0..bytes.len() {
-        if let Err(FrameFault::Short) = read_one(&meta, &bytes[..len]) {
+        if let Err(FrameFault::Short) = read_one(meta, &bytes[..len]) {
             short = short.saturating_add(1);
         }
     }
@@ -78,8 +79,8 @@ pub fn prefixes_of_frame(alloc: Global, line: &mut Line) -> Answer {
 }
 
 /// `read_front BYTES`: the fields before the field count in a fixed layout, and how many bytes are left, or the fault
-pub fn read_front(alloc: Global, line: &mut Line) -> Answer {
-    let bytes = line.bytes(alloc)?;
+pub fn read_front(alloc: Global, line: &mut CaseLine) -> Answer {
+    let bytes = line.bytes(alloc);
     let mut cursor = Cursor {
         bytes: &bytes,
         at: 0,
@@ -97,7 +98,7 @@ pub fn read_front(alloc: Global, line: &mut Line) -> Answer {
 }
 
 /// Its kind, its number and versions, and its fields: each index with its value, and its status where that isn't 0.
-fn frame_text(alloc: Global, meta: &Meta, frame: &Frame) -> Result<String, LineFault>
+fn frame_text(alloc: Global, meta: &Meta, frame: &Frame) -> Answer
     requires { IsFrameOf meta.now frame.now }
 {
     let kind = match &frame.kind {
@@ -112,7 +113,7 @@ fn frame_text(alloc: Global, meta: &Meta, frame: &Frame) -> Result<String, LineF
         FrameKind::Change(patch) => push_fields(&mut text, meta, &patch.row, patch.mask)?,
         FrameKind::Alive => {}
     }
-    Ok(text)
+    Ok(Some(text))
 }
 
 fn push_versions(

@@ -3,9 +3,11 @@ ghost use Rattle.std.specs.Prelude.{◌≤◌, IsTrue, IfOk, length};
 ghost use Rattle.message_guard.specs.Guards.{IsPassOf};
 ghost use Rattle.message_guard.specs.Modes.{is_secured};
 
+use crate::case_line::CaseLine;
 use crate::header_parts::Security;
+use crate::tries::made;
 use arrayvec::ArrayVec;
-use case_lines::{Answer, Digits, Line, LineFault, number, refused, told, yes_or_no};
+use case_lines::{Answer, Digits, LineFault, refused, told, yes_or_no};
 use group_keys::{KeySet, Ring};
 use message_guard::{Guard, Mode, OpenFault, Pass1, Sender};
 use std::alloc::Global;
@@ -34,29 +36,11 @@ impl GuardRows {
     }
 
     /// `keyset TOKEN MOMENT SIGNING ENCRYPTING NONCE`
-    pub fn keyset(&mut self, alloc: Global, line: &mut Line) -> Answer {
-        let token = line.u32()?;
-        let from = line.u64()?;
-        let signing = line.array()?;
-        let mut encrypting = ArrayVec::new();
-        for byte in &line.piece(alloc)? {
-            if encrypting.is_full() {
-                return Err(LineFault::Condition);
-            }
-            encrypting.push(*byte);
+    pub fn keyset(&mut self, alloc: Global, line: &mut CaseLine) -> Answer {
+        match self.sets.try_push(key_set(alloc, line)?) {
+            Ok(()) => Ok(None),
+            Err(_) => Err(LineFault::Condition),
         }
-        let nonce = line.array()?;
-        if self.sets.is_full() {
-            return Err(LineFault::Condition);
-        }
-        self.sets.push(KeySet {
-            token,
-            from,
-            signing,
-            encrypting,
-            nonce,
-        });
-        Ok(None)
     }
 
     fn ring(&self) -> Result<Ring, LineFault> {
@@ -71,17 +55,17 @@ impl GuardRows {
     }
 
     /// `sender RANDOM FIRST USED`
-    pub fn sender(&mut self, line: &mut Line) -> Answer {
-        let random = line.array()?;
-        let first = line.u32()?;
-        let used = line.u32()?;
+    pub fn sender(&mut self, line: &mut CaseLine) -> Answer {
+        let random = line.array();
+        let first = line.u32();
+        let used = line.u32();
         self.sender = Some(Sender::new(self.ring()?, random, first, used));
         Ok(None)
     }
 
     /// `turn MOMENT`: whether the token changed
-    pub fn turn(&mut self, alloc: Global, line: &mut Line) -> Answer {
-        let now = line.u64()?;
+    pub fn turn(&mut self, alloc: Global, line: &mut CaseLine) -> Answer {
+        let now = line.u64();
         match &mut self.sender {
             Some(sender) => yes_or_no(alloc, sender.turn_to(now)),
             None => Err(LineFault::Condition),
@@ -97,23 +81,23 @@ impl GuardRows {
     }
 
     /// `front MODE`: flags, token and nonce of the next number; the sender isn't spent
-    pub fn front(&mut self, alloc: Global, line: &mut Line) -> Answer {
+    pub fn front(&mut self, alloc: Global, line: &mut CaseLine) -> Answer {
         let mode = secured(line)?;
         match &mut self.sender {
             Some(sender) if !sender.spent() => {
                 let part = sender.front(mode);
                 let flags = if part.encrypted { "se" } else { "s" };
-                Ok(Some(format!(in alloc; "{flags} {} {}", part.token, Digits(part.nonce))?))
+                made(format!(in alloc; "{flags} {} {}", part.token, Digits(part.nonce)))
             }
             _ => Err(LineFault::Condition),
         }
     }
 
     /// `may_protect MODE PAYLOAD DATAGRAM`: whether the datagram carries the last front
-    pub fn may_protect(&self, alloc: Global, line: &mut Line) -> Answer {
+    pub fn may_protect(&self, alloc: Global, line: &mut CaseLine) -> Answer {
         let mode = secured(line)?;
-        let payload = line.u32()? as usize;
-        let datagram = line.piece(alloc)?;
+        let payload = line.u32() as usize;
+        let datagram = line.piece(alloc);
         match &self.sender {
             Some(sender) => yes_or_no(alloc, sender.may_protect(mode, &datagram, payload)),
             None => Err(LineFault::Condition),
@@ -121,12 +105,9 @@ impl GuardRows {
     }
 
     /// `protect MODE HEADER PAYLOAD`: the protected datagram; the header carries the last front
-    pub fn protect(&self, alloc: Global, line: &mut Line) -> Answer {
+    pub fn protect(&self, alloc: Global, line: &mut CaseLine) -> Answer {
         let mode = secured(line)?;
-        let mut datagram = line.piece(alloc)?;
-        let at = datagram.len();
-        datagram.extend_from_slice(&line.piece(alloc)?)?;
-        datagram.extend_from_slice(&[0; 32])?;
+        let (at, mut datagram) = unprotected(alloc, line)?;
         match &self.sender {
             Some(sender) if sender.may_protect(mode, &datagram, at) => {
                 sender.protect(mode, &mut datagram, at);
@@ -137,21 +118,21 @@ impl GuardRows {
     }
 
     /// `guard MODE FIRST`
-    pub fn guard(&mut self, line: &mut Line) -> Answer {
-        let mode = mode_of(line.word()?)?;
-        self.guard = Some(Guard::new(self.ring()?, mode, line.u32()?));
+    pub fn guard(&mut self, line: &mut CaseLine) -> Answer {
+        let mode = mode_of(line.word())?;
+        self.guard = Some(Guard::new(self.ring()?, mode, line.u32()));
         Ok(None)
     }
 
     /// `test FLAGS TOKEN NONCE PAYLOAD DATAGRAM`: token, number and end, or the refusal
-    pub fn test(&self, alloc: Global, line: &mut Line) -> Answer {
+    pub fn test(&self, alloc: Global, line: &mut CaseLine) -> Answer {
         let asked = Asked::read(alloc, line)?;
         match &self.guard {
             Some(guard) => match asked.test(guard) {
-                Ok(pass) => Ok(Some(format!(in alloc;
+                Ok(pass) => made(format!(in alloc;
                     "pass {} {} {}",
                     pass.token, pass.number, pass.end
-                )?)),
+                )),
                 Err(fault) => refused(alloc, &fault),
             },
             None => Err(LineFault::Condition),
@@ -159,7 +140,7 @@ impl GuardRows {
     }
 
     /// `open FLAGS TOKEN NONCE PAYLOAD DATAGRAM`: the decrypted payload, and whether the token was raised, or the refusal
-    pub fn open(&mut self, alloc: Global, line: &mut Line) -> Answer {
+    pub fn open(&mut self, alloc: Global, line: &mut CaseLine) -> Answer {
         let mut asked = Asked::read(alloc, line)?;
         match &mut self.guard {
             Some(guard) => match asked.test(guard) {
@@ -167,12 +148,40 @@ impl GuardRows {
                     guard.decrypt(&pass, &mut asked.datagram, asked.payload);
                     let raised = if guard.accept(pass) { "raised" } else { "kept" };
                     let payload = &asked.datagram[asked.payload..pass.end];
-                    Ok(Some(format!(in alloc; "{} {raised}", Digits(payload))?))
+                    made(format!(in alloc; "{} {raised}", Digits(payload)))
                 }
                 Err(fault) => refused(alloc, &fault),
             },
             None => Err(LineFault::Condition),
         }
+    }
+}
+
+/// The length of a header, and a datagram of that header, a payload and room for a signature.
+fn unprotected(alloc: Global, line: &mut CaseLine) -> Result<(usize, Vec<u8>), LineFault> {
+    let mut datagram = line.piece(alloc);
+    let at = datagram.len();
+    datagram.extend_from_slice(&line.piece(alloc))?;
+    datagram.extend_from_slice(&[0; 32])?;
+    Ok((at, datagram))
+}
+
+fn key_set(alloc: Global, line: &mut CaseLine) -> Result<KeySet, LineFault> {
+    Ok(KeySet {
+        token: line.u32(),
+        from: line.u64(),
+        signing: line.array(),
+        encrypting: encrypting_key(&line.piece(alloc))?,
+        nonce: line.array(),
+    })
+}
+
+/// An encrypting key of these bytes, where it isn't too long.
+pub fn encrypting_key(bytes: &[u8]) -> Result<ArrayVec<u8, 32>, LineFault> {
+    let mut key = ArrayVec::new();
+    match key.try_extend_from_slice(bytes) {
+        Ok(()) => Ok(key),
+        Err(_) => Err(LineFault::Condition),
     }
 }
 
@@ -185,18 +194,16 @@ struct Asked {
 }
 
 impl Asked {
-    fn read(alloc: Global, line: &mut Line) -> Result<Asked, LineFault>
+    fn read(alloc: Global, line: &mut CaseLine) -> Result<Asked, LineFault>
         ensures { IfOk result (λ asked. asked.payload ≤ length asked.datagram.items) }
     {
-        let (flags, token) = (line.word()?, line.word()?);
-        let nonce = line.piece(alloc)?;
-        let security = if flags == "-" {
-            None
-        } else {
-            Some(Security::new(flags, number(token)?, nonce))
+        let (flags, token, nonce) = (line.word(), line.word(), line.word());
+        let payload = line.u32() as usize;
+        let security = match flags {
+            "-" => None,
+            flags => Some(Security::read(alloc, flags, token, nonce)?),
         };
-        let payload = line.u32()? as usize;
-        let datagram = line.piece(alloc)?;
+        let datagram = line.piece(alloc);
         if payload > datagram.len() {
             return Err(LineFault::Condition);
         }
@@ -229,10 +236,10 @@ fn mode_of(word: &str) -> Result<Mode, LineFault> {
     }
 }
 
-fn secured(line: &mut Line) -> Result<Mode, LineFault>
+fn secured(line: &mut CaseLine) -> Result<Mode, LineFault>
     ensures { IfOk result (λ mode. IsTrue (is_secured mode)) }
 {
-    match line.word()? {
+    match line.word() {
         "sign" => Ok(Mode::Sign),
         "encrypt" => Ok(Mode::Encrypt),
         _ => Err(LineFault::Call),

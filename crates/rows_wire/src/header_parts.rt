@@ -125,15 +125,20 @@ impl WriterIds {
 
 impl Security {
     /// The flags are the letters `s`, `e`, `f` and `r`.
-    pub fn new(flags: &str, token: u32, nonce: Vec<u8>) -> Security {
-        Security {
+    pub fn read(
+        alloc: Global,
+        flags: &str,
+        token: &str,
+        nonce: &str,
+    ) -> Result<Security, LineFault> {
+        Ok(Security {
             signed: flags.contains('s'),
             encrypted: flags.contains('e'),
             footer: flags.contains('f'),
             reset: flags.contains('r'),
-            token,
-            nonce,
-        }
+            token: number(token)?,
+            nonce: bytes_of(alloc, nonce)?,
+        })
     }
 
     pub fn part(&self) -> SecurityPart<'_> {
@@ -172,6 +177,5 @@ fn ids_of(alloc: Global, text: &str) -> Result<WriterIds, LineFault> {
 fn security_of(alloc: Global, text: &str) -> Result<Security, LineFault> {
     let (flags, rest) = parted(text, ':')?;
     let (token, nonce) = parted(rest, ':')?;
-    let nonce = bytes_of(alloc, nonce)?;
-    Ok(Security::new(flags, number(token)?, nonce))
+    Security::read(alloc, flags, token, nonce)
 }

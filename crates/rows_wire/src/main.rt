@@ -4,6 +4,7 @@
 #![tactic(auto)]
 
 mod bench;
+mod case_line;
 mod fields;
 mod frames;
 mod guards;
@@ -28,7 +29,7 @@ mod windows;
 mod writers;
 
 use bench::Bench;
-use case_lines::{AnsweredLine, Line, is_note};
+use case_lines::{AnsweredLine, is_note};
 use std::io;
 
 fn main(rt: HostRuntime) -> io::Result<()> {
@@ -39,7 +40,7 @@ fn main(rt: HostRuntime) -> io::Result<()> {
         let answer = if is_note(text) {
             Ok(None)
         } else {
-            bench.answer(&mut Line::new(text))
+            bench.answer(text)
         };
         let told = AnsweredLine {
             line: text,

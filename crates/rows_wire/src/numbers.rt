@@ -1,10 +1,11 @@
 //! Rows of `seq_number`.
-use case_lines::{Answer, Line, yes_or_no};
+use crate::case_line::CaseLine;
+use case_lines::{Answer, yes_or_no};
 use seq_number::newer;
 use std::alloc::Global;
 
 /// `newer NUMBER LAST`: yes or no
-pub fn is_newer(alloc: Global, line: &mut Line) -> Answer {
-    let (number, last) = (line.u16()?, line.u16()?);
+pub fn is_newer(alloc: Global, line: &mut CaseLine) -> Answer {
+    let (number, last) = (line.u16(), line.u16());
     yes_or_no(alloc, newer(number, last))
 }

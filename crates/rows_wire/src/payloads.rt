@@ -1,7 +1,8 @@
 //! Rows of `payload_layout`.
+use crate::case_line::CaseLine;
 use crate::tries::written;
 use arrayvec::ArrayVec;
-use case_lines::{Answer, Line, LineFault, number, said};
+use case_lines::{Answer, LineFault, number, said};
 use payload_layout::{
     Packs, Parts, plan as plan_packs, split as split_parts, write_sizes as write_list,
 };
@@ -10,8 +11,8 @@ use std::fmt::Write;
 use ua_binary::Pen;
 
 /// `plan ROOM SIZE ..`: the packs, each with how many frames it has, and `cut` behind one that is to be cut
-pub fn plan(alloc: Global, line: &mut Line) -> Answer {
-    let room = line.u32()?;
+pub fn plan(alloc: Global, line: &mut CaseLine) -> Answer {
+    let room = line.u32();
     let sizes = sizes_of(line)?;
     let mut packs = Packs::new();
     plan_packs(&sizes, room, &mut packs);
@@ -25,11 +26,11 @@ pub fn plan(alloc: Global, line: &mut Line) -> Answer {
 }
 
 /// `split COUNT BYTES`: the parts as START-END, or BadSizes
-pub fn split(alloc: Global, line: &mut Line) -> Answer {
-    let Ok(count) = u8::try_from(line.u16()?) else {
+pub fn split(alloc: Global, line: &mut CaseLine) -> Answer {
+    let Ok(count) = u8::try_from(line.u16()) else {
         return Err(LineFault::Number);
     };
-    let bytes = line.bytes(alloc)?;
+    let bytes = line.bytes(alloc);
     let mut parts = Parts::new();
     if split_parts(&bytes, count, &mut parts).is_err() {
         let kept = parts.is_empty();
@@ -44,9 +45,9 @@ pub fn split(alloc: Global, line: &mut Line) -> Answer {
 }
 
 /// `write_sizes ROOM SIZE ..`: the bytes written into so much room, or Room
-pub fn write_sizes(alloc: Global, line: &mut Line) -> Answer {
+pub fn write_sizes(alloc: Global, line: &mut CaseLine) -> Answer {
     let mut room = [0xaa; 64];
-    let len = usize::from(line.u16()?).min(64);
+    let len = usize::from(line.u16()).min(64);
     let sizes = sizes_of(line)?;
     let mut pen = Pen {
         bytes: &mut room[..len],
@@ -68,7 +69,7 @@ fn named(alloc: Global, text: String) -> Answer {
 }
 
 /// The sizes that are left in the line, at most 16.
-fn sizes_of(line: &Line) -> Result<ArrayVec<u16, 16>, LineFault> {
+fn sizes_of(line: &CaseLine) -> Result<ArrayVec<u16, 16>, LineFault> {
     let mut sizes = ArrayVec::new();
     for word in line.words() {
         if sizes.is_full() {

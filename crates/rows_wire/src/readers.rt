@@ -5,8 +5,9 @@ ghost use Rattle.frame_codec.specs.Words.{IsFrameOf, IsKindOf};
 ghost use Rattle.dataset_reader.specs.Reader.{IsReaderOf};
 ghost use Rattle.dataset_reader.specs.Props.{IsReaderOf-prop};
 
+use crate::case_line::CaseLine;
 use crate::fields::{Case, Put, number_field, patch_of};
-use case_lines::{Answer, Line, LineFault, refused};
+use case_lines::{Answer, LineFault, refused};
 use dataset_reader::{Numbering, Outcome, Reader, Took};
 use frame_codec::{Frame, FrameKind, read_frame};
 use pubsub_model::Why;
@@ -26,8 +27,8 @@ impl ReaderRows {
     }
 
     /// `reader message` or `reader none`: a reader with this numbering
-    pub fn reader(&mut self, alloc: Global, line: &mut Line) -> Answer {
-        let numbering = match line.word()? {
+    pub fn reader(&mut self, alloc: Global, line: &mut CaseLine) -> Answer {
+        let numbering = match line.word() {
             "message" => Numbering::Message,
             "none" => Numbering::Unnumbered,
             _ => return Err(LineFault::Missing),
@@ -43,19 +44,19 @@ impl ReaderRows {
     /// `whole NUMBER VALUE`, `change NUMBER VALUE` or `alive NUMBER`, where `-` is no number, and `stamp S`, `major M`, `minor M`
     /// may stand behind: major 1 where none stands there, none with `major -`. The outcome; number and value that are held, `-`
     /// where none is; and where the run of numbers broke `; broke EXPECTED GOT`
-    pub fn frame(&mut self, alloc: Global, kind: &str, line: &mut Line) -> Answer {
+    pub fn frame(&mut self, alloc: Global, kind: &str, line: &mut CaseLine) -> Answer {
         let Some(heard) = &mut self.heard else {
             return Err(LineFault::Missing);
         };
-        let number = line.number_or_dash::<u16>()?;
-        let value = if kind == "alive" { 0 } else { line.u32()? };
+        let number = line.left.number_or_dash::<u16>()?;
+        let value = if kind == "alive" { 0 } else { line.u32() };
         let carried = Carried::read(line)?;
         Ok(Some(heard.frame(alloc, kind, number, value, &carried)?))
     }
 
     /// `bytes BYTES`: what a frame that is read from these bytes gives, told as by `whole`
-    pub fn bytes(&mut self, alloc: Global, line: &mut Line) -> Answer {
-        let bytes = line.bytes(alloc)?;
+    pub fn bytes(&mut self, alloc: Global, line: &mut CaseLine) -> Answer {
+        let bytes = line.bytes(alloc);
         let Some(heard) = &mut self.heard else {
             return Err(LineFault::Missing);
         };
@@ -63,8 +64,8 @@ impl ReaderRows {
     }
 
     /// `cut WHY`: the reason, and what is held
-    pub fn cut(&mut self, alloc: Global, line: &mut Line) -> Answer {
-        let why = why_of(line.word()?)?;
+    pub fn cut(&mut self, alloc: Global, line: &mut CaseLine) -> Answer {
+        let why = why_of(line.word())?;
         let Some(heard) = &mut self.heard else {
             return Err(LineFault::Missing);
         };
@@ -104,7 +105,7 @@ struct Carried {
 }
 
 impl Carried {
-    fn read(line: &mut Line) -> Result<Carried, LineFault> {
+    fn read(line: &mut CaseLine) -> Result<Carried, LineFault> {
         let mut carried = Carried {
             major: Some(1),
             minor: None,
@@ -117,11 +118,11 @@ impl Carried {
     }
 
     /// One of its parts by its name, where one is left.
-    fn take(&mut self, line: &mut Line) -> Result<(), LineFault> {
-        let Some(name) = line.optional() else {
+    fn take(&mut self, line: &mut CaseLine) -> Result<(), LineFault> {
+        let Some(name) = line.left.optional() else {
             return Ok(());
         };
-        let number = line.number_or_dash::<u32>()?;
+        let number = line.left.number_or_dash::<u32>()?;
         match name {
             "major" => self.major = number,
             "minor" => self.minor = number,

@@ -1,8 +1,9 @@
 //! The calls of rows, writers and readers by their names, and what is kept of them from line to line.
+use crate::case_line::CaseLine;
 use crate::readers::ReaderRows;
 use crate::rows;
 use crate::writers::WriterRows;
-use case_lines::{Answer, Line, LineFault};
+use case_lines::{Answer, LineFault};
 use std::alloc::Global;
 
 /// What is kept from line to line: a writer and a reader.
@@ -21,22 +22,19 @@ impl RowCalls {
     }
 
     /// The calls of rows, patches and shapes in words.
-    pub fn answer(&mut self, alloc: Global, call: &str, line: &mut Line) -> Answer {
+    pub fn answer(&mut self, alloc: Global, call: &str, line: &mut CaseLine) -> Answer {
         match call {
-            "words" => rows::words(alloc, line),
-            "shape" => rows::shape(alloc, line),
-            "set" => rows::set(alloc, line),
-            "status" => rows::status(alloc, line),
-            "first" => rows::first(alloc, line),
-            "put" => rows::put(alloc, line),
-            "lay" => rows::lay(alloc, line),
-            "changed" => rows::changed(alloc, line),
+            "words" => rows::words(alloc, &mut line.left),
+            "shape" => rows::shape(alloc, &mut line.left),
+            "status" => rows::status(alloc, &mut line.left),
+            "first" => rows::first(alloc, &mut line.left),
+            "set" | "put" | "lay" | "changed" => rows::changes(alloc, call, &mut line.left),
             call => self.write(alloc, call, line),
         }
     }
 
     /// The calls of a writer.
-    fn write(&mut self, alloc: Global, call: &str, line: &mut Line) -> Answer {
+    fn write(&mut self, alloc: Global, call: &str, line: &mut CaseLine) -> Answer {
         match call {
             "data" => self.writers.data(alloc, line),
             "writer" => self.writers.writer(alloc, line),
@@ -50,7 +48,7 @@ impl RowCalls {
     }
 
     /// The calls of a reader.
-    fn read(&mut self, alloc: Global, call: &str, line: &mut Line) -> Answer {
+    fn read(&mut self, alloc: Global, call: &str, line: &mut CaseLine) -> Answer {
         match call {
             "reader" => self.readers.reader(alloc, line),
             "whole" | "change" | "alive" => self.readers.frame(alloc, call, line),

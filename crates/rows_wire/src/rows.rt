@@ -1,9 +1,10 @@
 //! Cases of `row_words` and `key_delta`. A row is shown by its words in hexadecimal digits, `N*WORD` for N equal ones where they
 //! are four or more, and without the zeros at the end, so
 //! that `0` is no word but zeros. A change is INDEX=VALUE!STATUS.
-use crate::fields::{Case, changes_of, patch_of};
-use case_lines::{Answer, Line, said, told};
-use key_delta::{apply, changed as changes};
+use crate::fields::{Case, Put, changes_of, patch_of};
+use crate::tries::made;
+use case_lines::{Answer, Line, LineFault, said, told};
+use key_delta::{apply, changed as difference};
 use row_words::{Patch, shape as shape_of};
 use std::alloc::Global;
 use std::fmt;
@@ -18,15 +19,6 @@ pub fn words(alloc: Global, line: &mut Line) -> Answer {
 pub fn shape(alloc: Global, line: &mut Line) -> Answer {
     let case = Case::read(alloc, line)?;
     told_words(alloc, &shape_of(&case.meta))
-}
-
-/// `set INDEX=VALUE | FIELDS`: the words after `set`; the field's status stays
-pub fn set(alloc: Global, line: &mut Line) -> Answer {
-    let (mut case, puts) = changes_of(alloc, line)?;
-    for put in &puts {
-        case.set_value(put)?;
-    }
-    told_words(alloc, &case.row.words)
 }
 
 /// `status INDEX STATUS | FIELDS`: the words after `set_status`
@@ -47,17 +39,34 @@ pub fn first(alloc: Global, line: &mut Line) -> Answer {
     told_words(alloc, &row.words)
 }
 
+/// `CALL CHANGE .. | FIELDS`: what a call tells of the row and the changes
+pub fn changes(alloc: Global, call: &str, line: &mut Line) -> Answer {
+    let (mut case, puts) = changes_of(alloc, line)?;
+    match call {
+        "set" => set(alloc, &mut case, &puts),
+        "put" => put(alloc, &case, &puts),
+        "lay" => lay(alloc, &case, &puts),
+        "changed" => changed(alloc, &mut case, &puts),
+        _ => Err(LineFault::Call),
+    }
+}
+
+/// `set INDEX=VALUE | FIELDS`: the words after `set`; the field's status stays
+fn set(alloc: Global, case: &mut Case, puts: &[Put]) -> Answer {
+    for put in puts {
+        case.set_value(put)?;
+    }
+    told_words(alloc, &case.row.words)
+}
+
 /// `put CHANGE .. | FIELDS`: mask and words of the patch with each change put into the empty patch in turn
-pub fn put(alloc: Global, line: &mut Line) -> Answer {
-    let (case, puts) = changes_of(alloc, line)?;
-    let patch = patch_of(&case.meta, &puts)?;
-    told_patch(alloc, &patch)
+fn put(alloc: Global, case: &Case, puts: &[Put]) -> Answer {
+    told_patch(alloc, &patch_of(&case.meta, puts)?)
 }
 
 /// `lay CHANGE .. | FIELDS`: the words of the row with that patch laid in
-pub fn lay(alloc: Global, line: &mut Line) -> Answer {
-    let (case, puts) = changes_of(alloc, line)?;
-    let patch = patch_of(&case.meta, &puts)?;
+fn lay(alloc: Global, case: &Case, puts: &[Put]) -> Answer {
+    let patch = patch_of(&case.meta, puts)?;
     let mut row = case.row;
     patch.lay(&case.meta, &mut row);
     told_words(alloc, &row.words)
@@ -65,11 +74,10 @@ pub fn lay(alloc: Global, line: &mut Line) -> Answer {
 
 /// `changed CHANGE .. | FIELDS`: mask and words of what `changed` answers between the row and the row with each change set;
 /// `apply` of it to the row gives that row
-pub fn changed(alloc: Global, line: &mut Line) -> Answer {
-    let (mut case, puts) = changes_of(alloc, line)?;
+fn changed(alloc: Global, case: &mut Case, puts: &[Put]) -> Answer {
     let mut old = case.row;
-    case.set_all(&puts)?;
-    let patch = changes(&case.meta, &old, &case.row);
+    case.set_all(puts)?;
+    let patch = difference(&case.meta, &old, &case.row);
     apply(&case.meta, &mut old, &patch);
     if old != case.row {
         return said(alloc, "another row");
@@ -83,7 +91,7 @@ fn told_words(alloc: Global, words: &[u64]) -> Answer {
 
 /// A patch: its mask and its words.
 fn told_patch(alloc: Global, patch: &Patch) -> Answer {
-    Ok(Some(format!(in alloc; "{:x}: {}", patch.mask, ShownWords(&patch.row.words))?))
+    made(format!(in alloc; "{:x}: {}", patch.mask, ShownWords(&patch.row.words)))
 }
 
 /// Words in hexadecimal digits.

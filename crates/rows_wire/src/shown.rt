@@ -18,22 +18,14 @@ impl fmt::Display for ShownHeader<'_> {
         if let Some(class_id) = &header.class_id {
             words.bytes(f, "class=", class_id)?;
         }
-        if let Some(group) = header.group {
-            words.number(f, "group=", u32::from(group))?;
-        }
-        if let Some(version) = header.version {
-            words.number(f, "version=", version)?;
-        }
-        if let Some(number) = header.message_number {
-            words.number(f, "number=", u32::from(number))?;
-        }
-        if let Some(sequence) = header.sequence {
-            words.number(f, "sequence=", u32::from(sequence))?;
-        }
+        words.number(f, "group=", header.group)?;
+        words.number(f, "version=", header.version)?;
+        words.number(f, "number=", header.message_number)?;
+        words.number(f, "sequence=", header.sequence)?;
         match &header.ids {
             Ids::None => {}
             Ids::List(bytes) => words.bytes(f, "ids=list:", bytes)?,
-            Ids::Chunk(id) => words.number(f, "ids=chunk:", u32::from(*id))?,
+            Ids::Chunk(id) => words.number(f, "ids=chunk:", Some(*id))?,
         }
         if let Some(security) = &header.security {
             words.next(f, "security=")?;
@@ -58,12 +50,16 @@ impl Parts {
         f.write_str(name)
     }
 
-    fn number<W: fmt::Write>(
+    /// A number behind its name, where there is one.
+    fn number<W: fmt::Write, N: fmt::Display + Copy>(
         &mut self,
         f: &mut fmt::Formatter<W>,
         name: &str,
-        number: u32,
+        number: Option<N>,
     ) -> fmt::Result {
+        let Some(number) = number else {
+            return Ok(());
+        };
         self.next(f, name)?;
         write!(f, "{number}")
     }

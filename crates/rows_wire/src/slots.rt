@@ -3,11 +3,11 @@ ghost use Rattle.std.specs.Prelude.{◌<◌, ◌≤◌, IsTrue, IfOk, length};
 ghost use Rattle.std.specs.List.{HoldsAt};
 ghost use Rattle.fixed_layout.specs.Slots.{end_of};
 
+use crate::case_line::CaseLine;
 use crate::frames::push_fields;
-use crate::metas::data_set;
-use crate::tries::{short_of, written};
+use crate::tries::{made, short_of, written};
 use arrayvec::ArrayVec;
-use case_lines::{Answer, Line, LineFault, number, parted, refused, said, told, told_bytes};
+use case_lines::{Answer, LineFault, number, parted, refused, said, told, told_bytes};
 use dataset_meta::Meta;
 use fixed_layout::{
     RawFault, Slot, Slots, raw_size as size_of, read_raw as read_one, write_raw as write_one,
@@ -18,27 +18,23 @@ use std::fmt::Write;
 use ua_binary::{Cursor, Pen};
 
 /// `raw_size META`: how many bytes a row takes
-pub fn raw_size(alloc: Global, line: &mut Line) -> Answer {
-    let meta = data_set(alloc, line.word()?)?;
-    told(alloc, &size_of(&meta))
+pub fn raw_size(alloc: Global, meta: &Meta) -> Answer {
+    told(alloc, &size_of(meta))
 }
 
 /// `read_raw META BYTES`: the fields, and how many bytes are left, or the fault, or `moved` where the cursor isn't left
-pub fn read_raw(alloc: Global, line: &mut Line) -> Answer {
-    let meta = data_set(alloc, line.word()?)?;
-    let bytes = line.bytes(alloc)?;
-    row_behind(alloc, &meta, &bytes, 0)
+pub fn read_raw(alloc: Global, meta: &Meta, line: &mut CaseLine) -> Answer {
+    row_behind(alloc, meta, &line.bytes(alloc), 0)
 }
 
 /// `read_raw_behind META LEN BYTES`: the same of what stands behind so many bytes
-pub fn read_raw_behind(alloc: Global, line: &mut Line) -> Answer {
-    let meta = data_set(alloc, line.word()?)?;
-    let start = usize::from(line.u16()?);
-    let bytes = line.bytes(alloc)?;
+pub fn read_raw_behind(alloc: Global, meta: &Meta, line: &mut CaseLine) -> Answer {
+    let start = usize::from(line.u16());
+    let bytes = line.bytes(alloc);
     if bytes.len() < start {
         return Err(LineFault::Condition);
     }
-    row_behind(alloc, &meta, &bytes, start)
+    row_behind(alloc, meta, &bytes, start)
 }
 
 fn row_behind(alloc: Global, meta: &Meta, bytes: &[u8], start: usize) -> Answer
@@ -62,16 +58,15 @@ fn row_behind(alloc: Global, meta: &Meta, bytes: &[u8], start: usize) -> Answer
 }
 
 /// `prefixes_of_raw META BYTES`: how many proper prefixes are Short
-pub fn prefixes_of_raw(alloc: Global, line: &mut Line) -> Answer {
-    let meta = data_set(alloc, line.word()?)?;
-    let bytes = line.bytes(alloc)?;
+pub fn prefixes_of_raw(alloc: Global, meta: &Meta, line: &mut CaseLine) -> Answer {
+    let bytes = line.bytes(alloc);
     let mut short = 0_usize;
     for len in 0..bytes.len() {
         let mut cursor = Cursor {
             bytes: &bytes[..len],
             at: 0,
         };
-        if let Err(RawFault::Short) = read_one(&meta, &mut cursor) {
+        if let Err(RawFault::Short) = read_one(meta, &mut cursor) {
             short = short.saturating_add(1);
         }
     }
@@ -80,10 +75,9 @@ pub fn prefixes_of_raw(alloc: Global, line: &mut Line) -> Answer {
 
 /// `write_raw META ROOM FRAME`: the row of a key frame, written as RawData into so much room behind three bytes `aa`, with
 /// these, or Room
-pub fn write_raw(alloc: Global, line: &mut Line) -> Answer {
-    let meta = data_set(alloc, line.word()?)?;
-    let len = usize::from(line.u16()?).min(1021);
-    let Ok(frame) = read_frame(&meta, &line.bytes(alloc)?) else {
+pub fn write_raw(alloc: Global, meta: &Meta, line: &mut CaseLine) -> Answer {
+    let len = usize::from(line.u16()).min(1021);
+    let Ok(frame) = read_frame(meta, &line.bytes(alloc)) else {
         return Err(LineFault::Condition);
     };
     let FrameKind::Whole(words) = &frame.kind else {
@@ -94,26 +88,26 @@ pub fn write_raw(alloc: Global, line: &mut Line) -> Answer {
         bytes: &mut room[..3 + len],
         at: 3,
     };
-    let done = write_one(&mut pen, &meta, words).is_ok();
+    let done = write_one(&mut pen, meta, words).is_ok();
     let at = pen.at;
     written(alloc, done, 3, at, &room)
 }
 
 /// `slots START LIMIT SLOTS`: where a datagram ends, or the fault
-pub fn slots(alloc: Global, line: &mut Line) -> Answer {
-    let (start, limit) = (line.u32()?, line.u32()?);
-    let list = slots_of(line.word()?)?;
+pub fn slots(alloc: Global, line: &mut CaseLine) -> Answer {
+    let (start, limit) = (line.u32(), line.u32());
+    let list = slots_of(line.word())?;
     match Slots::new(start, limit, list.as_slice()) {
-        Ok(slots) => Ok(Some(format!(in alloc; "end {}", slots.end())?)),
+        Ok(slots) => made(format!(in alloc; "end {}", slots.end())),
         Err(fault) => refused(alloc, &fault),
     }
 }
 
 /// `take SLOTS INDEX DATAGRAM`: what stands in the slot, or none
-pub fn take(alloc: Global, line: &mut Line) -> Answer {
-    let slots = accepted(0, line.word()?)?;
+pub fn take(alloc: Global, line: &mut CaseLine) -> Answer {
+    let slots = accepted(0, line.word())?;
     let index = index_of(&slots, line)?;
-    let datagram = line.bytes(alloc)?;
+    let datagram = line.bytes(alloc);
     match slots.take(&datagram, index) {
         Some(bytes) => told_bytes(alloc, bytes),
         None => said(alloc, "none"),
@@ -121,12 +115,12 @@ pub fn take(alloc: Global, line: &mut Line) -> Answer {
 }
 
 /// `place START SLOTS INDEX DATAGRAM BYTES`: the datagram, in one word, with the bytes placed
-pub fn place(alloc: Global, line: &mut Line) -> Answer {
-    let start = line.u32()?;
-    let slots = accepted(start, line.word()?)?;
+pub fn place(alloc: Global, line: &mut CaseLine) -> Answer {
+    let start = line.u32();
+    let slots = accepted(start, line.word())?;
     let index = index_of(&slots, line)?;
-    let mut datagram = line.piece(alloc)?;
-    let bytes = line.bytes(alloc)?;
+    let mut datagram = line.piece(alloc);
+    let bytes = line.bytes(alloc);
     if !has_room(&slots, index, &datagram, &bytes) {
         return Err(LineFault::Condition);
     }
@@ -143,10 +137,10 @@ fn accepted(start: u32, word: &str) -> Result<Slots, LineFault> {
 }
 
 /// The index of one of the slots.
-fn index_of(slots: &Slots, line: &mut Line) -> Result<u8, LineFault>
+fn index_of(slots: &Slots, line: &mut CaseLine) -> Result<u8, LineFault>
     ensures { IfOk result (λ index. index < length slots.now.slots) }
 {
-    match u8::try_from(line.u16()?) {
+    match u8::try_from(line.u16()) {
         Ok(index) if usize::from(index) < slots.slots().len() => Ok(index),
         _ => Err(LineFault::Condition),
     }

@@ -1,5 +1,6 @@
 //! Rows of `receive_timer`.
-use case_lines::{Answer, Line, yes_or_no};
+use crate::case_line::CaseLine;
+use case_lines::{Answer, yes_or_no};
 use receive_timer::Timer;
 use std::alloc::Global;
 
@@ -17,14 +18,14 @@ impl TimerRows {
     }
 
     /// `timer LIMIT`
-    pub fn limit(&mut self, line: &mut Line) -> Answer {
-        self.timer = Timer::new(line.u64()?);
+    pub fn limit(&mut self, line: &mut CaseLine) -> Answer {
+        self.timer = Timer::new(line.u64());
         Ok(None)
     }
 
     /// `seen NOW`
-    pub fn seen(&mut self, line: &mut Line) -> Answer {
-        self.timer.seen(line.u64()?);
+    pub fn seen(&mut self, line: &mut CaseLine) -> Answer {
+        self.timer.seen(line.u64());
         Ok(None)
     }
 
@@ -35,7 +36,7 @@ impl TimerRows {
     }
 
     /// `due NOW`: yes or no
-    pub fn due(&self, alloc: Global, line: &mut Line) -> Answer {
-        yes_or_no(alloc, self.timer.due(line.u64()?))
+    pub fn due(&self, alloc: Global, line: &mut CaseLine) -> Answer {
+        yes_or_no(alloc, self.timer.due(line.u64()))
     }
 }

@@ -1,10 +1,18 @@
 //! What several calls tell of what they tried.
-use case_lines::{Answer, said, told_bytes};
-use std::alloc::Global;
+use case_lines::{Answer, LineFault, said, told_bytes};
+use std::alloc::{AllocError, Global};
+
+/// The answer that is this text, where there was memory for it.
+pub fn made(text: Result<String, AllocError>) -> Answer {
+    match text {
+        Ok(text) => Ok(Some(text)),
+        Err(AllocError) => Err(LineFault::Memory),
+    }
+}
 
 /// The answer of a call that reads every proper prefix of the bytes: how many of them were Short.
 pub fn short_of(alloc: Global, short: usize, bytes: &[u8]) -> Answer {
-    Ok(Some(format!(in alloc; "{short} of {} Short", bytes.len())?))
+    made(format!(in alloc; "{short} of {} Short", bytes.len()))
 }
 
 /// The bytes that stand before a pen in a room that was filled with `aa`, or Room where the write was refused; and where a refused

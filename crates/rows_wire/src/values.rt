@@ -1,6 +1,7 @@
 //! Rows of `ua_values` and `ua_binary`.
-use crate::tries::{short_of, written};
-use case_lines::{Answer, Line, LineFault, Shown, kind_of, refused, said, value_of, yes_or_no};
+use crate::case_line::CaseLine;
+use crate::tries::{made, short_of, written};
+use case_lines::{Answer, LineFault, Shown, kind_of, refused, said, value_of, yes_or_no};
 use std::alloc::Global;
 use std::fmt::Write;
 use ua_binary::{
@@ -10,8 +11,8 @@ use ua_binary::{
 use ua_values::{Blob, Text, fits as fits_field};
 
 /// `text BYTES`: how many bytes the text has, or the fault
-pub fn text(alloc: Global, line: &mut Line) -> Answer {
-    let bytes = line.bytes(alloc)?;
+pub fn text(alloc: Global, line: &mut CaseLine) -> Answer {
+    let bytes = line.bytes(alloc);
     match Text::from_bytes(&bytes) {
         Ok(text) => kept(alloc, &bytes, text.as_bytes()),
         Err(fault) => refused(alloc, &fault),
@@ -19,8 +20,8 @@ pub fn text(alloc: Global, line: &mut Line) -> Answer {
 }
 
 /// `blob BYTES`: how many bytes the blob has, or the fault
-pub fn blob(alloc: Global, line: &mut Line) -> Answer {
-    let bytes = line.bytes(alloc)?;
+pub fn blob(alloc: Global, line: &mut CaseLine) -> Answer {
+    let bytes = line.bytes(alloc);
     match Blob::from_bytes(&bytes) {
         Ok(blob) => kept(alloc, &bytes, blob.as_bytes()),
         Err(fault) => refused(alloc, &fault),
@@ -30,14 +31,14 @@ pub fn blob(alloc: Global, line: &mut Line) -> Answer {
 /// How many bytes are kept, and whether they are those that were given.
 fn kept(alloc: Global, given: &[u8], bytes: &[u8]) -> Answer {
     let same = given == bytes;
-    Ok(Some(format!(in alloc; "{} bytes, the same: {same}", bytes.len())?))
+    made(format!(in alloc; "{} bytes, the same: {same}", bytes.len()))
 }
 
 /// `fits KIND CAP BYTES`, the bytes of a Variant: whether its value fits such a field
-pub fn fits(alloc: Global, line: &mut Line) -> Answer {
-    let kind = kind_of(line.word()?)?;
-    let cap = line.u16()?;
-    let bytes = line.bytes(alloc)?;
+pub fn fits(alloc: Global, line: &mut CaseLine) -> Answer {
+    let kind = kind_of(line.word())?;
+    let cap = line.u16();
+    let bytes = line.bytes(alloc);
     let Ok(value) = read_value(&mut Cursor {
         bytes: &bytes,
         at: 0,
@@ -48,8 +49,8 @@ pub fn fits(alloc: Global, line: &mut Line) -> Answer {
 }
 
 /// `read_variant BYTES`: the value, and how many bytes are left, or the fault, or `moved` where it moves the cursor
-pub fn read_variant(alloc: Global, line: &mut Line) -> Answer {
-    let bytes = line.bytes(alloc)?;
+pub fn read_variant(alloc: Global, line: &mut CaseLine) -> Answer {
+    let bytes = line.bytes(alloc);
     let mut cursor = Cursor {
         bytes: &bytes,
         at: 0,
@@ -57,15 +58,15 @@ pub fn read_variant(alloc: Global, line: &mut Line) -> Answer {
     match read_value(&mut cursor) {
         Ok(value) => {
             let rest = bytes.len() - cursor.at;
-            Ok(Some(format!(in alloc; "{}, rest {rest}", Shown(&value))?))
+            made(format!(in alloc; "{}, rest {rest}", Shown(&value)))
         }
         Err(fault) => refused_at(alloc, fault, cursor.at),
     }
 }
 
 /// `read_data_value BYTES`: the value, where there is one, the status, and how many bytes are left, or the fault
-pub fn read_data_value(alloc: Global, line: &mut Line) -> Answer {
-    let bytes = line.bytes(alloc)?;
+pub fn read_data_value(alloc: Global, line: &mut CaseLine) -> Answer {
+    let bytes = line.bytes(alloc);
     let mut cursor = Cursor {
         bytes: &bytes,
         at: 0,
@@ -77,13 +78,12 @@ pub fn read_data_value(alloc: Global, line: &mut Line) -> Answer {
 }
 
 fn measured_text(alloc: Global, measured: &Measured, rest: usize) -> Answer {
-    let mut text = String::new(alloc);
-    match &measured.value {
-        Some(value) => write!(text, "{}", Shown(value))?,
-        None => text.push_str("no value")?,
-    }
-    write!(text, ", status 0x{:08x}, rest {rest}", measured.status)?;
-    Ok(Some(text))
+    let status = measured.status;
+    let told = match &measured.value {
+        Some(value) => format!(in alloc; "{}, status 0x{status:08x}, rest {rest}", Shown(value))?,
+        None => format!(in alloc; "no value, status 0x{status:08x}, rest {rest}")?,
+    };
+    Ok(Some(told))
 }
 
 /// The fault, or that the cursor moved.
@@ -96,8 +96,8 @@ fn refused_at(alloc: Global, fault: ValueFault, at: usize) -> Answer {
 }
 
 /// `prefixes_of_variant BYTES`: how many proper prefixes are Short, and leave the cursor
-pub fn prefixes_of_variant(alloc: Global, line: &mut Line) -> Answer {
-    let bytes = line.bytes(alloc)?;
+pub fn prefixes_of_variant(alloc: Global, line: &mut CaseLine) -> Answer {
+    let bytes = line.bytes(alloc);
     let mut short = 0_usize;
     for len in 0..bytes.len() {
         if is_short_variant(&bytes[..len]) {
@@ -116,8 +116,8 @@ fn is_short_variant(bytes: &[u8]) -> bool {
 }
 
 /// `prefixes_of_data_value BYTES`: how many proper prefixes are Short, and leave the cursor
-pub fn prefixes_of_data_value(alloc: Global, line: &mut Line) -> Answer {
-    let bytes = line.bytes(alloc)?;
+pub fn prefixes_of_data_value(alloc: Global, line: &mut CaseLine) -> Answer {
+    let bytes = line.bytes(alloc);
     let mut short = 0_usize;
     for len in 0..bytes.len() {
         if is_short_data_value(&bytes[..len]) {
@@ -155,10 +155,10 @@ pub fn kinds(alloc: Global) -> Answer {
 }
 
 /// `write_variant ROOM VALUE`: the bytes, or Room, in a buffer of so many bytes
-pub fn write_variant(alloc: Global, line: &mut Line) -> Answer {
+pub fn write_variant(alloc: Global, line: &mut CaseLine) -> Answer {
     let mut room = [0xaa; 512];
-    let len = usize::from(line.u16()?).min(512);
-    let value = value_of(alloc, line)?;
+    let len = usize::from(line.u16()).min(512);
+    let value = value_of(alloc, &mut line.left)?;
     let mut pen = Pen {
         bytes: &mut room[..len],
         at: 0,
@@ -169,11 +169,11 @@ pub fn write_variant(alloc: Global, line: &mut Line) -> Answer {
 }
 
 /// `write_data_value ROOM STATUS VALUE`, the status 0x.. or `none`: the bytes, or Room, in a buffer of so many bytes
-pub fn write_data_value(alloc: Global, line: &mut Line) -> Answer {
+pub fn write_data_value(alloc: Global, line: &mut CaseLine) -> Answer {
     let mut room = [0xaa; 512];
-    let len = usize::from(line.u16()?).min(512);
-    let status = line.optional_hex()?;
-    let value = value_of(alloc, line)?;
+    let len = usize::from(line.u16()).min(512);
+    let status = line.left.optional_hex()?;
+    let value = value_of(alloc, &mut line.left)?;
     let mut pen = Pen {
         bytes: &mut room[..len],
         at: 0,

@@ -1,5 +1,7 @@
 //! Rows of `replay_window`.
-use case_lines::{Answer, Line, said};
+use crate::case_line::CaseLine;
+use crate::tries::made;
+use case_lines::{Answer, said};
 use replay_window::{Seen, Window};
 use std::alloc::Global;
 
@@ -23,13 +25,13 @@ impl WindowRows {
     }
 
     /// `number_seen N`: fresh, repeated, or old and the greatest number taken
-    pub fn test(&self, alloc: Global, line: &mut Line) -> Answer {
-        told_seen(alloc, self.window.test(line.u32()?))
+    pub fn test(&self, alloc: Global, line: &mut CaseLine) -> Answer {
+        told_seen(alloc, self.window.test(line.u32()))
     }
 
     /// `number_taken N`: the same, and the number is taken where it is fresh
-    pub fn take(&mut self, alloc: Global, line: &mut Line) -> Answer {
-        let number = line.u32()?;
+    pub fn take(&mut self, alloc: Global, line: &mut CaseLine) -> Answer {
+        let number = line.u32();
         let seen = self.window.test(number);
         if let Seen::Fresh = seen {
             self.window.take(number);
@@ -42,6 +44,6 @@ fn told_seen(alloc: Global, seen: Seen) -> Answer {
     match seen {
         Seen::Fresh => said(alloc, "fresh"),
         Seen::Repeated => said(alloc, "repeated"),
-        Seen::TooOld { high } => Ok(Some(format!(in alloc; "old {high}")?)),
+        Seen::TooOld { high } => made(format!(in alloc; "old {high}")),
     }
 }

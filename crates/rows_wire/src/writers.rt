@@ -6,8 +6,9 @@ ghost use Rattle.dataset_writer.specs.Standing.{HoldsRowOf};
 ghost use Rattle.dataset_writer.specs.Props.{HoldsRowOf-prop};
 ghost use Rattle.frame_codec.specs.Words.{IsFrameOf};
 
+use crate::case_line::CaseLine;
 use crate::fields::{Case, Put, number_field};
-use case_lines::{Answer, Line, LineFault, number, said};
+use case_lines::{Answer, LineFault, number, said};
 use dataset_meta::Meta;
 use dataset_writer::{Turn, Writer, WriterSettings};
 use frame_codec::{Frame, FrameKind};
@@ -35,7 +36,7 @@ impl WriterRows {
     }
 
     /// `data NAME ..`: the data set of the next `writer` or `refresh`, with a UInt32 field for each name
-    pub fn data(&mut self, alloc: Global, line: &mut Line) -> Answer {
+    pub fn data(&mut self, alloc: Global, line: &mut CaseLine) -> Answer {
         let mut fields = Vec::new(alloc);
         for name in line.words() {
             fields.push(number_field(name)?)?;
@@ -45,12 +46,12 @@ impl WriterRows {
     }
 
     /// `writer FIRST KEY_FRAME_COUNT KEEP_ALIVE VERSIONS`: a fresh writer whose first number is FIRST
-    pub fn writer(&mut self, alloc: Global, line: &mut Line) -> Answer {
+    pub fn writer(&mut self, alloc: Global, line: &mut CaseLine) -> Answer {
         let settings = WriterSettings {
-            first_number: line.u16()?,
-            key_frame_count: line.u32()?,
-            keep_alive: line.u64()?,
-            versions: line.word()? == "yes",
+            first_number: line.u16(),
+            key_frame_count: line.u32(),
+            keep_alive: line.u64(),
+            versions: line.word() == "yes",
         };
         if settings.key_frame_count == 0 {
             return Err(LineFault::Condition);
@@ -80,8 +81,8 @@ impl WriterRows {
 
     /// `turn NOW VERSION VALUE ..`, or `closing` for `turn`: the frame's kind, its number, for a delta frame INDEX=VALUE of each
     /// change, and the version where the frame carries it; or `quiet`
-    pub fn turn(&mut self, alloc: Global, line: &mut Line, closing: bool) -> Answer {
-        let (now, version) = (line.u64()?, line.u64()?);
+    pub fn turn(&mut self, alloc: Global, line: &mut CaseLine, closing: bool) -> Answer {
+        let (now, version) = (line.u64(), line.u64());
         let values = values_of(alloc, line)?;
         let Some(served) = &mut self.served else {
             return Err(LineFault::Missing);
@@ -90,9 +91,9 @@ impl WriterRows {
     }
 
     /// `quiet TURNS NOW VERSION VALUE ..`: whether so many turns, each the same, were all quiet
-    pub fn quiet(&mut self, alloc: Global, line: &mut Line) -> Answer {
-        let turns = line.u32()?;
-        let (now, version) = (line.u64()?, line.u64()?);
+    pub fn quiet(&mut self, alloc: Global, line: &mut CaseLine) -> Answer {
+        let turns = line.u32();
+        let (now, version) = (line.u64(), line.u64());
         let values = values_of(alloc, line)?;
         let Some(served) = &mut self.served else {
             return Err(LineFault::Missing);
@@ -132,7 +133,7 @@ impl WriterRows {
 }
 
 /// A value for each field, Good.
-fn values_of(alloc: Global, line: &Line) -> Result<Vec<Put>, LineFault> {
+fn values_of(alloc: Global, line: &CaseLine) -> Result<Vec<Put>, LineFault> {
     let mut values = Vec::new(alloc);
     let mut index = 0_u8;
     for word in line.words() {
