@@ -1,5 +1,5 @@
 -- Senders that never fall back.
-use Rattle.std.proofs.Common.{◌≡◌, ℕ, zero, suc, ◌<◌, ◌≤◌, ◌⊎◌, inl, inr, Bool, true, false, List, [], ◌∷◌, length, get_or, set, nat_lt, refl, sym, ap, subst, arith, ◌∙◌}
+use Rattle.std.proofs.Common.{◌≡◌, ◌≢◌, ℕ, zero, suc, ◌<◌, ◌≤◌, ◌⊎◌, inl, inr, Bool, true, false, List, [], ◌∷◌, length, get_or, set, nat_lt, refl, sym, ap, subst, arith, ◌∙◌}
 use Rattle.std.specs.Prelude.{Option, Some, None, if◌then◌else◌}
 use Rattle.std.proofs.lemmas.Bool.{cases_lt}
 use Rattle.std.proofs.lemmas.Bool.Decides.{nat_tests}
@@ -15,7 +15,7 @@ use Rattle.ps_config.specs.Headers.{mode_of}
 use Rattle.writer_group.specs.Parts.{group_at}
 use Rattle.writer_group.specs.Sealing.{advanced_by}
 use Rattle.writer_group.proofs.Joining.{advanced-used}
-use Rattle.device_sides.specs.Calls.{AreCalled, Call, Came, FallBackNever, IsCalled, IsNoLess, Other, Renewed, Resumed}
+use Rattle.device_sides.specs.Calls.{AreCalled, Call, Came, FallBackNever, GiveOthers, IsCalled, IsNoLess, Other, Renewed, Resumed}
 use Rattle.device_sides.specs.Coming.{Comes, ComesTo, turned_to}
 use Rattle.device_sides.specs.Sides.{HasNumbered, HasRenewed, IsBecome, IsBehind, numbered}
 use Rattle.device_sides.specs.declared.asked.Next.{Next}
@@ -136,3 +136,34 @@ pub never-falls : (calls : List Call) (old new : Publisher) → AreCalled calls 
 never-falls [] old new are = never-same-as old.senders.items new.senders.items (ap (λ (p : Publisher). p.senders.items) are)
 never-falls (call ∷ calls) old new are =
     never-never old.senders.items are.0.senders.items new.senders.items (called-less call old are.0 are.1.0) (never-falls calls are.0 new are.1.1)
+
+-- ---- numbers
+
+never-at : (old new : List SenderState) (k : ℕ) (d : SenderState) → FallBackNever old new → IsNoLess (get_or old k d) (get_or new k d)
+never-at [] [] k d never = same-less d
+never-at [] (y ∷ new) k d never = absurd never
+never-at (x ∷ old) [] k d never = absurd never
+never-at (x ∷ old) (y ∷ new) zero d never = never.0
+never-at (x ∷ old) (y ∷ new) (suc k) d never = never-at old new k d never.1
+
+apart : (one two : SenderState) (pair other : ℕ × ℕ) → IsNoLess one two → pair.0 ≡ one.keys.token → pair.1 ≤ one.used → other.0 ≡ two.keys.token → two.used < other.1 → pair ≢ other
+apart one two pair other (inl lower) token low later high same =
+    let both : pair.0 ≡ other.0 = ap (λ (p : ℕ × ℕ). p.0) same in absurd (omega (arith, lower, token, later, both))
+apart one two pair other (inr equal) token low later high same =
+    let both : pair.1 ≡ other.1 = ap (λ (p : ℕ × ℕ). p.1) same in
+    let more = equal.1 in absurd (omega (arith, more, low, high, both))
+
+pub given-once : (keygroup : ℕ) (first : Call) (calls : List Call) (last : Call) → GiveOthers keygroup first calls last
+given-once keygroup (Came now next) calls (Came later after) = λ one two three four pair other gives between more.
+    let given = gives no_sender no_sender in
+    let again = more no_sender no_sender in
+    let is = get_or two.senders.items keygroup no_sender in
+    let was = get_or three.senders.items keygroup no_sender in
+    let less = never-at two.senders.items three.senders.items keygroup no_sender (never-falls calls two three between) in
+    apart is (turned was later) pair other (less-less is was (turned was later) less (turned-less later was)) given.token given.used again.turned_token again.follows
+given-once keygroup (Came now next) calls (Renewed k sets) = λ one two three four pair other gives between more. absurd more
+given-once keygroup (Came now next) calls (Resumed k at used sets) = λ one two three four pair other gives between more. absurd more
+given-once keygroup (Came now next) calls Other = λ one two three four pair other gives between more. absurd more
+given-once keygroup (Renewed k sets) calls last = λ one two three four pair other gives between more. absurd gives
+given-once keygroup (Resumed k at used sets) calls last = λ one two three four pair other gives between more. absurd gives
+given-once keygroup Other calls last = λ one two three four pair other gives between more. absurd gives

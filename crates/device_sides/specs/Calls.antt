@@ -1,8 +1,8 @@
 -- The calls of a publisher, one after another, and what they make of its senders.
-use Rattle.std.specs.Prelude.{◌≡◌, ℕ, List, [], ◌∷◌}
-use Rattle.std.specs.List.{AllZip}
+use Rattle.std.specs.Prelude.{◌≡◌, ◌≢◌, ℕ, ◌<◌, ◌≤◌, List, [], ◌∷◌}
+use Rattle.std.specs.List.{AllZip, HoldsAt}
 use Rattle.group_keys.specs.declared.key_set.KeySet.{KeySet}
-use Rattle.message_guard.specs.Senders.{SenderState}
+use Rattle.message_guard.specs.Senders.{SenderState, turned}
 use Rattle.device_sides.specs.declared.asked.Next.{Next}
 use Rattle.device_sides.specs.declared.publisher.Publisher.{Publisher}
 use Rattle.device_sides.specs.Coming.{ComesTo}
@@ -32,3 +32,24 @@ IsNoLess was is = IsNoLower (was.keys.token, was.used) (is.keys.token, is.used)
 
 abbrev pub FallBackNever : List SenderState → List SenderState → Type 0
 FallBackNever old new = AllZip IsNoLess old new
+
+-- ---- numbers that are given
+
+-- as the sender turned to the moment and went on, a datagram took this token and number: the number follows those that were used, and is used then
+pub record IsGiven (now : ℕ) (pair : ℕ × ℕ) (was is : SenderState) : Type 0 where
+  pub turned_token : pair.0 ≡ (turned was now).keys.token
+  pub token : pair.0 ≡ is.keys.token
+  pub follows : (turned was now).used < pair.1
+  pub used : pair.1 ≤ is.used
+
+-- the call gave it to a datagram of the key group: none but that which comes to a moment gives any
+abbrev pub Gives : ℕ → Call → Publisher → Publisher → ℕ × ℕ → Type 0
+Gives keygroup (Came now next) old new pair = HoldsAt (λ was. HoldsAt (IsGiven now pair was) new.senders.items keygroup) old.senders.items keygroup
+Gives keygroup (Renewed other sets) old new pair = ⊥
+Gives keygroup (Resumed other now used sets) old new pair = ⊥
+Gives keygroup Other old new pair = ⊥
+
+-- two calls, the second behind these others, give a key group's datagrams no token and number in common
+abbrev pub GiveOthers : ℕ → Call → List Call → Call → Type 0
+GiveOthers keygroup first calls last =
+    (one two three four : Publisher) (pair other : ℕ × ℕ) → Gives keygroup first one two pair → AreCalled calls two three → Gives keygroup last three four other → pair ≢ other

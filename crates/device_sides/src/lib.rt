@@ -15,7 +15,7 @@ mod subscriber;
 mod words;
 
 pub use asked::{Next, NoValue};
-pub use laws::no_sender_falls_back;
+pub use laws::{a_token_and_number_is_given_once, no_sender_falls_back};
 pub use listening::Listening;
 pub use publisher::Publisher;
 pub use side::Side;
