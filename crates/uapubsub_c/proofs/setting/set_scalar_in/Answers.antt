@@ -1,9 +1,7 @@
-use Rattle.std.proofs.Common.{List, ap, subst, sym, ◌∙◌, refl}
+use Rattle.std.proofs.Common.{subst, sym, ◌∙◌, refl}
 use Rattle.std.proofs.lemmas.Option.{none-some, same_Some}
 use Rattle.ua_values.specs.declared.kind.Kind.{Kind}
-use Rattle.dataset_meta.specs.Metas.{MetaData}
-use Rattle.device_sides.specs.Sides.{HasNoField, IsWordMisfit}
-use Rattle.device_sides.specs.declared.publisher.Publisher.{Publisher as PublisherValue}
+use Rattle.device_sides.specs.Sides.{IsWordMisfit}
 use Rattle.uapubsub_c.specs.Getting.{PublisherIs}
 use Rattle.uapubsub_c.specs.Setting.{IsScalarMisfit, SetsField, SetsNoField}
 use Rattle.uapubsub_c.specs.declared.kept.Kept.{Kept}
