@@ -1,7 +1,7 @@
 //! The calls by their names, and what is kept from line to line.
 use crate::scripts::work;
 use crate::{configs, reports, scripts, states, values};
-use case_lines::{Answer, Line, LineFault};
+use case_lines::{Answer, Line, LineFault, config_of};
 use std::alloc::{AllocError, Global};
 
 /// The document of the configuration.
@@ -39,12 +39,23 @@ fn called(alloc: Global, document: &str, text: &str) -> Answer {
         "config" => configs::read(alloc, &mut line, false),
         "values" => configs::read(alloc, &mut line, true),
         "built_in" => configs::built_in_values(alloc),
-        "play" => scripts::read(alloc, document, &mut line, true),
-        "run" => scripts::read(alloc, document, &mut line, false),
-        "generate" | "ends" | "reread" => work::told(alloc, document, call, &mut line),
+        "generate" | "ends" => work::told(alloc, call, &mut line),
         "words" => states::words(alloc),
         "names" | "id" | "below" | "states" => states::answer(alloc, call, &mut line),
-        "report" | "load" => reports::told(alloc, document, call, text),
+        "play" | "run" | "reread" | "report" | "load" => configured(alloc, document, text),
         _ => Err(LineFault::Call),
+    }
+}
+
+/// What the call of a line answers that speaks of the configuration.
+fn configured(alloc: Global, document: &str, text: &str) -> Answer {
+    let mut line = Line::new(text);
+    let call = line.word()?;
+    let config = config_of(alloc, document)?;
+    match call {
+        "play" => scripts::read(alloc, &config, &mut line, true),
+        "run" => scripts::read(alloc, &config, &mut line, false),
+        "reread" => work::reread(alloc, &config, &mut line),
+        _ => reports::told(alloc, &config, call, text),
     }
 }

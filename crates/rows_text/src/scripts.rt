@@ -1,6 +1,9 @@
 //! Scripts.
+ghost use Rattle.ps_config.specs.Sound.{IsSound};
+
 use crate::scripts::shown::lines_told;
-use case_lines::{Answer, Line, LineFault, config_of};
+use case_lines::{Answer, Line, LineFault};
+use ps_config::Config;
 use ps_script::{ScriptEnd, read_script};
 use std::alloc::Global;
 
@@ -8,9 +11,10 @@ mod shown;
 pub mod work;
 
 /// `TEXT`: the lines of a script, each with its number, or the first that has a fault, and the least of its faults
-pub fn read(alloc: Global, document: &str, line: &mut Line, plain: bool) -> Answer {
-    let config = config_of(alloc, document)?;
-    match read_script(alloc, &config, &line.text(alloc)?, plain) {
+pub fn read(alloc: Global, config: &Config, line: &mut Line, plain: bool) -> Answer
+    requires { IsSound config.now }
+{
+    match read_script(alloc, config, &line.text(alloc)?, plain) {
         Ok(script) => lines_told(alloc, "ok", script.lines.as_slice()),
         Err(end) => refused(alloc, end),
     }
