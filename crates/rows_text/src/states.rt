@@ -22,9 +22,9 @@ pub fn answer(alloc: Global, call: &str, line: &mut Line) -> Answer {
     let config = config_with(alloc, front.rest())?;
     match call {
         "states" => states(alloc, &config, &rest),
-        "names" => below(alloc, &config, &mut Line::new("root")),
-        "below" => below(alloc, &config, &mut rest),
-        "id" => id(alloc, &config, &mut rest),
+        "names" => below(alloc, &config, "root"),
+        "below" => below(alloc, &config, rest.word()?),
+        "id" => told(alloc, &id_named(alloc, &config, rest.word()?)?),
         _ => Err(LineFault::Call),
     }
 }
@@ -64,23 +64,16 @@ fn states(alloc: Global, config: &Config, line: &Line) -> Answer
 }
 
 /// The names of the component with a name and of all below it, in the order of their ids.
-fn below(alloc: Global, config: &Config, line: &mut Line) -> Answer
+fn below(alloc: Global, config: &Config, name: &str) -> Answer
     requires { IsFew config.now }
 {
-    let upper = id_named(alloc, config, line.word()?)?;
+    let upper = id_named(alloc, config, name)?;
     let components = Components::new(alloc, config)?;
     let mut text = String::new(alloc);
     for lower in 0..components.as_slice().len() as u8 {
         push_below(&mut text, config, &components, upper, lower)?;
     }
     Ok(Some(text))
-}
-
-/// The id of the component with a name.
-fn id(alloc: Global, config: &Config, line: &mut Line) -> Answer
-    requires { IsFew config.now }
-{
-    told(alloc, &id_named(alloc, config, line.word()?)?)
 }
 
 /// The name of the second component, where the first is at or above it.
