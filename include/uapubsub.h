@@ -22,7 +22,7 @@
 #include <stdint.h>
 #include <string.h>
 
-#if UINTPTR_MAX != 0xffffffffffffffff
+#if !defined(__x86_64__) || UINTPTR_MAX != 0xffffffffffffffff
 #error "libuapubsub_c.a is for x86-64, with pointers of 64 bits"
 #endif
 
@@ -43,7 +43,7 @@ enum {
     UAP_INDEX = 8,       /* there is no such data set, field, key group, group, writer, read group or reader, or the read group has no keys */
     UAP_MISFIT = 9,      /* the field doesn't have this kind, this value or this status: of another kind, longer than its cap, or without quality */
     UAP_ROOM = 10,       /* the buffer is too short */
-    UAP_SPENT = 11,      /* a group that is due can have no turn: fewer than 1,024 numbers are left under its token */
+    UAP_SPENT = 11,      /* a group that is due can have no turn: fewer than 1,024 numbers are left under its token, or all turns of its life are over */
     UAP_BAD_TEXT = 12,   /* the text isn't UTF-8, or the text or the bytes have more than 256 bytes */
     UAP_BAD_KEYS = 13,   /* the key sets make no ring of the key group, or are of an earlier token, or a number would be used again */
 

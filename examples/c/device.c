@@ -30,8 +30,9 @@ enum { ROUND_MS = 10, MOST_A_ROUND = 64 };
 // How many numbers are passed over at a start, so that a signed reader takes the next key frame, and how many are reserved at once.
 enum { START = 16384, RESERVED = 65536 };
 
-// The fields that this device sets, where the first data set has them. No data set has as many fields as NO_FIELD, an index that the
-// library then refuses.
+// The fields that this device sets, where the first data set has them. Those that it shows of the first reader's row go by the same
+// indexes, so the data set of that reader is the first one too. No data set has as many fields as NO_FIELD, an index that the library then
+// refuses.
 enum { LIFE, READING, CELSIUS, TAKEN_AT, COUNT, LABEL, FIELDS, NO_FIELD = UINT8_MAX };
 static const char *const FIELD_NAMES[FIELDS] = {"life", "reading", "celsius", "taken_at", "count", "label"};
 
