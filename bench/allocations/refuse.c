@@ -1,6 +1,6 @@
 // Refuses the allocation with the number FAIL_AT of a program that is started with this library before the C library, and with
 // COUNT tells their number on the error output behind all else. With LARGE it refuses each allocation of so many bytes or more from the
-// moment on at which the program binds a socket.
+// moment on at which the program binds a socket or, with AFTER, first asks for just so many bytes.
 #define _GNU_SOURCE
 #include <dlfcn.h>
 #include <errno.h>
@@ -15,19 +15,26 @@ void *__libc_calloc(size_t, size_t);
 void *__libc_realloc(void *, size_t);
 void *__libc_memalign(size_t, size_t);
 
-static long made, refused = -1, large;
+static long made, refused = -1, after, large;
+
+static long number_of(const char *name) {
+  const char *digits = getenv(name);
+  return digits ? atol(digits) : 0;
+}
+
+static void refuse_large(void) { large = number_of("LARGE"); }
 
 int bind(int socket, const struct sockaddr *address, socklen_t length) {
-  const char *bytes = getenv("LARGE");
-  large = bytes ? atol(bytes) : 0;
+  refuse_large();
   return ((int (*)(int, const struct sockaddr *, socklen_t))dlsym(RTLD_NEXT, "bind"))(socket, address, length);
 }
 
 static int refuses(size_t size) {
   if (refused < 0) {
-    const char *at = getenv("FAIL_AT");
-    refused = at ? atol(at) : 0;
+    after = number_of("AFTER");
+    refused = number_of("FAIL_AT");
   }
+  if (after && size == (size_t)after) refuse_large();
   int is_large = large && size >= (size_t)large;
   if (__atomic_add_fetch(&made, 1, __ATOMIC_SEQ_CST) != refused && !is_large) return 0;
   errno = ENOMEM;

@@ -19,10 +19,10 @@ use Rattle.key_service.specs.Pulled.{timed_from}
 use Rattle.key_service.specs.Services.{IsGap, IsServed, IsUneven, lifetime_of}
 use Rattle.message_guard.specs.declared.keys.TokenKeys.{TokenKeys}
 use Rattle.message_guard.specs.declared.mode.Mode.TheVariants.{Encrypt}
-use Rattle.message_guard.specs.Acceptance.{is_acceptable}
+use Rattle.message_guard.specs.Acceptance.{AreAcceptableCalls, is_acceptable}
 use Rattle.message_guard.specs.Protection.{keys_in}
 use Rattle.key_laws.specs.Pulled.{AreInOrder, AreOfRing, IsCoveredSender, IsMade, IsPublisherAt, pulled_keys}
-use Rattle.key_laws.specs.Witness.{IsSmallRing, set_of, small_datagram, small_header, small_payload, small_sender, small_steps, two_sets}
+use Rattle.key_laws.specs.Witness.{IsSmallRing, set_of, small_calls, small_datagram, small_header, small_payload, small_sender, small_steps, two_sets}
 
 two-rise : (a b : ℕ) → a < b → IsStrictlyIncreasing (a ∷ b ∷ [])
 two-rise a b less zero within = less
@@ -147,3 +147,9 @@ small-order = (lit≤ tt, tt)
 
 pub small-of-ring : (ring : Ring) → IsSmallRing ring → AreOfRing ring small_steps
 small-of-ring ring is = (sym is.sets, tt)
+
+-- ---- what befalls a guard
+
+pub calls-acceptable : AreAcceptableCalls (map keys_in two_sets) small_calls
+unfolding two_sets small_calls
+calls-acceptable = (refl, (refl, tt))

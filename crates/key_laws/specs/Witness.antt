@@ -1,14 +1,14 @@
 -- A ring that a service answers from, its publisher's sender, and a datagram that this makes.
-use Rattle.std.specs.Prelude.{◌≡◌, ℕ, false, List, [], ◌∷◌, ◌++◌, replicate, Some, None}
+use Rattle.std.specs.Prelude.{◌≡◌, ℕ, false, List, [], ◌∷◌, ◌++◌, map, replicate, Some, None}
 use Rattle.uadp_header.specs.Headers.{HeaderValue, ListOf, U8}
 use Rattle.uadp_header.specs.Spelling.{header_bytes}
 use Rattle.group_keys.specs.declared.key_set.KeySet.{KeySet}
 use Rattle.group_keys.specs.declared.ring.Ring.{Ring}
 use Rattle.group_keys.specs.Ring.{is_long, key_sets}
-use Rattle.message_guard.specs.declared.mode.Mode.{Mode}
 use Rattle.message_guard.specs.declared.mode.Mode.TheVariants.{Encrypt}
+use Rattle.message_guard.specs.Acceptance.{Accepts, GuardCall, Renews}
 use Rattle.message_guard.specs.Protection.{keys_in}
-use Rattle.message_guard.specs.Senders.{Front, Protect, Renew, SenderState, SenderStep, TurnTo, front_value}
+use Rattle.message_guard.specs.Senders.{Front, Renew, SenderState, SenderStep, TurnTo, front_value}
 
 -- a key set of AES-128 whose bytes are all this one
 abbrev pub set_of : ℕ → ℕ → ℕ → KeySet
@@ -67,3 +67,7 @@ small_datagram = header_bytes small_header ++ (1 ∷ 2 ∷ 3 ∷ []) ++ replicat
 -- what may befall the sender: it comes to the second set, is renewed by the same ring, and gives a front
 abbrev pub small_steps : List SenderStep
 small_steps = TurnTo 1000 ∷ Renew two_sets ∷ Front Encrypt ∷ []
+
+-- what may befall a guard of these sets: it accepts a number under the first, is renewed by the same ring, and accepts one under the second
+unfoldable pub small_calls : List GuardCall
+small_calls = Accepts (2, 1) ∷ Renews (map keys_in two_sets) ∷ Accepts (1, 1) ∷ []

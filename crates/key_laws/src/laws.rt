@@ -1,11 +1,13 @@
 //! What the definitions owe the reader, each law the contract of a function that does nothing.
-ghost use Rattle.std.specs.Prelude.{ℕ};
+ghost use Rattle.std.specs.Prelude.{ℕ, ◌≤◌, List};
 ghost use Rattle.group_keys.specs.declared.ring.Ring.{Ring};
 ghost use Rattle.key_service.specs.Laws.{IsServedRing};
 ghost use Rattle.key_laws.specs.Pulled.{HasSendersKeys, IsCoveredSender, IsPullersGuard, IsReadersGuard, OpensMade, PassesMade, RestoresMade, StaysPublisher};
+ghost use Rattle.key_laws.specs.Rising.{AcceptsNoLowerToken};
 ghost use Rattle.message_guard.specs.declared.guard.Guard.{Guard};
+ghost use Rattle.message_guard.specs.declared.keys.TokenKeys.{TokenKeys};
 ghost use Rattle.message_guard.specs.declared.mode.Mode.{Mode};
-ghost use Rattle.message_guard.specs.Senders.{SenderState};
+ghost use Rattle.message_guard.specs.Senders.{SenderState, SenderStep, after};
 
 /// A puller's guard answers Ok on what the publisher's sender protects at a covered moment, wherever it accepts the number, and
 /// decrypts it to the payload.
@@ -40,4 +42,12 @@ pub fn a_guard_of_a_pulled_ring_has_the_senders_keys()
 /// publisher's sender at the last of these.
 pub fn a_publishers_sender_goes_on()
     ensures { (ring : Ring) (s : SenderState) → StaysPublisher ring s }
+{}
+
+/// Tokens never fall, whatever rings renew sender and guard: neither the one under which a sender protects, over any list of its calls,
+/// nor those of the pairs that a guard accepts, in the order in which it accepts them.
+pub fn tokens_never_fall()
+    ensures sender { (s : SenderState) (steps : List SenderStep)
+        → s.keys.token ≤ (after s steps).keys.token }
+    ensures guard { (first : List TokenKeys) → AcceptsNoLowerToken first }
 {}

@@ -1,4 +1,4 @@
-use Rattle.key_laws.proofs.Small.{accepted-two, small-acceptable, small-covered, small-made, small-of-ring, small-order}
+use Rattle.key_laws.proofs.Small.{accepted-two, calls-acceptable, small-acceptable, small-covered, small-made, small-of-ring, small-order}
 use Rattle.key_laws.proofs.witness.a_small_ring_meets_the_premises.Goals as goal
 
 pub returns : goal.returns
@@ -9,4 +9,5 @@ returns c = record {
   acceptable = small-acceptable;
   order = small-order;
   of_ring = small-of-ring;
+  calls = calls-acceptable;
 }
