@@ -269,6 +269,15 @@ fn read_scripts(turns: u32, text: String) -> usize {
     text.len()
 }
 
+/// The same by hand.
+fn read_scripts_by_hand(turns: u32, text: String) -> usize {
+    let config = plain_config();
+    for _ in 0..turns {
+        assert!(black_box(scripts::read(black_box(&config), black_box(text.as_bytes()))).is_ok());
+    }
+    text.len()
+}
+
 /// Writes a report so often, and once more; its bytes.
 fn write_reports(turns: u32, part: u32) -> usize {
     let config = configs::session(FIELDS, WRITERS);
@@ -285,6 +294,7 @@ fn call_often(call: &str, part: u32, turns: u32) -> usize {
         "tables" => read_configs(turns, configs::many_tables(bytes)),
         "keys" => read_configs(turns, configs::many_keys(bytes)),
         "script" => read_scripts(turns, writes(bytes / 32)),
+        "script_by_hand" => read_scripts_by_hand(turns, writes(bytes / 32)),
         "report" => write_reports(turns, part),
         _ => panic!("no call {call}"),
     }
