@@ -21,6 +21,8 @@ pub extern "C" fn uapubsub_config_check(
     ensures ok { result ≡ OK → IsOk (configuration text.now) }
     ensures refused { result ≡ REFUSED → IsRefused text.now }
     ensures room { written.new ≤ length error.old }
+    ensures untold { result ≢ REFUSED → error.new ≡ error.old }
+    ensures none { result ≢ REFUSED → written.new ≡ 0 }
 {
     *written = 0;
     match judge(alloc, text) {
@@ -44,6 +46,8 @@ fn tell(alloc: Global, end: &ConfigEnd, error: &mut [u8], written: &mut usize) -
     ensures refused { result ≡ REFUSED → IsRefusal end.now }
     ensures not_ok { result ≢ OK }
     ensures room { written.new ≤ length error.old }
+    ensures untold { result ≢ REFUSED → error.new ≡ error.old }
+    ensures none { result ≢ REFUSED → written.new ≡ 0 }
 {
     *written = 0;
     match end {

@@ -36,6 +36,7 @@ pub extern "C" fn uapubsub_get_scalar(
     ensures index { result ≡ INDEX → Tells handle.old (HasNoFieldIn group reader field) }
     ensures other_side { result ≡ OTHER_SIDE → Tells handle.old IsPublisherSide }
     ensures closed { result ≡ CLOSED → handle.old.is_open ≡ 0 }
+    ensures shut { result ≡ CLOSED → handle.new ≡ handle.old }
 {
     let Some(kept) = handle.take(alloc) else {
         return CLOSED;
@@ -117,6 +118,7 @@ pub extern "C" fn uapubsub_get_text(
     ensures index { result ≡ INDEX → Tells handle.old (HasNoFieldIn group reader field) }
     ensures other_side { result ≡ OTHER_SIDE → Tells handle.old IsPublisherSide }
     ensures closed { result ≡ CLOSED → handle.old.is_open ≡ 0 }
+    ensures shut { result ≡ CLOSED → handle.new ≡ handle.old }
 {
     match field_of(alloc, handle, group, reader, field) {
         Ok((value, _)) => lay_text(&value, buffer, count),
@@ -152,6 +154,7 @@ pub extern "C" fn uapubsub_get_bytes(
     ensures index { result ≡ INDEX → Tells handle.old (HasNoFieldIn group reader field) }
     ensures other_side { result ≡ OTHER_SIDE → Tells handle.old IsPublisherSide }
     ensures closed { result ≡ CLOSED → handle.old.is_open ≡ 0 }
+    ensures shut { result ≡ CLOSED → handle.new ≡ handle.old }
 {
     match field_of(alloc, handle, group, reader, field) {
         Ok((value, _)) => lay_blob(&value, buffer, count),
@@ -242,6 +245,7 @@ pub extern "C" fn uapubsub_get_guid(
     ensures index { result ≡ INDEX → Tells handle.old (HasNoFieldIn group reader field) }
     ensures other_side { result ≡ OTHER_SIDE → Tells handle.old IsPublisherSide }
     ensures closed { result ≡ CLOSED → handle.old.is_open ≡ 0 }
+    ensures shut { result ≡ CLOSED → handle.new ≡ handle.old }
 {
     match field_of(alloc, handle, group, reader, field) {
         Ok((value, _)) => guid_of(&value, guid),
@@ -290,6 +294,7 @@ pub extern "C" fn uapubsub_get_field_status(
     ensures index { result ≡ INDEX → Tells handle.old (HasNoFieldIn group reader field) }
     ensures other_side { result ≡ OTHER_SIDE → Tells handle.old IsPublisherSide }
     ensures closed { result ≡ CLOSED → handle.old.is_open ≡ 0 }
+    ensures shut { result ≡ CLOSED → handle.new ≡ handle.old }
 {
     match field_of(alloc, handle, group, reader, field) {
         Ok((_, held)) => {
@@ -326,6 +331,7 @@ fn field_of(
         → Tells handle.old IsPublisherSide) }
     ensures not_room { IfErr result (λ status. status ≢ ROOM) }
     ensures closed { IfErr result (λ status. status ≡ CLOSED → handle.old.is_open ≡ 0) }
+    ensures shut { IfErr result (λ status. status ≡ CLOSED → handle.new ≡ handle.old) }
 {
     let Some(kept) = handle.take(alloc) else {
         return Err(CLOSED);

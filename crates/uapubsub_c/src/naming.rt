@@ -1,5 +1,6 @@
 //! Indexes by names.
 ghost use Rattle.std.specs.Prelude.{◌≡◌, ◌≢◌, [], ◌∷◌};
+ghost use Rattle.std.specs.Str.{IsUtf8};
 ghost use Rattle.uapubsub_c.specs.Getting.{HasNoFieldNamed, HasNoSetNamed, IsFieldNamed, IsSetNamed};
 ghost use Rattle.uapubsub_c.specs.Handles.{IsOneOf, IsReady, Stays, Tells, config_in};
 
@@ -27,6 +28,7 @@ pub extern "C" fn uapubsub_set_index(
         → Tells handle.old (λ kept. HasNoSetNamed (config_in kept) name.now) }
     ensures untold { result ≢ OK → index.new ≡ index.old }
     ensures closed { result ≡ CLOSED → handle.old.is_open ≡ 0 }
+    ensures shut { result ≡ CLOSED → handle.new ≡ handle.old }
 {
     let Some(kept) = handle.take(alloc) else {
         return CLOSED;
@@ -70,8 +72,10 @@ pub extern "C" fn uapubsub_field_index(
         → Tells handle.old (λ kept. IsFieldNamed (config_in kept) set name.now index.new) }
     ensures none { result ≡ INDEX
         → Tells handle.old (λ kept. HasNoFieldNamed (config_in kept) set name.now) }
+    ensures bad_text { result ≡ BAD_TEXT → ¬ IsUtf8 name.now }
     ensures untold { result ≢ OK → index.new ≡ index.old }
     ensures closed { result ≡ CLOSED → handle.old.is_open ≡ 0 }
+    ensures shut { result ≡ CLOSED → handle.new ≡ handle.old }
 {
     let Some(kept) = handle.take(alloc) else {
         return CLOSED;
@@ -85,6 +89,7 @@ fn field_of(config: &Config, set: u8, name: &[u8], index: &mut u8) -> u32
     ensures answers { IsOneOf (OK ∷ INDEX ∷ BAD_TEXT ∷ []) result }
     ensures named { result ≡ OK → IsFieldNamed config.now set name.now index.new }
     ensures none { result ≡ INDEX → HasNoFieldNamed config.now set name.now }
+    ensures bad_text { result ≡ BAD_TEXT → ¬ IsUtf8 name.now }
     ensures untold { result ≢ OK → index.new ≡ index.old }
     ensures not_closed { result ≢ CLOSED }
 {

@@ -69,6 +69,7 @@ pub extern "C" fn uapubsub_publisher_next(
     ensures other_side { result ≡ OTHER_SIDE → Tells handle.old IsSubscriberSide }
     ensures stays { result ≡ OTHER_SIDE → Stays handle.old handle.new }
     ensures closed { result ≡ CLOSED → handle.old.is_open ≡ 0 }
+    ensures shut { result ≡ CLOSED → handle.new ≡ handle.old }
 {
     *count = 0;
     let Some(mut kept) = handle.take(alloc) else {
@@ -135,6 +136,7 @@ pub extern "C" fn uapubsub_publisher_standing(
     ensures index { result ≡ INDEX → Tells handle.old (PublisherIs (HasNoKeyGroup keygroup)) }
     ensures other_side { result ≡ OTHER_SIDE → Tells handle.old IsSubscriberSide }
     ensures closed { result ≡ CLOSED → handle.old.is_open ≡ 0 }
+    ensures shut { result ≡ CLOSED → handle.new ≡ handle.old }
 {
     let Some(kept) = handle.take(alloc) else {
         return CLOSED;
@@ -186,6 +188,7 @@ pub extern "C" fn uapubsub_publisher_resume(
     ensures other_side { result ≡ OTHER_SIDE → Tells handle.old IsSubscriberSide }
     ensures not { result ≢ OK → Stays handle.old handle.new }
     ensures closed { result ≡ CLOSED → handle.old.is_open ≡ 0 }
+    ensures shut { result ≡ CLOSED → handle.new ≡ handle.old }
 {
     let Some(mut kept) = handle.take(alloc) else {
         return CLOSED;
@@ -245,6 +248,7 @@ pub extern "C" fn uapubsub_publisher_resume_with(
     ensures other_side { result ≡ OTHER_SIDE → Tells handle.old IsSubscriberSide }
     ensures not { result ≢ OK → Stays handle.old handle.new }
     ensures closed { result ≡ CLOSED → handle.old.is_open ≡ 0 }
+    ensures shut { result ≡ CLOSED → handle.new ≡ handle.old }
 {
     let Some(mut kept) = handle.take(alloc) else {
         return CLOSED;
@@ -310,6 +314,7 @@ pub extern "C" fn uapubsub_publisher_renew(
     ensures other_side { result ≡ OTHER_SIDE → Tells handle.old IsSubscriberSide }
     ensures not { result ≢ OK → Stays handle.old handle.new }
     ensures closed { result ≡ CLOSED → handle.old.is_open ≡ 0 }
+    ensures shut { result ≡ CLOSED → handle.new ≡ handle.old }
 {
     let Some(mut kept) = handle.take(alloc) else {
         return CLOSED;

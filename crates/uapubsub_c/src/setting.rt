@@ -40,6 +40,7 @@ pub extern "C" fn uapubsub_set_scalar(
     ensures other_side { result ≡ OTHER_SIDE → Tells handle.old IsSubscriberSide }
     ensures unset { result ≢ OK → StaysUnset handle.old handle.new }
     ensures closed { result ≡ CLOSED → handle.old.is_open ≡ 0 }
+    ensures shut { result ≡ CLOSED → handle.new ≡ handle.old }
 {
     let Some(mut kept) = handle.take(alloc) else {
         return CLOSED;
@@ -99,6 +100,7 @@ pub extern "C" fn uapubsub_set_text(
     ensures unset { result ≢ OK → StaysUnset handle.old handle.new }
     ensures bad_text { result ≡ BAD_TEXT → IsErr (text_of text.now) }
     ensures closed { result ≡ CLOSED → handle.old.is_open ≡ 0 }
+    ensures shut { result ≡ CLOSED → handle.new ≡ handle.old }
 {
     match Text::from_bytes(text) {
         Ok(text) => set_field(alloc, handle, set, field, &Value::String(text)),
@@ -127,6 +129,7 @@ pub extern "C" fn uapubsub_set_bytes(
     ensures unset { result ≢ OK → StaysUnset handle.old handle.new }
     ensures bad_text { result ≡ BAD_TEXT → IsErr (blob_of bytes.now) }
     ensures closed { result ≡ CLOSED → handle.old.is_open ≡ 0 }
+    ensures shut { result ≡ CLOSED → handle.new ≡ handle.old }
 {
     match Blob::from_bytes(bytes) {
         Ok(blob) => set_field(alloc, handle, set, field, &Value::ByteString(blob)),
@@ -155,6 +158,7 @@ pub extern "C" fn uapubsub_set_guid(
     ensures other_side { result ≡ OTHER_SIDE → Tells handle.old IsSubscriberSide }
     ensures unset { result ≢ OK → StaysUnset handle.old handle.new }
     ensures closed { result ≡ CLOSED → handle.old.is_open ≡ 0 }
+    ensures shut { result ≡ CLOSED → handle.new ≡ handle.old }
 {
     set_field(alloc, handle, set, field, &Value::Guid(guid.bytes))
 }
@@ -180,6 +184,7 @@ pub extern "C" fn uapubsub_set_field_status(
     ensures other_side { result ≡ OTHER_SIDE → Tells handle.old IsSubscriberSide }
     ensures unset { result ≢ OK → StaysUnset handle.old handle.new }
     ensures closed { result ≡ CLOSED → handle.old.is_open ≡ 0 }
+    ensures shut { result ≡ CLOSED → handle.new ≡ handle.old }
 {
     let Some(mut kept) = handle.take(alloc) else {
         return CLOSED;
@@ -228,6 +233,7 @@ fn set_field(alloc: Global, handle: &mut Handle, set: u8, field: u8, value: &Val
     ensures unset { result ≢ OK → StaysUnset handle.old handle.new }
     ensures not_text { result ≢ BAD_TEXT }
     ensures closed { result ≡ CLOSED → handle.old.is_open ≡ 0 }
+    ensures shut { result ≡ CLOSED → handle.new ≡ handle.old }
 {
     let Some(mut kept) = handle.take(alloc) else {
         return CLOSED;

@@ -20,7 +20,7 @@ pub const INDEX: u32 = 8;
 pub const MISFIT: u32 = 9;
 /// The buffer is too short.
 pub const ROOM: u32 = 10;
-/// A group that is due can have no turn: its token has fewer than 1,024 numbers left.
+/// A group that is due can have no turn: its token has fewer than 1,024 numbers left, or all turns of its life are over.
 pub const SPENT: u32 = 11;
 /// The text isn't UTF-8, or has more than 256 bytes.
 pub const BAD_TEXT: u32 = 12;

@@ -77,6 +77,7 @@ pub extern "C" fn uapubsub_subscriber_datagram(
     ensures bytes { result ≢ OK → result < 100 → bytes.new ≡ bytes.old }
     ensures untold { result ≢ OK → taken.new ≡ taken.old }
     ensures closed { result ≡ CLOSED → handle.old.is_open ≡ 0 }
+    ensures shut { result ≡ CLOSED → handle.new ≡ handle.old }
 {
     let Some(mut kept) = handle.take(alloc) else {
         return CLOSED;
@@ -141,6 +142,7 @@ pub extern "C" fn uapubsub_subscriber_expire(alloc: Global, handle: &mut Handle,
     ensures other_side { result ≡ OTHER_SIDE → Tells handle.old IsPublisherSide }
     ensures not { result ≢ OK → Stays handle.old handle.new }
     ensures closed { result ≡ CLOSED → handle.old.is_open ≡ 0 }
+    ensures shut { result ≡ CLOSED → handle.new ≡ handle.old }
 {
     let Some(mut kept) = handle.take(alloc) else {
         return CLOSED;
@@ -186,6 +188,7 @@ pub extern "C" fn uapubsub_subscriber_renew(
     ensures other_side { result ≡ OTHER_SIDE → Tells handle.old IsPublisherSide }
     ensures not { result ≢ OK → Stays handle.old handle.new }
     ensures closed { result ≡ CLOSED → handle.old.is_open ≡ 0 }
+    ensures shut { result ≡ CLOSED → handle.new ≡ handle.old }
 {
     let Some(mut kept) = handle.take(alloc) else {
         return CLOSED;
@@ -244,6 +247,7 @@ pub extern "C" fn uapubsub_reader_why(
     ensures index { result ≡ INDEX → Tells handle.old (SubscriberIs (IsNoReader group reader)) }
     ensures other_side { result ≡ OTHER_SIDE → Tells handle.old IsPublisherSide }
     ensures closed { result ≡ CLOSED → handle.old.is_open ≡ 0 }
+    ensures shut { result ≡ CLOSED → handle.new ≡ handle.old }
 {
     let Some(kept) = handle.take(alloc) else {
         return CLOSED;
@@ -307,6 +311,7 @@ pub extern "C" fn uapubsub_reader_number(
     ensures index { result ≡ INDEX → Tells handle.old (SubscriberIs (IsNoReader group reader)) }
     ensures other_side { result ≡ OTHER_SIDE → Tells handle.old IsPublisherSide }
     ensures closed { result ≡ CLOSED → handle.old.is_open ≡ 0 }
+    ensures shut { result ≡ CLOSED → handle.new ≡ handle.old }
 {
     let Some(kept) = handle.take(alloc) else {
         return CLOSED;

@@ -27,6 +27,7 @@ pub extern "C" fn uapubsub_writer_enable(
     ensures other_side { result ≡ OTHER_SIDE → Tells handle.old IsSubscriberSide }
     ensures not { result ≢ OK → Stays handle.old handle.new }
     ensures closed { result ≡ CLOSED → handle.old.is_open ≡ 0 }
+    ensures shut { result ≡ CLOSED → handle.new ≡ handle.old }
 {
     switch_writer(alloc, handle, group, writer, true)
 }
@@ -48,6 +49,7 @@ pub extern "C" fn uapubsub_writer_disable(
     ensures other_side { result ≡ OTHER_SIDE → Tells handle.old IsSubscriberSide }
     ensures not { result ≢ OK → Stays handle.old handle.new }
     ensures closed { result ≡ CLOSED → handle.old.is_open ≡ 0 }
+    ensures shut { result ≡ CLOSED → handle.new ≡ handle.old }
 {
     switch_writer(alloc, handle, group, writer, false)
 }
@@ -62,6 +64,7 @@ fn switch_writer(alloc: Global, handle: &mut Handle, group: u8, writer: u8, on: 
     ensures other_side { result ≡ OTHER_SIDE → Tells handle.old IsSubscriberSide }
     ensures not { result ≢ OK → Stays handle.old handle.new }
     ensures closed { result ≡ CLOSED → handle.old.is_open ≡ 0 }
+    ensures shut { result ≡ CLOSED → handle.new ≡ handle.old }
 {
     let Some(mut kept) = handle.take(alloc) else {
         return CLOSED;
@@ -109,6 +112,7 @@ pub extern "C" fn uapubsub_reader_enable(
     ensures other_side { result ≡ OTHER_SIDE → Tells handle.old IsPublisherSide }
     ensures not { result ≢ OK → Stays handle.old handle.new }
     ensures closed { result ≡ CLOSED → handle.old.is_open ≡ 0 }
+    ensures shut { result ≡ CLOSED → handle.new ≡ handle.old }
 {
     switch_reader(alloc, handle, group, reader, true)
 }
@@ -130,6 +134,7 @@ pub extern "C" fn uapubsub_reader_disable(
     ensures other_side { result ≡ OTHER_SIDE → Tells handle.old IsPublisherSide }
     ensures not { result ≢ OK → Stays handle.old handle.new }
     ensures closed { result ≡ CLOSED → handle.old.is_open ≡ 0 }
+    ensures shut { result ≡ CLOSED → handle.new ≡ handle.old }
 {
     switch_reader(alloc, handle, group, reader, false)
 }
@@ -144,6 +149,7 @@ fn switch_reader(alloc: Global, handle: &mut Handle, group: u8, reader: u8, on: 
     ensures other_side { result ≡ OTHER_SIDE → Tells handle.old IsPublisherSide }
     ensures not { result ≢ OK → Stays handle.old handle.new }
     ensures closed { result ≡ CLOSED → handle.old.is_open ≡ 0 }
+    ensures shut { result ≡ CLOSED → handle.new ≡ handle.old }
 {
     let Some(mut kept) = handle.take(alloc) else {
         return CLOSED;
