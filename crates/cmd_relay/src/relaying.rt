@@ -197,8 +197,8 @@ impl<'c> Relay<'c> {
         requires wire_empty { IsUntold (B.told wire.old) }
         ensures text { IfOk result (λ text. IsRelayOf accepted.now.first accepted.now.second
             accepted.now.script (A.told lab.new) (B.told wire.new) text.items) }
-        ensures lab { KeepsLink A.opened_with A.faults A.made A.openings lab.old lab.new }
-        ensures wire { KeepsLink B.opened_with B.faults B.made B.openings wire.old wire.new }
+        ensures lab { KeepsLink A.told A.patience A.opened_with A.faults A.made A.openings 0 lab.old lab.new }
+        ensures wire { KeepsLink B.told B.patience B.opened_with B.faults B.made B.openings 0 wire.old wire.new }
     {
         histories_are_the_models();
         a_closed_session_tells_the_headline();
@@ -234,8 +234,8 @@ impl<'c> Relay<'c> {
             → HasRelayed first second script.now [] (A.told lab.old) (B.told wire.old) self.old
             → HasRelayed first second script.now (reverse script.now.lines)
             (A.told lab.new) (B.told wire.new) self.new) }
-        ensures lab { KeepsLink A.opened_with A.faults A.made A.openings lab.old lab.new }
-        ensures wire { KeepsLink B.opened_with B.faults B.made B.openings wire.old wire.new }
+        ensures lab { KeepsLink A.told A.patience A.opened_with A.faults A.made A.openings 0 lab.old lab.new }
+        ensures wire { KeepsLink B.told B.patience B.opened_with B.faults B.made B.openings 0 wire.old wire.new }
     {
         passes_show_what_is_collected();
         for line in script.lines.as_slice() {
@@ -260,8 +260,8 @@ impl<'c> Relay<'c> {
         ensures relays { OnOk result ((second : ConfigValue) → HoldsRelay second 0 self.old
             → RelaysLine second line.now.act self.old self.new
             (A.told lab.old) (A.told lab.new) (B.told wire.old) (B.told wire.new)) }
-        ensures lab { KeepsLink A.opened_with A.faults A.made A.openings lab.old lab.new }
-        ensures wire { KeepsLink B.opened_with B.faults B.made B.openings wire.old wire.new }
+        ensures lab { KeepsLink A.told A.patience A.opened_with A.faults A.made A.openings 0 lab.old lab.new }
+        ensures wire { KeepsLink B.told B.patience B.opened_with B.faults B.made B.openings 0 wire.old wire.new }
     {
         self.player.play_line(rt, alloc, line, lab)?;
         match &line.act {
@@ -284,8 +284,8 @@ impl<'c> Relay<'c> {
         ensures relays { OnOk result ((second : ConfigValue) → HoldsRelay second 0 self.old
             → RelaysEnd second self.old self.new
             (A.told lab.old) (A.told lab.new) (B.told wire.old) (B.told wire.new)) }
-        ensures lab { KeepsLink A.opened_with A.faults A.made A.openings lab.old lab.new }
-        ensures wire { KeepsLink B.opened_with B.faults B.made B.openings wire.old wire.new }
+        ensures lab { KeepsLink A.told A.patience A.opened_with A.faults A.made A.openings 0 lab.old lab.new }
+        ensures wire { KeepsLink B.told B.patience B.opened_with B.faults B.made B.openings 0 wire.old wire.new }
     {
         self.player.end(rt, lab)?;
         self.follow(rt, 0, true, wire)
@@ -303,7 +303,7 @@ impl<'c> Relay<'c> {
         requires may { MayFollow ms closing self.old }
         ensures follows { OnOk result ((second : ConfigValue) → HoldsRelay second 1 self.old
             → Follows second ms closing self.old self.new (B.told wire.old) (B.told wire.new)) }
-        ensures link { KeepsLink B.opened_with B.faults B.made B.openings wire.old wire.new }
+        ensures link { KeepsLink B.told B.patience B.opened_with B.faults B.made B.openings 0 wire.old wire.new }
     {
         passes_show_what_is_collected();
         self.player.level(rt);

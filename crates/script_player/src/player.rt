@@ -102,7 +102,7 @@ impl<'c> Player<'c> {
         ensures player { OnOk result (IsPlayer self.new) }
         ensures played { OnOk result (HasPlayed (config_of self.old) script.now
             (reverse script.now.lines) (L.told link.new) self.new) }
-        ensures link { KeepsLink L.opened_with L.faults L.made L.openings link.old link.new }
+        ensures link { KeepsLink L.told L.patience L.opened_with L.faults L.made L.openings 0 link.old link.new }
     {
         for line in script.lines.as_slice() {
             self.play_line(rt, alloc, line, link)?;
@@ -124,7 +124,7 @@ impl<'c> Player<'c> {
         ensures player { OnOk result (IsPlayer self.new) }
         ensures does { OnOk result
             (Does line.now.act self.old self.new (L.told link.old) (L.told link.new)) }
-        ensures link { KeepsLink L.opened_with L.faults L.made L.openings link.old link.new }
+        ensures link { KeepsLink L.told L.patience L.opened_with L.faults L.made L.openings 0 link.old link.new }
     {
         match &line.act {
             Act::Write { thread, set, patch } => self.write(rt, alloc, *thread, *set, patch),
@@ -174,7 +174,7 @@ impl<'c> Player<'c> {
         ensures passes { OnOk result
             (PassesTick ms closing self.old self.new (L.told link.old) (L.told link.new)) }
         ensures memory { OnErr result (IsTrue L.takes_memory) }
-        ensures link { KeepsLink L.opened_with L.faults L.made L.openings link.old link.new }
+        ensures link { KeepsLink L.told L.patience L.opened_with L.faults L.made L.openings 0 link.old link.new }
     {
         let Player {
             session,
@@ -277,7 +277,7 @@ impl<'c> Player<'c> {
         ensures ends { OnOk result
             (PassesTick 0 true self.old self.new (L.told link.old) (L.told link.new)) }
         ensures memory { OnErr result (IsTrue L.takes_memory) }
-        ensures link { KeepsLink L.opened_with L.faults L.made L.openings link.old link.new }
+        ensures link { KeepsLink L.told L.patience L.opened_with L.faults L.made L.openings 0 link.old link.new }
     {
         self.tick(rt, 0, true, link)
     }

@@ -75,7 +75,7 @@ impl Receiving {
         ensures pumps { PumpsTo config.now tree.now moment result.taken self.old self.new
             subscriber.old subscriber.new (L.told link.old) (L.told link.new) }
         ensures limit { IsTrue result.limit ↔ (result.taken ≡ most_taken) }
-        ensures link { KeepsLink L.opened_with L.faults L.made L.openings link.old link.new }
+        ensures link { KeepsLink L.told L.patience L.opened_with L.faults L.made L.openings 0 link.old link.new }
     {
         for taken in 0..MOST_DATAGRAMS {
             if !self.receive(config, tree, moment, subscriber, link) {
@@ -119,7 +119,7 @@ impl Receiving {
         ensures room { HasBuffers self.new }
         ensures receives { ReceivesOne config.now tree.now moment result self.old self.new
             subscriber.old subscriber.new (L.told link.old) (L.told link.new) }
-        ensures link { KeepsLink L.opened_with L.faults L.made L.openings link.old link.new }
+        ensures link { KeepsLink L.told L.patience L.opened_with L.faults L.made L.openings 0 link.old link.new }
     {
         match self.take_in(link) {
             Received::Datagram(count) => self.hand_on(
@@ -144,7 +144,7 @@ impl Receiving {
         ensures sizes { FitsBuffer result self.new.buffer.items }
         ensures room { HasBuffers self.new }
         ensures rest { self.new ≡ record self.old { buffer = self.new.buffer } }
-        ensures link { KeepsLink L.opened_with L.faults L.made L.openings link.old link.new }
+        ensures link { KeepsLink L.told L.patience L.opened_with L.faults L.made L.openings 0 link.old link.new }
     {
         link.receive(&mut self.buffer)
     }

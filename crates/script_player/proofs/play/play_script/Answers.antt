@@ -85,12 +85,12 @@ returns-in_err-play-clause-once g c = opens-once g.L.Link.opened_with g.L.Link.f
 
 pub returns-in_err-end-clause-once : goal.returns-in_err-end-clause-once
 returns-in_err-end-clause-once g c = opens-once g.L.Link.opened_with g.L.Link.faults g.L.Link.made g.L.Link.openings _ _ _ _ c.in-Done.ensures.making c.in-Done.ensures.counted
-    (KeepsLink-then g.L.Link.opened_with g.L.Link.faults g.L.Link.made g.L.Link.openings _ _ _ c.play.ensures.link c.end.ensures.link)
+    (KeepsLink-then g.L.Link.told g.L.Link.patience g.L.Link.opened_with g.L.Link.faults g.L.Link.made g.L.Link.openings 0 0 _ _ _ c.play.ensures.link c.end.ensures.link)
 
 pub returns-in_err-close-clause-once : goal.returns-in_err-close-clause-once
 returns-in_err-close-clause-once g c = opens-once g.L.Link.opened_with g.L.Link.faults g.L.Link.made g.L.Link.openings _ _ _ _ c.in-Done.ensures.making c.in-Done.ensures.counted
-    (KeepsLink-then g.L.Link.opened_with g.L.Link.faults g.L.Link.made g.L.Link.openings _ _ _ c.play.ensures.link c.end.ensures.link)
+    (KeepsLink-then g.L.Link.told g.L.Link.patience g.L.Link.opened_with g.L.Link.faults g.L.Link.made g.L.Link.openings 0 0 _ _ _ c.play.ensures.link c.end.ensures.link)
 
 pub returns-clause-once : goal.returns-clause-once
 returns-clause-once g c = opens-once g.L.Link.opened_with g.L.Link.faults g.L.Link.made g.L.Link.openings _ _ _ _ c.in-Done.ensures.making c.in-Done.ensures.counted
-    (KeepsLink-then g.L.Link.opened_with g.L.Link.faults g.L.Link.made g.L.Link.openings _ _ _ c.play.ensures.link c.end.ensures.link)
+    (KeepsLink-then g.L.Link.told g.L.Link.patience g.L.Link.opened_with g.L.Link.faults g.L.Link.made g.L.Link.openings 0 0 _ _ _ c.play.ensures.link c.end.ensures.link)

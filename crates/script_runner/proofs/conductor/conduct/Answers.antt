@@ -12,12 +12,12 @@ loop-line-init g c = record {
   targets = c.requires.targets;
   ticks = refl;
   conducted = c.requires.begun;
-  link = KeepsLink-refl g.L.Link.opened_with g.L.Link.faults g.L.Link.made g.L.Link.openings c.args.link.now;
+  link = KeepsLink-refl g.L.Link.told g.L.Link.patience g.L.Link.opened_with g.L.Link.faults g.L.Link.made g.L.Link.openings c.args.link.now;
 }
 
 pub conduct_line-requires-clause-open : goal.conduct_line-requires-clause-open
 conduct_line-requires-clause-open g c κs within =
-    stays_open g.L.Link.opened_with g.L.Link.faults g.L.Link.made g.L.Link.openings c.args.link.now c.loop-line.link c.loop-line.invariant.link c.requires.open
+    stays_open g.L.Link.told g.L.Link.patience g.L.Link.opened_with g.L.Link.faults g.L.Link.made g.L.Link.openings 0 c.args.link.now c.loop-line.link c.loop-line.invariant.link c.requires.open
 
 pub conduct_line-requires-clause-may : goal.conduct_line-requires-clause-may
 conduct_line-requires-clause-may g c κs within =
@@ -26,7 +26,7 @@ conduct_line-requires-clause-may g c κs within =
 
 pub returns-in_err-conduct_line-clause-link : goal.returns-in_err-conduct_line-clause-link
 returns-in_err-conduct_line-clause-link g c =
-    KeepsLink-then g.L.Link.opened_with g.L.Link.faults g.L.Link.made g.L.Link.openings c.args.link.now c.loop-line.link c.conduct_line.new.link c.loop-line.invariant.link c.in_err-conduct_line.ensures.link
+    KeepsLink-then g.L.Link.told g.L.Link.patience g.L.Link.opened_with g.L.Link.faults g.L.Link.made g.L.Link.openings 0 0 c.args.link.now c.loop-line.link c.conduct_line.new.link c.loop-line.invariant.link c.in_err-conduct_line.ensures.link
 
 pub loop-line-preserved : goal.loop-line-preserved
 loop-line-preserved g c =
@@ -41,7 +41,7 @@ loop-line-preserved g c =
       conducted = next-run (plan_of c.args.session.now).config c.args.script.now c.as_slice-line-items.result.now c.loop-line.line-index (g.L.Link.told c.loop-line.link)
           c.loop-line.session c.requires.script c.as_slice-line-items.ensures inv.conducted c.loop-line-test.true (g.L.Link.told c.conduct_line.new.link)
           c.conduct_line.new.session inv.session e.session e.runs;
-      link = KeepsLink-then g.L.Link.opened_with g.L.Link.faults g.L.Link.made g.L.Link.openings c.args.link.now c.loop-line.link c.conduct_line.new.link inv.link e.link;
+      link = KeepsLink-then g.L.Link.told g.L.Link.patience g.L.Link.opened_with g.L.Link.faults g.L.Link.made g.L.Link.openings 0 0 c.args.link.now c.loop-line.link c.conduct_line.new.link inv.link e.link;
     }
 
 pub returns-clause-conducted : goal.returns-clause-conducted

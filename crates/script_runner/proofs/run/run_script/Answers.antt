@@ -130,8 +130,8 @@ returns-in_err-dones-clause-once g c = opens-once g.L.Link.opened_with g.L.Link.
 
 pub returns-in_err-finish-clause-once : goal.returns-in_err-finish-clause-once
 returns-in_err-finish-clause-once g c = opens-once g.L.Link.opened_with g.L.Link.faults g.L.Link.made g.L.Link.openings _ _ _ _ c.in-Done.ensures.making c.in-Done.ensures.counted
-    (KeepsLink-then g.L.Link.opened_with g.L.Link.faults g.L.Link.made g.L.Link.openings _ _ _ c.run_beside.ensures.link c.finish.ensures.link)
+    (KeepsLink-then g.L.Link.told g.L.Link.patience g.L.Link.opened_with g.L.Link.faults g.L.Link.made g.L.Link.openings 0 0 _ _ _ c.run_beside.ensures.link c.finish.ensures.link)
 
 pub returns-clause-once : goal.returns-clause-once
 returns-clause-once g c = opens-once g.L.Link.opened_with g.L.Link.faults g.L.Link.made g.L.Link.openings _ _ _ _ c.in-Done.ensures.making c.in-Done.ensures.counted
-    (KeepsLink-then g.L.Link.opened_with g.L.Link.faults g.L.Link.made g.L.Link.openings _ _ _ c.run_beside.ensures.link c.finish.ensures.link)
+    (KeepsLink-then g.L.Link.told g.L.Link.patience g.L.Link.opened_with g.L.Link.faults g.L.Link.made g.L.Link.openings 0 0 _ _ _ c.run_beside.ensures.link c.finish.ensures.link)

@@ -8,16 +8,16 @@ use Rattle.cmd_relay.proofs.relaying.Relay.play.Goals as goal
 
 pub loop-line-init : goal.loop-line-init
 loop-line-init g c = record {
-  lab = KeepsLink-refl g.A.Link.opened_with g.A.Link.faults g.A.Link.made g.A.Link.openings c.args.lab.now;
-  wire = KeepsLink-refl g.B.Link.opened_with g.B.Link.faults g.B.Link.made g.B.Link.openings c.args.wire.now;
+  lab = KeepsLink-refl g.A.Link.told g.A.Link.patience g.A.Link.opened_with g.A.Link.faults g.A.Link.made g.A.Link.openings c.args.lab.now;
+  wire = KeepsLink-refl g.B.Link.told g.B.Link.patience g.B.Link.opened_with g.B.Link.faults g.B.Link.made g.B.Link.openings c.args.wire.now;
   relayed = λ first second scripts h. h;
 }
 
 pub play_line-requires-clause-lab : goal.play_line-requires-clause-lab
-play_line-requires-clause-lab g c = stays_open g.A.Link.opened_with g.A.Link.faults g.A.Link.made g.A.Link.openings c.args.lab.now c.loop-line.lab c.loop-line.invariant.lab c.requires.lab
+play_line-requires-clause-lab g c = stays_open g.A.Link.told g.A.Link.patience g.A.Link.opened_with g.A.Link.faults g.A.Link.made g.A.Link.openings 0 c.args.lab.now c.loop-line.lab c.loop-line.invariant.lab c.requires.lab
 
 pub play_line-requires-clause-wire : goal.play_line-requires-clause-wire
-play_line-requires-clause-wire g c = stays_open g.B.Link.opened_with g.B.Link.faults g.B.Link.made g.B.Link.openings c.args.wire.now c.loop-line.wire c.loop-line.invariant.wire c.requires.wire
+play_line-requires-clause-wire g c = stays_open g.B.Link.told g.B.Link.patience g.B.Link.opened_with g.B.Link.faults g.B.Link.made g.B.Link.openings 0 c.args.wire.now c.loop-line.wire c.loop-line.invariant.wire c.requires.wire
 
 pub play_line-requires-clause-holds : goal.play_line-requires-clause-holds
 play_line-requires-clause-holds g c =
@@ -32,19 +32,19 @@ play_line-requires-clause-may g c =
 
 pub returns-in_err-play_line-clause-lab : goal.returns-in_err-play_line-clause-lab
 returns-in_err-play_line-clause-lab g c =
-    KeepsLink-then g.A.Link.opened_with g.A.Link.faults g.A.Link.made g.A.Link.openings c.args.lab.now c.loop-line.lab c.play_line.new.lab c.loop-line.invariant.lab c.in_err-play_line.ensures.lab
+    KeepsLink-then g.A.Link.told g.A.Link.patience g.A.Link.opened_with g.A.Link.faults g.A.Link.made g.A.Link.openings 0 0 c.args.lab.now c.loop-line.lab c.play_line.new.lab c.loop-line.invariant.lab c.in_err-play_line.ensures.lab
 
 pub returns-in_err-play_line-clause-wire : goal.returns-in_err-play_line-clause-wire
 returns-in_err-play_line-clause-wire g c =
-    KeepsLink-then g.B.Link.opened_with g.B.Link.faults g.B.Link.made g.B.Link.openings c.args.wire.now c.loop-line.wire c.play_line.new.wire c.loop-line.invariant.wire c.in_err-play_line.ensures.wire
+    KeepsLink-then g.B.Link.told g.B.Link.patience g.B.Link.opened_with g.B.Link.faults g.B.Link.made g.B.Link.openings 0 0 c.args.wire.now c.loop-line.wire c.play_line.new.wire c.loop-line.invariant.wire c.in_err-play_line.ensures.wire
 
 pub loop-line-preserved : goal.loop-line-preserved
 loop-line-preserved g c =
     let inv = c.loop-line.invariant in
     let e = c.in_ok-play_line.ensures in
     record {
-      lab = KeepsLink-then g.A.Link.opened_with g.A.Link.faults g.A.Link.made g.A.Link.openings c.args.lab.now c.loop-line.lab c.play_line.new.lab inv.lab e.lab;
-      wire = KeepsLink-then g.B.Link.opened_with g.B.Link.faults g.B.Link.made g.B.Link.openings c.args.wire.now c.loop-line.wire c.play_line.new.wire inv.wire e.wire;
+      lab = KeepsLink-then g.A.Link.told g.A.Link.patience g.A.Link.opened_with g.A.Link.faults g.A.Link.made g.A.Link.openings 0 0 c.args.lab.now c.loop-line.lab c.play_line.new.lab inv.lab e.lab;
+      wire = KeepsLink-then g.B.Link.told g.B.Link.patience g.B.Link.opened_with g.B.Link.faults g.B.Link.made g.B.Link.openings 0 0 c.args.wire.now c.loop-line.wire c.play_line.new.wire inv.wire e.wire;
       relayed = λ first second scripts h.
           let so_far = inv.relayed first second scripts h in
           relayed-next first second c.args.script.now c.as_slice-line-items.result.now c.loop-line.line-index scripts c.as_slice-line-items.ensures c.loop-line-test.true

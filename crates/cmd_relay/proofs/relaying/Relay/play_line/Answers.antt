@@ -37,5 +37,5 @@ returns-in_default g c = record {
     behind = behind-other second c.args.line.now.act (record c.args.self.now { player = c.play_line.new.self }) (record c.args.self.now { player = c.play_line.new.self }) (g.B.Link.told c.args.wire.now) (g.B.Link.told c.args.wire.now) (λ ms is. c.in_default.not-Tick ms is) refl refl;
   };
   lab = c.in_ok-play_line.ensures.link;
-  wire = KeepsLink-refl g.B.Link.opened_with g.B.Link.faults g.B.Link.made g.B.Link.openings c.args.wire.now;
+  wire = KeepsLink-refl g.B.Link.told g.B.Link.patience g.B.Link.opened_with g.B.Link.faults g.B.Link.made g.B.Link.openings c.args.wire.now;
 }

@@ -9,12 +9,12 @@ pub loop-line-init : goal.loop-line-init
 loop-line-init g c = record {
   player = c.requires.player;
   played = none-played (config_of c.args.self.now) c.args.script.now (g.L.Link.told c.args.link.now) c.args.self.now c.requires.played;
-  link = KeepsLink-refl g.L.Link.opened_with g.L.Link.faults g.L.Link.made g.L.Link.openings c.args.link.now;
+  link = KeepsLink-refl g.L.Link.told g.L.Link.patience g.L.Link.opened_with g.L.Link.faults g.L.Link.made g.L.Link.openings c.args.link.now;
 }
 
 pub play_line-requires-clause-open : goal.play_line-requires-clause-open
 play_line-requires-clause-open g c =
-    stays_open g.L.Link.opened_with g.L.Link.faults g.L.Link.made g.L.Link.openings c.args.link.now c.loop-line.link c.loop-line.invariant.link c.requires.open
+    stays_open g.L.Link.told g.L.Link.patience g.L.Link.opened_with g.L.Link.faults g.L.Link.made g.L.Link.openings 0 c.args.link.now c.loop-line.link c.loop-line.invariant.link c.requires.open
 
 pub play_line-requires-clause-player : goal.play_line-requires-clause-player
 play_line-requires-clause-player g c = c.loop-line.invariant.player
@@ -26,7 +26,7 @@ play_line-requires-clause-may g c =
 
 pub returns-in_err-play_line-clause-link : goal.returns-in_err-play_line-clause-link
 returns-in_err-play_line-clause-link g c =
-    KeepsLink-then g.L.Link.opened_with g.L.Link.faults g.L.Link.made g.L.Link.openings c.args.link.now c.loop-line.link c.play_line.new.link c.loop-line.invariant.link c.in_err-play_line.ensures.link
+    KeepsLink-then g.L.Link.told g.L.Link.patience g.L.Link.opened_with g.L.Link.faults g.L.Link.made g.L.Link.openings 0 0 c.args.link.now c.loop-line.link c.play_line.new.link c.loop-line.invariant.link c.in_err-play_line.ensures.link
 
 pub loop-line-preserved : goal.loop-line-preserved
 loop-line-preserved g c =
@@ -36,7 +36,7 @@ loop-line-preserved g c =
       player = e.player;
       played = (next-played (config_of c.args.self.now) c.args.script.now c.as_slice-line-items.result.now c.loop-line.line-index (g.L.Link.told c.loop-line.link) c.loop-line.self
           c.requires.script c.as_slice-line-items.ensures inv.player inv.played c.loop-line-test.true (g.L.Link.told c.play_line.new.link) c.play_line.new.self e.player e.does).0;
-      link = KeepsLink-then g.L.Link.opened_with g.L.Link.faults g.L.Link.made g.L.Link.openings c.args.link.now c.loop-line.link c.play_line.new.link inv.link e.link;
+      link = KeepsLink-then g.L.Link.told g.L.Link.patience g.L.Link.opened_with g.L.Link.faults g.L.Link.made g.L.Link.openings 0 0 c.args.link.now c.loop-line.link c.play_line.new.link inv.link e.link;
     }
 
 pub returns-clause-player : goal.returns-clause-player

@@ -7,5 +7,5 @@ abbrev pub invariant-loop-line : goal.invariant-loop-line
 invariant-loop-line g l = record {
   player : IsPlayer l.self;
   played : HasPlayed (config_of l.fn.self) l.script (reverse (take l.line-index l.script.lines)) (g.L.Link.told l.link) l.self;
-  link : KeepsLink g.L.Link.opened_with g.L.Link.faults g.L.Link.made g.L.Link.openings l.fn.link l.link;
+  link : KeepsLink g.L.Link.told g.L.Link.patience g.L.Link.opened_with g.L.Link.faults g.L.Link.made g.L.Link.openings 0 l.fn.link l.link;
 }

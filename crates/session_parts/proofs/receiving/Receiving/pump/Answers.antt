@@ -9,7 +9,7 @@ loop-taken-init g c = record {
   holds = c.requires.holds;
   room = c.requires.room;
   run = so-none c.args.config.now c.args.tree.now c.args.moment c.args.self.now c.args.subscriber.now (g.L.Link.told c.args.link.now);
-  link = KeepsLink-refl g.L.Link.opened_with g.L.Link.faults g.L.Link.made g.L.Link.openings c.args.link.now;
+  link = KeepsLink-refl g.L.Link.told g.L.Link.patience g.L.Link.opened_with g.L.Link.faults g.L.Link.made g.L.Link.openings c.args.link.now;
 }
 
 pub returns-then-not-receive-clause-pumps : goal.returns-then-not-receive-clause-pumps
@@ -19,7 +19,7 @@ returns-then-not-receive-clause-pumps g c =
     _ _ _ few c.loop-taken.invariant.run c.if-not-receive.ensures.receives
 
 pub receive-requires-clause-open : goal.receive-requires-clause-open
-receive-requires-clause-open g c = stays_open g.L.Link.opened_with g.L.Link.faults g.L.Link.made g.L.Link.openings c.args.link.now c.loop-taken.link c.loop-taken.invariant.link c.requires.open
+receive-requires-clause-open g c = stays_open g.L.Link.told g.L.Link.patience g.L.Link.opened_with g.L.Link.faults g.L.Link.made g.L.Link.openings 0 c.args.link.now c.loop-taken.link c.loop-taken.invariant.link c.requires.open
 
 pub loop-taken-preserved : goal.loop-taken-preserved
 loop-taken-preserved g c = record {
@@ -27,7 +27,7 @@ loop-taken-preserved g c = record {
   room = c.receive.ensures.room;
   run = so-more c.args.config.now c.args.tree.now c.args.moment c.loop-taken.taken c.args.self.now c.loop-taken.self c.receive.new.self c.args.subscriber.now c.loop-taken.subscriber c.receive.new.subscriber
       _ _ _ c.loop-taken.invariant.run c.if-not-receive.ensures.receives;
-  link = KeepsLink-then g.L.Link.opened_with g.L.Link.faults g.L.Link.made g.L.Link.openings c.args.link.now c.loop-taken.link c.receive.new.link c.loop-taken.invariant.link c.receive.ensures.link;
+  link = KeepsLink-then g.L.Link.told g.L.Link.patience g.L.Link.opened_with g.L.Link.faults g.L.Link.made g.L.Link.openings 0 0 c.args.link.now c.loop-taken.link c.receive.new.link c.loop-taken.invariant.link c.receive.ensures.link;
 }
 
 pub returns-clause-pumps : goal.returns-clause-pumps
