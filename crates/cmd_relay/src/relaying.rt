@@ -52,16 +52,16 @@ pub(crate) fn relayed_text<R: Wait, A: Link, B: Link>(
     ensures wire_opened { OnOk result
         (B.opened_with wire.new ≡ Some (opening_again accepted.now.second)) }
     ensures lab_opens { OpensSo (Some (opening_of accepted.now.first accepted.now.script))
-        (wire_of A.told A.faults A.opened_with A.made A.openings lab.old)
-        (wire_of A.told A.faults A.opened_with A.made A.openings lab.new) }
+        (wire_of A.told A.patience A.faults A.opened_with A.made A.openings lab.old)
+        (wire_of A.told A.patience A.faults A.opened_with A.made A.openings lab.new) }
     ensures wire_opens { OpensSo (Some (opening_again accepted.now.second))
-        (wire_of B.told B.faults B.opened_with B.made B.openings wire.old)
-        (wire_of B.told B.faults B.opened_with B.made B.openings wire.new) }
+        (wire_of B.told B.patience B.faults B.opened_with B.made B.openings wire.old)
+        (wire_of B.told B.patience B.faults B.opened_with B.made B.openings wire.new) }
     ensures unopened { result ≡ Err PlayEnd.Unopened → LeavesUnopened
-        (wire_of A.told A.faults A.opened_with A.made A.openings lab.old)
-        (wire_of A.told A.faults A.opened_with A.made A.openings lab.new)
-        (wire_of B.told B.faults B.opened_with B.made B.openings wire.old)
-        (wire_of B.told B.faults B.opened_with B.made B.openings wire.new) }
+        (wire_of A.told A.patience A.faults A.opened_with A.made A.openings lab.old)
+        (wire_of A.told A.patience A.faults A.opened_with A.made A.openings lab.new)
+        (wire_of B.told B.patience B.faults B.opened_with B.made B.openings wire.old)
+        (wire_of B.told B.patience B.faults B.opened_with B.made B.openings wire.new) }
     ensures lab_once { OpensOnce A.made A.openings (IsOk result) lab.old lab.new }
     ensures wire_once { OpensOnce B.made B.openings (IsOk result) wire.old wire.new }
     ensures lab_counts { A.faults lab.old ≤ A.faults lab.new }
@@ -93,16 +93,16 @@ fn open_both<A: Link, B: Link>(
     ensures lab_empty { OnOk result (IsUntold (A.told lab.new)) }
     ensures wire_empty { OnOk result (IsUntold (B.told wire.new)) }
     ensures lab_opens { OpensSo (Some (opening_of accepted.now.first accepted.now.script))
-        (wire_of A.told A.faults A.opened_with A.made A.openings lab.old)
-        (wire_of A.told A.faults A.opened_with A.made A.openings lab.new) }
+        (wire_of A.told A.patience A.faults A.opened_with A.made A.openings lab.old)
+        (wire_of A.told A.patience A.faults A.opened_with A.made A.openings lab.new) }
     ensures wire_opens { OpensSo (Some (opening_again accepted.now.second))
-        (wire_of B.told B.faults B.opened_with B.made B.openings wire.old)
-        (wire_of B.told B.faults B.opened_with B.made B.openings wire.new) }
+        (wire_of B.told B.patience B.faults B.opened_with B.made B.openings wire.old)
+        (wire_of B.told B.patience B.faults B.opened_with B.made B.openings wire.new) }
     ensures unopened { result ≡ Err PlayEnd.Unopened → LeavesUnopened
-        (wire_of A.told A.faults A.opened_with A.made A.openings lab.old)
-        (wire_of A.told A.faults A.opened_with A.made A.openings lab.new)
-        (wire_of B.told B.faults B.opened_with B.made B.openings wire.old)
-        (wire_of B.told B.faults B.opened_with B.made B.openings wire.new) }
+        (wire_of A.told A.patience A.faults A.opened_with A.made A.openings lab.old)
+        (wire_of A.told A.patience A.faults A.opened_with A.made A.openings lab.new)
+        (wire_of B.told B.patience B.faults B.opened_with B.made B.openings wire.old)
+        (wire_of B.told B.patience B.faults B.opened_with B.made B.openings wire.new) }
     ensures lab_once { OpensOnce A.made A.openings (IsOk result) lab.old lab.new }
     ensures wire_once { OpensOnce B.made B.openings (IsOk result) wire.old wire.new }
     ensures lab_counts { A.faults lab.old ≤ A.faults lab.new }

@@ -39,8 +39,8 @@ pub fn run<'w, R: Threads + Wait + Sync, F: Folder, B: Link, G: Gate, K: Sink>(
     ensures ends { RunEnds result script.now (option_copied config.entry)
         (outside_of F.tells F.faults K.written K.faults folder.old out.old)
         (outside_of F.tells F.faults K.written K.faults folder.new out.new)
-        (wire_of B.told B.faults B.opened_with B.made B.openings wire.old)
-        (wire_of B.told B.faults B.opened_with B.made B.openings wire.new) }
+        (wire_of B.told B.patience B.faults B.opened_with B.made B.openings wire.old)
+        (wire_of B.told B.patience B.faults B.opened_with B.made B.openings wire.new) }
     ensures unlinked { IsBeforeLink result → wire.new ≡ wire.old }
     ensures silent { ¬ IsDone result → ¬ IsUnwritten result → out.new ≡ out.old }
 {
