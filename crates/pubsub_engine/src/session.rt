@@ -150,7 +150,8 @@ impl<'c> Session<'c> {
         ensures passes { KeepsPasses self.old self.new }
         ensures appends { appends_left self.new ≡ appends_left self.old }
         ensures memory { result ≡ Ticked.Memory → IsTrue L.takes_memory }
-        ensures link { KeepsLink L.told L.patience L.opened_with L.faults L.made L.openings 0 link.old link.new }
+        ensures link { KeepsLink L.told L.patience L.opened_with L.faults L.made L.openings
+            0 link.old link.new }
     {
         self.left.ticks -= 1;
         self.left.pumps += 1;
@@ -190,7 +191,8 @@ impl<'c> Session<'c> {
         ensures sampled { sampled_by self.new ≡ sampled_by self.old }
         ensures plan { plan_of self.new ≡ plan_of self.old }
         ensures appends { appends_left self.new ≡ appends_left self.old }
-        ensures link { KeepsLink L.told L.patience L.opened_with L.faults L.made L.openings 0 link.old link.new }
+        ensures link { KeepsLink L.told L.patience L.opened_with L.faults L.made L.openings
+            1 link.old link.new }
     {
         self.left.pumps -= 1;
         let pumped = self.round.pump(self.config, link);

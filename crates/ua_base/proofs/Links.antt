@@ -1,5 +1,5 @@
 -- Calls in a row over a link.
-use Rattle.std.proofs.Common.{◌≤◌, ℕ, Option, IsSome, refl, sym, ◌∙◌, subst, arith}
+use Rattle.std.proofs.Common.{◌≤◌, ◌+◌, ℕ, Option, IsSome, refl, sym, ◌∙◌, subst, arith}
 use Rattle.ua_base.specs.Journal.{LinkState}
 use Rattle.ua_base.specs.Links.{Making, Opening, TellsOn, KeepsLink}
 

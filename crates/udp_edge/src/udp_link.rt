@@ -231,7 +231,8 @@ impl<R: Net> Link for UdpLink<'_, R> {
 
         ensures entry { Tells (told_by self.old) (told_by self.new) (Sends datagram.now result) }
         ensures waiting { Tells (told_by self.old) (told_by self.new) (Queues result) }
-        ensures link { KeepsLink told_by patience_of opened_by faults_of made_by openings_of 0 self.old self.new }
+        ensures link { KeepsLink told_by patience_of opened_by faults_of made_by openings_of
+            0 self.old self.new }
         ensures only_where_taken { result ≡ Sent.Memory → IsTrue false }
         ensures cause { result ≡ Sent.Failed → Rose (faults_of self.old) (faults_of self.new) }
 
@@ -260,7 +261,8 @@ impl<R: Net> Link for UdpLink<'_, R> {
 
         ensures entry { Tells (told_by self.old) (told_by self.new) (Receives result into.new) }
         ensures sizes { FitsBuffer result into.new }
-        ensures link { KeepsLink told_by patience_of opened_by faults_of made_by openings_of 0 self.old self.new }
+        ensures link { KeepsLink told_by patience_of opened_by faults_of made_by openings_of
+            0 self.old self.new }
         ensures cause { result ≡ Received.Failed → Rose (faults_of self.old) (faults_of self.new) }
 
         ensures failed { result ≡ Received.Failed
