@@ -23,5 +23,5 @@ pub fn calls_in_a_row_keep_a_link<L: Link>()
         → KeepsLink L.told L.patience L.opened_with L.faults L.made L.openings one first next
         → KeepsLink L.told L.patience L.opened_with L.faults L.made L.openings other next last
         → KeepsLink L.told L.patience L.opened_with L.faults L.made L.openings
-            (one + other) first last }
+        (one + other) first last }
 {}
