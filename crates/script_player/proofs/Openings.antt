@@ -39,9 +39,12 @@ performed-opened {T} {closed} e = closed-unopened closed e
 same-end : {T : Type 0} (end : PlayEnd) → Path (Result T PlayEnd) (Err end) (Err Unopened) → end ≡ Unopened
 same-end end e = cc
 
+abbrev pub ended : {T : Type 0} → PlayEnd → Result T PlayEnd
+ended end = Err end
+
 -- what ended so for another result ended so for this one
 pub as-failed : {T U : Type 0} (result : Result T PlayEnd) (end : PlayEnd) → IsErrAnd result (λ other. other ≡ end)
-    → (IsOk result → IsOk {T = U} (Err end)) × (result ≡ Err Unopened → Path (Result U PlayEnd) (Err end) (Err Unopened))
+    → (IsOk result → IsOk (ended {T = U} end)) × (result ≡ Err Unopened → Path (Result U PlayEnd) (Err end) (Err Unopened))
 as-failed (Ok closed) end h = absurd h
 as-failed (Err other) end h = ((λ is. absurd (false≢true is)), (λ is. ap (λ (e : PlayEnd). Err e) (sym h ∙ same-end other is)))
 

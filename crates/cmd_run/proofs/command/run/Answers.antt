@@ -20,5 +20,5 @@ pub returns-clause-ends : goal.returns-clause-ends
 returns-clause-ends g c =
     let failed = c.in-Err-ran.ensures in
     ends_as _ _ _ _ _ _ _ _ _ _ _ c.status_of.ensures
-    (ends_unplayed _ _ _ c.in-Err-ran.end _ _ _ _ _ _ _ _ c.in-Ok.ensures.accepts refl (over-wire g.B.Link.told g.B.Link.patience g.B.Link.opened_with g.B.Link.faults g.B.Link.made g.B.Link.openings _ _ _ _ _ failed.over) (ap Err)
+    (ends_unplayed _ _ _ c.in-Err-ran.end _ _ _ _ _ _ _ _ c.in-Ok.ensures.accepts refl (over-wire g.B.Link.told g.B.Link.patience g.B.Link.opened_with g.B.Link.faults g.B.Link.made g.B.Link.openings _ _ _ _ _ failed.over) (λ is. ap Err is)
     (c.in-Ok.ensures.folder.files, c.in-Ok.ensures.folder.counted) refl)

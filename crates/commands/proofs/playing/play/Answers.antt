@@ -20,5 +20,5 @@ pub returns-clause-ends : goal.returns-clause-ends
 returns-clause-ends g c =
     let failed = c.in-Err-played.ensures in
     ends_as _ _ _ _ _ _ _ _ _ _ _ c.status_of.ensures
-    (ends_unplayed _ _ _ c.in-Err-played.end _ _ _ _ _ _ _ _ c.in-Ok.ensures.accepts refl (over-wire g.A.Link.told g.A.Link.patience g.A.Link.opened_with g.A.Link.faults g.A.Link.made g.A.Link.openings _ _ _ _ _ failed.over) (ap Err)
+    (ends_unplayed _ _ _ c.in-Err-played.end _ _ _ _ _ _ _ _ c.in-Ok.ensures.accepts refl (over-wire g.A.Link.told g.A.Link.patience g.A.Link.opened_with g.A.Link.faults g.A.Link.made g.A.Link.openings _ _ _ _ _ failed.over) (λ is. ap Err is)
     (c.in-Ok.ensures.folder.files, c.in-Ok.ensures.folder.counted) refl)
