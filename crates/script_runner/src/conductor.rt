@@ -38,7 +38,8 @@ pub(crate) fn conduct<R: Wait, L: Link, G: Gate>(
     ensures targets { OnOk result (AreTargetsOf session.new targets.now) }
     ensures conducted { OnOk result (HasConducted (plan_of session.old).config script.now
         (reverse script.now.lines) (L.told link.new) session.new) }
-    ensures link { KeepsLink L.told L.patience L.opened_with L.faults L.made L.openings 0 link.old link.new }
+    ensures link { KeepsLink L.told L.patience L.opened_with L.faults L.made L.openings
+        0 link.old link.new }
 {
     let mut ticks = 0;
     for line in script.lines.as_slice() {
@@ -69,7 +70,8 @@ fn conduct_line<R: Wait, L: Link, G: Gate>(
     ensures targets { OnOk result (AreTargetsOf session.new targets.now) }
     ensures runs { OnOk result
         (RunsTo act.now session.old session.new (L.told link.old) (L.told link.new)) }
-    ensures link { KeepsLink L.told L.patience L.opened_with L.faults L.made L.openings 0 link.old link.new }
+    ensures link { KeepsLink L.told L.patience L.opened_with L.faults L.made L.openings
+        0 link.old link.new }
 {
     let Act::Tick(ms) = act else {
         switch(session, act);

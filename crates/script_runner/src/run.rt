@@ -104,7 +104,8 @@ fn run_beside<R: Threads + Wait + Sync, L: Link, G: Gate>(
     ensures conducted { OnOk result (HasConducted (plan_of session.old).config script.now
         (reverse script.now.lines) (L.told link.new) session.new) }
     ensures done { IfOk result (λ dones. AreDone bank.now targets.now.cells crew dones.items) }
-    ensures link { KeepsLink L.told L.patience L.opened_with L.faults L.made L.openings 0 link.old link.new }
+    ensures link { KeepsLink L.told L.patience L.opened_with L.faults L.made L.openings
+        0 link.old link.new }
 {
     let (dones, conducted) = crew.run(
         rt,
