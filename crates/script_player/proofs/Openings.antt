@@ -27,7 +27,7 @@ memory-opens e = cc
 -- an end for want of memory performed nothing, and left nothing unopened
 pub for-memory : {T : Type 0} (result : Result T PlayEnd) → IsErrAnd result (λ end. end ≡ Memory) → (IsOk result → ⊥) × (result ≡ Err Unopened → ⊥)
 for-memory (Ok closed) h = absurd h
-for-memory (Err end) h = ((λ is. false≢true is), (λ is. memory-opens (ap Err (sym h) ∙ is)))
+for-memory (Err end) h = ((λ is. false≢true is), (λ is. memory-opens (ap (λ (e : PlayEnd). Err e) (sym h) ∙ is)))
 
 closed-unopened : {T : Type 0} (closed : T) → Path (Result T PlayEnd) (Ok closed) (Err Unopened) → ⊥
 closed-unopened closed e = cc
@@ -35,6 +35,18 @@ closed-unopened closed e = cc
 -- nor did a session that was performed
 pub performed-opened : {T : Type 0} {closed : T} → Path (Result T PlayEnd) (Ok closed) (Err Unopened) → ⊥
 performed-opened {T} {closed} e = closed-unopened closed e
+
+same-end : {T : Type 0} (end : PlayEnd) → Path (Result T PlayEnd) (Err end) (Err Unopened) → end ≡ Unopened
+same-end end e = cc
+
+abbrev pub ended : {T : Type 0} → PlayEnd → Result T PlayEnd
+ended end = Err end
+
+-- what ended so for another result ended so for this one
+pub as-failed : {T U : Type 0} (result : Result T PlayEnd) (end : PlayEnd) → IsErrAnd result (λ other. other ≡ end)
+    → (IsOk result → IsOk (ended {T = U} end)) × (result ≡ Err Unopened → Path (Result U PlayEnd) (Err end) (Err Unopened))
+as-failed (Ok closed) end h = absurd h
+as-failed (Err other) end h = ((λ is. absurd (false≢true is)), (λ is. ap (λ (e : PlayEnd). Err e) (sym h ∙ same-end other is)))
 
 -- ---- uses
 

@@ -132,15 +132,24 @@ impl<'c> Player<'c> {
         match &line.act {
             Act::Write { thread, set, patch } => self.write(rt, alloc, *thread, *set, patch),
             Act::Tick(ms) => self.tick(rt, u64::from(*ms), false, link),
-            Act::Enable(id) => self.enable(*id),
-            Act::Disable(id) => self.disable(*id),
+            Act::Enable(id) => {
+                self.enable(*id);
+                Ok(())
+            }
+            Act::Disable(id) => {
+                self.disable(*id);
+                Ok(())
+            }
             Act::Fated { .. } => Ok(()),
             Act::Watch {
                 thread,
                 reader,
                 times,
             } => self.watch(rt, alloc, *thread, *reader, *times),
-            Act::Append { .. } => self.append(),
+            Act::Append { .. } => {
+                self.append();
+                Ok(())
+            }
         }
     }
 
@@ -190,36 +199,33 @@ impl<'c> Player<'c> {
     }
 
     /// Enables a component.
-    fn enable(&mut self, id: u8) -> Result<(), NoMemory>
+    fn enable(&mut self, id: u8)
         requires player { IsPlayer self.old }
         requires may { MaySwitch id self.old }
         ensures player { IsPlayer self.new }
         ensures switches { Switches (EnableStep id) id false self.old self.new }
     {
         self.session.enable(id);
-        Ok(())
     }
 
     /// Disables a component.
-    fn disable(&mut self, id: u8) -> Result<(), NoMemory>
+    fn disable(&mut self, id: u8)
         requires player { IsPlayer self.old }
         requires may { MaySwitch id self.old }
         ensures player { IsPlayer self.new }
         ensures switches { Switches (DisableStep id) id true self.old self.new }
     {
         self.session.disable(id);
-        Ok(())
     }
 
     /// The next field is appended.
-    fn append(&mut self) -> Result<(), NoMemory>
+    fn append(&mut self)
         requires player { IsPlayer self.old }
         requires may { MayAppend self.old }
         ensures player { IsPlayer self.new }
         ensures appends { Appends self.old self.new }
     {
         self.session.append();
-        Ok(())
     }
 
     /// A thread's looks at a reader, so often at once.

@@ -39,7 +39,7 @@ pub(crate) fn finish<R: Wait, L: Link>(
     ensures finishes { IfOk result (Finishes bank.now targets.now.cells session.entry dones.items
         (L.told link.old) (L.told link.new)) }
     ensures link { KeepsLink L.told L.patience L.opened_with L.faults L.made L.openings
-        0 link.old link.new }
+        1 link.old link.new }
 {
     meet_all(rt, alloc, &mut session, bank, &mut dones)?;
     level_all(rt, &mut session, targets, &mut dones);
