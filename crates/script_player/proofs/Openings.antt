@@ -16,7 +16,7 @@ use Rattle.ps_script.specs.Sessions.{fates_of}
 use Rattle.session_model.specs.Counts.{session_nothings}
 use Rattle.script_player.specs.declared.play.PlayEnd.{PlayEnd}
 use Rattle.script_player.specs.declared.play.PlayEnd.TheVariants.{Memory, Unopened}
-use Rattle.script_player.specs.Openings.{OpensOnce, PerformsOver}
+use Rattle.script_player.specs.Openings.{PerformsOver}
 use Rattle.script_player.specs.Plays.{opening_of}
 
 -- ---- ends

@@ -8,6 +8,7 @@ use Rattle.ua_base.specs.declared.link.Opened.TheVariants.{Failed, Memory}
 use Rattle.app_threads.specs.Crews.{AreDone, AreReady}
 use Rattle.app_threads.specs.Duties.{Duty}
 use Rattle.ps_config.specs.declared.parts.Config.{Config}
+use Rattle.ps_report.specs.declared.closed.Closed.{Closed}
 use Rattle.ps_script.specs.declared.script.Script.{Script}
 use Rattle.ps_script.specs.Sessions.{ticks_in, writes_in}
 use Rattle.session_model.specs.Steps.{Plan}
@@ -142,7 +143,7 @@ returns-in-Failed-clause-over g c =
 pub returns-in-Memory-clause-over : goal.returns-in-Memory-clause-over
 returns-in-Memory-clause-over g c =
     let e = c.in-Memory.ensures in
-    let none = for-memory (Err ends.Memory) refl in
+    let none = for-memory {T = Closed} (Err ends.Memory) refl in
     performs-refused g.L.Link.told g.L.Link.patience g.L.Link.opened_with g.L.Link.faults g.L.Link.made g.L.Link.openings (opening_of c.args.config.now c.args.script.now) _ _ Memory c.args.link.now c.open-2.new.self
     refl none.0 e.refused e.cause.later (λ is. absurd (none.1 is)) e.lasts e.making e.counted
 
