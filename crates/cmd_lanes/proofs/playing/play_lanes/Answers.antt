@@ -1,11 +1,10 @@
-use Rattle.std.proofs.Common.{List, Err, refl, sym, ◌∙◌, subst, arith}
+use Rattle.std.proofs.Common.{List, refl, sym, ◌∙◌, subst, arith}
 use Rattle.std.proofs.lemmas.Bool.{false≢true}
 use Rattle.ua_base.specs.declared.link.Opened.TheVariants.{Failed, Memory}
 use Rattle.lane_groups.specs.declared.turn.TurnIn.{TurnIn}
 use Rattle.lane_groups.specs.Deeds.{turns_deeds}
 use Rattle.cmd_lanes.specs.Courses.{AreTurnsOf}
 use Rattle.cmd_lanes.proofs.Played.{have-groups, is-lanes, opened-new, stand-all}
-use Rattle.script_player.specs.declared.play.PlayEnd.TheVariants as ends
 use Rattle.script_player.specs.Plays.{opening_of}
 use Rattle.script_player.proofs.Openings.{for-memory, opened-as, performed-opened, performs-opened, performs-refused, performs-unused}
 use Rattle.cmd_lanes.proofs.playing.play_lanes.Goals as goal
@@ -54,9 +53,8 @@ returns-in-Failed-clause-over g c =
 pub returns-in-Memory-clause-over : goal.returns-in-Memory-clause-over
 returns-in-Memory-clause-over g c =
     let e = c.in-Memory.ensures in
-    let none = for-memory (Err ends.Memory) refl in
     performs-refused g.L.Link.told g.L.Link.patience g.L.Link.opened_with g.L.Link.faults g.L.Link.made g.L.Link.openings (opening_of c.args.config.now c.args.script.now) _ _ Memory c.args.link.now c.open.new.self
-    refl none.0 e.refused e.cause.later (λ is. absurd (none.1 is)) e.lasts e.making e.counted
+    refl (λ is. false≢true is) e.refused e.cause.later (λ is. absurd cc) e.lasts e.making e.counted
 
 -- it was opened, and sends alone came behind that
 pub returns-in_err-ran-clause-over : goal.returns-in_err-ran-clause-over

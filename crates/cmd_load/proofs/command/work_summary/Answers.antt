@@ -1,7 +1,7 @@
-use Rattle.std.proofs.Common.{Err, refl}
-use Rattle.script_player.specs.declared.play.PlayEnd.TheVariants as ends
+use Rattle.std.proofs.Common.{refl}
+use Rattle.ps_report.specs.declared.closed.Closed.{Closed}
 use Rattle.script_player.specs.Plays.{opening_of}
-use Rattle.script_player.proofs.Openings.{as-failed, for-memory, performed-opened}
+use Rattle.script_player.proofs.Openings.{as-failed}
 use Rattle.commands.proofs.Ends.{over-wire, uses-wire}
 use Rattle.cmd_load.specs.Loads.{OpensForWork}
 use Rattle.cmd_load.proofs.Told.{opens_for, summarized}
@@ -14,19 +14,18 @@ returns-in-Ok-clause-summary g c =
 pub returns-in-Ok-clause-link : goal.returns-in-Ok-clause-link
 returns-in-Ok-clause-link g c =
     uses-wire (OpensForWork c.args.n) (opening_of c.args.config.now c.args.script.now) _ _ _ _
-    (over-wire g.A.Link.told g.A.Link.patience g.A.Link.opened_with g.A.Link.faults g.A.Link.made g.A.Link.openings _ _ _ _ _ c.in_ok-closed.ensures.over) (λ is. refl) (λ is. absurd (performed-opened is))
+    (over-wire g.A.Link.told g.A.Link.patience g.A.Link.opened_with g.A.Link.faults g.A.Link.made g.A.Link.openings _ _ _ _ _ c.in_ok-closed.ensures.over) (λ is. refl) (λ is. absurd cc)
     (opens_for _ _ _ _ c.requires.config c.requires.script refl)
 
 pub returns-in_err-closed-clause-link : goal.returns-in_err-closed-clause-link
 returns-in_err-closed-clause-link g c =
-    let same = as-failed c.from_residual-in_err-closed.result c.in_err-closed.field-0 c.from_residual-in_err-closed.ensures.1 in
+    let same = as-failed {U = Closed} c.from_residual.result c.in_err-closed.field-0.0 c.from_residual.ensures.1 in
     uses-wire (OpensForWork c.args.n) (opening_of c.args.config.now c.args.script.now) _ _ _ _
     (over-wire g.A.Link.told g.A.Link.patience g.A.Link.opened_with g.A.Link.faults g.A.Link.made g.A.Link.openings _ _ _ _ _ c.in_err-closed.ensures.over) same.0 same.1
     (opens_for _ _ _ _ c.requires.config c.requires.script refl)
 
 pub returns-clause-link : goal.returns-clause-link
 returns-clause-link g c =
-    let none = for-memory (Err ends.Memory) refl in
     uses-wire (OpensForWork c.args.n) (opening_of c.args.config.now c.args.script.now) _ _ _ _
-    (over-wire g.A.Link.told g.A.Link.patience g.A.Link.opened_with g.A.Link.faults g.A.Link.made g.A.Link.openings _ _ _ _ _ c.in_ok-closed.ensures.over) (λ is. refl) (λ is. absurd (none.1 is))
+    (over-wire g.A.Link.told g.A.Link.patience g.A.Link.opened_with g.A.Link.faults g.A.Link.made g.A.Link.openings _ _ _ _ _ c.in_ok-closed.ensures.over) (λ is. refl) (λ is. absurd cc)
     (opens_for _ _ _ _ c.requires.config c.requires.script refl)
