@@ -41,7 +41,7 @@ use Rattle.session_model.specs.Events.{events, read_group_indexes}
 use Rattle.session_model.specs.Keeping.{AreStepsOf}
 use Rattle.session_model.specs.Lives.{Account, Lived, Renewed, Stepped, account_in, account_of, befalls, log_in, steps_in}
 use Rattle.session_model.specs.Readings.{Reading, goes_on, read_on, reads_with, rekeyed_if, setting_in}
-use Rattle.session_model.specs.Closing.{IsClosedAfter, IsClosedTelling, IsReaderEnd, IsWriterEndWith, MemberPlace, TellsEndsIf, TellsNumberAlone, reader_places, writer_places}
+use Rattle.session_model.specs.Closing.{IsClosedAfter, IsClosedTelling, IsReaderEnd, IsWriterEndWith, MemberPlace, TellsEndsIf, TellsNumberAlone, TellsReaderAlone, reader_places, writer_places}
 use Rattle.session_parts.specs.Showing.{link_of}
 use Rattle.session_parts.specs.Standing.{AreReceivesIn, AreSendsIn}
 use Rattle.pubsub_engine.specs.declared.session.Session.{Session}
@@ -124,9 +124,6 @@ tells-alone logs p at meta kept (Some held) has row number is = record {
       is.other;
 }
 
-abbrev TellsAlone : ReadGroupPart × ReaderPart → ReaderEnd → Type 0
-TellsAlone at end = IfSome end.held (TellsNumberAlone at.1)
-
 -- beside each held row of a reader that this became of stands the number that its numbering asks for
 abbrev pub AllNumbered : Plan → Account → Type 0
 AllNumbered p a = (r : ℕ) → HaveNumbers (setting_of p.config r) (a.readings r).value
@@ -154,9 +151,9 @@ tells-readers true logs p steps a closed numbers named told order = record {
 }
 tells-readers false logs p steps a closed numbers named told order = record {
   readers =
-      subst (λ (l : List (ReadGroupPart × ReaderPart)). AllZip TellsAlone l closed.readers) (grouped-places p.config)
-      (pairs-map TellsAlone (reader_in p.config) (reader_places p.config) closed.readers
-      (pairs-weaker (IsPlace p.config) (IsToldBy (logs_told false logs) p steps a) (λ place end. TellsAlone (reader_in p.config place) end)
+      subst (λ (l : List (ReadGroupPart × ReaderPart)). AllZip TellsReaderAlone l closed.readers) (grouped-places p.config)
+      (pairs-map TellsReaderAlone (reader_in p.config) (reader_places p.config) closed.readers
+      (pairs-weaker (IsPlace p.config) (IsToldBy (logs_told false logs) p steps a) (λ place end. TellsReaderAlone (reader_in p.config place) end)
       (λ place end there is.
       tells-alone logs p (reader_in p.config place) (seat_at (setting_of p.config place.0).seats place.1).meta (member_at (a.readings place.0).value.members place.1).kept end.held
       (by-place p a place numbers there) is.is.shows.row is.is.shows.number is.version)

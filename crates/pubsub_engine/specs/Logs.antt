@@ -31,9 +31,9 @@ log_by logs config id =
     option_map_or (λ at. logs at.1.0 at.1.1) (find (λ at. at.0.id == id) (zip (writers_of config.group) (writer_places config))) []
 
 -- the logs that versions are told of: none where no versions are told
-abbrev pub logs_told : Bool → (ℕ → ℕ → List (ℕ × ℕ)) → ℕ → ℕ → List (ℕ × ℕ)
-logs_told true logs g w = logs g w
-logs_told false logs g w = []
+abbrev pub logs_told : Bool → (ℕ → ℕ → List (ℕ × ℕ)) → (ℕ → ℕ → List (ℕ × ℕ))
+logs_told true logs = logs
+logs_told false logs = λ g w. []
 
 -- no two data frames of a log have the same number of 16 bits
 abbrev pub HasOwnNumbers : List (ℕ × ℕ) → Type 0

@@ -6,6 +6,7 @@ use Rattle.dataset_meta.specs.Metas.{MetaData}
 use Rattle.row_words.specs.Belonging.{row_in, Belongs}
 use Rattle.ua_base.specs.Journal.{Entry, Sent, SendFailed, Got, Empty, Long, ReceiveFailed, sent_datagram, received_datagram}
 use Rattle.ps_config.specs.declared.parts.Config.{Config}
+use Rattle.ps_config.specs.declared.parts.ReadGroupPart.{ReadGroupPart}
 use Rattle.ps_config.specs.declared.parts.ReaderPart.{ReaderPart}
 use Rattle.ps_report.specs.declared.closed.Closed.{Closed}
 use Rattle.ps_report.specs.declared.closed.GroupEnd.{GroupEnd}
@@ -130,8 +131,12 @@ pub record TellsNumberAlone (part : ReaderPart) (held : HeldEnd) : Type 0 where
   pub number : TellsNumber part.numbering held.number
   pub version : held.version ≡ None
 
+abbrev pub TellsReaderAlone : ReadGroupPart × ReaderPart → ReaderEnd → Type 0
+TellsReaderAlone at end = IfSome end.held (TellsNumberAlone at.1)
+
+-- so of each reader, and the watches in the order of their threads
 pub record TellsNumbersAlone (config : Config) (closed : Closed) : Type 0 where
-  pub readers : AllZip (λ at end. IfSome end.held (TellsNumberAlone at.1)) (grouped_readers config.readgroup) closed.readers
+  pub readers : AllZip TellsReaderAlone (grouped_readers config.readgroup) closed.readers
   pub watches : IsNonDecreasing (map (λ end. end.thread) closed.watches)
 
 -- with versions or without

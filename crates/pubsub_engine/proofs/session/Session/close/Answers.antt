@@ -44,9 +44,9 @@ returns c =
           (c.in_ok-writers.ensures most p steps a have);
       read_groups = λ p steps a have. c.new-4.ensures ∙ c.in_ok-read_groups.ensures p steps a have;
       readers = λ most p steps a published have.
-          subst (λ (l : List ReaderEnd). AllZip (IsToldBy (logs_told (tells_versions s) (log_after most p.config a.deeds)) p steps a) (reader_places p.config) l) (sym c.new-5.ensures)
-          (subst (λ (versions : Bool). AllZip (IsToldBy (logs_told versions (log_after most p.config a.deeds)) p steps a) (reader_places p.config) c.in_ok-readers.result.items)
-          c.tells_versions.ensures (c.in_ok-readers.ensures most p steps a published have));
+          subst (λ (versions : Bool). AllZip (IsToldBy (logs_told versions (log_after most p.config a.deeds)) p steps a) (reader_places p.config) c.new-5.result) c.tells_versions.ensures
+          (subst (λ (l : List ReaderEnd). AllZip (IsToldBy (logs_told c.tells_versions.result (log_after most p.config a.deeds)) p steps a) (reader_places p.config) l) (sym c.new-5.ensures)
+          (c.in_ok-readers.ensures most p steps a published have));
       watches = c.new-6.ensures ∙ c.in_ok-watches.ensures;
       link = λ steps a. c.link_end.ensures a.journal steps;
     } in
