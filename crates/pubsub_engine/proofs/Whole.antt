@@ -4,10 +4,11 @@ use Rattle.std.specs.Prelude.{◌==◌, map, find, zip, All, IfSome, IsSomeAnd, 
 use Rattle.std.specs.List.{AllZip}
 use Rattle.std.specs.List.Sorted.{IsNonDecreasing}
 use Rattle.std.specs.Option.{option_map_or}
+use Rattle.std.proofs.lemmas.Bool.Decides.{nat_tests}
 use Rattle.std.proofs.lemmas.List.{get_or-map, length-map}
 use Rattle.std.proofs.lemmas.List.Elements.{All-get_or, length_all_zip}
 use Rattle.std.proofs.lemmas.List.FromFn.{length-map-range_with_len}
-use Rattle.std.proofs.lemmas.Option.{slice_get-get_or}
+use Rattle.std.proofs.lemmas.Option.{none-some, slice_get-get_or}
 use Rattle.pubsub_model.specs.Answers.{version_of}
 use Rattle.dataset_meta.specs.Metas.{HasGrown, MetaData, no_meta}
 use Rattle.dataset_meta.specs.DataValues.{DataValue}
@@ -109,7 +110,7 @@ tells-held logs p writers at meta kept (Some held) named has row number is = rec
 -- none whichever publisher it is
 none-both : (one other : PublisherId) (version : Option ℕ) → (one ≡ other → version ≡ None) → (one ≢ other → version ≡ None) → version ≡ None
 none-both one other None same apart = refl
-none-both one other (Some n) same apart = apart (λ is. let wrong = same is in absurd (cc wrong))
+none-both one other (Some n) same apart = apart (λ is. none-some n (sym (same is)))
 
 tells-alone : (logs : ℕ → ℕ → List (ℕ × ℕ)) (p : Plan) (at : ReadGroupPart × ReaderPart) (meta : MetaData) (kept : Kept) (held : Option HeldEnd) → HasItsNumber at.1.numbering kept
     → option_map (λ held. row_in meta.fields held.row.words) held ≡ kept.row → IfSome held (λ held. held.number ≡ kept.number)
@@ -296,7 +297,7 @@ is-closed numbers p steps s dones sets closed tells is stands order = record {
     by = closed-by p steps (account_of p steps) s dones sets closed tells is (as-stands p steps s stands)
 
 pub versions-told : (s : Session) → TellsVersions s → tells_versions s ≡ true
-versions-told s few = grind (arith, nat_tests, few)
+versions-told s few = let low : ticks_of s < 65536 = few in grind (arith, nat_tests)
 
 -- where the logs keep all data frames, and versions are told
 pub is-whole : (p : Plan) (steps : List Step) (s : Session) (closed : Closed) → KeepsWholeLogs s → TellsVersions s → Stands p steps s
