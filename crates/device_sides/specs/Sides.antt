@@ -224,6 +224,10 @@ pub record HasRenewed (keygroup : ℕ) (sets : List KeySet) (old new : Publisher
 abbrev pub IsNoLower : ℕ × ℕ → ℕ × ℕ → Type 0
 IsNoLower old new = (old.0 < new.0) ⊎ ((old.0 ≡ new.0) × (old.1 ≤ new.1))
 
+-- the same of two senders, by the token in use of each
+abbrev pub IsNoLess : SenderState → SenderState → Type 0
+IsNoLess was is = IsNoLower (was.keys.token, was.used) (is.keys.token, is.used)
+
 -- the key sets that the configuration gives the key group
 abbrev pub configured_sets : KeyGroupPart → List KeySet
 configured_sets part = map key_set part.key
@@ -246,8 +250,7 @@ pub record IsBehind (keygroup now used : ℕ) (sets : List KeySet) (old new : Pu
   pub within : keygroup < length old.senders.items
   pub there : keygroup < length old.config.keygroup
   pub is_resumed : HoldsAt (λ part. HoldsAt (IsResumed part sets now used) new.senders.items keygroup) old.config.keygroup keygroup
-  pub no_lower : HoldsAt (λ was. HoldsAt (λ is. IsNoLower (was.keys.token, was.used) (is.keys.token, is.used))
-      new.senders.items keygroup) old.senders.items keygroup
+  pub no_lower : HoldsAt (λ was. HoldsAt (IsNoLess was) new.senders.items keygroup) old.senders.items keygroup
   pub others : HoldsAt (λ is. new.senders.items ≡ slice_set old.senders.items keygroup is) new.senders.items keygroup
   pub rest : new ≡ record old { senders = new.senders }
 
@@ -266,7 +269,7 @@ pub record IsEarlier (now token : ℕ) (sets : List KeySet) : Type 0 where
 pub record WouldRepeat (part : KeyGroupPart) (sets : List KeySet) (now used : ℕ) (sender : SenderState) : Type 0 where
   pub resumed : SenderState
   pub is : IsResumed part sets now used resumed
-  pub repeats : ¬ IsNoLower (sender.keys.token, sender.used) (resumed.keys.token, resumed.used)
+  pub repeats : ¬ IsNoLess sender resumed
 
 -- where there is a key group with this index, numbers of its sender would come again with these key sets
 abbrev pub MayNotResume : ℕ → ℕ → ℕ → List KeySet → Publisher → Type 0
