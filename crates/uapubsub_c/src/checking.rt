@@ -1,10 +1,8 @@
 //! Judging a configuration.
-ghost use Rattle.std.specs.Prelude.{◌≡◌, ◌≢◌, ◌≤◌, ◌++◌, [], ◌∷◌, IsOk, IfOk, IfErr, IfNone, IfSome, codes, length, take};
-ghost use Rattle.ps_config.specs.EndTexts.{config_end};
+ghost use Rattle.std.specs.Prelude.{◌≡◌, ◌≢◌, ◌≤◌, [], ◌∷◌, IsOk, IfOk, IfErr, IfNone, IfSome, length};
 ghost use Rattle.ps_config.specs.Reading.{configuration, IsEnd};
-ghost use Rattle.uapubsub_c.specs.Getting.{IsLaidOut};
 ghost use Rattle.uapubsub_c.specs.Handles.{IsOneOf, IsRefusal, IsRefused};
-ghost use Rattle.uapubsub_c.specs.Lines.{IsEndLaid, TellsRefusal};
+ghost use Rattle.uapubsub_c.specs.Lines.{IsFrontLaid, TellsRefusal, line_of};
 
 use crate::laying::lay_front;
 use crate::status::{MEMORY, OK, REFUSED};
@@ -48,7 +46,8 @@ fn judge(alloc: Global, text: &[u8]) -> Result<(), ConfigEnd>
 fn tell(alloc: Global, end: &ConfigEnd, error: &mut [u8], written: &mut usize) -> u32
     ensures answers { IsOneOf (REFUSED ∷ MEMORY ∷ []) result }
     ensures refused { result ≡ REFUSED → IsRefusal end.now }
-    ensures line { result ≡ REFUSED → IsEndLaid end.now error.old error.new written.new }
+    ensures line { result ≡ REFUSED
+        → IsFrontLaid (line_of end.now) error.old error.new written.new }
     ensures not_ok { result ≢ OK }
     ensures room { written.new ≤ length error.old }
     ensures untold { result ≢ REFUSED → error.new ≡ error.old }
@@ -70,8 +69,7 @@ fn tell(alloc: Global, end: &ConfigEnd, error: &mut [u8], written: &mut usize) -
 /// Lays the line of an end, as far as there is room, and tells how many bytes of it. None, and nothing is laid, where there is no
 /// memory to spell it.
 fn lay_line(alloc: Global, end: &ConfigEnd, error: &mut [u8]) -> Option<usize>
-    ensures laid { IfSome result (λ count. IsLaidOut
-        (take (length error.old) (codes "config: " ++ config_end end.now)) error.old error.new count) }
+    ensures laid { IfSome result (IsFrontLaid (line_of end.now) error.old error.new) }
     ensures room { IfSome result (λ count. count ≤ length error.old) }
     ensures none { IfNone result (error.new ≡ error.old) }
 {
