@@ -2,7 +2,7 @@
 ghost use Rattle.std.specs.Prelude.{◌<◌, length};
 ghost use Rattle.bench_groups.specs.Taking.{MayTake};
 
-use crate::unmeasured::Unmeasured;
+use bench_base::Unmeasured;
 use ps_config::{Config, MOST_READERS, read_config};
 use reader_group::{ReaderGroup, Refusal, Taken};
 use std::alloc::Global;
