@@ -5,9 +5,8 @@ ghost use Rattle.dataset_meta.specs.DataValues.{DataValue};
 ghost use Rattle.ua_base.specs.Journal.{Entry};
 ghost use Rattle.message_guard.specs.Senders.{HaveOtherNumbers};
 ghost use Rattle.pubsub_model.specs.Cadence.{WriterDeed, WriterTurn, HadTurn, cadence, is_data, next_place};
-ghost use Rattle.pubsub_model.specs.Frames.{Whole};
 ghost use Rattle.writer_group.specs.declared.sampled.Sampled.{Sampled};
-ghost use Rattle.writer_group.specs.Turns.{GroupDeed, GroupTurn, answer_of, writer_past};
+ghost use Rattle.writer_group.specs.Turns.{GroupDeed, GroupTurn};
 ghost use Rattle.writer_group.specs.Payloads.{writer_at};
 ghost use Rattle.pubsub_states.specs.declared.component.Component.{Component};
 ghost use Rattle.reader_group.specs.Agreeing.{MemberIs};
@@ -28,7 +27,7 @@ ghost use Rattle.session_model.specs.Turns.{deeds_before};
 ghost use Rattle.session_laws.specs.Bare.{ClosingCameLast, ClosingGotLast, ClosingGotSinceLast, ClosingTookLast};
 ghost use Rattle.session_laws.specs.Below.{Laws};
 ghost use Rattle.session_laws.specs.Courses.{HaveOneCourse};
-ghost use Rattle.session_laws.specs.Fresh.{BeginWithKeys, keyed_turns, protected_by};
+ghost use Rattle.session_laws.specs.Fresh.{BeginWithKeys, IsAnsweredWhole, keyed_turns, protected_by};
 ghost use Rattle.session_laws.specs.Headline.{InSession, ComesFrom, IsPublished, PublishesVersion, answered_turn};
 ghost use Rattle.session_laws.specs.Newest.{BringsLast, ClosingCame, ClosingGot, ClosingGotSecured, ClosingTook, HoldsClosing, HoldsClosingRow, HoldsNewest, IsLastLogged, IsNewest};
 ghost use Rattle.session_laws.specs.Pasts.{settings_at};
@@ -213,10 +212,9 @@ pub fn a_new_token_begins_with_key_frames()
         ≡ answered_at p g w steps }
     ensures at_once { (p : Plan) (before : List Step) (now : ℕ) (closing : Bool)
         (samples : List Sampled) (g w : ℕ) (turn : WriterTurn) → g < length p.config.group
-        → w < length (group_at p.config g).writer → is_rekeyed p.config now (deeds p before) g
-        ≡ true → let past = group_past p.config g (deeds_before p before now closing samples g) in
-        let s = settings_at (group_at p.config g) w in answer_of (group_at p.config g) past w turn
-        ≡ Some (Whole (next_place s (cadence s (writer_past w past))) turn.row) }
+        → w < length (group_at p.config g).writer → is_rekeyed p.config now (deeds p before) g ≡ true
+        → let past = group_past p.config g (deeds_before p before now closing samples g) in
+        IsAnsweredWhole p.config past g w turn }
 {
     a_refreshed_writer_sends_a_key_frame();
 }
