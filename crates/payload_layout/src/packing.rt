@@ -46,9 +46,9 @@ impl Filling {
         requires few { self.now.pack.count ≤ 16 }
         requires small { self.now.bytes ≤ 1048560 }
         ensures { result
-            ≡ (not self.now.pack.chunked && nat_le
-            (2 * (self.now.pack.count + 1) + (self.now.bytes + size)
-            + 2 * self.now.pack.count) room) }
+            ≡ (not self.now.pack.chunked
+            && nat_le (2 * (self.now.pack.count + 1) + (self.now.bytes + size)
+                + 2 * self.now.pack.count) room) }
     {
         let count = u32::from(self.pack.count);
         let payload = 2 * (count + 1) + (self.bytes + u32::from(size));

@@ -68,15 +68,17 @@ pub fn an_accepted_script_is_sound()
 /// line's faults, and accepted exactly where no fault stands at any line.
 pub fn the_first_line_with_a_fault_is_told()
     ensures refused { (reader : ValueReader) (config : ConfigValue) (bytes : List ℕ)
-        (takes_fates : Bool) (line : ℕ) (fault : Fault) → script reader config bytes takes_fates
-        ≡ Err (line, fault) → IsRefusedBy reader config takes_fates bytes line fault }
+        (takes_fates : Bool) (line : ℕ) (fault : Fault)
+        → script reader config bytes takes_fates ≡ Err (line, fault)
+        → IsRefusedBy reader config takes_fates bytes line fault }
     ensures told { (reader : ValueReader) (config : ConfigValue) (bytes : List ℕ)
         (takes_fates : Bool) (line : ℕ) (fault : Fault)
         → IsRefusedBy reader config takes_fates bytes line fault
         → script reader config bytes takes_fates ≡ Err (line, fault) }
     ensures accepted { (reader : ValueReader) (config : ConfigValue) (bytes : List ℕ)
-        (takes_fates : Bool) (found : ScriptValue) → script reader config bytes takes_fates
-        ≡ Ok found → IsAccepted reader config takes_fates bytes }
+        (takes_fates : Bool) (found : ScriptValue)
+        → script reader config bytes takes_fates ≡ Ok found
+        → IsAccepted reader config takes_fates bytes }
     ensures untold { (reader : ValueReader) (config : ConfigValue) (bytes : List ℕ)
         (takes_fates : Bool) → IsAccepted reader config takes_fates bytes
         → IsOk (script reader config bytes takes_fates) }

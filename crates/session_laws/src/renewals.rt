@@ -32,8 +32,9 @@ pub fn no_token_and_number_come_twice_in_a_life()
 
 /// No secured read group takes a pair of token and number twice in a life, whichever rings renew its keys in between.
 pub fn no_pair_is_taken_twice_in_a_life()
-    ensures { (p : Plan) (r : ℕ) (life : List Lived) → is_secured (setting_of p.config r).setup.mode
-        ≡ true → AreDistinctPairs (taken_in_life p r life) }
+    ensures { (p : Plan) (r : ℕ) (life : List Lived)
+        → is_secured (setting_of p.config r).setup.mode ≡ true
+        → AreDistinctPairs (taken_in_life p r life) }
 {
     a_renewed_group_takes_no_pair_twice();
 }
