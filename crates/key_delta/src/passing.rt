@@ -60,6 +60,7 @@ pub(crate) fn passed(meta: &Meta, old: &Row, new: &Row, from: usize) -> usize
 }
 
 /// A field before which, from this one on, no value differs.
+#[inline(always)]
 fn values_passed(meta: &Meta, old: &Row, new: &Row, from: usize) -> usize
     requires old { Belongs meta.now old.now.words }
     requires new { Belongs meta.now new.now.words }
