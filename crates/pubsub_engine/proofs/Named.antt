@@ -24,7 +24,7 @@ use Rattle.ps_report.specs.Told.{grouped_readers}
 use Rattle.writer_group.specs.Parts.{group_at, no_group}
 use Rattle.session_model.specs.Deeds.{writer_indexes}
 use Rattle.session_model.specs.Closing.{MemberPlace, writer_places}
-use Rattle.pubsub_engine.specs.Logs.{is_same_publisher, log_by, place_in, place_named, place_within}
+use Rattle.pubsub_engine.specs.Logs.{is_same_publisher, log_by, logs_told, place_in, place_named, place_within}
 
 -- ---- lists
 
@@ -196,3 +196,12 @@ self-publisher (ids.Text m) = (bytes_eq-Decides m m).1 refl
 
 pub other-publisher : (one other : PublisherId) → is_same_publisher one other ≡ false → one ≢ other
 other-publisher one other e same = false≢true (sym e ∙ subst (λ (it : PublisherId). is_same_publisher one it ≡ true) same (self-publisher one))
+
+-- ---- no versions are told
+
+none-found : {X : Type 0} (o : Option X) → ◌≡◌ {A = List (ℕ × ℕ)} [] (option_map_or (λ (at : X). []) o [])
+none-found None = refl
+none-found (Some at) = refl
+
+pub no-log-told : (logs : ℕ → ℕ → List (ℕ × ℕ)) (config : Config) (id : ℕ) → [] ≡ log_by (logs_told false logs) config id
+no-log-told logs config id = none-found (find (λ (at : WriterPart × MemberPlace). at.0.id == id) (zip (writers_of config.group) (writer_places config)))

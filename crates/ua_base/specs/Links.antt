@@ -1,5 +1,5 @@
 -- What a link was made to do, what it was opened with, and what every call over a link keeps.
-use Rattle.std.specs.Prelude.{◌≡◌, ◌≤◌, ℕ, Bool, List, Option, IsSome}
+use Rattle.std.specs.Prelude.{◌≡◌, ◌≤◌, ◌+◌, ℕ, Bool, List, Option, IsSome}
 use Rattle.ua_base.specs.Journal.{LinkState}
 use Rattle.ua_base.specs.declared.link.Fate.{Fate}
 
@@ -15,7 +15,8 @@ pub record Opening : Type 0 where
   pub port : ℕ
   pub fates : List (ℕ × Fate)
 
--- Over calls that answered Nothing so often at most, a link that told tells on if it had the patience for them, and loses no more of it.
+-- Over calls that answered Nothing so often at most, a link that told tells on if it had the patience for them, and it loses no
+-- more of its patience.
 pub record TellsOn {L : Type 0} (told : L → Option LinkState) (patience : L → ℕ) (nothings : ℕ) (old new : L) : Type 0 where
   pub tells : nothings ≤ patience old → IsSome (told old) → IsSome (told new)
   pub left : patience old ≤ patience new + nothings

@@ -97,7 +97,8 @@ pub trait Link {
         requires short { length datagram.now < 2 ^ 32 }
         ensures entry { Tells (told self.old) (told self.new) (Sends datagram.now result) }
         ensures waiting { Tells (told self.old) (told self.new) (Queues result) }
-        ensures link { KeepsLink told patience opened_with faults made openings 0 self.old self.new }
+        ensures link { KeepsLink told patience opened_with faults made openings
+            0 self.old self.new }
         ensures only_where_taken { result ≡ Sent.Memory → IsTrue takes_memory }
         ensures cause { result ≡ Sent.Failed → Rose (faults self.old) (faults self.new) };
 
