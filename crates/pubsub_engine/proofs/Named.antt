@@ -20,7 +20,7 @@ use Rattle.ps_report.specs.Told.{grouped_readers}
 use Rattle.writer_group.specs.Parts.{group_at, no_group}
 use Rattle.session_model.specs.Deeds.{writer_indexes}
 use Rattle.session_model.specs.Closing.{MemberPlace, writer_places}
-use Rattle.pubsub_engine.specs.Logs.{log_by, place_in, place_named, place_within}
+use Rattle.pubsub_engine.specs.Logs.{log_by, logs_told, place_in, place_named, place_within}
 
 -- ---- lists
 
@@ -172,3 +172,12 @@ reader-behind config r left group low at behind =
 
 pub readers-none : (config : Config) (left : ℕ) → slice_get (rest_readers config (length config.readgroup)) left ≡ None
 readers-none config left = ap (λ (groups : List ReadGroupPart). slice_get (grouped_readers groups) left) (drop-length config.readgroup)
+
+-- ---- no versions are told
+
+none-found : {X : Type 0} (o : Option X) → ◌≡◌ {A = List (ℕ × ℕ)} [] (option_map_or (λ (at : X). []) o [])
+none-found None = refl
+none-found (Some at) = refl
+
+pub no-log-told : (logs : ℕ → ℕ → List (ℕ × ℕ)) (config : Config) (id : ℕ) → [] ≡ log_by (logs_told false logs) config id
+no-log-told logs config id = none-found (find (λ (at : WriterPart × MemberPlace). at.0.id == id) (zip (writers_of config.group) (writer_places config)))

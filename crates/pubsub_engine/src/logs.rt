@@ -1,5 +1,5 @@
 //! The versions that this program's writers logged.
-ghost use Rattle.std.specs.Prelude.{◌≡◌, ◌<◌, ℕ, IfSome, length, option_and_then, option_map, slice_get, Some};
+ghost use Rattle.std.specs.Prelude.{◌≡◌, ◌<◌, ℕ, true, IfSome, length, option_and_then, option_map, slice_get, Some};
 ghost use Rattle.pubsub_model.specs.Answers.{version_of as version_in};
 ghost use Rattle.ps_config.specs.declared.parts.ReadGroupPart.{ReadGroupPart as GroupValue};
 ghost use Rattle.ps_config.specs.declared.parts.ReaderPart.{ReaderPart as PartValue};
@@ -13,18 +13,22 @@ use ps_config::{Config, GroupPart, ReadGroupPart, ReaderPart};
 use session_parts::{Publisher as Publishing, group_part};
 
 /// The log of this program's writer that the reader with this index over all read groups names, empty where the read group's
-/// publisher is another, or has no such writer.
+/// publisher is another, or has no such writer, and where no versions are told.
 pub(crate) fn log_read<'a>(
     config: &Config,
     publisher: &'a Publishing,
     reader: usize,
+    versions: bool,
 ) -> &'a [(u64, u64)]
     requires good { IsGood config.now }
     requires groups { AreGroups config.now publisher.now.groups.items }
     ensures log { (at : GroupValue × PartValue)
         → slice_get (grouped_readers config.now.readgroup) reader ≡ Some at
-        → IsLogRead config.now publisher.now at result.now }
+        → IsLogRead versions config.now publisher.now at result.now }
 {
+    if !versions {
+        return &[];
+    }
     match reader_part(config, reader) {
         Some((group, part)) if group.publisher.is_same(&config.publisher.id) => {
             log_named(config, publisher, part.writer)
@@ -53,7 +57,7 @@ fn reader_part(config: &Config, reader: usize) -> Option<(&ReadGroupPart, &Reade
 fn log_named<'a>(config: &Config, publisher: &'a Publishing, id: u16) -> &'a [(u64, u64)]
     requires good { IsGood config.now }
     requires groups { AreGroups config.now publisher.now.groups.items }
-    ensures log { IsLogNamed config.now publisher.now id result.now }
+    ensures log { IsLogNamed true config.now publisher.now id result.now }
 {
     match writer_named(config, id) {
         Some((g, w)) => publisher.groups[g].writer(w as u8).log(),

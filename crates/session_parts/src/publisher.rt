@@ -212,7 +212,8 @@ impl Publisher {
         ensures halted { result ≡ Ticked.Memory → HaveHalted told.now self.old self.new tree.old
             (L.told link.old) (L.told link.new) }
         ensures memory { result ≡ Ticked.Memory → IsTrue L.takes_memory }
-        ensures link { KeepsLink L.opened_with L.faults L.made L.openings link.old link.new }
+        ensures link { KeepsLink L.told L.patience L.opened_with L.faults L.made L.openings
+            0 link.old link.new }
     {
         for g in 0..self.groups.len() {
             match self.pass(told, g, tree, link) {
@@ -240,7 +241,8 @@ impl Publisher {
         ensures halted { result ≡ Ticked.Memory → HasHalted told.now g self.old self.new tree.old
             (L.told link.old) (L.told link.new) }
         ensures memory { result ≡ Ticked.Memory → IsTrue L.takes_memory }
-        ensures link { KeepsLink L.opened_with L.faults L.made L.openings link.old link.new }
+        ensures link { KeepsLink L.told L.patience L.opened_with L.faults L.made L.openings
+            0 link.old link.new }
     {
         if !self.has_turn(told, g, tree) {
             return Ticked::Done;
@@ -312,7 +314,8 @@ impl Publisher {
         ensures halted { result ≡ Ticked.Memory → SendsHalt g (datagrams_in self.old.out)
             self.old self.new (L.told link.old) (L.told link.new) }
         ensures memory { result ≡ Ticked.Memory → IsTrue L.takes_memory }
-        ensures link { KeepsLink L.opened_with L.faults L.made L.openings link.old link.new }
+        ensures link { KeepsLink L.told L.patience L.opened_with L.faults L.made L.openings
+            0 link.old link.new }
         ensures count { vec_len self.new.sends ≡ vec_len self.old.sends }
         ensures rest { self.new ≡ record self.old {
           sends = self.new.sends;
@@ -340,7 +343,8 @@ impl Publisher {
         ensures unsent { result ≡ Ticked.Memory → IsUnsent self.old self.new
             (L.told link.old) (L.told link.new) }
         ensures memory { result ≡ Ticked.Memory → IsTrue L.takes_memory }
-        ensures link { KeepsLink L.opened_with L.faults L.made L.openings link.old link.new }
+        ensures link { KeepsLink L.told L.patience L.opened_with L.faults L.made L.openings
+            0 link.old link.new }
         ensures count { vec_len self.new.sends ≡ vec_len self.old.sends }
         ensures rest { self.new ≡ record self.old {
           sends = self.new.sends;
