@@ -42,7 +42,9 @@ static void check_configurations(void) {
     DEMAND(uap_config_check(left, left_length, line, sizeof line, &written) == UAP_OK);
     DEMAND(uap_config_check("nonsense = ", 11, line, sizeof line, &written) == UAP_REFUSED);
     DEMAND(written == 20 && memcmp(line, "config: C1 BadToml .", 20) == 0);
-    DEMAND(uap_config_check("nonsense = ", 11, line, 4, &written) == UAP_REFUSED && written == 4);
+    memset(line, '#', sizeof line);
+    DEMAND(uap_config_check("nonsense = ", 11, line, 4, &written) == UAP_REFUSED && written == 4 && memcmp(line, "conf#", 5) == 0);
+    DEMAND(uap_config_check("nonsense = ", 11, line, 0, &written) == UAP_REFUSED && written == 0 && memcmp(line, "conf#", 5) == 0);
     DEMAND(uap_config_check(left, left_length, NULL, 0, &written) == UAP_NULL);
 }
 

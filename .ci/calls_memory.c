@@ -71,16 +71,16 @@ static uint32_t open_subscriber(struct uap_handle *handle, const void *text, siz
     return uap_subscriber_open(handle, text, length);
 }
 
-// The call with each of its askings refused in turn, and then with none.
-static void check_taking(uint32_t (*call)(struct uap_handle *, const void *, size_t)) {
+// The call with each of its askings refused in turn, and then with none: then it answers this.
+static void check_taking(uint32_t (*call)(struct uap_handle *, const void *, size_t), const char *text, uint32_t answer) {
     struct uap_handle handle = UAP_CLOSED_HANDLE;
     uint8_t index;
     const size_t before = held;
     for (refused = 0;; refused++) {
         asked = 0;
-        uint32_t status = call(&handle, small, sizeof small - 1);
+        uint32_t status = call(&handle, text, strlen(text));
         if (asked <= refused) {
-            DEMAND(status == UAP_OK && asked > 0);
+            DEMAND(status == answer && asked > 0);
             break;
         }
         DEMAND(status == UAP_MEMORY && held == before);
@@ -115,8 +115,9 @@ static void check_others(void) {
 }
 
 void check_memory(void) {
-    check_taking(judge);
-    check_taking(open_publisher);
-    check_taking(open_subscriber);
+    check_taking(judge, small, UAP_OK);
+    check_taking(judge, "[publisher]\nid = 9\n", UAP_REFUSED);
+    check_taking(open_publisher, small, UAP_OK);
+    check_taking(open_subscriber, small, UAP_OK);
     check_others();
 }

@@ -144,8 +144,8 @@ uint32_t uapubsub_get_field_status(struct uap_handle *handle, uint8_t group, uin
 
 /* ---- both sides */
 
-/* Judges a configuration. With UAP_REFUSED the line that `uapubsub check` prints is in `error`, as far as there is room, and
- * `written` is how many bytes it has. */
+/* Judges a configuration. With UAP_REFUSED the line that `uapubsub check` prints, without its end and without a zero, is laid at the front
+ * of `error`, as far as there is room, and `written` is how many bytes of it are laid; else it is 0. */
 static inline uint32_t uap_config_check(const void *text, size_t length, char *error, size_t room, size_t *written) {
     if (text == NULL || error == NULL || written == NULL) return UAP_NULL;
     return uapubsub_config_check((const uint8_t *)text, length, (uint8_t *)error, room, written);

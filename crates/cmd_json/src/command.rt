@@ -1,10 +1,9 @@
 //! Writing the messages of a session.
-ghost use Rattle.std.specs.Prelude.{◌≡◌, ◌≢◌, ◌≤◌, Some, Err, IsOk, IfOk, OnOk, option_copied};
-ghost use Rattle.ua_base.specs.Cause.{Rose};
+ghost use Rattle.std.specs.Prelude.{◌≡◌, Err, IsOk, IfOk, option_copied};
 ghost use Rattle.ps_config.specs.Types.{HasTypes};
 ghost use Rattle.ps_script.specs.Sound.{IsScript};
 ghost use Rattle.writer_group.specs.Standing.{IsGood};
-ghost use Rattle.script_player.specs.Openings.{OpensOnce};
+ghost use Rattle.script_player.specs.Openings.{PerformsOver};
 ghost use Rattle.script_player.specs.Plays.{opening_of};
 ghost use Rattle.commands.specs.Outside.{outside_of, wire_of};
 ghost use Rattle.commands.specs.Statuses.{IsDone, IsUnwritten};
@@ -35,8 +34,8 @@ pub fn json<'w, R: Wait, F: Folder, A: Link, K: Sink>(
     ensures ends { JsonEnds result script.now (option_copied config.entry)
         (outside_of F.tells F.faults K.written K.faults folder.old out.old)
         (outside_of F.tells F.faults K.written K.faults folder.new out.new)
-        (wire_of A.told A.faults A.opened_with A.made A.openings lab.old)
-        (wire_of A.told A.faults A.opened_with A.made A.openings lab.new) }
+        (wire_of A.told A.patience A.faults A.opened_with A.made A.openings lab.old)
+        (wire_of A.told A.patience A.faults A.opened_with A.made A.openings lab.new) }
     ensures unlinked { IsBeforeLink result → lab.new ≡ lab.old }
     ensures silent { ¬ IsDone result → ¬ IsUnwritten result → out.new ≡ out.old }
 {
@@ -62,16 +61,9 @@ fn written<R: Wait, A: Link>(
     requires script { IsScript accepted.now.config accepted.now.script }
     ensures text { IfOk result (λ text. IsJsonOf
         accepted.now.config accepted.now.script (A.told lab.new) text.items) }
-    ensures opened { OnOk result (A.opened_with lab.new
-        ≡ Some (opening_of accepted.now.config accepted.now.script)) }
-    ensures opens { A.opened_with lab.new ≢ A.opened_with lab.old
-        → A.opened_with lab.new ≡ Some (opening_of accepted.now.config accepted.now.script) }
-    ensures once { OpensOnce A.made A.openings (IsOk result) lab.old lab.new }
-    ensures unopened { result ≡ Err PlayEnd.Unopened → Rose (A.faults lab.old) (A.faults lab.new) }
-    ensures unused { result ≡ Err PlayEnd.Unopened
-        → (A.told lab.new ≡ A.told lab.old) × (A.opened_with lab.new ≡ A.opened_with lab.old)
-        × (A.openings lab.new ≡ A.openings lab.old) }
-    ensures faults { A.faults lab.old ≤ A.faults lab.new }
+    ensures over { PerformsOver A.told A.patience A.opened_with A.faults A.made A.openings
+        (opening_of accepted.now.config accepted.now.script)
+        (IsOk result) (result ≡ Err PlayEnd.Unopened) lab.old lab.new }
 {
     readers_keep_records();
     lines_are_read_as_their_messages();

@@ -1,10 +1,9 @@
 //! A session played over a tap.
-ghost use Rattle.std.specs.Prelude.{◌≡◌, ◌≢◌, ◌≤◌, IsOk, IfOk, OnOk, Some, Err};
-ghost use Rattle.ua_base.specs.Cause.{Rose};
+ghost use Rattle.std.specs.Prelude.{◌≡◌, IsOk, IfOk, OnOk, Err};
 ghost use Rattle.ps_config.specs.Types.{HasTypes};
 ghost use Rattle.ps_script.specs.Sound.{IsScript};
 ghost use Rattle.writer_group.specs.Standing.{IsGood};
-ghost use Rattle.script_player.specs.Openings.{OpensOnce};
+ghost use Rattle.script_player.specs.Openings.{PerformsOver};
 ghost use Rattle.script_player.specs.Plays.{IsPlayOf, opening_of};
 ghost use Rattle.json_tap.specs.Keeping.{IsOfLink};
 ghost use Rattle.json_tap.specs.Reading.{LinkIsReadAs};
@@ -40,15 +39,9 @@ pub(crate) fn written_play<R: Wait, L: Link>(
     requires script { IsScript config.now script.now }
     ensures written { IfOk result (λ written. IsTapped config.now script.now (L.told link.new)
         written.lines.items written.skipped) }
-    ensures opened { OnOk result (L.opened_with link.new ≡ Some (opening_of config.now script.now)) }
-    ensures opens { L.opened_with link.new ≢ L.opened_with link.old
-        → L.opened_with link.new ≡ Some (opening_of config.now script.now) }
-    ensures once { OpensOnce L.made L.openings (IsOk result) link.old link.new }
-    ensures unopened { result ≡ Err PlayEnd.Unopened → Rose (L.faults link.old) (L.faults link.new) }
-    ensures unused { result ≡ Err PlayEnd.Unopened
-        → (L.told link.new ≡ L.told link.old) × (L.opened_with link.new ≡ L.opened_with link.old)
-        × (L.openings link.new ≡ L.openings link.old) }
-    ensures faults { L.faults link.old ≤ L.faults link.new }
+    ensures over { PerformsOver L.told L.patience L.opened_with L.faults L.made L.openings
+        (opening_of config.now script.now) (IsOk result) (result ≡ Err PlayEnd.Unopened)
+        link.old link.new }
 {
     let Ended {
         link,
@@ -99,18 +92,9 @@ fn tapped_play<'a, M: Made, R: Wait, L: Link>(
     ensures of_sent { OnOk result.end
         (IsOfLink M.config (L.told result.link.now) result.lines.items result.skipped) }
     ensures read_as { OnOk result.end (LinkIsReadAs M.config (L.told result.link.now)) }
-    ensures opened { OnOk result.end
-        (L.opened_with result.link.now ≡ Some (opening_of M.config script.now)) }
-    ensures opens { L.opened_with result.link.now ≢ M.opening
-        → L.opened_with result.link.now ≡ Some (opening_of M.config script.now) }
-    ensures once { OpensOnce L.made L.openings (IsOk result.end)
+    ensures over { PerformsOver L.told L.patience L.opened_with L.faults L.made L.openings
+        (opening_of M.config script.now) (IsOk result.end) (result.end ≡ Err PlayEnd.Unopened)
         inner.entry.link.now result.link.now }
-    ensures unopened { result.end ≡ Err PlayEnd.Unopened
-        → Rose (L.faults inner.entry.link.now) (L.faults result.link.now) }
-    ensures unused { result.end ≡ Err PlayEnd.Unopened
-        → (L.told result.link.now ≡ M.told) × (L.opened_with result.link.now ≡ M.opening)
-        × (L.openings result.link.now ≡ L.openings inner.entry.link.now) }
-    ensures faults { L.faults inner.entry.link.now ≤ L.faults result.link.now }
 {
     let mut tap: Tap<'a, L, M> = Tap::new(alloc, inner, config);
     let end = play_script(rt, alloc, config, script, &mut tap);

@@ -32,8 +32,8 @@ pub fn lanes<'w, R: Threads + Wait + Sync, F: Folder, A: Link, G: Gate, K: Sink>
     ensures ends { LanesEnds result script.now (option_copied config.entry)
         (outside_of F.tells F.faults K.written K.faults folder.old out.old)
         (outside_of F.tells F.faults K.written K.faults folder.new out.new)
-        (wire_of A.told A.faults A.opened_with A.made A.openings lab.old)
-        (wire_of A.told A.faults A.opened_with A.made A.openings lab.new) }
+        (wire_of A.told A.patience A.faults A.opened_with A.made A.openings lab.old)
+        (wire_of A.told A.patience A.faults A.opened_with A.made A.openings lab.new) }
     ensures unlinked { IsBeforeLink result → lab.new ≡ lab.old }
     ensures silent { ¬ IsDone result → ¬ IsUnwritten result → out.new ≡ out.old }
 {
@@ -56,8 +56,8 @@ pub fn lanes_by<'w, R: Threads + Wait + Sync, F: Folder, A: Link, G: Gate, K: Si
     ensures ends { LanesEnds result script.now (option_copied config.entry)
         (outside_of F.tells F.faults K.written K.faults folder.old out.old)
         (outside_of F.tells F.faults K.written K.faults folder.new out.new)
-        (wire_of A.told A.faults A.opened_with A.made A.openings lab.old)
-        (wire_of A.told A.faults A.opened_with A.made A.openings lab.new) }
+        (wire_of A.told A.patience A.faults A.opened_with A.made A.openings lab.old)
+        (wire_of A.told A.patience A.faults A.opened_with A.made A.openings lab.new) }
     ensures unlinked { IsBeforeLink result → lab.new ≡ lab.old }
     ensures silent { ¬ IsDone result → ¬ IsUnwritten result → out.new ≡ out.old }
 {

@@ -1,9 +1,8 @@
 //! A script over lanes, from its turns to the text of what was sent.
-ghost use Rattle.std.specs.Prelude.{◌≡◌, ◌≢◌, ◌≤◌, ◌<◌, None, Some, Err, IsOk, IfOk, OnOk};
-ghost use Rattle.ua_base.specs.Cause.{Rose};
+ghost use Rattle.std.specs.Prelude.{◌≡◌, ◌<◌, None, Err, IsOk, IfOk};
 ghost use Rattle.ps_script.specs.Sound.{IsScript};
 ghost use Rattle.writer_group.specs.Standing.{IsGood};
-ghost use Rattle.script_player.specs.Openings.{OpensOnce};
+ghost use Rattle.script_player.specs.Openings.{PerformsOver};
 ghost use Rattle.script_player.specs.Plays.{opening_of};
 ghost use Rattle.cmd_lanes.specs.Runs.{IsLanesOf};
 ghost use Rattle.cmd_lanes.specs.Scripts.{refusal};
@@ -36,15 +35,9 @@ pub fn play_lanes<R: Threads + Wait + Sync, L: Link, G: Gate>(
     requires taken { refusal script.now ≡ None }
     requires room { 0 < room }
     ensures text { IfOk result (λ text. IsLanesOf config.now script.now (L.told link.new) text.items) }
-    ensures opened { OnOk result (L.opened_with link.new ≡ Some (opening_of config.now script.now)) }
-    ensures opens { L.opened_with link.new ≢ L.opened_with link.old
-        → L.opened_with link.new ≡ Some (opening_of config.now script.now) }
-    ensures once { OpensOnce L.made L.openings (IsOk result) link.old link.new }
-    ensures unopened { result ≡ Err PlayEnd.Unopened → Rose (L.faults link.old) (L.faults link.new) }
-    ensures unused { result ≡ Err PlayEnd.Unopened
-        → (L.told link.new ≡ L.told link.old) × (L.opened_with link.new ≡ L.opened_with link.old)
-        × (L.openings link.new ≡ L.openings link.old) }
-    ensures faults { L.faults link.old ≤ L.faults link.new }
+    ensures over { PerformsOver L.told L.patience L.opened_with L.faults L.made L.openings
+        (opening_of config.now script.now) (IsOk result) (result ≡ Err PlayEnd.Unopened)
+        link.old link.new }
 {
     turns_are_ticks_of_a_session();
     let turns = turns_of(alloc, config, script)?;

@@ -1,5 +1,5 @@
 -- How the command ends, from what its status says and from the counts.
-use Rattle.std.proofs.Common.{◌≡◌, ◌⊎◌, inl, inr, ℕ, List, Result, Err, IsOk, refl, ap, arith}
+use Rattle.std.proofs.Common.{◌≡◌, ◌⊎◌, inl, inr, ℕ, List, Err, IsOk, refl, ap, arith}
 use Rattle.ua_base.specs.Cause.{HasCause}
 use Rattle.commands.specs.declared.status.Status.{Status}
 use Rattle.commands.specs.declared.status.Status.TheVariants.{Done, BadWords, ConfigRefused, NoSource, ScriptRefused, NotInLanes, Unread, Unwritten, OutOfMemory, Unopened, Long}
@@ -8,14 +8,22 @@ use Rattle.commands.specs.Outside.{Wire}
 use Rattle.commands.specs.Statuses.{IsDone, IsUnwritten, IsOutOfMemory, IsUnopened, IsPerformed}
 use Rattle.script_player.specs.declared.play.PlayEnd.{PlayEnd}
 use Rattle.script_player.specs.declared.play.PlayEnd.TheVariants as ends
+use Rattle.script_player.proofs.Openings.{ended}
 use Rattle.commands.specs.Endings.{status_of}
 use Rattle.commands.specs.Links.{UsesLink}
 use Rattle.commands.proofs.Ended.{written_late}
-use Rattle.commands.proofs.Ends.{not_unopened}
+use Rattle.commands.proofs.Ends.{not_unopened, stays-telling, stays-unopened}
 use Rattle.cmd_load.specs.Loads.{LoadEnds, Loads, OpensForWork, Output, Summarizes}
 
-abbrev pub ended : {T : Type 0} → PlayEnd → Result T PlayEnd
-ended end = Err end
+-- the link wasn't used
+pub uses-none : {performs fails : Type 0} (n : ℕ) (wire : Wire) → (performs → ⊥) × (fails → ⊥) → UsesLink (OpensForWork n) fails performs wire wire
+uses-none n wire none = record {
+  opens = λ differs. absurd (differs refl);
+  unused = λ is. absurd (none.1 is);
+  once = stays-unopened wire none.0;
+  lasts = stays-telling wire;
+  cause = record { later = omega arith; rose = λ is. absurd (none.1 is) };
+}
 
 -- the last write ends the command
 loads_written : (status : Status) (n : ℕ) (old new : Output) (after : Wire) (text : List ℕ) → Summarizes n after text → EndsWriting old.written new.written text status → Loads status n old new after
@@ -84,7 +92,7 @@ pub ends_written : {U P : Type 0} (status : Status) (n : ℕ) (old new : Output)
 ends_written status n old new before after text summary written performed link writes =
     let late = written_late status old.written new.written text written in
     load_ends status n old new before after (loads_written status n old new after text summary written)
-    (record { opens = link.opens; unused = λ is. absurd (late.opened is); once = record { making = link.once.making; at_most_once = link.once.at_most_once; once = λ is. link.once.once performed }; cause = record { later = link.cause.later; rose = λ is. absurd (late.opened is) } }) writes
+    (record { opens = link.opens; unused = λ is. absurd (late.opened is); once = record { making = link.once.making; at_most_once = link.once.at_most_once; once = λ is. link.once.once performed }; lasts = link.lasts; cause = record { later = link.cause.later; rose = λ is. absurd (late.opened is) } }) writes
 
 -- there was no summary
 pub ends_unplayed : {T : Type 0} (end : PlayEnd) (n : ℕ) (old new : Output) (before after : Wire) → UsesLink (OpensForWork n) (ended {T = T} end ≡ Err ends.Unopened) (IsOk (ended {T = T} end)) before after
@@ -95,6 +103,7 @@ ends_unplayed end n old new before after link same =
       opens = link.opens;
       unused = λ is. link.unused (ap (λ (e : PlayEnd). Err e) (unopened_is end is));
       once = record { making = link.once.making; at_most_once = link.once.at_most_once; once = λ is. absurd (not_performed end is) };
+      lasts = link.lasts;
       cause = record { later = link.cause.later; rose = λ is. link.cause.rose (ap (λ (e : PlayEnd). Err e) (unopened_is end is)) };
     })
     (record { later = omega (arith, same); rose = λ is. absurd (not_written end is) })

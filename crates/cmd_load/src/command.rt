@@ -36,8 +36,8 @@ pub fn load<'w, R: Threads + Wait + Sync, A: Link, G: Gate, K: Sink>(
     requires most { n ≤ 1024 }
     ensures ends { LoadEnds result n
         (output_of K.written K.faults out.old) (output_of K.written K.faults out.new)
-        (wire_of A.told A.faults A.opened_with A.made A.openings lab.old)
-        (wire_of A.told A.faults A.opened_with A.made A.openings lab.new) }
+        (wire_of A.told A.patience A.faults A.opened_with A.made A.openings lab.old)
+        (wire_of A.told A.patience A.faults A.opened_with A.made A.openings lab.new) }
     ensures silent { ¬ IsDone result → ¬ IsUnwritten result → out.new ≡ out.old }
 {
     match summary_of(rt, alloc, n, lab, gate) {
@@ -57,10 +57,10 @@ fn summary_of<R: Threads + Wait + Sync, A: Link, G: Gate>(
     requires least { 1 ≤ n }
     requires most { n ≤ 1024 }
     ensures summary { IfOk result (λ text.
-        Summarizes n (wire_of A.told A.faults A.opened_with A.made A.openings lab.new) text.items) }
+        Summarizes n (wire_of A.told A.patience A.faults A.opened_with A.made A.openings lab.new) text.items) }
     ensures link { UsesLink (OpensForWork n) (result ≡ Err PlayEnd.Unopened) (IsOk result)
-        (wire_of A.told A.faults A.opened_with A.made A.openings lab.old)
-        (wire_of A.told A.faults A.opened_with A.made A.openings lab.new) }
+        (wire_of A.told A.patience A.faults A.opened_with A.made A.openings lab.old)
+        (wire_of A.told A.patience A.faults A.opened_with A.made A.openings lab.new) }
 {
     the_built_in_configuration_is_sound();
     let config = built_in(alloc)?;
@@ -86,10 +86,10 @@ fn work_summary<R: Threads + Wait + Sync, A: Link, G: Gate>(
     requires types { HasTypes config.now }
     requires work { IsScript config.now script.now }
     ensures summary { IfOk result (λ text.
-        Summarizes n (wire_of A.told A.faults A.opened_with A.made A.openings lab.new) text.items) }
+        Summarizes n (wire_of A.told A.patience A.faults A.opened_with A.made A.openings lab.new) text.items) }
     ensures link { UsesLink (OpensForWork n) (result ≡ Err PlayEnd.Unopened) (IsOk result)
-        (wire_of A.told A.faults A.opened_with A.made A.openings lab.old)
-        (wire_of A.told A.faults A.opened_with A.made A.openings lab.new) }
+        (wire_of A.told A.patience A.faults A.opened_with A.made A.openings lab.old)
+        (wire_of A.told A.patience A.faults A.opened_with A.made A.openings lab.new) }
 {
     let closed = run_script(rt, alloc, config, script, lab, gate)?;
     closed_sessions_are_reported(config, &closed);

@@ -24,9 +24,9 @@ use Rattle.commands.specs.Statuses.{IsDone, IsConfigRefused, IsOutOfMemory, IsSc
 use Rattle.commands.proofs.Told.{judged_told, script_told, long_is, long_judged, long_short}
 use Rattle.commands.specs.Endings.{status_of}
 use Rattle.commands.specs.Sessions.{NamesLong}
-use Rattle.commands.specs.Links.{IsOpenedOnce, IsQuietOrOpened}
+use Rattle.commands.specs.Links.{IsOpenedOnce, IsQuietOrOpened, TellsToTheEnd}
 use Rattle.commands.proofs.Ended.{written_late}
-use Rattle.commands.proofs.Ends.{stays-unopened}
+use Rattle.commands.proofs.Ends.{stays-telling, stays-unopened}
 use Rattle.commands.proofs.ToldSessions.{short}
 use Rattle.cmd_relay.specs.declared.command.Accepted.{Accepted}
 use Rattle.cmd_relay.specs.Ends.{Accepts, AreConfigured, AreRefused, AreTold, AreToldConfigs, EndsAccepting, EndsSecond, Names, Reads, RelayEnds, Says, UsesLinks, Writes}
@@ -377,6 +377,8 @@ ends_unaccepted status names old new lab wire ends rose keeps same =
       unopened = λ is. absurd (early.opened is);
       lab_once = stays-unopened lab early.performed;
       wire_once = stays-unopened wire early.performed;
+      lab_lasts = stays-telling lab;
+      wire_lasts = stays-telling wire;
       lab_counts = omega arith;
       wire_counts = omega arith;
     })
@@ -390,13 +392,15 @@ once-unperformed ends.Unopened before after once = record { making = once.making
 module _ (names : Names) (old new : Outside) (lab lab_after wire wire_after : Wire) (accepted : Accepted) (accepts : Accepts old.file names accepted) where
   uses : (status : Status) → OpensSo (Some (opening_of accepted.first accepted.script)) lab lab_after → OpensSo (Some (opening_again accepted.second)) wire wire_after
       → (IsUnopened status → LeavesUnopened lab lab_after wire wire_after) → IsOpenedOnce (IsPerformed status) lab lab_after → IsOpenedOnce (IsPerformed status) wire wire_after
-      → lab.faults ≤ lab_after.faults → wire.faults ≤ wire_after.faults → UsesLinks old.file names status lab lab_after wire wire_after
-  uses status lab_opens wire_opens unopened lab_once wire_once lab_counts wire_counts = record {
+      → TellsToTheEnd lab lab_after → TellsToTheEnd wire wire_after → lab.faults ≤ lab_after.faults → wire.faults ≤ wire_after.faults → UsesLinks old.file names status lab lab_after wire wire_after
+  uses status lab_opens wire_opens unopened lab_once wire_once lab_lasts wire_lasts lab_counts wire_counts = record {
     lab_opens = λ differs. (accepted, accepts, lab_opens differs);
     wire_opens = λ differs. (accepted, accepts, wire_opens differs);
     unopened = unopened;
     lab_once = lab_once;
     wire_once = wire_once;
+    lab_lasts = lab_lasts;
+    wire_lasts = wire_lasts;
     lab_counts = lab_counts;
     wire_counts = wire_counts;
   }
@@ -404,33 +408,33 @@ module _ (names : Names) (old new : Outside) (lab lab_after wire wire_after : Wi
   -- memory ran out, or a link could not be opened
   ends_unplayed : (end : PlayEnd) → OpensSo (Some (opening_of accepted.first accepted.script)) lab lab_after → OpensSo (Some (opening_again accepted.second)) wire wire_after
       → (end ≡ ends.Unopened → LeavesUnopened lab lab_after wire wire_after) → IsOpenedOnce ⊥ lab lab_after → IsOpenedOnce ⊥ wire wire_after
-      → lab.faults ≤ lab_after.faults → wire.faults ≤ wire_after.faults → KeepsFiles old new
+      → TellsToTheEnd lab lab_after → TellsToTheEnd wire wire_after → lab.faults ≤ lab_after.faults → wire.faults ≤ wire_after.faults → KeepsFiles old new
       → old.write_faults ≡ new.write_faults → RelayEnds (status_of end) names old new lab lab_after wire wire_after
-  ends_unplayed ends.Memory lab_opens wire_opens unopened lab_once wire_once lab_counts wire_counts keeps same =
+  ends_unplayed ends.Memory lab_opens wire_opens unopened lab_once wire_once lab_lasts wire_lasts lab_counts wire_counts keeps same =
       relay_ends (status_of ends.Memory) names old new lab lab_after wire wire_after tt
-      (uses (status_of ends.Memory) lab_opens wire_opens (λ is. absurd (omega (arith, is))) (once-unperformed ends.Memory lab lab_after lab_once) (once-unperformed ends.Memory wire wire_after wire_once) lab_counts wire_counts)
+      (uses (status_of ends.Memory) lab_opens wire_opens (λ is. absurd (omega (arith, is))) (once-unperformed ends.Memory lab lab_after lab_once) (once-unperformed ends.Memory wire wire_after wire_once) lab_lasts wire_lasts lab_counts wire_counts)
       (record { later = keeps.1; rose = λ is. absurd (omega (arith, is)) }) (record { later = omega (arith, same); rose = λ is. absurd (omega (arith, is)) }) keeps.0
-  ends_unplayed ends.Unopened lab_opens wire_opens unopened lab_once wire_once lab_counts wire_counts keeps same =
+  ends_unplayed ends.Unopened lab_opens wire_opens unopened lab_once wire_once lab_lasts wire_lasts lab_counts wire_counts keeps same =
       relay_ends (status_of ends.Unopened) names old new lab lab_after wire wire_after (accepted, accepts)
-      (uses (status_of ends.Unopened) lab_opens wire_opens (λ is. unopened refl) (once-unperformed ends.Unopened lab lab_after lab_once) (once-unperformed ends.Unopened wire wire_after wire_once) lab_counts wire_counts)
+      (uses (status_of ends.Unopened) lab_opens wire_opens (λ is. unopened refl) (once-unperformed ends.Unopened lab lab_after lab_once) (once-unperformed ends.Unopened wire wire_after wire_once) lab_lasts wire_lasts lab_counts wire_counts)
       (record { later = keeps.1; rose = λ is. absurd (omega (arith, is)) }) (record { later = omega (arith, same); rose = λ is. absurd (omega (arith, is)) }) keeps.0
 
   pub ends_so : (status : Status) (end : PlayEnd) → status ≡ status_of end → OpensSo (Some (opening_of accepted.first accepted.script)) lab lab_after
       → OpensSo (Some (opening_again accepted.second)) wire wire_after → (end ≡ ends.Unopened → LeavesUnopened lab lab_after wire wire_after)
-      → IsOpenedOnce ⊥ lab lab_after → IsOpenedOnce ⊥ wire wire_after → lab.faults ≤ lab_after.faults → wire.faults ≤ wire_after.faults
+      → IsOpenedOnce ⊥ lab lab_after → IsOpenedOnce ⊥ wire wire_after → TellsToTheEnd lab lab_after → TellsToTheEnd wire wire_after → lab.faults ≤ lab_after.faults → wire.faults ≤ wire_after.faults
       → KeepsFiles old new → old.write_faults ≡ new.write_faults → RelayEnds status names old new lab lab_after wire wire_after
-  ends_so status end is lab_opens wire_opens unopened lab_once wire_once lab_counts wire_counts keeps same =
-      subst (λ (s : Status). RelayEnds s names old new lab lab_after wire wire_after) (sym is) (ends_unplayed end lab_opens wire_opens unopened lab_once wire_once lab_counts wire_counts keeps same)
+  ends_so status end is lab_opens wire_opens unopened lab_once wire_once lab_lasts wire_lasts lab_counts wire_counts keeps same =
+      subst (λ (s : Status). RelayEnds s names old new lab lab_after wire wire_after) (sym is) (ends_unplayed end lab_opens wire_opens unopened lab_once wire_once lab_lasts wire_lasts lab_counts wire_counts keeps same)
 
   -- the text was made, and the last write ends the command
   pub ends_written : (status : Status) (text : List ℕ) → Writes old.file names lab_after wire_after text → OpensSo (Some (opening_of accepted.first accepted.script)) lab lab_after
       → OpensSo (Some (opening_again accepted.second)) wire wire_after → IsOpenedOnce (IsPerformed status) lab lab_after → IsOpenedOnce (IsPerformed status) wire wire_after
-      → lab.faults ≤ lab_after.faults → wire.faults ≤ wire_after.faults → EndsWriting old.written new.written text status
+      → TellsToTheEnd lab lab_after → TellsToTheEnd wire wire_after → lab.faults ≤ lab_after.faults → wire.faults ≤ wire_after.faults → EndsWriting old.written new.written text status
       → HasCause old.write_faults new.write_faults (IsUnwritten status) → KeepsFiles old new → RelayEnds status names old new lab lab_after wire wire_after
-  ends_written status text writes lab_opens wire_opens lab_once wire_once lab_counts wire_counts written cause keeps =
+  ends_written status text writes lab_opens wire_opens lab_once wire_once lab_lasts wire_lasts lab_counts wire_counts written cause keeps =
       let late = written_late status old.written new.written text written in
       relay_ends status names old new lab lab_after wire wire_after (says_written status names old new lab_after wire_after text writes written)
-      (uses status lab_opens wire_opens (λ is. absurd (late.opened is)) lab_once wire_once lab_counts wire_counts)
+      (uses status lab_opens wire_opens (λ is. absurd (late.opened is)) lab_once wire_once lab_lasts wire_lasts lab_counts wire_counts)
       (record { later = keeps.1; rose = λ is. absurd (late.read is) }) cause keeps.0
 
 -- ---- what was not accepted

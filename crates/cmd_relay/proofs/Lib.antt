@@ -7,6 +7,7 @@ pub mod Following
 pub mod Stepping
 pub mod Lining
 pub mod Passed
+pub mod Openings
 pub mod Ending
 pub mod Beginning
 pub mod Whole

@@ -15,7 +15,7 @@ use Rattle.commands.specs.Configurations.{IsJudged, EndsConfigFile}
 use Rattle.commands.specs.Files.{IsLong, IsTold}
 use Rattle.commands.specs.Outside.{Outside, Wire, IsQuiet}
 use Rattle.commands.specs.Scripts.{IsJudgedScript}
-use Rattle.commands.specs.Links.{IsOpenedOnce, IsQuietOrOpened}
+use Rattle.commands.specs.Links.{IsOpenedOnce, IsQuietOrOpened, TellsToTheEnd}
 use Rattle.commands.specs.Statuses.{IsDone, IsConfigRefused, IsScriptRefused, IsUnread, IsUnwritten, IsOutOfMemory, IsUnopened, IsTooLong, IsPerformed}
 use Rattle.commands.specs.Sessions.{NamesLong}
 use Rattle.cmd_relay.specs.declared.command.Accepted.{Accepted}
@@ -112,7 +112,7 @@ Says status names old new lab wire = EndsBefore old.file names status
 
 -- ---- the links
 
--- what the command does to the links, for what was accepted
+-- what the command does to the links, for what was accepted; each tells to the end
 pub record UsesLinks (tells : List ℕ → ToldFile) (names : Names) (status : Status) (lab lab_after wire wire_after : Wire) : Type 0 where
   pub lab_opens : lab_after.opened_with ≢ lab.opened_with
       → (accepted : Accepted) × Accepts tells names accepted × (lab_after.opened_with ≡ Some (opening_of accepted.first accepted.script))
@@ -121,6 +121,8 @@ pub record UsesLinks (tells : List ℕ → ToldFile) (names : Names) (status : S
   pub unopened : IsUnopened status → LeavesUnopened lab lab_after wire wire_after
   pub lab_once : IsOpenedOnce (IsPerformed status) lab lab_after
   pub wire_once : IsOpenedOnce (IsPerformed status) wire wire_after
+  pub lab_lasts : TellsToTheEnd lab lab_after
+  pub wire_lasts : TellsToTheEnd wire wire_after
   pub lab_counts : lab.faults ≤ lab_after.faults
   pub wire_counts : wire.faults ≤ wire_after.faults
 

@@ -34,16 +34,16 @@ pub fn relay<'w, R: Wait, F: Folder, A: Link, B: Link, K: Sink>(
     ensures ends { RelayEnds result (names_of script.now first.now second.now)
         (outside_of F.tells F.faults K.written K.faults folder.old out.old)
         (outside_of F.tells F.faults K.written K.faults folder.new out.new)
-        (wire_of A.told A.faults A.opened_with A.made A.openings lab.old)
-        (wire_of A.told A.faults A.opened_with A.made A.openings lab.new)
-        (wire_of B.told B.faults B.opened_with B.made B.openings wire.old)
-        (wire_of B.told B.faults B.opened_with B.made B.openings wire.new) }
+        (wire_of A.told A.patience A.faults A.opened_with A.made A.openings lab.old)
+        (wire_of A.told A.patience A.faults A.opened_with A.made A.openings lab.new)
+        (wire_of B.told B.patience B.faults B.opened_with B.made B.openings wire.old)
+        (wire_of B.told B.patience B.faults B.opened_with B.made B.openings wire.new) }
     // What the gateway publishes and holds is of the history that the script writes.
     ensures relayed { IsDone result → WritesRelay (names_of script.now first.now second.now)
         (outside_of F.tells F.faults K.written K.faults folder.old out.old)
         (outside_of F.tells F.faults K.written K.faults folder.new out.new)
-        (wire_of A.told A.faults A.opened_with A.made A.openings lab.new)
-        (wire_of B.told B.faults B.opened_with B.made B.openings wire.new) }
+        (wire_of A.told A.patience A.faults A.opened_with A.made A.openings lab.new)
+        (wire_of B.told B.patience B.faults B.opened_with B.made B.openings wire.new) }
     ensures unlinked { IsBeforeLink result → (lab.new ≡ lab.old) × (wire.new ≡ wire.old) }
     ensures silent { ¬ IsDone result → ¬ IsUnwritten result → out.new ≡ out.old }
 {

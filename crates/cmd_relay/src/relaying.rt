@@ -2,15 +2,17 @@
 ghost use Rattle.std.specs.Prelude.{◌≡◌, ◌≤◌, ◌+◌, [], length, reverse, is_ok, IsOk, IsSome, IfOk, OnOk, OnErr, Some, Err, true};
 ghost use Rattle.ua_base.specs.Cause.{Rose, counted_if};
 ghost use Rattle.ua_base.specs.Fates.{AreFates};
-ghost use Rattle.ua_base.specs.Links.{KeepsLink};
+ghost use Rattle.ua_base.specs.Links.{KeepsLink, TellsOn};
 ghost use Rattle.ps_config.specs.declared.parts.Config.{Config as ConfigValue};
 ghost use Rattle.ps_config.specs.Sound.{readers};
 ghost use Rattle.ps_config.specs.Types.{HasTypes};
+ghost use Rattle.ps_script.specs.Sessions.{ticks_in};
 ghost use Rattle.ps_script.specs.Sound.{IsScript};
 ghost use Rattle.writer_group.specs.Standing.{IsGood};
+ghost use Rattle.session_model.specs.Counts.{session_nothings};
 ghost use Rattle.commands.specs.Outside.{wire_of};
 ghost use Rattle.script_player.specs.Openings.{OpensOnce};
-ghost use Rattle.script_player.specs.Passing.{MayPass};
+ghost use Rattle.script_player.specs.Passing.{MayPass, nothings_by};
 ghost use Rattle.script_player.specs.Player.{IsPlayer, MayDo, config_of};
 ghost use Rattle.script_player.specs.Plays.{opening_of};
 ghost use Rattle.cmd_relay.specs.Links.{LeavesUnopened, OpensSo, opening_again};
@@ -52,18 +54,20 @@ pub(crate) fn relayed_text<R: Wait, A: Link, B: Link>(
     ensures wire_opened { OnOk result
         (B.opened_with wire.new ≡ Some (opening_again accepted.now.second)) }
     ensures lab_opens { OpensSo (Some (opening_of accepted.now.first accepted.now.script))
-        (wire_of A.told A.faults A.opened_with A.made A.openings lab.old)
-        (wire_of A.told A.faults A.opened_with A.made A.openings lab.new) }
+        (wire_of A.told A.patience A.faults A.opened_with A.made A.openings lab.old)
+        (wire_of A.told A.patience A.faults A.opened_with A.made A.openings lab.new) }
     ensures wire_opens { OpensSo (Some (opening_again accepted.now.second))
-        (wire_of B.told B.faults B.opened_with B.made B.openings wire.old)
-        (wire_of B.told B.faults B.opened_with B.made B.openings wire.new) }
+        (wire_of B.told B.patience B.faults B.opened_with B.made B.openings wire.old)
+        (wire_of B.told B.patience B.faults B.opened_with B.made B.openings wire.new) }
     ensures unopened { result ≡ Err PlayEnd.Unopened → LeavesUnopened
-        (wire_of A.told A.faults A.opened_with A.made A.openings lab.old)
-        (wire_of A.told A.faults A.opened_with A.made A.openings lab.new)
-        (wire_of B.told B.faults B.opened_with B.made B.openings wire.old)
-        (wire_of B.told B.faults B.opened_with B.made B.openings wire.new) }
+        (wire_of A.told A.patience A.faults A.opened_with A.made A.openings lab.old)
+        (wire_of A.told A.patience A.faults A.opened_with A.made A.openings lab.new)
+        (wire_of B.told B.patience B.faults B.opened_with B.made B.openings wire.old)
+        (wire_of B.told B.patience B.faults B.opened_with B.made B.openings wire.new) }
     ensures lab_once { OpensOnce A.made A.openings (IsOk result) lab.old lab.new }
     ensures wire_once { OpensOnce B.made B.openings (IsOk result) wire.old wire.new }
+    ensures lab_lasts { TellsOn A.told A.patience session_nothings lab.old lab.new }
+    ensures wire_lasts { TellsOn B.told B.patience session_nothings wire.old wire.new }
     ensures lab_counts { A.faults lab.old ≤ A.faults lab.new }
     ensures wire_counts { B.faults wire.old ≤ B.faults wire.new }
 {
@@ -93,18 +97,20 @@ fn open_both<A: Link, B: Link>(
     ensures lab_empty { OnOk result (IsUntold (A.told lab.new)) }
     ensures wire_empty { OnOk result (IsUntold (B.told wire.new)) }
     ensures lab_opens { OpensSo (Some (opening_of accepted.now.first accepted.now.script))
-        (wire_of A.told A.faults A.opened_with A.made A.openings lab.old)
-        (wire_of A.told A.faults A.opened_with A.made A.openings lab.new) }
+        (wire_of A.told A.patience A.faults A.opened_with A.made A.openings lab.old)
+        (wire_of A.told A.patience A.faults A.opened_with A.made A.openings lab.new) }
     ensures wire_opens { OpensSo (Some (opening_again accepted.now.second))
-        (wire_of B.told B.faults B.opened_with B.made B.openings wire.old)
-        (wire_of B.told B.faults B.opened_with B.made B.openings wire.new) }
+        (wire_of B.told B.patience B.faults B.opened_with B.made B.openings wire.old)
+        (wire_of B.told B.patience B.faults B.opened_with B.made B.openings wire.new) }
     ensures unopened { result ≡ Err PlayEnd.Unopened → LeavesUnopened
-        (wire_of A.told A.faults A.opened_with A.made A.openings lab.old)
-        (wire_of A.told A.faults A.opened_with A.made A.openings lab.new)
-        (wire_of B.told B.faults B.opened_with B.made B.openings wire.old)
-        (wire_of B.told B.faults B.opened_with B.made B.openings wire.new) }
+        (wire_of A.told A.patience A.faults A.opened_with A.made A.openings lab.old)
+        (wire_of A.told A.patience A.faults A.opened_with A.made A.openings lab.new)
+        (wire_of B.told B.patience B.faults B.opened_with B.made B.openings wire.old)
+        (wire_of B.told B.patience B.faults B.opened_with B.made B.openings wire.new) }
     ensures lab_once { OpensOnce A.made A.openings (IsOk result) lab.old lab.new }
     ensures wire_once { OpensOnce B.made B.openings (IsOk result) wire.old wire.new }
+    ensures lab_lasts { TellsOn A.told A.patience 0 lab.old lab.new }
+    ensures wire_lasts { TellsOn B.told B.patience 0 wire.old wire.new }
     ensures lab_counts { A.faults lab.old ≤ A.faults lab.new }
     ensures wire_counts { B.faults wire.old ≤ B.faults wire.new }
 {
@@ -122,6 +128,7 @@ fn open_again<L: Link>(link: &mut L, second: &Config) -> Result<(), PlayEnd>
         × (L.opened_with link.new ≡ L.opened_with link.old)) }
     ensures making { L.made link.new ≡ L.made link.old }
     ensures counted { L.openings link.new ≡ counted_if (is_ok result) (L.openings link.old) }
+    ensures lasts { TellsOn L.told L.patience 0 link.old link.new }
     ensures unopened { result ≡ Err PlayEnd.Unopened → Rose (L.faults link.old) (L.faults link.new) }
     ensures faults { L.faults link.old ≤ L.faults link.new }
 {
@@ -138,6 +145,7 @@ fn open_link<L: Link>(link: &mut L, port: u16, fates: &[(u64, Fate)]) -> Result<
         × (L.opened_with link.new ≡ L.opened_with link.old)) }
     ensures making { L.made link.new ≡ L.made link.old }
     ensures counted { L.openings link.new ≡ counted_if (is_ok result) (L.openings link.old) }
+    ensures lasts { TellsOn L.told L.patience 0 link.old link.new }
     ensures unopened { result ≡ Err PlayEnd.Unopened → Rose (L.faults link.old) (L.faults link.new) }
     ensures faults { L.faults link.old ≤ L.faults link.new }
 {
@@ -197,8 +205,10 @@ impl<'c> Relay<'c> {
         requires wire_empty { IsUntold (B.told wire.old) }
         ensures text { IfOk result (λ text. IsRelayOf accepted.now.first accepted.now.second
             accepted.now.script (A.told lab.new) (B.told wire.new) text.items) }
-        ensures lab { KeepsLink A.opened_with A.faults A.made A.openings lab.old lab.new }
-        ensures wire { KeepsLink B.opened_with B.faults B.made B.openings wire.old wire.new }
+        ensures lab { KeepsLink A.told A.patience A.opened_with A.faults A.made A.openings
+            session_nothings lab.old lab.new }
+        ensures wire { KeepsLink B.told B.patience B.opened_with B.faults B.made B.openings
+            session_nothings wire.old wire.new }
     {
         histories_are_the_models();
         a_closed_session_tells_the_headline();
@@ -234,8 +244,10 @@ impl<'c> Relay<'c> {
             → HasRelayed first second script.now [] (A.told lab.old) (B.told wire.old) self.old
             → HasRelayed first second script.now (reverse script.now.lines)
             (A.told lab.new) (B.told wire.new) self.new) }
-        ensures lab { KeepsLink A.opened_with A.faults A.made A.openings lab.old lab.new }
-        ensures wire { KeepsLink B.opened_with B.faults B.made B.openings wire.old wire.new }
+        ensures lab { KeepsLink A.told A.patience A.opened_with A.faults A.made A.openings
+            (ticks_in script.now.lines) lab.old lab.new }
+        ensures wire { KeepsLink B.told B.patience B.opened_with B.faults B.made B.openings
+            (ticks_in script.now.lines) wire.old wire.new }
     {
         passes_show_what_is_collected();
         for line in script.lines.as_slice() {
@@ -260,8 +272,10 @@ impl<'c> Relay<'c> {
         ensures relays { OnOk result ((second : ConfigValue) → HoldsRelay second 0 self.old
             → RelaysLine second line.now.act self.old self.new
             (A.told lab.old) (A.told lab.new) (B.told wire.old) (B.told wire.new)) }
-        ensures lab { KeepsLink A.opened_with A.faults A.made A.openings lab.old lab.new }
-        ensures wire { KeepsLink B.opened_with B.faults B.made B.openings wire.old wire.new }
+        ensures lab { KeepsLink A.told A.patience A.opened_with A.faults A.made A.openings
+            (nothings_by line.now.act) lab.old lab.new }
+        ensures wire { KeepsLink B.told B.patience B.opened_with B.faults B.made B.openings
+            (nothings_by line.now.act) wire.old wire.new }
     {
         self.player.play_line(rt, alloc, line, lab)?;
         match &line.act {
@@ -284,8 +298,10 @@ impl<'c> Relay<'c> {
         ensures relays { OnOk result ((second : ConfigValue) → HoldsRelay second 0 self.old
             → RelaysEnd second self.old self.new
             (A.told lab.old) (A.told lab.new) (B.told wire.old) (B.told wire.new)) }
-        ensures lab { KeepsLink A.opened_with A.faults A.made A.openings lab.old lab.new }
-        ensures wire { KeepsLink B.opened_with B.faults B.made B.openings wire.old wire.new }
+        ensures lab { KeepsLink A.told A.patience A.opened_with A.faults A.made A.openings
+            1 lab.old lab.new }
+        ensures wire { KeepsLink B.told B.patience B.opened_with B.faults B.made B.openings
+            1 wire.old wire.new }
     {
         self.player.end(rt, lab)?;
         self.follow(rt, 0, true, wire)
@@ -303,7 +319,8 @@ impl<'c> Relay<'c> {
         requires may { MayFollow ms closing self.old }
         ensures follows { OnOk result ((second : ConfigValue) → HoldsRelay second 1 self.old
             → Follows second ms closing self.old self.new (B.told wire.old) (B.told wire.new)) }
-        ensures link { KeepsLink B.opened_with B.faults B.made B.openings wire.old wire.new }
+        ensures link { KeepsLink B.told B.patience B.opened_with B.faults B.made B.openings
+            1 wire.old wire.new }
     {
         passes_show_what_is_collected();
         self.player.level(rt);

@@ -1,10 +1,9 @@
 //! Running a script.
-ghost use Rattle.std.specs.Prelude.{◌≡◌, ◌≢◌, ◌≤◌, Some, Err, IsOk, IfOk, OnOk, option_copied};
-ghost use Rattle.ua_base.specs.Cause.{Rose};
+ghost use Rattle.std.specs.Prelude.{◌≡◌, Err, IsOk, IfOk, option_copied};
 ghost use Rattle.ps_config.specs.Types.{HasTypes};
 ghost use Rattle.ps_script.specs.Sound.{IsScript};
 ghost use Rattle.writer_group.specs.Standing.{IsGood};
-ghost use Rattle.script_player.specs.Openings.{OpensOnce};
+ghost use Rattle.script_player.specs.Openings.{PerformsOver};
 ghost use Rattle.script_player.specs.Plays.{opening_of};
 ghost use Rattle.script_runner.specs.Runs.{IsRunOf};
 ghost use Rattle.commands.specs.Outside.{outside_of, wire_of};
@@ -39,8 +38,8 @@ pub fn run<'w, R: Threads + Wait + Sync, F: Folder, B: Link, G: Gate, K: Sink>(
     ensures ends { RunEnds result script.now (option_copied config.entry)
         (outside_of F.tells F.faults K.written K.faults folder.old out.old)
         (outside_of F.tells F.faults K.written K.faults folder.new out.new)
-        (wire_of B.told B.faults B.opened_with B.made B.openings wire.old)
-        (wire_of B.told B.faults B.opened_with B.made B.openings wire.new) }
+        (wire_of B.told B.patience B.faults B.opened_with B.made B.openings wire.old)
+        (wire_of B.told B.patience B.faults B.opened_with B.made B.openings wire.new) }
     ensures unlinked { IsBeforeLink result → wire.new ≡ wire.old }
     ensures silent { ¬ IsDone result → ¬ IsUnwritten result → out.new ≡ out.old }
 {
@@ -67,17 +66,9 @@ fn ran<R: Threads + Wait + Sync, B: Link, G: Gate>(
     requires script { IsScript accepted.now.config accepted.now.script }
     ensures report { IfOk result (λ text. IsReportOf IsRunOf
         accepted.now.config accepted.now.script (B.told wire.new) text.items) }
-    ensures opened { OnOk result (B.opened_with wire.new
-        ≡ Some (opening_of accepted.now.config accepted.now.script)) }
-    ensures opens { B.opened_with wire.new ≢ B.opened_with wire.old
-        → B.opened_with wire.new ≡ Some (opening_of accepted.now.config accepted.now.script) }
-    ensures once { OpensOnce B.made B.openings (IsOk result) wire.old wire.new }
-    ensures unopened { result ≡ Err PlayEnd.Unopened
-        → Rose (B.faults wire.old) (B.faults wire.new) }
-    ensures unused { result ≡ Err PlayEnd.Unopened
-        → (B.told wire.new ≡ B.told wire.old) × (B.opened_with wire.new ≡ B.opened_with wire.old)
-        × (B.openings wire.new ≡ B.openings wire.old) }
-    ensures faults { B.faults wire.old ≤ B.faults wire.new }
+    ensures over { PerformsOver B.told B.patience B.opened_with B.faults B.made B.openings
+        (opening_of accepted.now.config accepted.now.script)
+        (IsOk result) (result ≡ Err PlayEnd.Unopened) wire.old wire.new }
 {
     let closed = run_script(rt, alloc, &accepted.config, &accepted.script, wire, gate)?;
     closed_sessions_are_reported(&accepted.config, &closed);

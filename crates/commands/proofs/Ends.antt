@@ -1,27 +1,26 @@
 -- How the command ends, from what its parts did.
-use Rattle.std.proofs.Common.{◌≡◌, ◌≤◌, ◌⊎◌, true, inl, inr, ℕ, Bool, List, Option, Some, None, refl, sym, subst, arith}
-use Rattle.std.specs.Prelude.{◌≢◌}
-use Rattle.ua_base.specs.Cause.{Rose, HasCause, counted_if}
-use Rattle.ua_base.specs.Links.{Opening}
+use Rattle.std.proofs.Common.{◌≡◌, ◌≤◌, ◌⊎◌, inl, inr, ℕ, Bool, List, Option, Some, None, refl, sym, subst, arith}
+use Rattle.ua_base.specs.Cause.{Rose, HasCause}
+use Rattle.ua_base.specs.Journal.{LinkState}
+use Rattle.ua_base.specs.Links.{Making, Opening}
+use Rattle.ua_base.proofs.Links.{TellsOn-more, TellsOn-refl}
 use Rattle.ps_config.specs.declared.parts.Config.{Config}
 use Rattle.ps_script.specs.declared.script.Script.{Script}
+use Rattle.session_model.specs.Counts.{session_nothings}
 use Rattle.script_player.specs.declared.play.PlayEnd.{PlayEnd}
 use Rattle.script_player.specs.declared.play.PlayEnd.TheVariants as ends
+use Rattle.script_player.specs.Openings.{PerformsOver}
 use Rattle.script_player.specs.Plays.{opening_of}
 use Rattle.commands.specs.declared.status.Status.{Status}
 use Rattle.commands.specs.declared.status.Status.TheVariants.{NotInLanes}
 use Rattle.commands.specs.Outputs.{EndsWriting}
-use Rattle.commands.specs.Outside.{Outside, Wire}
+use Rattle.commands.specs.Outside.{Outside, Wire, wire_of}
 use Rattle.commands.specs.Statuses.{IsUnread, IsUnwritten, IsUnopened, IsPerformed}
 use Rattle.commands.specs.Endings.{status_of}
-use Rattle.commands.specs.Links.{IsOpenedOnce, IsQuietOrOpened, UsesLink}
+use Rattle.commands.specs.Links.{IsOpenedOnce, IsQuietOrOpened, PerformsWire, TellsToTheEnd, UsesLink}
 use Rattle.commands.specs.Sessions.{Text, Refusal, Accepts, EndsAccepting, OpensFor, Says, SessionEnds}
 use Rattle.commands.proofs.Ended.{says_written, says_unaccepted, written_late, accepting_early}
 use Rattle.commands.proofs.ToldSessions.{config_refused, config_long, script_refused, script_long, completes}
-
--- what an opened link was opened with
-abbrev pub OpensAs : Config → Script → Wire → Wire → Type 0
-OpensAs config script before after = after.opened_with ≢ before.opened_with → after.opened_with ≡ Some (opening_of config script)
 
 -- the folder's files are as they were, and its count of faults doesn't fall
 abbrev pub KeepsFiles : Outside → Outside → Type 0
@@ -31,6 +30,35 @@ KeepsFiles old new = ((name : List ℕ) → new.file name ≡ old.file name) × 
 pub not_unopened : (Opens : Option Opening → Type 0) (unopened performed : Type 0) (before after : Wire) → UsesLink Opens unopened performed before after → unopened → IsQuietOrOpened before after → ⊥
 not_unopened Opens unopened performed before after link is (inl quiet) = quiet (link.cause.rose is)
 not_unopened Opens unopened performed before after link is (inr opened) = opened (link.unused is).2
+
+-- what a session did to its link, said of what the link tells
+pub over-wire : {L : Type 0} (told : L → Option LinkState) (patience : L → ℕ) (opened_with : L → Option Opening) (faults : L → ℕ) (made : L → Making) (openings : L → ℕ)
+    (opening : Opening) (performed unopened : Type 0) (old new : L) → PerformsOver told patience opened_with faults made openings opening performed unopened old new
+    → PerformsWire opening performed unopened (wire_of told patience faults opened_with made openings old) (wire_of told patience faults opened_with made openings new)
+over-wire told patience opened_with faults made openings opening performed unopened old new over = record {
+  opened = over.opened;
+  opens = over.opens;
+  once = record { making = over.once.making; at_most_once = over.once.at_most_once; once = over.once.once };
+  failed = over.failed;
+  unused = over.unused;
+  faults = over.faults;
+  lasts = record { tells = over.lasts.tells; left = over.lasts.left };
+}
+
+-- and with a status that says how the session ended
+pub uses-wire : {performed unopened : Type 0} (Opens : Option Opening → Type 0) (opening : Opening) (fails performs : Type 0) (before after : Wire)
+    → PerformsWire opening performed unopened before after → (performs → performed) → (fails → unopened) → Opens (Some opening) → UsesLink Opens fails performs before after
+uses-wire Opens opening fails performs before after over done failed opens = record {
+  opens = λ differs. subst Opens (sym (over.opens differs)) opens;
+  unused = λ is. over.unused (failed is);
+  once = record { making = over.once.making; at_most_once = over.once.at_most_once; once = λ is. over.once.once (done is) };
+  lasts = over.lasts;
+  cause = record { later = over.faults; rose = λ is. over.failed (failed is) };
+}
+
+-- a link that isn't used tells on
+pub stays-telling : (wire : Wire) → TellsToTheEnd wire wire
+stays-telling wire = TellsOn-more (λ (w : Wire). w.told) (λ (w : Wire). w.patience) 0 session_nothings wire wire (omega arith) (TellsOn-refl (λ (w : Wire). w.told) (λ (w : Wire). w.patience) wire)
 
 -- a link that isn't used isn't opened
 pub stays-unopened : {performed : Type 0} (wire : Wire) → (performed → ⊥) → IsOpenedOnce performed wire wire
@@ -69,7 +97,7 @@ module _ (IsText : Text) (refusal : Refusal) (fates : Bool) where
   ends_unaccepted status script_name config_name old new wire ends rose keeps same =
       let early = accepting_early fates status old.file script_name config_name ends in
       session_ends status script_name config_name old new wire wire (says_unaccepted IsText refusal fates status script_name config_name old new wire ends)
-      (record { opens = λ differs. absurd (differs refl); unused = λ is. absurd (early.opened is); once = stays-unopened wire early.performed; cause = record { later = omega arith; rose = λ is. absurd (early.opened is) } })
+      (record { opens = λ differs. absurd (differs refl); unused = λ is. absurd (early.opened is); once = stays-unopened wire early.performed; lasts = stays-telling wire; cause = record { later = omega arith; rose = λ is. absurd (early.opened is) } })
       (record { later = keeps.1; rose = rose }) (record { later = omega (arith, same); rose = λ is. absurd (early.written is) }) keeps.0
 
   -- the script has a line that the command doesn't take, and the link was not used
@@ -78,33 +106,23 @@ module _ (IsText : Text) (refusal : Refusal) (fates : Bool) where
       → SessionEnds IsText refusal fates (NotInLanes line) script_name config_name old new wire wire
   ends_refused line script_name config_name old new wire config script accepts refused keeps same =
       session_ends (NotInLanes line) script_name config_name old new wire wire (record { config = config; script = script; accepts = accepts; refused = refused })
-      (record { opens = λ differs. absurd (differs refl); unused = λ is. absurd (omega (arith, is)); once = stays-unopened wire (λ is. elim is [ inl e ↦ omega (arith, e) | inr e ↦ omega (arith, e) ]); cause = record { later = omega arith; rose = λ is. absurd (omega (arith, is)) } })
+      (record { opens = λ differs. absurd (differs refl); unused = λ is. absurd (omega (arith, is)); once = stays-unopened wire (λ is. elim is [ inl e ↦ omega (arith, e) | inr e ↦ omega (arith, e) ]); lasts = stays-telling wire; cause = record { later = omega arith; rose = λ is. absurd (omega (arith, is)) } })
       (record { later = keeps.1; rose = λ is. absurd (omega (arith, is)) }) (record { later = omega (arith, same); rose = λ is. absurd (omega (arith, is)) }) keeps.0
 
   -- memory ran out, or the link could not be opened
-  pub ends_unplayed : (end : PlayEnd) (script_name : List ℕ) (config_name : Option (List ℕ)) (old new : Outside) (before after : Wire) (config : Config) (script : Script)
-      → Accepts fates old.file script_name config_name config script → refusal script ≡ None → OpensAs config script before after
-      → (end ≡ ends.Unopened → (after.told ≡ before.told) × (after.opened_with ≡ before.opened_with) × (after.openings ≡ before.openings)) → (end ≡ ends.Unopened → Rose before.faults after.faults)
-      → before.faults ≤ after.faults → after.made ≡ before.made → (after.openings ≡ before.openings) ⊎ (after.openings ≡ counted_if true before.openings)
-      → KeepsFiles old new → old.write_faults ≡ new.write_faults
+  pub ends_unplayed : {performed unopened : Type 0} (end : PlayEnd) (script_name : List ℕ) (config_name : Option (List ℕ)) (old new : Outside) (before after : Wire) (config : Config) (script : Script)
+      → Accepts fates old.file script_name config_name config script → refusal script ≡ None → PerformsWire (opening_of config script) performed unopened before after
+      → (end ≡ ends.Unopened → unopened) → KeepsFiles old new → old.write_faults ≡ new.write_faults
       → SessionEnds IsText refusal fates (status_of end) script_name config_name old new before after
-  ends_unplayed ends.Memory script_name config_name old new before after config script accepts taken opens unused rose later making at_most_once keeps same =
+  ends_unplayed ends.Memory script_name config_name old new before after config script accepts taken over failed keeps same =
       session_ends (status_of ends.Memory) script_name config_name old new before after tt
-      (record {
-        opens = λ differs. record { config = config; script = script; accepts = accepts; taken = taken; opened_is = opens differs };
-        unused = λ is. absurd (omega (arith, is));
-        once = record { making = making; at_most_once = at_most_once; once = λ is. absurd (elim is [ inl e ↦ omega (arith, e) | inr e ↦ omega (arith, e) ]) };
-        cause = record { later = later; rose = λ is. absurd (omega (arith, is)) };
-      })
+      (uses-wire (OpensFor refusal fates old.file script_name config_name) (opening_of config script) (IsUnopened (status_of ends.Memory)) (IsPerformed (status_of ends.Memory)) before after over (λ is. absurd (elim is [ inl e ↦ omega (arith, e) | inr e ↦ omega (arith, e) ])) (λ is. absurd (omega (arith, is)))
+      (record { config = config; script = script; accepts = accepts; taken = taken; opened_is = refl }))
       (record { later = keeps.1; rose = λ is. absurd (omega (arith, is)) }) (record { later = omega (arith, same); rose = λ is. absurd (omega (arith, is)) }) keeps.0
-  ends_unplayed ends.Unopened script_name config_name old new before after config script accepts taken opens unused rose later making at_most_once keeps same =
+  ends_unplayed ends.Unopened script_name config_name old new before after config script accepts taken over failed keeps same =
       session_ends (status_of ends.Unopened) script_name config_name old new before after (record { config = config; script = script; accepts = accepts; taken = taken })
-      (record {
-        opens = λ differs. record { config = config; script = script; accepts = accepts; taken = taken; opened_is = opens differs };
-        unused = λ is. unused refl;
-        once = record { making = making; at_most_once = at_most_once; once = λ is. absurd (elim is [ inl e ↦ omega (arith, e) | inr e ↦ omega (arith, e) ]) };
-        cause = record { later = later; rose = λ is. rose refl };
-      })
+      (uses-wire (OpensFor refusal fates old.file script_name config_name) (opening_of config script) (IsUnopened (status_of ends.Unopened)) (IsPerformed (status_of ends.Unopened)) before after over (λ is. absurd (elim is [ inl e ↦ omega (arith, e) | inr e ↦ omega (arith, e) ])) (λ is. failed refl)
+      (record { config = config; script = script; accepts = accepts; taken = taken; opened_is = refl }))
       (record { later = keeps.1; rose = λ is. absurd (omega (arith, is)) }) (record { later = omega (arith, same); rose = λ is. absurd (omega (arith, is)) }) keeps.0
 
   -- a status that is this one ends so too
@@ -115,21 +133,16 @@ module _ (IsText : Text) (refusal : Refusal) (fates : Bool) where
       subst (λ (s : Status). SessionEnds IsText refusal fates s script_name config_name old new before after) (sym is) h
 
   -- the text was made, and the last write ends the command
-  pub ends_written : (status : Status) (script_name : List ℕ) (config_name : Option (List ℕ)) (old new : Outside) (before after : Wire) (config : Config) (script : Script) (text : List ℕ)
+  pub ends_written : {performed unopened : Type 0} (status : Status) (script_name : List ℕ) (config_name : Option (List ℕ)) (old new : Outside) (before after : Wire) (config : Config) (script : Script) (text : List ℕ)
       → Accepts fates old.file script_name config_name config script → refusal script ≡ None → IsText config script after.told text
-      → after.opened_with ≡ Some (opening_of config script) → before.faults ≤ after.faults → after.made ≡ before.made
-      → after.openings ≡ counted_if true before.openings → EndsWriting old.written new.written text status
+      → PerformsWire (opening_of config script) performed unopened before after → performed → EndsWriting old.written new.written text status
       → HasCause old.write_faults new.write_faults (IsUnwritten status) → KeepsFiles old new
       → SessionEnds IsText refusal fates status script_name config_name old new before after
-  ends_written status script_name config_name old new before after config script text accepts taken is_text opened later making counted written writes keeps =
+  ends_written status script_name config_name old new before after config script text accepts taken is_text over done written writes keeps =
       let late = written_late status old.written new.written text written in
       session_ends status script_name config_name old new before after
       (says_written IsText refusal fates status script_name config_name old new after text
-      (record { config = config; script = script; accepts = accepts; taken = taken; opened = opened; is_text = is_text }) written)
-      (record {
-        opens = λ differs. record { config = config; script = script; accepts = accepts; taken = taken; opened_is = opened };
-        unused = λ is. absurd (late.opened is);
-        once = record { making = making; at_most_once = inr counted; once = λ is. counted };
-        cause = record { later = later; rose = λ is. absurd (late.opened is) };
-      })
+      (record { config = config; script = script; accepts = accepts; taken = taken; opened = over.opened done; is_text = is_text }) written)
+      (uses-wire (OpensFor refusal fates old.file script_name config_name) (opening_of config script) (IsUnopened status) (IsPerformed status) before after over (λ is. done) (λ is. absurd (late.opened is))
+      (record { config = config; script = script; accepts = accepts; taken = taken; opened_is = refl }))
       (record { later = keeps.1; rose = λ is. absurd (late.read is) }) writes keeps.0

@@ -6,7 +6,7 @@ use Rattle.message_guard.specs.Senders.{SenderState, turned}
 use Rattle.device_sides.specs.declared.asked.Next.{Next}
 use Rattle.device_sides.specs.declared.publisher.Publisher.{Publisher}
 use Rattle.device_sides.specs.Coming.{ComesTo}
-use Rattle.device_sides.specs.Sides.{HasRenewed, IsBehind, IsNoLower}
+use Rattle.device_sides.specs.Sides.{HasRenewed, IsBehind, IsNoLess}
 
 -- it comes to a moment, a key group is renewed, or goes on behind so many numbers; or all senders stay
 pub data Call : Type 0 where
@@ -26,10 +26,7 @@ abbrev pub AreCalled : List Call → Publisher → Publisher → Type 0
 AreCalled [] old new = new ≡ old
 AreCalled (call ∷ calls) old new = (mid : Publisher) × (IsCalled call old mid × AreCalled calls mid new)
 
--- its token is no lower than it was, and under the same token neither is the number that was used last
-abbrev pub IsNoLess : SenderState → SenderState → Type 0
-IsNoLess was is = IsNoLower (was.keys.token, was.used) (is.keys.token, is.used)
-
+-- no sender's standing is lower than it was
 abbrev pub FallBackNever : List SenderState → List SenderState → Type 0
 FallBackNever old new = AllZip IsNoLess old new
 

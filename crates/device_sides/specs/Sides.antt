@@ -1,5 +1,5 @@
 -- The sides of a device, between two calls.
-use Rattle.std.specs.Prelude.{◌≡◌, ℕ, ◌<◌, ◌≤◌, Bool, true, false, List, length, map, replicate, slice_get, slice_set, ◌⊎◌, All, Option, Some, None, option_map, Result}
+use Rattle.std.specs.Prelude.{◌≡◌, ℕ, ◌+◌, ◌%◌, ◌^◌, ◌<◌, ◌≤◌, Bool, true, false, List, length, map, replicate, slice_get, slice_set, ◌⊎◌, All, Option, Some, None, option_map, Result}
 use Rattle.std.specs.List.{AllZip, HoldsAt, range_with_len}
 use Rattle.ua_values.specs.declared.value.Value.{Value}
 use Rattle.dataset_meta.specs.DataValues.{IsStatus}
@@ -118,12 +118,17 @@ pub record IsPublisher (publisher : Publisher) : Type 0 where
   pub made_is : publisher.made ≡ length (datagrams_in publisher.out)
   pub handed_is : publisher.handed ≤ publisher.made
 
+-- the row was set once more, which its version counts in 64 bits
+abbrev pub IsSetAgain : Sampled → Sampled → Type 0
+IsSetAgain was is = is.version ≡ (was.version + 1) % 2 ^ 64
+
 -- the row of the data set has this value and this status at the field, and the other data sets' rows stay
 pub record HasRowSet (metas : List MetaData) (set field : ℕ) (value : Value) (status : ℕ) (old new : List Sampled) : Type 0 where
   pub within : set < length metas
   pub row : HoldsAt (λ meta. HoldsAt (λ was. HoldsAt (λ is. row_in meta.fields is.row.words
       ≡ slice_set (row_in meta.fields was.row.words) field (record { value = value; status = status }))
       new set) old set) metas set
+  pub version : HoldsAt (λ was. HoldsAt (IsSetAgain was) new set) old set
   pub others : HoldsAt (λ is. new ≡ slice_set old set is) new set
 
 -- the same, and nothing else changed
@@ -144,6 +149,7 @@ pub record HasWordSet (metas : List MetaData) (set field : ℕ) (kind : Kind) (w
   pub row : HoldsAt (λ meta. HoldsAt (λ was. HoldsAt (λ is. row_in meta.fields is.row.words
       ≡ with_value (row_in meta.fields was.row.words) field (scalar_in kind word))
       new set) old set) metas set
+  pub version : HoldsAt (λ was. HoldsAt (IsSetAgain was) new set) old set
   pub others : HoldsAt (λ is. new ≡ slice_set old set is) new set
 
 -- the same, and nothing else changed
@@ -157,6 +163,7 @@ pub record HasRowStatus (metas : List MetaData) (set field status : ℕ) (old ne
   pub row : HoldsAt (λ meta. HoldsAt (λ was. HoldsAt (λ is. row_in meta.fields is.row.words
       ≡ with_status (row_in meta.fields was.row.words) field status)
       new set) old set) metas set
+  pub version : HoldsAt (λ was. HoldsAt (IsSetAgain was) new set) old set
   pub others : HoldsAt (λ is. new ≡ slice_set old set is) new set
 
 -- the same, and nothing else changed
@@ -224,6 +231,10 @@ pub record HasRenewed (keygroup : ℕ) (sets : List KeySet) (old new : Publisher
 abbrev pub IsNoLower : ℕ × ℕ → ℕ × ℕ → Type 0
 IsNoLower old new = (old.0 < new.0) ⊎ ((old.0 ≡ new.0) × (old.1 ≤ new.1))
 
+-- the same of two senders, by the token in use of each
+abbrev pub IsNoLess : SenderState → SenderState → Type 0
+IsNoLess was is = IsNoLower (was.keys.token, was.used) (is.keys.token, is.used)
+
 -- the key sets that the configuration gives the key group
 abbrev pub configured_sets : KeyGroupPart → List KeySet
 configured_sets part = map key_set part.key
@@ -246,8 +257,7 @@ pub record IsBehind (keygroup now used : ℕ) (sets : List KeySet) (old new : Pu
   pub within : keygroup < length old.senders.items
   pub there : keygroup < length old.config.keygroup
   pub is_resumed : HoldsAt (λ part. HoldsAt (IsResumed part sets now used) new.senders.items keygroup) old.config.keygroup keygroup
-  pub no_lower : HoldsAt (λ was. HoldsAt (λ is. IsNoLower (was.keys.token, was.used) (is.keys.token, is.used))
-      new.senders.items keygroup) old.senders.items keygroup
+  pub no_lower : HoldsAt (λ was. HoldsAt (IsNoLess was) new.senders.items keygroup) old.senders.items keygroup
   pub others : HoldsAt (λ is. new.senders.items ≡ slice_set old.senders.items keygroup is) new.senders.items keygroup
   pub rest : new ≡ record old { senders = new.senders }
 
@@ -266,7 +276,7 @@ pub record IsEarlier (now token : ℕ) (sets : List KeySet) : Type 0 where
 pub record WouldRepeat (part : KeyGroupPart) (sets : List KeySet) (now used : ℕ) (sender : SenderState) : Type 0 where
   pub resumed : SenderState
   pub is : IsResumed part sets now used resumed
-  pub repeats : ¬ IsNoLower (sender.keys.token, sender.used) (resumed.keys.token, resumed.used)
+  pub repeats : ¬ IsNoLess sender resumed
 
 -- where there is a key group with this index, numbers of its sender would come again with these key sets
 abbrev pub MayNotResume : ℕ → ℕ → ℕ → List KeySet → Publisher → Type 0

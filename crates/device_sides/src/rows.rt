@@ -6,7 +6,7 @@ ghost use Rattle.row_words.specs.Belonging.{Belongs, row_in};
 ghost use Rattle.row_words.specs.Setting.{with_status, with_value};
 ghost use Rattle.row_words.specs.Words.{scalar_in};
 ghost use Rattle.writer_group.specs.Standing.{AreRowsOf};
-ghost use Rattle.device_sides.specs.Sides.{HasRowSet, HasRowStatus, HasWordSet, IsMisfit, IsScalarAt, IsStatusMisfit, IsWordMisfit, MayHaveStatus, MayHaveWord};
+ghost use Rattle.device_sides.specs.Sides.{HasRowSet, HasRowStatus, HasWordSet, IsMisfit, IsScalarAt, IsSetAgain, IsStatusMisfit, IsWordMisfit, MayHaveStatus, MayHaveWord};
 
 use crate::words::{has_field_at, is_scalar_at, is_word_of};
 use dataset_meta::Meta;
@@ -82,6 +82,7 @@ fn set_row(meta: &Meta, sampled: &mut Sampled, field: u8, value: &Value, status:
     ensures set { OnTrue result (row_in meta.now.fields sampled.new.row.words
         ≡ slice_set (row_in meta.now.fields sampled.old.row.words) field
         (record { value = value.now; status = status })) }
+    ensures counted { OnTrue result (IsSetAgain sampled.old sampled.new) }
     ensures unset { OnFalse result (sampled.new ≡ sampled.old) }
     ensures misfit { OnFalse result (¬ FitsAt meta.now field value.now status) }
 {
@@ -99,6 +100,7 @@ fn set_word_row(meta: &Meta, sampled: &mut Sampled, field: u8, kind: Kind, word:
     ensures set { OnTrue result (row_in meta.now.fields sampled.new.row.words
         ≡ with_value (row_in meta.now.fields sampled.old.row.words) field (scalar_in kind word)) }
     ensures kind { OnTrue result (IsScalarAt meta.now field kind) }
+    ensures counted { OnTrue result (IsSetAgain sampled.old sampled.new) }
     ensures unset { OnFalse result (sampled.new ≡ sampled.old) }
     ensures misfit { OnFalse result (¬ MayHaveWord meta.now field kind word) }
 {
@@ -119,6 +121,7 @@ fn set_status_row(meta: &Meta, sampled: &mut Sampled, field: u8, status: u32) ->
     ensures belongs { Belongs meta.now sampled.new.row.words }
     ensures set { OnTrue result (row_in meta.now.fields sampled.new.row.words
         ≡ with_status (row_in meta.now.fields sampled.old.row.words) field status) }
+    ensures counted { OnTrue result (IsSetAgain sampled.old sampled.new) }
     ensures unset { OnFalse result (sampled.new ≡ sampled.old) }
     ensures misfit { OnFalse result (¬ MayHaveStatus meta.now field status) }
 {

@@ -109,7 +109,8 @@ impl<'c> Gateway<'c> {
             (L.told link.old) (L.told link.new) }
         ensures collected { KeepsCollected self.old self.new }
         ensures memory { result ≡ Ticked.Memory → IsTrue L.takes_memory }
-        ensures link { KeepsLink L.opened_with L.faults L.made L.openings link.old link.new }
+        ensures link { KeepsLink L.told L.patience L.opened_with L.faults L.made L.openings
+            0 link.old link.new }
     {
         self.left.ticks -= 1;
         self.left.pumps += 1;
@@ -145,7 +146,8 @@ impl<'c> Gateway<'c> {
             × (result.taken ≡ count_by is_datagram entries) }
         ensures limit { IsTrue result.limit ↔ (result.taken ≡ most_taken) }
         ensures collected { KeepsCollected self.old self.new }
-        ensures link { KeepsLink L.opened_with L.faults L.made L.openings link.old link.new }
+        ensures link { KeepsLink L.told L.patience L.opened_with L.faults L.made L.openings
+            1 link.old link.new }
     {
         self.left.pumps -= 1;
         self.round.pump(self.config, link)

@@ -109,7 +109,8 @@ impl<'a, L: Link, M: Made> Tap<'a, L, M> {
     }
 }
 
-/// It tells and fails as its link does, was made and is counted as its link, and is opened with what its link was opened with by way of the tap.
+/// It tells, tells on and fails as its link does, was made and is counted as its link, and is opened with what its link was opened
+/// with by way of the tap.
 impl<L: Link, M: Made> Link for Tap<'_, L, M> {
     ghost use Rattle.json_tap.specs.Taps.{link_of, lines_in, skipped_in, is_open};
     ghost use Rattle.json_tap.specs.Keeping.{opened_if, KeepsSent};
@@ -117,6 +118,8 @@ impl<L: Link, M: Made> Link for Tap<'_, L, M> {
     ghost takes_memory = { true };
 
     ghost told = { λ t. L.told (link_of t) };
+
+    ghost patience = { λ t. L.patience (link_of t) };
 
     ghost faults = { λ t. L.faults (link_of t) };
 
@@ -143,9 +146,10 @@ impl<L: Link, M: Made> Link for Tap<'_, L, M> {
         ensures entry { Tells (L.told (link_of self.old)) (L.told (link_of self.new))
             (Sends datagram.now result) }
         ensures waiting { Tells (L.told (link_of self.old)) (L.told (link_of self.new)) (Queues result) }
-        ensures link { KeepsLink (λ t. opened_if (is_open t) (L.opened_with (link_of t)))
+        ensures link { KeepsLink (λ t. L.told (link_of t)) (λ t. L.patience (link_of t))
+            (λ t. opened_if (is_open t) (L.opened_with (link_of t)))
             (λ t. L.faults (link_of t)) (λ t. L.made (link_of t)) (λ t. L.openings (link_of t))
-            self.old self.new }
+            0 self.old self.new }
         ensures only_where_taken { result ≡ Sent.Memory → IsTrue true }
         ensures cause { result ≡ Sent.Failed
             → Rose (L.faults (link_of self.old)) (L.faults (link_of self.new)) }

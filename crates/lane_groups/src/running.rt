@@ -48,7 +48,8 @@ pub fn run_lanes<'a, L: Link, G: Gate, R: Threads + Wait + Sync>(
         (λ ran. AreBehind config.entry.now turns.entry.now lanes.items ran.lanes.items) }
     ensures stopped { IfErr result
         (λ _. HasStopped config.entry.now turns.entry.now (L.told link.old) (L.told link.new)) }
-    ensures link { KeepsLink L.opened_with L.faults L.made L.openings link.old link.new }
+    ensures link { KeepsLink L.told L.patience L.opened_with L.faults L.made L.openings
+        0 link.old link.new }
 {
     let work = Work { config, turns };
     let count = turns.len() as u32;

@@ -10,4 +10,5 @@ pub mod Kept
 pub mod Makings
 pub mod Named
 pub mod Opened
+pub mod Patience
 pub mod Waiting

@@ -1,10 +1,10 @@
 -- What a link in memory shows, and what its calls do to it.
-use Rattle.std.specs.Prelude.{◌≡◌, ℕ, Bool, true, false, List, [], ◌∷◌, ◌++◌, length, Option, Some, None, if◌then◌else◌}
+use Rattle.std.specs.Prelude.{◌≡◌, ◌+◌, ◌-◌, ◌^◌, ℕ, Bool, true, false, List, [], ◌∷◌, ◌++◌, length, Option, Some, None, fold, if◌then◌else◌}
 use Rattle.mem_edge.specs.declared.memory_link.MemoryLink.{MemoryLink}
 use Rattle.ua_base.specs.declared.link.Fate.{Fate}
 use Rattle.ua_base.specs.declared.link.Sent.{Sent as SentEnd}
 use Rattle.ua_base.specs.declared.link.Sent.TheVariants as sent
-use Rattle.ua_base.specs.Journal.{Entry, Sent, SendFailed, LinkState, told_more}
+use Rattle.ua_base.specs.Journal.{Entry, Sent, SendFailed, Got, Empty, Long, ReceiveFailed, LinkState, told_more}
 use Rattle.ua_base.specs.Links.{Making, Opening}
 use Rattle.mem_edge.specs.Calls.{is_named}
 use Rattle.mem_edge.specs.Transits.{journal_in, told_in, injected_in}
@@ -17,6 +17,27 @@ journal_of link = journal_in link.transit
 
 abbrev pub told_by : MemoryLink → Option LinkState
 told_by link = told_in link.transit
+
+-- so many answers Nothing stand at the end of a journal that has this entry more, if there were so many before
+abbrev pub nothings_with : ℕ → Entry → ℕ
+nothings_with nothings (Sent datagram) = 0
+nothings_with nothings SendFailed = 0
+nothings_with nothings (Got datagram) = 0
+nothings_with nothings Empty = nothings + 1
+nothings_with nothings (Long len) = 0
+nothings_with nothings ReceiveFailed = 0
+
+-- how many answers Nothing stand at a journal's end
+abbrev pub nothings_behind : List Entry → ℕ
+nothings_behind journal = fold nothings_with 0 journal
+
+-- how many answers Nothing may come in a row until it tells no more
+abbrev pub patience_in : Option LinkState → ℕ
+patience_in None = 0
+patience_in (Some state) = 2 ^ 64 - 1 - nothings_behind state.journal
+
+abbrev pub patience_of : MemoryLink → ℕ
+patience_of link = patience_in (told_by link)
 
 abbrev pub faults_of : MemoryLink → ℕ
 faults_of link = link.faults

@@ -1,11 +1,11 @@
 //! A link in memory: what is sent waits, and is received in the order that fates and injected datagrams make.
-ghost use Rattle.std.specs.Prelude.{◌≡◌, ◌≢◌, ◌≤◌, ◌<◌, ◌^◌, ◌↔◌, ℕ, [], true, false, IsTrue, IsSome, length, vec_len, Some, None, OnOk, OnErr, MatchOption, slice_get};
+ghost use Rattle.std.specs.Prelude.{◌≡◌, ◌≢◌, ◌≤◌, ◌<◌, ◌-◌, ◌^◌, ◌↔◌, ℕ, [], true, false, IsTrue, IsSome, length, vec_len, Some, None, OnOk, OnErr, MatchOption, slice_get};
 ghost use Rattle.std.specs.List.{All};
 ghost use Rattle.ua_base.specs.Cause.{HasCause, Rose, counted_if};
 ghost use Rattle.ua_base.specs.Fates.{AreFates};
 ghost use Rattle.ua_base.specs.Journal.{LinkState, Tells, sent_list, received_list};
-ghost use Rattle.ua_base.specs.Links.{KeepsLink};
-ghost use Rattle.ua_base.specs.Net.{Opens, is_done, Sends, Queues, Receives, FitsBuffer};
+ghost use Rattle.ua_base.specs.Links.{KeepsLink, TellsOn};
+ghost use Rattle.ua_base.specs.Net.{Opens, is_done, Sends, Queues, Receives, FitsBuffer, nothings_in};
 ghost use Rattle.mem_edge.specs.Calls.{named_from};
 ghost use Rattle.mem_edge.specs.Contents.{injections};
 ghost use Rattle.mem_edge.specs.Failings.{ahead_in, IsAhead};
@@ -60,7 +60,7 @@ pub struct MemoryLink {
 }
 
 impl MemoryLink {
-    ghost use Rattle.mem_edge.specs.MemoryLinks.{told_by, journal_of, faults_of, opened_by, made_by, openings_of, receives_made};
+    ghost use Rattle.mem_edge.specs.MemoryLinks.{told_by, journal_of, patience_of, faults_of, opened_by, made_by, openings_of, receives_made};
 
     /// An injected datagram comes after all that the send of its number queues; of two with one number the first of
     /// the list comes first. Each is shorter than 2^32 bytes, since an answer counts its bytes in a u32.
@@ -73,6 +73,7 @@ impl MemoryLink {
     ) -> MemoryLink
         requires { All (λ p. vec_len p.1 < 2 ^ 32) injected.items }
         ensures told { told_by result ≡ Some (record { journal = []; waiting = [] }) }
+        ensures patience { patience_of result ≡ 2 ^ 64 - 1 }
         ensures made { made_by result ≡ record {
           injected = injections injected.items;
           send_fails = send_fails.items;
@@ -160,12 +161,14 @@ impl MemoryLink {
 }
 
 impl Link for MemoryLink {
-    ghost use Rattle.mem_edge.specs.MemoryLinks.{told_by, journal_of, faults_of, opened_by, made_by, openings_of, fails_opening, fails_receiving, receives_made, is_failed};
+    ghost use Rattle.mem_edge.specs.MemoryLinks.{told_by, journal_of, patience_of, faults_of, opened_by, made_by, openings_of, fails_opening, fails_receiving, receives_made, is_failed};
     ghost use Rattle.mem_edge.specs.Runs.{AnswersSend, AnswersReceive};
 
     ghost takes_memory = { true };
 
     ghost told = { λ m. told_by m };
+
+    ghost patience = { λ m. patience_of m };
 
     ghost faults = { λ m. faults_of m };
 
@@ -186,6 +189,7 @@ impl Link for MemoryLink {
             → (told_by self.new ≡ told_by self.old) × (opened_by self.new ≡ opened_by self.old) }
         ensures cause { HasCause
             (faults_of self.old) (faults_of self.new) (result ≡ Opened.Failed) }
+        ensures lasts { TellsOn told_by patience_of 0 self.old self.new }
         ensures making { made_by self.new ≡ made_by self.old }
         ensures counted { openings_of self.new ≡ counted_if (is_done result) (openings_of self.old) }
 
@@ -218,7 +222,8 @@ impl Link for MemoryLink {
 
         ensures entry { Tells (told_by self.old) (told_by self.new) (Sends datagram.now result) }
         ensures waiting { Tells (told_by self.old) (told_by self.new) (Queues result) }
-        ensures link { KeepsLink opened_by faults_of made_by openings_of self.old self.new }
+        ensures link { KeepsLink told_by patience_of opened_by faults_of made_by openings_of
+            0 self.old self.new }
         ensures only_where_taken { result ≡ Sent.Memory → IsTrue true }
         ensures cause { result ≡ Sent.Failed → Rose (faults_of self.old) (faults_of self.new) }
 
@@ -254,7 +259,8 @@ impl Link for MemoryLink {
 
         ensures entry { Tells (told_by self.old) (told_by self.new) (Receives result into.new) }
         ensures sizes { FitsBuffer result into.new }
-        ensures link { KeepsLink opened_by faults_of made_by openings_of self.old self.new }
+        ensures link { KeepsLink told_by patience_of opened_by faults_of made_by openings_of
+            (nothings_in result) self.old self.new }
         ensures cause { result ≡ Received.Failed → Rose (faults_of self.old) (faults_of self.new) }
 
         ensures answers { AnswersReceive result into.new self.old self.new }

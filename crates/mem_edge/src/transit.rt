@@ -1,5 +1,5 @@
 //! Datagrams on their way: what was sent, what waits in which order, what was received, and the journal of it.
-ghost use Rattle.std.specs.Prelude.{◌≡◌, ◌≤◌, ◌<◌, ◌+◌, ◌-◌, ◌^◌, ◌++◌, ◌∷◌, [], ℕ, OnOk, OnErr, map, length, replicate, vec_len, vec_capacity, Some, None, MatchOption, slice_get, unwrap_or};
+ghost use Rattle.std.specs.Prelude.{◌≡◌, ◌≢◌, ◌≤◌, ◌<◌, ◌+◌, ◌-◌, ◌^◌, ◌++◌, ◌∷◌, [], ℕ, OnOk, OnErr, map, length, replicate, vec_len, vec_capacity, Some, None, MatchOption, slice_get, unwrap_or};
 ghost use Rattle.std.specs.List.{All};
 ghost use Rattle.std.specs.Option.{option_map};
 ghost use Rattle.ua_base.specs.Journal.{Sent as SentEntry, SendFailed, ReceiveFailed, LinkState, Tells, told_more, sent_list, received_list};
@@ -327,6 +327,8 @@ impl Transit {
         ensures tells { (before : LinkState)
             → told_in self.old ≡ Some before → told_in self.new ≡ None
             → EndsInNothings before.journal }
+        ensures tells_on { result ≢ Received.Nothing
+            → told_in self.new ≡ None → told_in self.old ≡ None }
         ensures sends { sends_in (journal_in self.new) ≡ sends_in (journal_in self.old) }
         ensures room { room_in self.old ≤ room_in self.new }
         ensures injected { injected_in self.new ≡ injected_in self.old }

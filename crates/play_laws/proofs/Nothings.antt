@@ -1,9 +1,12 @@
 -- A session's journal has few answers Nothing.
-use Rattle.std.proofs.Common.{◌≡◌, refl, ap, ◌∙◌, arith, ℕ, zero, suc, ◌+◌, ◌≤◌, Bool, true, false, List, [], ◌∷◌, ◌++◌}
-use Rattle.std.specs.Prelude.{◌^◌, replicate}
+use Rattle.std.proofs.Common.{◌≡◌, refl, ap, ◌∙◌, arith, ℕ, zero, suc, ◌+◌, ◌-◌, ◌≤◌, Bool, true, false, List, [], ◌∷◌, ◌++◌}
+use Rattle.std.specs.Prelude.{◌^◌, replicate, IsSome}
 use Rattle.ua_base.specs.Journal.{Entry, Sent, SendFailed, Got, Empty, Long, ReceiveFailed}
+use Rattle.ua_base.specs.Links.{TellsOn}
+use Rattle.mem_edge.specs.declared.memory_link.MemoryLink.{MemoryLink}
 use Rattle.mem_edge.specs.Marks.{EndsInNothings}
-use Rattle.session_model.specs.Counts.{pumps_in, ticks_in}
+use Rattle.mem_edge.specs.MemoryLinks.{patience_of, told_by}
+use Rattle.session_model.specs.Counts.{pumps_in, session_nothings, ticks_in}
 use Rattle.session_model.specs.Keeping.{AreStepsOf}
 use Rattle.session_model.specs.Sends.{IsPump, IsRun, Send, journal, send_entries, sends_of}
 use Rattle.session_model.specs.Steps.{Plan, Step, Enable, Disable, Append, Tick, Pump}
@@ -84,3 +87,9 @@ few-nothings limit p steps first rest le are run e ends =
     let many = replicated ends.0 in
     let count = ends.2 in
     omega (arith, le, total, pumps, ticks, split, own, many, count)
+
+-- a session of a script is answered Nothing less often than that, and a new link has the patience for it
+pub tells-to-the-end : (old new : MemoryLink) → patience_of old ≡ 2 ^ 64 - 1 → IsSome (told_by old) → TellsOn told_by patience_of session_nothings old new → IsSome (told_by new)
+tells-to-the-end old new whole is on =
+    let few : 4096 + 1 ≤ patience_of old = omega (arith, whole) in
+    on.tells few is

@@ -4,5 +4,8 @@
 mod laws;
 mod witness;
 
-pub use laws::{a_memory_link_tells_of_each_session, a_pump_takes_all_that_waits};
+pub use laws::{
+    a_memory_link_tells_of_each_session, a_new_memory_link_tells_to_the_end,
+    a_pump_takes_all_that_waits,
+};
 pub use witness::{a_script_with_a_fate_ends_so, a_script_with_a_fate_reports_so};

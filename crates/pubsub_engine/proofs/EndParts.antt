@@ -1,5 +1,5 @@
 -- What the parts of a session tell when it is closed.
-use Rattle.std.proofs.Common.{◌≡◌, refl, sym, ap, ◌∙◌, subst, arith, ℕ, ◌<◌, List, [], length, take, get_or, Option, Some, None}
+use Rattle.std.proofs.Common.{◌≡◌, refl, sym, ap, ◌∙◌, subst, arith, ℕ, ◌<◌, Bool, List, [], length, take, get_or, Option, Some, None}
 use Rattle.std.specs.Prelude.{IfSome, option_and_then}
 use Rattle.std.proofs.lemmas.List.{length-map}
 use Rattle.pubsub_model.specs.Answers.{version_of}
@@ -48,7 +48,7 @@ use Rattle.session_parts.proofs.Few.{group-among, writer-among}
 use Rattle.session_parts.proofs.TellingReaders.{low-among}
 use Rattle.pubsub_engine.specs.Ending.{HavePublished, HaveReceived, MayTellReaders, MayTellWriters}
 use Rattle.pubsub_engine.specs.LifeEnds.{HasVersion, IsToldBy, IsWriterEndBy, group_end_by, read_group_end_by, reader_in}
-use Rattle.pubsub_engine.specs.Logs.{IsLogRead, log_after}
+use Rattle.pubsub_engine.specs.Logs.{IsLogRead, log_after, logs_told}
 use Rattle.session_parts.specs.Showing.{IsReaderIn}
 use Rattle.session_parts.proofs.Shown.{reader-in}
 use Rattle.session_parts.proofs.StatesTold.{state-told}
@@ -121,35 +121,35 @@ read-group-told config p steps a tree subscriber r state tally may have low is a
 
 -- ---- readers
 
-none-logged : (number : Option ℕ) → option_and_then (version_of []) number ≡ None
+pub none-logged : (number : Option ℕ) → option_and_then (version_of []) number ≡ None
 none-logged None = refl
 none-logged (Some n) = refl
 
-version-if : (most : ℕ) (p : Plan) (metas : List MetaData) (all : List Deed) (publisher : Publisher) (at : ReadGroupPart × ReaderPart) (log : List (ℕ × ℕ)) (held : Option HeldEnd)
-    → AreAllLogged most publisher.groups.items → HavePast p.config metas all publisher.groups.items → IsLogRead p.config publisher at log
-    → IfSome held (λ held. held.version ≡ option_and_then (version_of log) held.number) → IfSome held (HasVersion (log_after most p.config all) p at)
-version-if most p metas all publisher at log None logged past read version = tt
-version-if most p metas all publisher at log (Some held) logged past read version = record {
+version-if : (versions : Bool) (most : ℕ) (p : Plan) (metas : List MetaData) (all : List Deed) (publisher : Publisher) (at : ReadGroupPart × ReaderPart) (log : List (ℕ × ℕ)) (held : Option HeldEnd)
+    → AreAllLogged most publisher.groups.items → HavePast p.config metas all publisher.groups.items → IsLogRead versions p.config publisher at log
+    → IfSome held (λ held. held.version ≡ option_and_then (version_of log) held.number) → IfSome held (HasVersion (logs_told versions (log_after most p.config all)) p at)
+version-if versions most p metas all publisher at log None logged past read version = tt
+version-if versions most p metas all publisher at log (Some held) logged past read version = record {
   own = λ same. version ∙ ap (λ (l : List (ℕ × ℕ)). option_and_then (version_of l) held.number) (read.own same most metas all logged past);
   other = λ differ. version ∙ ap (λ (l : List (ℕ × ℕ)). option_and_then (version_of l) held.number) (read.other differ) ∙ none-logged held.number;
 }
 
-pub reader-told : (config : Config) (most : ℕ) (p : Plan) (steps : List Step) (a : Account) (tree : TreeValue) (publisher : Publisher) (subscriber : Subscriber) (r i : ℕ)
+pub reader-told : (versions : Bool) (config : Config) (most : ℕ) (p : Plan) (steps : List Step) (a : Account) (tree : TreeValue) (publisher : Publisher) (subscriber : Subscriber) (r i : ℕ)
     (group : ReaderGroup) (reader : DataSetReader) (log : List (ℕ × ℕ)) (end : ReaderEnd)
     → MayTellReaders config tree subscriber → HavePublished config most p steps a tree publisher → HaveReceived config p steps a tree subscriber
     → r < length config.readgroup → i < length (read_group_at config r).reader
-    → group ≡ get_or subscriber.groups.items r group → IsKeptAt group i reader → IsPassedAt group i reader → IsMadeAt group i reader → IsLogRead config publisher (reader_in config (r, i)) log
+    → group ≡ get_or subscriber.groups.items r group → IsKeptAt group i reader → IsPassedAt group i reader → IsMadeAt group i reader → IsLogRead versions config publisher (reader_in config (r, i)) log
     → end.state ≡ state_of (flags_in tree) (Reader r i)
     → ((meta : MetaData) (member : MemberValue) → IsReaderOf meta reader → kept_by meta.fields reader ≡ member.kept → Shows meta member end)
     → IfSome end.held (λ held. held.version ≡ option_and_then (version_of log) held.number)
-    → IsToldBy (log_after most p.config a.deeds) p steps a (r, i) end
-reader-told config most p steps a tree publisher subscriber r i group reader log end may published have low within at is_kept is_passed is_made read is_state shows version = record {
+    → IsToldBy (logs_told versions (log_after most p.config a.deeds)) p steps a (r, i) end
+reader-told versions config most p steps a tree publisher subscriber r i group reader log end may published have low within at is_kept is_passed is_made read is_state shows version = record {
   is = record {
     state = is_state ∙ state-told (flags_by p.config steps a) tree (Reader r i) (low-among config tree.counts r i may.counts low within) have.flags;
     shows = shows (seat_at (setting_of p.config r).seats i).meta (member_at (a.readings r).value.members i) at_place.made at_place.kept;
   };
-  version = version-if most p (metas_at p.config steps) a.deeds publisher (reader_in p.config (r, i)) log end.held published.logged published.groups
-      (subst (λ (c : Config). IsLogRead c publisher (reader_in c (r, i)) log) (sym have.plan) read) version;
+  version = version-if versions most p (metas_at p.config steps) a.deeds publisher (reader_in p.config (r, i)) log end.held published.logged published.groups
+      (subst (λ (c : Config). IsLogRead versions c publisher (reader_in c (r, i)) log) (sym have.plan) read) version;
 }
   where
     at_place : IsReaderIn p a.readings (r, i) reader

@@ -27,3 +27,4 @@ pub mod OpenRows
 pub mod SampleLoop
 pub mod Rings
 pub mod Unrenewed
+pub mod OwnNumbers

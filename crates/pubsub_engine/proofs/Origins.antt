@@ -1,5 +1,5 @@
 -- Where a reader's last store comes from.
-use Rattle.std.proofs.Common.{◌≡◌, ◌≢◌, refl, sym, ap, ◌∙◌, subst, ℕ, true, false, List, [], ◌∷◌, length, reverse, slice_get, Option, Some, None, option_map, option_and_then}
+use Rattle.std.proofs.Common.{◌≡◌, ◌≢◌, refl, sym, ap, ◌∙◌, subst, ℕ, Bool, true, false, List, [], ◌∷◌, length, reverse, slice_get, Option, Some, None, option_map, option_and_then}
 use Rattle.std.proofs.lemmas.Bool.{false≢true}
 use Rattle.std.proofs.lemmas.List.{length-map, length-reverse}
 use Rattle.std.proofs.lemmas.Option.{slice_get-map}
@@ -22,7 +22,7 @@ use Rattle.session_parts.specs.declared.publisher.Publisher.{Publisher}
 use Rattle.session_parts.specs.Holding.{AreAllLogged}
 use Rattle.session_parts.specs.Standing.{HavePast}
 use Rattle.pubsub_engine.specs.declared.storing.Last.{Last}
-use Rattle.pubsub_engine.specs.Logs.{IsLogRead, log_after, log_by}
+use Rattle.pubsub_engine.specs.Logs.{IsLogRead, log_after, log_by, logs_told}
 use Rattle.pubsub_engine.specs.Standing.{IsOriginFrom, IsVersionStored, number_stored}
 use Rattle.pubsub_engine.specs.Storing.{HasStored, IsLast}
 use Rattle.pubsub_engine.proofs.Places.{grouped_at, grouped-places}
@@ -67,23 +67,23 @@ version-is logs p place (store ∷ before) meta row last version on is own other
     (λ same. own same ∙ ap (option_and_then (version_in (log_by logs p.config (seat_at (setting_of p.config place.0).seats place.1).part.writer))) is.1, other)
 
 -- of the last store
-pub is-origin : (most : ℕ) (p : Plan) (metas : List MetaData) (deeds : List Deed) (place : MemberPlace) (stored : List Store) (meta : MetaData) (row : List ℕ) (last : Last) (pass : Known) (publisher : Publisher) (log : List (ℕ × ℕ)) (origin : Origin) (k : ℕ)
+pub is-origin : (versions : Bool) (most : ℕ) (p : Plan) (metas : List MetaData) (deeds : List Deed) (place : MemberPlace) (stored : List Store) (meta : MetaData) (row : List ℕ) (last : Last) (pass : Known) (publisher : Publisher) (log : List (ℕ × ℕ)) (origin : Origin) (k : ℕ)
     → last.is_there ≡ true
     → IsLast stored meta row last → HasStored stored meta pass
     → slice_get (reader_places p.config) k ≡ Some place
     → AreAllLogged most publisher.groups.items → HavePast p.config metas deeds publisher.groups.items
-    → ((at : ReadGroupPart × ReaderPart) → slice_get (grouped_readers p.config.readgroup) k ≡ Some at → IsLogRead p.config publisher at log)
+    → ((at : ReadGroupPart × ReaderPart) → slice_get (grouped_readers p.config.readgroup) k ≡ Some at → IsLogRead versions p.config publisher at log)
     → origin.store ≡ length pass.seen → origin.number ≡ last.number → origin.version ≡ option_and_then (version_in log) last.number
-    → IsOriginFrom (log_after most p.config deeds) p place stored origin
-is-origin most p metas deeds place stored meta row last pass publisher log origin k on is seen at logged past read is_store is_number is_version = record {
+    → IsOriginFrom (logs_told versions (log_after most p.config deeds)) p place stored origin
+is-origin versions most p metas deeds place stored meta row last pass publisher log origin k on is seen at logged past read is_store is_number is_version = record {
   store = is_store ∙ count-seen stored meta pass seen;
   number = is_number ∙ number-is stored meta row last on is;
-  version = version-is (log_after most p.config deeds) p place stored meta row last origin.version on is
+  version = version-is (logs_told versions (log_after most p.config deeds)) p place stored meta row last origin.version on is
       (λ same. is_version ∙ ap (λ (l : List (ℕ × ℕ)). option_and_then (version_in l) last.number) (named.own same most metas deeds logged past))
       (λ apart. is_version ∙ ap (λ (l : List (ℕ × ℕ)). option_and_then (version_in l) last.number) (named.other apart) ∙ no-version last.number);
 }
   where
-    named : IsLogRead p.config publisher (grouped_at p.config place) log
+    named : IsLogRead versions p.config publisher (grouped_at p.config place) log
     named = read (grouped_at p.config place)
         (ap (λ (l : List (ReadGroupPart × ReaderPart)). slice_get l k) (sym (grouped-places p.config))
         ∙ slice_get-map (grouped_at p.config) (reader_places p.config) k ∙ ap (option_map (grouped_at p.config)) at)

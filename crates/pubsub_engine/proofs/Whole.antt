@@ -1,18 +1,22 @@
 -- A closed session as a whole, out of what its parts tell.
-use Rattle.std.proofs.Common.{◌≡◌, refl, sym, ap, ◌∙◌, subst, arith, ℕ, ◌<◌, ◌≤◌, Bool, true, false, cond, List, [], ◌∷◌, length, get_or, Option, Some, None}
+use Rattle.std.proofs.Common.{◌≡◌, ◌≢◌, refl, sym, ap, ◌∙◌, subst, arith, ℕ, ◌<◌, ◌≤◌, Bool, true, false, cond, List, [], ◌∷◌, length, get_or, Option, Some, None}
 use Rattle.std.specs.Prelude.{◌==◌, map, find, zip, All, IfSome, IsSomeAnd, slice_get, option_map, option_and_then}
 use Rattle.std.specs.List.{AllZip}
 use Rattle.std.specs.List.Sorted.{IsNonDecreasing}
 use Rattle.std.specs.Option.{option_map_or}
+use Rattle.std.proofs.lemmas.Bool.Decides.{nat_tests}
 use Rattle.std.proofs.lemmas.List.{get_or-map, length-map}
 use Rattle.std.proofs.lemmas.List.Elements.{All-get_or, length_all_zip}
 use Rattle.std.proofs.lemmas.List.FromFn.{length-map-range_with_len}
-use Rattle.std.proofs.lemmas.Option.{slice_get-get_or}
+use Rattle.std.proofs.lemmas.Option.{none-some, slice_get-get_or}
 use Rattle.pubsub_model.specs.Answers.{version_of}
 use Rattle.dataset_meta.specs.Metas.{HasGrown, MetaData, no_meta}
 use Rattle.dataset_meta.specs.DataValues.{DataValue}
 use Rattle.dataset_reader.specs.Kept.{Kept}
+use Rattle.message_guard.specs.Protection.{keys_in}
+use Rattle.message_guard.specs.declared.keys.TokenKeys.{TokenKeys}
 use Rattle.row_words.specs.Belonging.{Belongs, row_in}
+use Rattle.config_tables.specs.declared.publisher.Publisher.{Publisher as PublisherId}
 use Rattle.config_tables.specs.declared.words.NumberingWord.{NumberingWord}
 use Rattle.config_tables.specs.declared.words.NumberingWord.TheVariants as words
 use Rattle.ps_config.specs.declared.parts.Config.{Config}
@@ -27,30 +31,33 @@ use Rattle.ps_report.specs.declared.closed.WatchEnd.{WatchEnd}
 use Rattle.ps_report.specs.declared.closed.WriterEnd.{WriterEnd}
 use Rattle.app_threads.specs.declared.done.Done.{Done}
 use Rattle.ps_report.specs.Conditions.{BelongsTo, HoldRows, IsClosedOf, HoldsRow, readers_of, writers_of}
-use Rattle.ps_report.specs.Told.{TellsHeld, TellsNumber, TellsReader, grouped_readers, log_of}
+use Rattle.ps_report.specs.Told.{TellsHeld, TellsNumber, TellsReader, log_of}
 use Rattle.reader_group.specs.Members.{Seat, no_seat, seat_at}
-use Rattle.reader_group.specs.Numbered.{HasItsNumber, HaveTheirNumbers}
-use Rattle.reader_group.specs.Plain.{Event, Setting}
+use Rattle.reader_group.specs.Numbered.{HasItsNumber, HaveNumbers, HaveTheirNumbers}
+use Rattle.reader_group.specs.Plain.{Event, PlainGroup, Setting, member_at, opening, step}
 use Rattle.reader_group.specs.Settings.{group_at as read_group_at, no_group as no_read_group, seat_in, setting_of}
-use Rattle.session_model.specs.Steps.{Plan, Step}
+use Rattle.session_model.specs.Steps.{Plan, Step, Enable, Disable, Append, Tick, Pump}
 use Rattle.session_model.specs.Deeds.{deeds, group_indexes, logs_cut}
-use Rattle.session_model.specs.Events.{events, read_group_indexes, reader_at}
+use Rattle.session_model.specs.Events.{events, read_group_indexes}
 use Rattle.session_model.specs.Keeping.{AreStepsOf}
-use Rattle.session_model.specs.Lives.{Account, Lived, account_in, account_of, log_in, steps_in}
-use Rattle.session_model.specs.Closing.{IsClosedAfter, IsClosedWith, IsReaderEnd, IsWriterEndWith, MemberPlace, reader_places, writer_places}
+use Rattle.session_model.specs.Lives.{Account, Lived, Renewed, Stepped, account_in, account_of, befalls, log_in, steps_in}
+use Rattle.session_model.specs.Readings.{Reading, goes_on, read_on, reads_with, rekeyed_if, setting_in}
+use Rattle.session_model.specs.Closing.{IsClosedAfter, IsClosedTelling, IsReaderEnd, IsWriterEndWith, MemberPlace, TellsEndsIf, TellsNumberAlone, TellsReaderAlone, reader_places, writer_places}
 use Rattle.session_parts.specs.Showing.{link_of}
 use Rattle.session_parts.specs.Standing.{AreReceivesIn, AreSendsIn}
 use Rattle.pubsub_engine.specs.declared.session.Session.{Session}
 use Rattle.pubsub_engine.specs.Authored.{AreHistories, AreInOrder, AreLooksAt, watches_in_bytes}
-use Rattle.pubsub_engine.specs.Holding.{IsSession, KeepsWholeLogs, logged_of, plan_of, ticks_of}
+use Rattle.pubsub_engine.specs.Holding.{IsSession, KeepsWholeLogs, TellsVersions, logged_of, plan_of, tells_versions, ticks_of}
 use Rattle.pubsub_engine.specs.Standing.{Stands}
 use Rattle.pubsub_engine.specs.Living.{StandsAs, StandsIn}
-use Rattle.pubsub_engine.specs.Logs.{log_after, log_by}
+use Rattle.pubsub_engine.specs.Logs.{log_after, log_by, logs_told}
 use Rattle.pubsub_engine.specs.Ending.{HavePublished, HaveReceived}
 use Rattle.pubsub_engine.specs.LifeEnds.{HasVersion, IsClosedBy, IsClosedIn, IsClosedWhole, IsToldBy, IsWriterEndBy, group_end_by, logs_in, read_group_end_by, reader_in}
 use Rattle.pubsub_engine.proofs.Lives.{as-stands}
 use Rattle.session_model.proofs.Ticks.{log-whole-in, logs-whole}
 use Rattle.pubsub_engine.proofs.ByPlace.{IsPlace, are-places, parts-by-place, writer-count}
+use Rattle.pubsub_engine.proofs.EndParts.{none-logged}
+use Rattle.pubsub_engine.proofs.Named.{no-log-told}
 use Rattle.pubsub_engine.proofs.NowSets.{now-sets}
 use Rattle.pubsub_engine.proofs.Pairing.{pairs-length, pairs-map, pairs-weaker}
 use Rattle.pubsub_engine.proofs.Places.{grouped-places, seat-part}
@@ -100,21 +107,62 @@ tells-held logs p writers at meta kept (Some held) named has row number is = rec
   other = is.other;
 }
 
--- behind steps alone numbers and versions are told
-pub tells-readers : ((setting : Setting) (events : List Event) → HaveTheirNumbers setting events) → (logs : ℕ → ℕ → List (ℕ × ℕ)) (p : Plan) (steps : List Step) (writers : List WriterEnd)
-    (readers : List ReaderEnd) → AllZip (IsWriterEndBy logs p steps (account_of p steps)) (writer_places p.config) writers
-    → AllZip (IsToldBy logs p steps (account_of p steps)) (reader_places p.config) readers → AllZip (TellsReader p.config writers) (grouped_readers p.config.readgroup) readers
-tells-readers numbers logs p steps writers readers named told =
-    subst (λ (l : List (ReadGroupPart × ReaderPart)). AllZip (TellsReader p.config writers) l readers) (grouped-places p.config)
-    (pairs-map (TellsReader p.config writers) (reader_in p.config) (reader_places p.config) readers
-    (pairs-weaker (IsPlace p.config) (IsToldBy logs p steps (account_of p steps)) (λ place end. TellsReader p.config writers (reader_in p.config place) end)
-    (λ place end there is.
-    tells-held logs p writers (reader_in p.config place) (seat_at (setting_of p.config place.0).seats place.1).meta (reader_at p.config place.0 place.1 steps).kept end.held
-    (λ id. log-named logs p steps (account_of p steps) id writers named)
-    (numbers (setting_of p.config place.0) (events p.config place.0 steps) place.1
-    (subst (λ (n : ℕ). place.1 < n) (sym (length-map (read_group_at p.config place.0).reader (seat_in p.config))) there.1))
-    is.is.shows.row is.is.shows.number is.version)
-    (reader_places p.config) readers (are-places p.config) told))
+-- none whichever publisher it is
+none-both : (one other : PublisherId) (version : Option ℕ) → (one ≡ other → version ≡ None) → (one ≢ other → version ≡ None) → version ≡ None
+none-both one other None same apart = refl
+none-both one other (Some n) same apart = apart (λ is. none-some n (sym (same is)))
+
+tells-alone : (logs : ℕ → ℕ → List (ℕ × ℕ)) (p : Plan) (at : ReadGroupPart × ReaderPart) (meta : MetaData) (kept : Kept) (held : Option HeldEnd) → HasItsNumber at.1.numbering kept
+    → option_map (λ held. row_in meta.fields held.row.words) held ≡ kept.row → IfSome held (λ held. held.number ≡ kept.number)
+    → IfSome held (HasVersion (logs_told false logs) p at) → IfSome held (TellsNumberAlone at.1)
+tells-alone logs p at meta kept None has row number is = tt
+tells-alone logs p at meta kept (Some held) has row number is = record {
+  number = subst (TellsNumber at.1.numbering) (sym number) (tells-number at.1.numbering kept (row_in meta.fields held.row.words) (sym row) has);
+  version = none-both at.0.publisher p.config.publisher.id held.version
+      (λ same.
+      is.own same ∙ ap (λ (l : List (ℕ × ℕ)). option_and_then (version_of l) held.number) (sym (no-log-told logs p.config at.1.writer))
+      ∙ none-logged held.number)
+      is.other;
+}
+
+-- beside each held row of a reader that this became of stands the number that its numbering asks for
+abbrev pub AllNumbered : Plan → Account → Type 0
+AllNumbered p a = (r : ℕ) → HaveNumbers (setting_of p.config r) (a.readings r).value
+
+by-place : (p : Plan) (a : Account) (place : MemberPlace) → AllNumbered p a → IsPlace p.config place
+    → HasItsNumber (seat_at (setting_of p.config place.0).seats place.1).part.numbering (member_at (a.readings place.0).value.members place.1).kept
+by-place p a place numbers there =
+    numbers place.0 place.1 (subst (λ (n : ℕ). place.1 < n) (sym (length-map (read_group_at p.config place.0).reader (seat_in p.config))) there.1)
+
+-- numbers are told, and versions too or not
+pub tells-readers : (versions : Bool) (logs : ℕ → ℕ → List (ℕ × ℕ)) (p : Plan) (steps : List Step) (a : Account) (closed : Closed) → AllNumbered p a
+    → AllZip (IsWriterEndBy logs p steps a) (writer_places p.config) closed.writers → AllZip (IsToldBy (logs_told versions logs) p steps a) (reader_places p.config) closed.readers
+    → IsNonDecreasing (map (λ end. end.thread) closed.watches) → TellsEndsIf versions p.config closed
+tells-readers true logs p steps a closed numbers named told order = record {
+  readers =
+      subst (λ (l : List (ReadGroupPart × ReaderPart)). AllZip (TellsReader p.config closed.writers) l closed.readers) (grouped-places p.config)
+      (pairs-map (TellsReader p.config closed.writers) (reader_in p.config) (reader_places p.config) closed.readers
+      (pairs-weaker (IsPlace p.config) (IsToldBy (logs_told true logs) p steps a) (λ place end. TellsReader p.config closed.writers (reader_in p.config place) end)
+      (λ place end there is.
+      tells-held logs p closed.writers (reader_in p.config place) (seat_at (setting_of p.config place.0).seats place.1).meta (member_at (a.readings place.0).value.members place.1).kept end.held
+      (λ id. log-named logs p steps a id closed.writers named) (by-place p a place numbers there)
+      is.is.shows.row is.is.shows.number is.version)
+      (reader_places p.config) closed.readers (are-places p.config) told));
+  watches = order;
+}
+tells-readers false logs p steps a closed numbers named told order = record {
+  readers =
+      subst (λ (l : List (ReadGroupPart × ReaderPart)). AllZip TellsReaderAlone l closed.readers) (grouped-places p.config)
+      (pairs-map TellsReaderAlone (reader_in p.config) (reader_places p.config) closed.readers
+      (pairs-weaker (IsPlace p.config) (IsToldBy (logs_told false logs) p steps a) (λ place end. TellsReaderAlone (reader_in p.config place) end)
+      (λ place end there is.
+      tells-alone logs p (reader_in p.config place) (seat_at (setting_of p.config place.0).seats place.1).meta (member_at (a.readings place.0).value.members place.1).kept end.held
+      (by-place p a place numbers there) is.is.shows.row is.is.shows.number is.version)
+      (reader_places p.config) closed.readers (are-places p.config) told));
+  watches = order;
+}
+
+-- ---- behind steps alone
 
 pub are-ends : (logs : ℕ → ℕ → List (ℕ × ℕ)) (p : Plan) (steps : List Step) (readers : List ReaderEnd) → AllZip (IsToldBy logs p steps (account_of p steps)) (reader_places p.config) readers
     → AllZip (IsReaderEnd p steps) (reader_places p.config) readers
@@ -177,7 +225,7 @@ pub record TellsParts (s : Session) (dones : List Done) (sets : ℕ) (closed : C
   pub read_groups : (p : Plan) (steps : List Step) (a : Account) → HaveReceived s.config.now p steps a s.round.tree s.round.subscriber
       → closed.read_groups ≡ map (read_group_end_by p steps a) (read_group_indexes p.config)
   pub readers : (most : ℕ) (p : Plan) (steps : List Step) (a : Account) → HavePublished s.config.now most p steps a s.round.tree s.round.publisher → HaveReceived s.config.now p steps a s.round.tree s.round.subscriber
-      → AllZip (IsToldBy (log_after most p.config a.deeds) p steps a) (reader_places p.config) closed.readers
+      → AllZip (IsToldBy (logs_told (tells_versions s) (log_after most p.config a.deeds)) p steps a) (reader_places p.config) closed.readers
   pub watches : closed.watches ≡ watches_in_bytes dones
   pub link : (steps : List Step) (a : Account) → AreSendsIn a.journal s.round.publisher.link → AreReceivesIn a.journal steps s.round.receiving → closed.link ≡ link_of a.journal steps
 
@@ -200,7 +248,7 @@ received p steps a s stands = record {
 
 -- by what became of it
 pub closed-by : (p : Plan) (steps : List Step) (a : Account) (s : Session) (dones : List Done) (sets : ℕ) (closed : Closed) → TellsParts s dones sets closed → IsSession s → StandsAs p steps a s
-    → IsClosedBy (log_after (logged_of s) p.config a.deeds) p steps a closed
+    → IsClosedBy (tells_versions s) (log_after (logged_of s) p.config a.deeds) p steps a closed
 closed-by p steps a s dones sets closed tells is stands = record {
   groups = tells.groups (logged_of s) p steps a out;
   writers = tells.writers (logged_of s) p steps a out;
@@ -222,40 +270,80 @@ plain-writers logs p steps [] (end ∷ ends) pairs = absurd pairs
 plain-writers logs p steps (place ∷ places) [] pairs = absurd pairs
 plain-writers logs p steps (place ∷ places) (end ∷ ends) pairs = (record { state = pairs.0.state; log = pairs.0.log }, plain-writers logs p steps places ends pairs.1)
 
+-- with the number of each held row
+pub are-told : (p : Plan) (steps : List Step) (a : Account) (s : Session) (dones : List Done) (sets : ℕ) (closed : Closed) → AllNumbered p a → TellsParts s dones sets closed → IsSession s
+    → StandsAs p steps a s → AreInOrder dones → TellsEndsIf (tells_versions s) p.config closed
+are-told p steps a s dones sets closed numbers tells is stands order =
+    let by = closed-by p steps a s dones sets closed tells is stands in
+    tells-readers (tells_versions s) (log_after (logged_of s) p.config a.deeds) p steps a closed numbers by.writers by.readers
+    (subst (λ (l : List WatchEnd). IsNonDecreasing (map (λ end. end.thread) l)) (sym (tells.watches ∙ same-watches dones order)) (rising dones order))
+
 -- behind steps alone
 pub is-closed : ((setting : Setting) (events : List Event) → HaveTheirNumbers setting events) → (p : Plan) (steps : List Step) (s : Session) (dones : List Done) (sets : ℕ) (closed : Closed)
-    → TellsParts s dones sets closed → IsSession s → Stands p steps s → AreInOrder dones → IsClosedWith (logs_cut (logged_of s) p steps) p steps closed
+    → TellsParts s dones sets closed → IsSession s → Stands p steps s → AreInOrder dones → IsClosedTelling (tells_versions s) (logs_cut (logged_of s) p steps) p steps closed
 is-closed numbers p steps s dones sets closed tells is stands order = record {
   groups = by.groups;
   writers = plain-writers logs p steps (writer_places p.config) closed.writers by.writers;
   read_groups = by.read_groups;
-  readers = are-ends logs p steps closed.readers by.readers;
+  readers = are-ends (logs_told (tells_versions s) logs) p steps closed.readers by.readers;
   link = by.link;
-  told = record {
-    readers = tells-readers numbers logs p steps closed.writers closed.readers by.writers by.readers;
-    watches = subst (λ (l : List WatchEnd). IsNonDecreasing (map (λ end. end.thread) l)) (sym (tells.watches ∙ same-watches dones order)) (rising dones order);
-  };
+  told = are-told p steps (account_of p steps) s dones sets closed (λ r. numbers (setting_of p.config r) (events p.config r steps)) tells is (as-stands p steps s stands) order;
 }
   where
     logs : ℕ → ℕ → List (ℕ × ℕ)
     logs = log_after (logged_of s) p.config (deeds p steps)
 
-    by : IsClosedBy (log_after (logged_of s) p.config (deeds p steps)) p steps (account_of p steps) closed
+    by : IsClosedBy (tells_versions s) (log_after (logged_of s) p.config (deeds p steps)) p steps (account_of p steps) closed
     by = closed-by p steps (account_of p steps) s dones sets closed tells is (as-stands p steps s stands)
 
--- where the logs keep all data frames
-pub is-whole : (p : Plan) (steps : List Step) (s : Session) (closed : Closed) → KeepsWholeLogs s → Stands p steps s → IsClosedWith (logs_cut (logged_of s) p steps) p steps closed
-    → IsClosedAfter p steps closed
-is-whole p steps s closed keeps stands is =
-    subst (λ (logs : ℕ → ℕ → List (ℕ × ℕ)). IsClosedWith logs p steps closed) (logs-whole (logged_of s) (ticks_of s) p steps stands.steps_are keeps) is
+pub versions-told : (s : Session) → TellsVersions s → tells_versions s ≡ true
+versions-told s few = let low : ticks_of s < 65536 = few in grind (arith, nat_tests)
+
+-- where the logs keep all data frames, and versions are told
+pub is-whole : (p : Plan) (steps : List Step) (s : Session) (closed : Closed) → KeepsWholeLogs s → TellsVersions s → Stands p steps s
+    → IsClosedTelling (tells_versions s) (logs_cut (logged_of s) p steps) p steps closed → IsClosedAfter p steps closed
+is-whole p steps s closed keeps few stands is =
+    subst (λ (logs : ℕ → ℕ → List (ℕ × ℕ)). IsClosedTelling true logs p steps closed) (logs-whole (logged_of s) (ticks_of s) p steps stands.steps_are keeps)
+    (subst (λ (versions : Bool). IsClosedTelling versions (logs_cut (logged_of s) p steps) p steps closed) (versions-told s few) is)
 
 -- in a life
 pub logs-lived : (p : Plan) (life : List Lived) (s : Session) → KeepsWholeLogs s → AreStepsOf (ticks_of s) p (steps_in life) → logs_in (logged_of s) p life ≡ log_in p life
 logs-lived p life s keeps are = λ i g w. log-whole-in (logged_of s) (ticks_of s) p life are keeps g w i
 
-pub is-whole-lived : (p : Plan) (life : List Lived) (s : Session) (closed : Closed) → KeepsWholeLogs s → StandsIn p life s → IsClosedIn (logged_of s) p life closed → IsClosedWhole p life closed
+pub is-whole-lived : (p : Plan) (life : List Lived) (s : Session) (closed : Closed) → KeepsWholeLogs s → StandsIn p life s → IsClosedIn (tells_versions s) (logged_of s) p life closed
+    → IsClosedWhole (tells_versions s) p life closed
 is-whole-lived p life s closed keeps stands is =
-    subst (λ (logs : ℕ → ℕ → List (ℕ × ℕ)). IsClosedBy logs p (steps_in life) (account_in p life) closed) (logs-lived p life s keeps stands.steps_are) is
+    subst (λ (logs : ℕ → ℕ → List (ℕ × ℕ)). IsClosedBy (tells_versions s) logs p (steps_in life) (account_in p life) closed) (logs-lived p life s keeps stands.steps_are) is
+
+read-on-numbered : ((setting : Setting) (group : PlainGroup) (event : Event) → HaveNumbers setting group → HaveNumbers setting (step setting group event)) → (setting : Setting) (value : PlainGroup)
+    (befell : List Event) → HaveNumbers setting value → HaveNumbers setting (read_on setting value befell)
+read-on-numbered stepped setting value [] have = have
+read-on-numbered stepped setting value (event ∷ before) have = stepped setting (read_on setting value before) event (read-on-numbered stepped setting value before have)
+
+rekeyed-value : (b : Bool) (keys : List TokenKeys) (reading : Reading) → (rekeyed_if b keys reading).value ≡ reading.value
+rekeyed-value true keys reading = refl
+rekeyed-value false keys reading = refl
+
+module _ (opened : (setting : Setting) → HaveNumbers setting (opening setting))
+    (stepped : (setting : Setting) (group : PlainGroup) (event : Event) → HaveNumbers setting group → HaveNumbers setting (step setting group event)) where
+  goes-on-numbered : (p : Plan) (r : ℕ) (reading : Reading) (befell : List Event) → HaveNumbers (setting_of p.config r) reading.value
+      → HaveNumbers (setting_of p.config r) (goes_on p.config r reading befell).value
+  goes-on-numbered p r reading befell have = read-on-numbered stepped (setting_in p.config r reading) reading.value befell have
+
+  -- in a life
+  pub numbers-in : (p : Plan) (life : List Lived) → AllNumbered p (account_in p life)
+  numbers-in p [] r = opened (setting_of p.config r)
+  numbers-in p (Stepped (Enable id) ∷ before) r = numbers-in p before r
+  numbers-in p (Stepped (Disable id) ∷ before) r =
+      goes-on-numbered p r ((account_in p before).readings r) (befalls p.config (steps_in before) (Disable id) r) (numbers-in p before r)
+  numbers-in p (Stepped (Append set field) ∷ before) r = numbers-in p before r
+  numbers-in p (Stepped (Tick ms closing samples done) ∷ before) r =
+      goes-on-numbered p r ((account_in p before).readings r) (befalls p.config (steps_in before) (Tick ms closing samples done) r) (numbers-in p before r)
+  numbers-in p (Stepped (Pump entries) ∷ before) r =
+      goes-on-numbered p r ((account_in p before).readings r) (befalls p.config (steps_in before) (Pump entries) r) (numbers-in p before r)
+  numbers-in p (Renewed k sets ∷ before) r =
+      subst (λ (group : PlainGroup). HaveNumbers (setting_of p.config r) group)
+      (sym (rekeyed-value (reads_with (read_group_at p.config r) k) (map keys_in sets) ((account_in p before).readings r))) (numbers-in p before r)
 
 pub is-closed-of : (steps : List Step) (a : Account) (s : Session) (dones : List Done) (sets : ℕ) (closed : Closed) → TellsParts s dones sets closed → IsSession s → StandsAs (plan_of s) steps a s
     → AreLooksAt (readers s.config.now) dones → IsClosedOf s.config.now closed
@@ -264,7 +352,7 @@ is-closed-of steps a s dones sets closed tells is stands looks = record {
   groups = ap length by.groups ∙ length-map-range_with_len (group_end_by p steps a) 0 (length s.config.now.group);
   writers = pairs-length (IsWriterEndBy logs p steps a) (writer_places s.config.now) closed.writers by.writers ∙ writer-count s.config.now;
   read_groups = ap length by.read_groups ∙ length-map-range_with_len (read_group_end_by p steps a) 0 (length s.config.now.readgroup);
-  rows = holds-rows logs p steps a closed.readers is.good.sound by.readers;
+  rows = holds-rows (logs_told (tells_versions s) logs) p steps a closed.readers is.good.sound by.readers;
   watches = subst (All (λ (end : WatchEnd). end.reader < length (readers s.config.now))) (sym tells.watches) (watched-readers (length (readers s.config.now)) dones looks);
 }
   where
@@ -274,5 +362,5 @@ is-closed-of steps a s dones sets closed tells is stands looks = record {
     logs : ℕ → ℕ → List (ℕ × ℕ)
     logs = log_after (logged_of s) s.config.now a.deeds
 
-    by : IsClosedBy (log_after (logged_of s) s.config.now a.deeds) (plan_of s) steps a closed
+    by : IsClosedBy (tells_versions s) (log_after (logged_of s) s.config.now a.deeds) (plan_of s) steps a closed
     by = closed-by (plan_of s) steps a s dones sets closed tells is stands

@@ -1,5 +1,5 @@
 -- What holds of a session between its calls, whatever it lived through: the conditions of the calls below.
-use Rattle.std.specs.Prelude.{◌≡◌, ◌⊎◌, ⊤, ℕ, ◌+◌, ◌-◌, ◌*◌, ◌^◌, ◌<◌, ◌≤◌, Bool, true, false, List, [], ◌∷◌, length, map, drop, slice_set, vec_len, All}
+use Rattle.std.specs.Prelude.{◌≡◌, ◌⊎◌, ⊤, ℕ, ◌+◌, ◌-◌, ◌*◌, ◌^◌, ◌<◌, ◌≤◌, nat_lt, Bool, true, false, List, [], ◌∷◌, length, map, drop, slice_set, vec_len, All}
 use Rattle.dataset_meta.specs.declared.field.Field.{Field}
 use Rattle.dataset_meta.specs.Metas.{MetaData, grown}
 use Rattle.ps_config.specs.declared.parts.Config.{Config}
@@ -108,6 +108,14 @@ logged_of s = s.left.logged
 -- one for each tick at least, so all: a writer has one at most in a tick
 abbrev pub KeepsWholeLogs : Session → Type 0
 KeepsWholeLogs s = ticks_of s < logged_of s
+
+-- A writer has no more data frames than there are numbers of 16 bits, so each has a number of its own: where that isn't sure no version is told of a row
+-- that a reader holds.
+abbrev pub tells_versions : Session → Bool
+tells_versions s = nat_lt (ticks_of s) 65536
+
+abbrev pub TellsVersions : Session → Type 0
+TellsVersions s = ticks_of s < 65536
 
 -- how many stores a target may have
 abbrev pub stores_limit : Session → ℕ

@@ -1,5 +1,5 @@
 -- What a session is when it is closed, by what became of it: behind steps alone, and in a life in which rings renew its keys.
-use Rattle.std.specs.Prelude.{◌≡◌, ◌≢◌, ℕ, List, None, IfSome, map, option_and_then}
+use Rattle.std.specs.Prelude.{◌≡◌, ◌≢◌, ℕ, Bool, List, None, IfSome, map, option_and_then}
 use Rattle.std.specs.List.{AllZip}
 use Rattle.pubsub_model.specs.Answers.{version_of}
 use Rattle.ps_config.specs.declared.parts.Config.{Config}
@@ -22,7 +22,7 @@ use Rattle.session_model.specs.Deeds.{group_indexes}
 use Rattle.session_model.specs.Events.{read_group_indexes}
 use Rattle.session_model.specs.Lives.{Account, Lived, account_in, log_in, state_by, steps_in}
 use Rattle.session_parts.specs.Showing.{link_of}
-use Rattle.pubsub_engine.specs.Logs.{log_after, log_by}
+use Rattle.pubsub_engine.specs.Logs.{log_after, log_by, logs_told}
 
 -- ---- the ends of components
 
@@ -59,12 +59,13 @@ pub record IsToldBy (logs : ℕ → ℕ → List (ℕ × ℕ)) (p : Plan) (steps
 
 -- ---- the whole
 
--- all that a closed session with these logs shows of these steps, of which this became; its histories and its watches are those of the threads
-pub record IsClosedBy (logs : ℕ → ℕ → List (ℕ × ℕ)) (p : Plan) (steps : List Step) (a : Account) (closed : Closed) : Type 0 where
+-- all that a closed session with these logs shows of these steps, of which this became, with versions or without; its histories and its watches are those
+-- of the threads
+pub record IsClosedBy (versions : Bool) (logs : ℕ → ℕ → List (ℕ × ℕ)) (p : Plan) (steps : List Step) (a : Account) (closed : Closed) : Type 0 where
   pub groups : closed.groups ≡ map (group_end_by p steps a) (group_indexes p.config)
   pub writers : AllZip (IsWriterEndBy logs p steps a) (writer_places p.config) closed.writers
   pub read_groups : closed.read_groups ≡ map (read_group_end_by p steps a) (read_group_indexes p.config)
-  pub readers : AllZip (IsToldBy logs p steps a) (reader_places p.config) closed.readers
+  pub readers : AllZip (IsToldBy (logs_told versions logs) p steps a) (reader_places p.config) closed.readers
   pub link : closed.link ≡ link_of a.journal steps
 
 -- the first data frames of each writer, as many as its log keeps, in a life
@@ -72,9 +73,9 @@ abbrev pub logs_in : ℕ → Plan → List Lived → ℕ → ℕ → List (ℕ �
 logs_in most p life = log_after most p.config (account_in p life).deeds
 
 -- in a life
-abbrev pub IsClosedIn : ℕ → Plan → List Lived → Closed → Type 0
-IsClosedIn most p life closed = IsClosedBy (logs_in most p life) p (steps_in life) (account_in p life) closed
+abbrev pub IsClosedIn : Bool → ℕ → Plan → List Lived → Closed → Type 0
+IsClosedIn versions most p life closed = IsClosedBy versions (logs_in most p life) p (steps_in life) (account_in p life) closed
 
 -- with all data frames of each writer
-abbrev pub IsClosedWhole : Plan → List Lived → Closed → Type 0
-IsClosedWhole p life closed = IsClosedBy (log_in p life) p (steps_in life) (account_in p life) closed
+abbrev pub IsClosedWhole : Bool → Plan → List Lived → Closed → Type 0
+IsClosedWhole versions p life closed = IsClosedBy versions (log_in p life) p (steps_in life) (account_in p life) closed

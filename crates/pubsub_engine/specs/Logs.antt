@@ -1,11 +1,9 @@
 -- The logs of this program's writers, and which of them a reader names.
-use Rattle.std.specs.Prelude.{◌≡◌, ◌≢◌, ℕ, ◌==◌, Bool, false, bytes_eq, List, [], map, take, zip, find, Option, option_map}
+use Rattle.std.specs.Prelude.{◌≡◌, ◌≢◌, ℕ, ◌%◌, ◌==◌, Bool, true, false, List, [], map, take, zip, find, slice_get, Option, Some, option_map}
 use Rattle.std.specs.Option.{option_map_or}
 use Rattle.dataset_meta.specs.Metas.{MetaData}
 use Rattle.pubsub_model.specs.Cadence.{log_of}
 use Rattle.dataset_writer.specs.Turns.{model_settings}
-use Rattle.config_tables.specs.declared.publisher.Publisher.{Publisher as PublisherId}
-use Rattle.config_tables.specs.declared.publisher.Publisher.TheVariants as ids
 use Rattle.ps_config.specs.declared.parts.Config.{Config}
 use Rattle.ps_config.specs.declared.parts.GroupPart.{GroupPart}
 use Rattle.ps_config.specs.declared.parts.WriterPart.{WriterPart}
@@ -30,24 +28,25 @@ abbrev pub log_by : (ℕ → ℕ → List (ℕ × ℕ)) → Config → ℕ → L
 log_by logs config id =
     option_map_or (λ at. logs at.1.0 at.1.1) (find (λ at. at.0.id == id) (zip (writers_of config.group) (writer_places config))) []
 
--- whichever deeds left the publisher's groups as they are, these are the data frames that the log of the writer with an id keeps
-abbrev pub IsLogNamed : Config → Publisher → ℕ → List (ℕ × ℕ) → Type 0
-IsLogNamed config publisher id log =
-    (most : ℕ) (metas : List MetaData) (deeds : List Deed) → AreAllLogged most publisher.groups.items → HavePast config metas deeds publisher.groups.items
-    → log ≡ log_by (log_after most config deeds) config id
+-- the logs that versions are told of: none where no versions are told
+abbrev pub logs_told : Bool → (ℕ → ℕ → List (ℕ × ℕ)) → (ℕ → ℕ → List (ℕ × ℕ))
+logs_told true logs = logs
+logs_told false logs = λ g w. []
 
--- both are one publisher
-abbrev pub is_same_publisher : PublisherId → PublisherId → Bool
-is_same_publisher (ids.U8 id) (ids.U8 other) = id == other
-is_same_publisher (ids.U16 id) (ids.U16 other) = id == other
-is_same_publisher (ids.U32 id) (ids.U32 other) = id == other
-is_same_publisher (ids.U64 id) (ids.U64 other) = id == other
-is_same_publisher (ids.Text text) (ids.Text other) = bytes_eq text other
-is_same_publisher one other = false
+-- no two data frames of a log have the same number of 16 bits
+abbrev pub HasOwnNumbers : List (ℕ × ℕ) → Type 0
+HasOwnNumbers log =
+    (j k : ℕ) (one other : ℕ × ℕ) → slice_get log j ≡ Some one → slice_get log k ≡ Some other → one.0 % 65536 ≡ other.0 % 65536 → j ≡ k
+
+-- whichever deeds left the publisher's groups as they are, these are the data frames that the log of the writer with an id keeps, if versions are told of it
+abbrev pub IsLogNamed : Bool → Config → Publisher → ℕ → List (ℕ × ℕ) → Type 0
+IsLogNamed versions config publisher id log =
+    (most : ℕ) (metas : List MetaData) (deeds : List Deed) → AreAllLogged most publisher.groups.items → HavePast config metas deeds publisher.groups.items
+    → log ≡ log_by (logs_told versions (log_after most config deeds)) config id
 
 -- the log that a reader, behind its read group, names: where the read group's publisher is this program that of the writer with the id, else none
-pub record IsLogRead (config : Config) (publisher : Publisher) (at : ReadGroupPart × ReaderPart) (log : List (ℕ × ℕ)) : Type 0 where
-  pub own : at.0.publisher ≡ config.publisher.id → IsLogNamed config publisher at.1.writer log
+pub record IsLogRead (versions : Bool) (config : Config) (publisher : Publisher) (at : ReadGroupPart × ReaderPart) (log : List (ℕ × ℕ)) : Type 0 where
+  pub own : at.0.publisher ≡ config.publisher.id → IsLogNamed versions config publisher at.1.writer log
   pub other : at.0.publisher ≢ config.publisher.id → log ≡ []
 
 -- ---- where a writer with an id stands

@@ -19,7 +19,7 @@ ghost use Rattle.session_model.specs.Closing.{MemberPlace, Shows, reader_places,
 ghost use Rattle.session_model.specs.Lives.{Account};
 ghost use Rattle.writer_group.specs.Parts.{group_at};
 ghost use Rattle.pubsub_engine.specs.Storing.{first_reader};
-ghost use Rattle.pubsub_engine.specs.Logs.{log_after};
+ghost use Rattle.pubsub_engine.specs.Logs.{log_after, logs_told};
 ghost use Rattle.pubsub_engine.specs.LifeEnds.{IsToldBy, IsWriterEndBy, group_end_by, read_group_end_by};
 ghost use Rattle.pubsub_engine.specs.Ending.{HavePublished, HaveReceived, MayTellReaders, MayTellWriters, places_of_group, places_of_read_group};
 
@@ -157,24 +157,26 @@ pub(crate) fn read_group_ends(
     Ok(ends)
 }
 
-/// The ends of the readers, over all read groups in order.
+/// The ends of the readers, over all read groups in order, with versions or without.
 pub(crate) fn reader_ends(
     alloc: Global,
     config: &Config,
     tree: &Tree,
     publisher: &Publisher,
     subscriber: &Subscriber,
+    versions: bool,
 ) -> Result<Vec<ReaderEnd>, NoMemory>
     requires writers { MayTellWriters config.now tree.now publisher.now }
     requires readers { MayTellReaders config.now tree.now subscriber.now }
     ensures { IfOk result (λ ends. (most : ℕ) (p : Plan) (steps : List Step) (a : Account)
         → HavePublished config.now most p steps a tree.now publisher.now
         → HaveReceived config.now p steps a tree.now subscriber.now
-        → AllZip (IsToldBy (log_after most p.config a.deeds) p steps a) (reader_places p.config) ends.items) }
+        → let logs = logs_told versions (log_after most p.config a.deeds) in
+        AllZip (IsToldBy logs p steps a) (reader_places p.config) ends.items) }
 {
     let mut ends = Vec::new(alloc);
     for r in 0..config.readgroup.as_slice().len() {
-        push_reader_ends(&mut ends, config, tree, publisher, subscriber, r as u8)?;
+        push_reader_ends(&mut ends, config, tree, publisher, subscriber, r as u8, versions)?;
     }
     Ok(ends)
 }
@@ -187,6 +189,7 @@ fn push_reader_ends(
     publisher: &Publisher,
     subscriber: &Subscriber,
     read_group: u8,
+    versions: bool,
 ) -> Result<(), NoMemory>
     requires writers { MayTellWriters config.now tree.now publisher.now }
     requires readers { MayTellReaders config.now tree.now subscriber.now }
@@ -197,7 +200,7 @@ fn push_reader_ends(
     ensures more { OnOk result ((most : ℕ) (p : Plan) (steps : List Step) (a : Account)
         (places : List MemberPlace) → HavePublished config.now most p steps a tree.now publisher.now
         → HaveReceived config.now p steps a tree.now subscriber.now
-        → let is_told = IsToldBy (log_after most p.config a.deeds) p steps a in
+        → let is_told = IsToldBy (logs_told versions (log_after most p.config a.deeds)) p steps a in
         AllZip is_told places ends.old.items
         → AllZip is_told (places ++ places_of_read_group p.config read_group) ends.new.items) }
 {
@@ -205,7 +208,7 @@ fn push_reader_ends(
     for i in 0..read_group_part(config, r).reader.as_slice().len() {
         let reader = i as u8;
         let state = tree.state_of(Component::Reader { read_group, reader });
-        let log = log_read(config, publisher, ends.len());
+        let log = log_read(config, publisher, ends.len(), versions);
         ends.push(reader_end(state, subscriber.groups[r].reader(reader), log))?;
     }
     Ok(())

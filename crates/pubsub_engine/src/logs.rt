@@ -1,5 +1,5 @@
 //! The versions that this program's writers logged.
-ghost use Rattle.std.specs.Prelude.{◌≡◌, ◌<◌, ℕ, IfSome, length, option_and_then, option_map, slice_get, Some};
+ghost use Rattle.std.specs.Prelude.{◌≡◌, ◌<◌, ℕ, true, IfSome, length, option_and_then, option_map, slice_get, Some};
 ghost use Rattle.pubsub_model.specs.Answers.{version_of as version_in};
 ghost use Rattle.ps_config.specs.declared.parts.ReadGroupPart.{ReadGroupPart as GroupValue};
 ghost use Rattle.ps_config.specs.declared.parts.ReaderPart.{ReaderPart as PartValue};
@@ -7,43 +7,33 @@ ghost use Rattle.ps_report.specs.Told.{grouped_readers};
 ghost use Rattle.writer_group.specs.Parts.{group_at};
 ghost use Rattle.writer_group.specs.Standing.{IsGood};
 ghost use Rattle.session_parts.specs.Holding.{AreGroups};
-ghost use Rattle.pubsub_engine.specs.Logs.{IsLogNamed, IsLogRead, is_same_publisher, place_named, place_within};
+ghost use Rattle.pubsub_engine.specs.Logs.{IsLogNamed, IsLogRead, place_named, place_within};
 
-use ps_config::{Config, GroupPart, Publisher, ReadGroupPart, ReaderPart};
+use ps_config::{Config, GroupPart, ReadGroupPart, ReaderPart};
 use session_parts::{Publisher as Publishing, group_part};
 
 /// The log of this program's writer that the reader with this index over all read groups names, empty where the read group's
-/// publisher is another, or has no such writer.
+/// publisher is another, or has no such writer, and where no versions are told.
 pub(crate) fn log_read<'a>(
     config: &Config,
     publisher: &'a Publishing,
     reader: usize,
+    versions: bool,
 ) -> &'a [(u64, u64)]
     requires good { IsGood config.now }
     requires groups { AreGroups config.now publisher.now.groups.items }
     ensures log { (at : GroupValue × PartValue)
         → slice_get (grouped_readers config.now.readgroup) reader ≡ Some at
-        → IsLogRead config.now publisher.now at result.now }
+        → IsLogRead versions config.now publisher.now at result.now }
 {
+    if !versions {
+        return &[];
+    }
     match reader_part(config, reader) {
-        Some((group, part)) if is_same_publisher(&group.publisher, &config.publisher.id) => {
+        Some((group, part)) if group.publisher.is_same(&config.publisher.id) => {
             log_named(config, publisher, part.writer)
         }
         _ => &[],
-    }
-}
-
-/// Whether both are one publisher.
-pub fn is_same_publisher(one: &Publisher, other: &Publisher) -> bool
-    ensures { result ≡ is_same_publisher one.now other.now }
-{
-    match (one, other) {
-        (Publisher::U8(id), Publisher::U8(other)) => *id == *other,
-        (Publisher::U16(id), Publisher::U16(other)) => *id == *other,
-        (Publisher::U32(id), Publisher::U32(other)) => *id == *other,
-        (Publisher::U64(id), Publisher::U64(other)) => *id == *other,
-        (Publisher::Text(text), Publisher::Text(other)) => text.as_bytes() == other.as_bytes(),
-        _ => false,
     }
 }
 
@@ -67,7 +57,7 @@ fn reader_part(config: &Config, reader: usize) -> Option<(&ReadGroupPart, &Reade
 fn log_named<'a>(config: &Config, publisher: &'a Publishing, id: u16) -> &'a [(u64, u64)]
     requires good { IsGood config.now }
     requires groups { AreGroups config.now publisher.now.groups.items }
-    ensures log { IsLogNamed config.now publisher.now id result.now }
+    ensures log { IsLogNamed true config.now publisher.now id result.now }
 {
     match writer_named(config, id) {
         Some((g, w)) => publisher.groups[g].writer(w as u8).log(),

@@ -1,5 +1,5 @@
 //! A session over a link: samples, ticks and pumps.
-ghost use Rattle.std.specs.Prelude.{◌≡◌, ◌≤◌, ◌<◌, ◌+◌, ◌∷◌, ◌↔◌, IsTrue, IsSome, IfOk, IfSome, ℕ, List, Bool, true, false, count_by, length, map, slice_get, Some};
+ghost use Rattle.std.specs.Prelude.{◌≡◌, ◌≤◌, ◌<◌, ◌+◌, ◌-◌, nat_lt, ◌∷◌, ◌↔◌, IsTrue, IsSome, IfOk, IfSome, ℕ, List, Bool, true, false, count_by, length, map, slice_get, Some};
 ghost use Rattle.dataset_meta.specs.declared.field.Field.{Field};
 ghost use Rattle.ua_base.specs.Journal.{Entry};
 ghost use Rattle.ua_base.specs.Links.{KeepsLink};
@@ -11,9 +11,10 @@ ghost use Rattle.session_model.specs.Steps.{Plan, Step, Append as AppendStep, Ti
 ghost use Rattle.session_model.specs.Counts.{most_taken};
 ghost use Rattle.session_model.specs.Closing.{MemberPlace, is_datagram, reader_places};
 ghost use Rattle.session_model.specs.Deeds.{logs_cut};
-ghost use Rattle.pubsub_engine.specs.Holding.{AddsOneAtMost, AreTargetsOf, ChangesSamples, ChangesStores, CountsPump, CountsTick, IsBankOf, IsRunning, IsSession, KeepsPasses, KeepsWholeLogs, MayAppendNext, MayPump, MayTick, appends_left, keeper_of, left_of, logged_of, passes_of, plan_of};
+ghost use Rattle.pubsub_engine.specs.Holding.{AddsOneAtMost, AreTargetsOf, ChangesSamples, ChangesStores, CountsPump, CountsTick, IsBankOf, IsRunning, IsSession, KeepsPasses, KeepsWholeLogs, MayAppendNext, MayPump, MayTick, TellsVersions, appends_left, keeper_of, left_of, logged_of, passes_of, plan_of, tells_versions};
 ghost use Rattle.session_model.specs.Lives.{Lived, Stepped, account_in, log_in};
 ghost use Rattle.pubsub_engine.specs.LifeEnds.{logs_in};
+ghost use Rattle.pubsub_engine.specs.Logs.{logs_told};
 ghost use Rattle.pubsub_engine.specs.Living.{KeepsLife, LeadsIn, StandsIn};
 ghost use Rattle.pubsub_engine.specs.Standing.{IsOriginFrom, IsOriginWith, IsOriginOf, KeepsStands, Leads, Stands, sampled_by, samples_of};
 ghost use Rattle.session_parts.specs.Ticking.{HaltsTick, HaltsTickIn};
@@ -43,6 +44,16 @@ pub(crate) struct Left {
     pub(crate) logged: u32,
     /// Whether the closing tick came.
     pub(crate) is_closed: bool,
+}
+
+impl Left {
+    /// Whether each data frame of a writer has a number of its own, so that the version of a row can be told by its number: at most
+    /// 65,536 ticks may come, the closing one included.
+    pub(crate) fn tells_versions(&self) -> bool
+        ensures { result ≡ nat_lt (self.now.stores - 1) 65536 }
+    {
+        self.stores <= 65_536
+    }
 }
 
 /// A session of a configuration. All its memory was taken when it was opened.
@@ -150,7 +161,8 @@ impl<'c> Session<'c> {
         ensures passes { KeepsPasses self.old self.new }
         ensures appends { appends_left self.new ≡ appends_left self.old }
         ensures memory { result ≡ Ticked.Memory → IsTrue L.takes_memory }
-        ensures link { KeepsLink L.opened_with L.faults L.made L.openings link.old link.new }
+        ensures link { KeepsLink L.told L.patience L.opened_with L.faults L.made L.openings
+            0 link.old link.new }
     {
         self.left.ticks -= 1;
         self.left.pumps += 1;
@@ -190,7 +202,8 @@ impl<'c> Session<'c> {
         ensures sampled { sampled_by self.new ≡ sampled_by self.old }
         ensures plan { plan_of self.new ≡ plan_of self.old }
         ensures appends { appends_left self.new ≡ appends_left self.old }
-        ensures link { KeepsLink L.opened_with L.faults L.made L.openings link.old link.new }
+        ensures link { KeepsLink L.told L.patience L.opened_with L.faults L.made L.openings
+            1 link.old link.new }
     {
         self.left.pumps -= 1;
         let pumped = self.round.pump(self.config, link);
@@ -219,25 +232,31 @@ impl<'c> Session<'c> {
 
     /// Where a reader's last store comes from: how many stores it has, and for the last the number of its message and the version
     /// that the log of this program's writer has at it, of the data frames that the log keeps. The reader is named by its index over
-    /// all read groups.
+    /// all read groups. A number has 16 bits: of a session in which more than 65,536 ticks may come, the closing one included, a
+    /// number may be that of several data frames, so no version is told but that of the opening row, 0.
     pub fn origin(&self, reader: u8) -> Origin
         requires session { IsSession self.now }
         requires there { reader < length (readers (plan_of self.now).config) }
         ensures origin { (p : Plan) (steps : List Step) (place : MemberPlace) → Stands p steps self.now
             → slice_get (reader_places p.config) reader ≡ Some place
-            → IsOriginWith (logs_cut (logged_of self.now) p steps) p steps place result }
-        ensures whole { KeepsWholeLogs self.now → (p : Plan) (steps : List Step) (place : MemberPlace)
+            → let logs = logs_cut (logged_of self.now) p steps in
+            IsOriginWith (logs_told (tells_versions self.now) logs) p steps place result }
+        ensures whole { KeepsWholeLogs self.now → TellsVersions self.now
+            → (p : Plan) (steps : List Step) (place : MemberPlace)
             → Stands p steps self.now → slice_get (reader_places p.config) reader ≡ Some place
             → IsOriginOf p steps place result }
         ensures lives { (p : Plan) (life : List Lived) (place : MemberPlace) → StandsIn p life self.now
             → slice_get (reader_places p.config) reader ≡ Some place
-            → IsOriginFrom (logs_in (logged_of self.now) p life) p place
+            → let logs = logs_in (logged_of self.now) p life in
+            IsOriginFrom (logs_told (tells_versions self.now) logs) p place
             ((account_in p life).stores place.0 place.1) result }
         ensures whole_lives { KeepsWholeLogs self.now → (p : Plan) (life : List Lived) (place : MemberPlace)
             → StandsIn p life self.now → slice_get (reader_places p.config) reader ≡ Some place
-            → IsOriginFrom (log_in p life) p place ((account_in p life).stores place.0 place.1) result }
+            → IsOriginFrom (logs_told (tells_versions self.now) (log_in p life)) p place
+            ((account_in p life).stores place.0 place.1) result }
     {
+        let versions = self.left.tells_versions();
         self.stores
-            .origin(self.config, &self.round.publisher, reader)
+            .origin(self.config, &self.round.publisher, reader, versions)
     }
 }

@@ -12,7 +12,7 @@ ghost use Rattle.session_model.specs.Deeds.{Deed};
 ghost use Rattle.session_model.specs.Closing.{MemberPlace, reader_places};
 ghost use Rattle.session_model.specs.Stores.{Store, is_same, stored_on};
 ghost use Rattle.pubsub_engine.specs.Holding.{AddsOneAtMost, HoldStores};
-ghost use Rattle.pubsub_engine.specs.Logs.{log_after};
+ghost use Rattle.pubsub_engine.specs.Logs.{log_after, logs_told};
 ghost use Rattle.pubsub_engine.specs.Standing.{IsOriginFrom};
 ghost use Rattle.session_parts.specs.Holding.{AreAllLogged, AreGroups, HoldSubscriber};
 ghost use Rattle.session_parts.specs.Standing.{HavePast, HaveReadings};
@@ -88,8 +88,14 @@ impl Stores {
         }
     }
 
-    /// Where the last store of the reader with this index over all read groups comes from.
-    pub(crate) fn origin(&self, config: &Config, publisher: &Publisher, reader: u8) -> Origin
+    /// Where the last store of the reader with this index over all read groups comes from, with its version or without.
+    pub(crate) fn origin(
+        &self,
+        config: &Config,
+        publisher: &Publisher,
+        reader: u8,
+        versions: bool,
+    ) -> Origin
         requires good { IsGood config.now }
         requires groups { AreGroups config.now publisher.now.groups.items }
         requires there { reader < length (readers config.now) }
@@ -101,7 +107,8 @@ impl Stores {
             → HavePast p.config metas deeds publisher.now.groups.items
             → HaveStored p.config list self.now
             → slice_get (reader_places p.config) reader ≡ Some place
-            → IsOriginFrom (log_after most p.config deeds) p place (list place) result }
+            → let logs = logs_told versions (log_after most p.config deeds) in
+            IsOriginFrom logs p place (list place) result }
     {
         let last = &self.last[usize::from(reader)];
         if !last.is_there {
@@ -111,7 +118,7 @@ impl Stores {
                 version: Some(0),
             };
         }
-        let log = log_read(config, publisher, usize::from(reader));
+        let log = log_read(config, publisher, usize::from(reader), versions);
         Origin {
             store: self.keeper.pass(reader).version(),
             number: last.number,

@@ -31,8 +31,9 @@ use Rattle.reader_group.specs.Members.{Seat, seat_at, MemberValue, new_member, e
 use Rattle.reader_group.specs.SlotFrames.{slot_frame_at}
 use Rattle.reader_group.specs.Payloads.{Payload, Piece, Message, Chunked, Slotted, Missing, pieces}
 use Rattle.reader_group.specs.Opening.{Opened}
-use Rattle.reader_group.specs.Plain.{Setting, PlainGroup, Event, Got, Expired, Stopped, Fed, short, given, read_case, joined_case, chunked_case, piece_case, fed_on, unfed, fed_by, cut_if, stopped_if, member_at, taken_on, is_raised, receipt_of, taken_in, verdict_in, plain}
-use Rattle.reader_group.specs.Numbered.{HasItsNumber}
+use Rattle.reader_group.specs.Plain.{Setting, PlainGroup, Event, Got, Expired, Stopped, Fed, short, given, read_case, joined_case, chunked_case, piece_case, fed_on, unfed, fed_by, cut_if, stopped_if, member_at, taken_on, is_raised, receipt_of, taken_in, verdict_in, opening, step, plain}
+use Rattle.reader_group.specs.Numbered.{HasItsNumber, HaveNumbers, HaveTheirNumbers}
+use Rattle.reader_group.specs.Renewing.{GroupCall, Befalls, Renews, reading, setting_after}
 use Rattle.reader_group.proofs.Each.{each-at, fed_member-at}
 
 -- ---- numbering by message
@@ -197,17 +198,40 @@ module _ (setting : Setting) where
       (sym (fed_member-at setting.seats group.members (λ i seat member. fed_by seat receipt raised (slice_index_or on i false) opened.payload member) k within))
       (fed-in (at k) receipt raised (slice_index_or on k false) opened.payload (member_at group.members k) h)
 
-  pub plain-numbered : (events : List Event) (k : ℕ) → k < length setting.seats → HasItsNumber (at k).part.numbering (member_at (plain setting events).members k).kept
-  plain-numbered [] k within =
+  pub opening-numbered : HaveNumbers setting (opening setting)
+  opening-numbered k within =
       subst (IsIn (at k)) (sym (get_or-map (λ (seat : Seat). new_member) setting.seats k (at k) new_member within)) (fresh-numbered (at k).part.numbering)
-  plain-numbered (Got now on datagram ∷ before) k within =
-      let group = plain setting before in
-      taken-in group now on (verdict_in setting group datagram) k within (plain-numbered before k within)
-  plain-numbered (Expired now ∷ before) k within =
-      let group = plain setting before in
+
+  pub step-numbered : (group : PlainGroup) (event : Event) → HaveNumbers setting group → HaveNumbers setting (step setting group event)
+  step-numbered group (Got now on datagram) have k within = taken-in group now on (verdict_in setting group datagram) k within (have k within)
+  step-numbered group (Expired now) have k within =
       subst (IsIn (at k)) (sym (each-at setting.seats group.members (λ i seat member. expired seat.part.timeout now member) k new_member within))
-      (expired-in (at k) now (member_at group.members k) (plain-numbered before k within))
-  plain-numbered (Stopped reader why ∷ before) k within =
-      let group = plain setting before in
+      (expired-in (at k) now (member_at group.members k) (have k within))
+  step-numbered group (Stopped reader why) have k within =
       subst (IsIn (at k)) (sym (each-at setting.seats group.members (λ i seat member. stopped_if (i == reader) why member) k new_member within))
-      (stopped-in (at k) (k == reader) why (member_at group.members k) (plain-numbered before k within))
+      (stopped-in (at k) (k == reader) why (member_at group.members k) (have k within))
+
+  pub plain-numbered : (events : List Event) → HaveTheirNumbers setting events
+  plain-numbered [] = opening-numbered
+  plain-numbered (event ∷ before) = step-numbered (plain setting before) event (plain-numbered before)
+
+-- ---- with rings
+
+same-seats : (setting : Setting) (calls : List GroupCall) → (setting_after setting calls).seats ≡ setting.seats
+same-seats setting [] = refl
+same-seats setting (Befalls event ∷ before) = same-seats setting before
+same-seats setting (Renews keys ∷ before) = refl
+
+-- the numbers that seats ask for
+abbrev AreNumbered : List Seat → PlainGroup → Type 0
+AreNumbered seats group = (k : ℕ) → k < length seats → HasItsNumber (seat_at seats k).part.numbering (member_at group.members k).kept
+
+pub renewed-numbered : (setting : Setting) (calls : List GroupCall) → HaveNumbers setting (reading setting calls)
+renewed-numbered setting [] = opening-numbered setting
+renewed-numbered setting (Befalls event ∷ before) =
+    let own = setting_after setting before in
+    let seats = same-seats setting before in
+    let group = reading setting before in
+    subst (λ (seats : List Seat). AreNumbered seats (step own group event)) seats
+    (step-numbered own group event (subst (λ (seats : List Seat). AreNumbered seats group) (sym seats) (renewed-numbered setting before)))
+renewed-numbered setting (Renews keys ∷ before) = renewed-numbered setting before

@@ -7,9 +7,9 @@ ghost use Rattle.reader_group.specs.Asked.{HasOtherPublisher, HasOtherGroup, Has
 ghost use Rattle.reader_group.specs.BadParts.{BadPartsLeave};
 ghost use Rattle.reader_group.specs.Complete.{WholesAreHeld};
 ghost use Rattle.reader_group.specs.Handing.{EachHandsOn, MessagesComeBack, EachChunkComesBack, EachSlotComesBack};
-ghost use Rattle.reader_group.specs.Numbered.{HaveTheirNumbers};
-ghost use Rattle.reader_group.specs.Plain.{Setting, Event};
-ghost use Rattle.reader_group.specs.Renewing.{GroupCall, IsPlain, TakesNoPairTwice};
+ghost use Rattle.reader_group.specs.Numbered.{HaveNumbers, HaveTheirNumbers};
+ghost use Rattle.reader_group.specs.Plain.{Setting, PlainGroup, Event, opening, step};
+ghost use Rattle.reader_group.specs.Renewing.{GroupCall, IsPlain, TakesNoPairTwice, reading};
 ghost use Rattle.reader_group.specs.Signed.{TakesSignedAlone};
 ghost use Rattle.reader_group.specs.Traces.{LeavesNoTrace};
 
@@ -56,9 +56,14 @@ pub fn a_lone_key_frame_is_held()
 {}
 
 /// Beside a row that a reader holds stands a number of 16 bits where it goes by the numbers of messages, and none where it has no
-/// numbering.
+/// numbering: in the plain reading, before anything, behind each step, and whichever rings renew the group.
 pub fn each_held_row_has_its_number()
-    ensures { (setting : Setting) (events : List Event) → HaveTheirNumbers setting events }
+    ensures plain { (setting : Setting) (events : List Event) → HaveTheirNumbers setting events }
+    ensures opened { (setting : Setting) → HaveNumbers setting (opening setting) }
+    ensures stepped { (setting : Setting) (group : PlainGroup) (event : Event)
+        → HaveNumbers setting group → HaveNumbers setting (step setting group event) }
+    ensures renewed { (setting : Setting) (calls : List GroupCall)
+        → HaveNumbers setting (reading setting calls) }
 {}
 
 /// A part that can't be read leaves its reader, but for the message that chunks are joined to, and leaves that too where it is no
@@ -72,7 +77,8 @@ pub fn a_bad_part_leaves_its_reader()
 /// fixed layout for each reader what was laid at its slot, with zeros behind it.
 pub fn what_is_spelled_is_handed_on()
     ensures payload { EachHandsOn }
-    ensures messages { (header : List ℕ) (parts : List (ℕ × List ℕ)) → MessagesComeBack header parts }
+    ensures messages { (header : List ℕ) (parts : List (ℕ × List ℕ))
+        → MessagesComeBack header parts }
     ensures chunk { EachChunkComesBack }
     ensures slots { EachSlotComesBack }
 {}

@@ -26,7 +26,8 @@ impl Put {
     pub fn is_of(&self, meta: &Meta) -> bool
         ensures index { result ≡ true → self.now.index < length meta.now.fields }
         ensures fits { result ≡ true
-            → HoldsAt (λ field. Fits self.now.value field.kind field.cap) meta.now.fields self.now.index }
+            → HoldsAt (λ field. Fits self.now.value field.kind field.cap)
+            meta.now.fields self.now.index }
         ensures status { result ≡ true → IsStatus meta.now.quality self.now.status }
     {
         let fields = meta.fields();

@@ -21,3 +21,4 @@ pub mod Newly
 pub mod Stored
 pub mod Next
 pub mod Levelling
+pub mod Ticks

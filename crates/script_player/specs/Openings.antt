@@ -1,10 +1,23 @@
--- How often a link is opened for a session, and that what it was made to do stays.
-use Rattle.std.specs.Prelude.{◌≡◌, ◌⊎◌, ℕ, true}
-use Rattle.ua_base.specs.Cause.{counted_if}
-use Rattle.ua_base.specs.Links.{Making}
+-- How a session that is performed over a link uses it: how often it is opened, with what, and what stays.
+use Rattle.std.specs.Prelude.{◌≡◌, ◌≢◌, ◌≤◌, ◌⊎◌, ℕ, true, Option, Some}
+use Rattle.ua_base.specs.Cause.{Rose, counted_if}
+use Rattle.ua_base.specs.Journal.{LinkState}
+use Rattle.ua_base.specs.Links.{Making, Opening, TellsOn}
+use Rattle.session_model.specs.Counts.{session_nothings}
 
 -- the link is opened once or not at all, and once where the session was performed
 pub record OpensOnce {L : Type 0} (made : L → Making) (openings : L → ℕ) (performed : Type 0) (old new : L) : Type 0 where
   pub making : made new ≡ made old
   pub at_most_once : (openings new ≡ openings old) ⊎ (openings new ≡ counted_if true (openings old))
   pub once : performed → openings new ≡ counted_if true (openings old)
+
+-- It is opened so where the session was performed, and else so or not at all, once; one that can't be opened stays as it was, its count of faults
+-- aside, which rose; and it tells on over what a session's pumps are answered.
+pub record PerformsOver {L : Type 0} (told : L → Option LinkState) (patience : L → ℕ) (opened_with : L → Option Opening) (faults : L → ℕ) (made : L → Making) (openings : L → ℕ) (opening : Opening) (performed unopened : Type 0) (old new : L) : Type 0 where
+  pub opened : performed → opened_with new ≡ Some opening
+  pub opens : opened_with new ≢ opened_with old → opened_with new ≡ Some opening
+  pub once : OpensOnce made openings performed old new
+  pub failed : unopened → Rose (faults old) (faults new)
+  pub unused : unopened → (told new ≡ told old) × (opened_with new ≡ opened_with old) × (openings new ≡ openings old)
+  pub faults : faults old ≤ faults new
+  pub lasts : TellsOn told patience session_nothings old new

@@ -1,6 +1,8 @@
 -- A sample, a tick with it, and a pump: when they may come, and what they make of a session. Lists of steps have the latest first.
-use Rattle.std.specs.Prelude.{◌≡◌, ℕ, ◌+◌, ◌<◌, ◌≤◌, List, ◌∷◌, length, Bool, true, Option}
+use Rattle.std.specs.Prelude.{◌≡◌, ℕ, ◌+◌, ◌<◌, ◌≤◌, List, ◌∷◌, length, Bool, true, Option, if◌then◌else◌}
 use Rattle.ua_base.specs.Journal.{Entry as LinkEntry, LinkState}
+use Rattle.ps_script.specs.declared.script.Act.{Act}
+use Rattle.ps_script.specs.Sessions.{is_tick}
 use Rattle.version_cell.specs.Known.{Known}
 use Rattle.version_cell.specs.Passes.{SeesMore}
 use Rattle.version_cell.specs.Sets.{EachSeesLawful, pass_at}
@@ -42,3 +44,7 @@ pub record PassesOn (ms : ℕ) (closing : Bool) (old new : Session) (told after 
   pub appends : appends_left new ≡ appends_left old
   pub plan : plan_of new ≡ plan_of old
   pub lasts : LastsAs old new
+
+-- how often the pump of a line is answered Nothing at most: that of a tick once, and the other lines have none
+abbrev pub nothings_by : Act → ℕ
+nothings_by what = if is_tick what then 1 else 0

@@ -31,7 +31,8 @@ pub fn pass<R: Wait, L: Link>(
     ensures passes { OnOk result
         (PassesOn ms closing session.old session.new (L.told link.old) (L.told link.new)) }
     ensures memory { OnErr result (IsTrue L.takes_memory) }
-    ensures link { KeepsLink L.opened_with L.faults L.made L.openings link.old link.new }
+    ensures link { KeepsLink L.told L.patience L.opened_with L.faults L.made L.openings
+        1 link.old link.new }
 {
     session.sample(rt, bank);
     match session.tick(ms, closing, link) {

@@ -1,11 +1,10 @@
 //! A whole script, from the opening of its session to its close.
-ghost use Rattle.std.specs.Prelude.{◌≡◌, ◌≢◌, ◌≤◌, IsOk, IfOk, OnOk, Some, Err};
-ghost use Rattle.ua_base.specs.Cause.{Rose};
+ghost use Rattle.std.specs.Prelude.{◌≡◌, IsOk, IfOk, Err};
 ghost use Rattle.ps_config.specs.Types.{HasTypes};
 ghost use Rattle.ps_report.specs.Conditions.{IsClosedOf};
 ghost use Rattle.ps_script.specs.Sound.{IsScript};
 ghost use Rattle.writer_group.specs.Standing.{IsGood};
-ghost use Rattle.script_player.specs.Openings.{OpensOnce};
+ghost use Rattle.script_player.specs.Openings.{PerformsOver};
 ghost use Rattle.script_player.specs.Plays.{IsPlayOf, opening_of};
 
 use crate::player::Player;
@@ -65,15 +64,9 @@ pub fn play_script<R: Wait, L: Link>(
     requires script { IsScript config.now script.now }
     ensures played { IfOk result (IsPlayOf config.now script.now (L.told link.new)) }
     ensures closed { IfOk result (IsClosedOf config.now) }
-    ensures opened { OnOk result (L.opened_with link.new ≡ Some (opening_of config.now script.now)) }
-    ensures opens { L.opened_with link.new ≢ L.opened_with link.old
-        → L.opened_with link.new ≡ Some (opening_of config.now script.now) }
-    ensures once { OpensOnce L.made L.openings (IsOk result) link.old link.new }
-    ensures unopened { result ≡ Err PlayEnd.Unopened → Rose (L.faults link.old) (L.faults link.new) }
-    ensures unused { result ≡ Err PlayEnd.Unopened
-        → (L.told link.new ≡ L.told link.old) × (L.opened_with link.new ≡ L.opened_with link.old)
-        × (L.openings link.new ≡ L.openings link.old) }
-    ensures faults { L.faults link.old ≤ L.faults link.new }
+    ensures over { PerformsOver L.told L.patience L.opened_with L.faults L.made L.openings
+        (opening_of config.now script.now) (IsOk result) (result ≡ Err PlayEnd.Unopened)
+        link.old link.new }
 {
     histories_are_the_models();
     a_closed_session_tells_the_headline();

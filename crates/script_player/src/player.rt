@@ -5,6 +5,7 @@ ghost use Rattle.version_cell.specs.Passes.{SeesMore};
 ghost use Rattle.version_cell.specs.Sets.{ArePassesOf, pass_at};
 ghost use Rattle.cell_bank.specs.Hands.{AreSmall};
 ghost use Rattle.ps_config.specs.Sound.{readers};
+ghost use Rattle.ps_script.specs.Sessions.{ticks_in};
 ghost use Rattle.ps_script.specs.Sound.{IsScript};
 ghost use Rattle.writer_group.specs.Standing.{IsGood};
 ghost use Rattle.ps_config.specs.Types.{HasTypes};
@@ -15,7 +16,7 @@ ghost use Rattle.session_model.specs.Steps.{Plan, Step, Enable as EnableStep, Di
 ghost use Rattle.target_cells.specs.Keeping.{AreSound};
 ghost use Rattle.pubsub_engine.specs.Holding.{AreAppends, appends_left, full_of, left_of, opening_left, plan_of};
 ghost use Rattle.pubsub_engine.specs.Standing.{IsOriginOf, Stands};
-ghost use Rattle.script_player.specs.Passing.{MayPass};
+ghost use Rattle.script_player.specs.Passing.{MayPass, nothings_by};
 ghost use Rattle.script_player.specs.Player.{Appends, AreDonesOf, Does, HasPlayed, IsClosedBy, IsNew, IsPlayer, Levels, MayAppend, MayDo, MaySwitch, MayWatch, MayWrite, Passes as PassesTick, Switches, Watches as WatchesReader, Writes, config_of};
 
 use crate::hand::Hand;
@@ -102,7 +103,8 @@ impl<'c> Player<'c> {
         ensures player { OnOk result (IsPlayer self.new) }
         ensures played { OnOk result (HasPlayed (config_of self.old) script.now
             (reverse script.now.lines) (L.told link.new) self.new) }
-        ensures link { KeepsLink L.opened_with L.faults L.made L.openings link.old link.new }
+        ensures link { KeepsLink L.told L.patience L.opened_with L.faults L.made L.openings
+            (ticks_in script.now.lines) link.old link.new }
     {
         for line in script.lines.as_slice() {
             self.play_line(rt, alloc, line, link)?;
@@ -124,20 +126,30 @@ impl<'c> Player<'c> {
         ensures player { OnOk result (IsPlayer self.new) }
         ensures does { OnOk result
             (Does line.now.act self.old self.new (L.told link.old) (L.told link.new)) }
-        ensures link { KeepsLink L.opened_with L.faults L.made L.openings link.old link.new }
+        ensures link { KeepsLink L.told L.patience L.opened_with L.faults L.made L.openings
+            (nothings_by line.now.act) link.old link.new }
     {
         match &line.act {
             Act::Write { thread, set, patch } => self.write(rt, alloc, *thread, *set, patch),
             Act::Tick(ms) => self.tick(rt, u64::from(*ms), false, link),
-            Act::Enable(id) => self.enable(*id),
-            Act::Disable(id) => self.disable(*id),
+            Act::Enable(id) => {
+                self.enable(*id);
+                Ok(())
+            }
+            Act::Disable(id) => {
+                self.disable(*id);
+                Ok(())
+            }
             Act::Fated { .. } => Ok(()),
             Act::Watch {
                 thread,
                 reader,
                 times,
             } => self.watch(rt, alloc, *thread, *reader, *times),
-            Act::Append { .. } => self.append(),
+            Act::Append { .. } => {
+                self.append();
+                Ok(())
+            }
         }
     }
 
@@ -174,7 +186,8 @@ impl<'c> Player<'c> {
         ensures passes { OnOk result
             (PassesTick ms closing self.old self.new (L.told link.old) (L.told link.new)) }
         ensures memory { OnErr result (IsTrue L.takes_memory) }
-        ensures link { KeepsLink L.opened_with L.faults L.made L.openings link.old link.new }
+        ensures link { KeepsLink L.told L.patience L.opened_with L.faults L.made L.openings
+            1 link.old link.new }
     {
         let Player {
             session,
@@ -186,36 +199,33 @@ impl<'c> Player<'c> {
     }
 
     /// Enables a component.
-    fn enable(&mut self, id: u8) -> Result<(), NoMemory>
+    fn enable(&mut self, id: u8)
         requires player { IsPlayer self.old }
         requires may { MaySwitch id self.old }
         ensures player { IsPlayer self.new }
         ensures switches { Switches (EnableStep id) id false self.old self.new }
     {
         self.session.enable(id);
-        Ok(())
     }
 
     /// Disables a component.
-    fn disable(&mut self, id: u8) -> Result<(), NoMemory>
+    fn disable(&mut self, id: u8)
         requires player { IsPlayer self.old }
         requires may { MaySwitch id self.old }
         ensures player { IsPlayer self.new }
         ensures switches { Switches (DisableStep id) id true self.old self.new }
     {
         self.session.disable(id);
-        Ok(())
     }
 
     /// The next field is appended.
-    fn append(&mut self) -> Result<(), NoMemory>
+    fn append(&mut self)
         requires player { IsPlayer self.old }
         requires may { MayAppend self.old }
         ensures player { IsPlayer self.new }
         ensures appends { Appends self.old self.new }
     {
         self.session.append();
-        Ok(())
     }
 
     /// A thread's looks at a reader, so often at once.
@@ -277,7 +287,8 @@ impl<'c> Player<'c> {
         ensures ends { OnOk result
             (PassesTick 0 true self.old self.new (L.told link.old) (L.told link.new)) }
         ensures memory { OnErr result (IsTrue L.takes_memory) }
-        ensures link { KeepsLink L.opened_with L.faults L.made L.openings link.old link.new }
+        ensures link { KeepsLink L.told L.patience L.opened_with L.faults L.made L.openings
+            1 link.old link.new }
     {
         self.tick(rt, 0, true, link)
     }

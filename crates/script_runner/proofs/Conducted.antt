@@ -2,7 +2,7 @@
 use Rattle.std.proofs.Common.{◌≡◌, ℕ, ◌+◌, ◌<◌, ◌≤◌, Bool, true, false, cond, List, [], ◌∷◌, ◌++◌, length, reverse, take, get_or, refl, sym, ap, ◌∙◌, subst, arith, append_assoc, Option}
 use Rattle.std.proofs.lemmas.Bool.{false≢true}
 use Rattle.std.proofs.lemmas.List.{append-nil, take_all}
-use Rattle.std.proofs.lemmas.List.Sums.{sum_by-take-le, sum_by_more}
+use Rattle.std.proofs.lemmas.List.Sums.{sum_by-take-le}
 use Rattle.ua_base.specs.Journal.{Entry as LinkEntry, LinkState}
 use Rattle.version_cell.specs.Known.{Known}
 use Rattle.ps_config.specs.declared.parts.Config.{Config}
@@ -222,15 +222,6 @@ pub all-run : (config : Config) (script : Script) (k : ℕ) (told : Option LinkS
 all-run config script k told session end h = subst (λ (l : List Line). HasConducted config script (reverse l) told session) (take_all k script.lines end) h
 
 -- ---- the ticks so far
-
-pub ticks-more : (lines items : List Line) (k ticks : ℕ) → items ≡ lines → k < length items → ticks ≡ ticks_in (take k lines)
-    → ticks + cond (is_tick (get_or items k no_line).act) 1 0 ≡ ticks_in (take (k + 1) lines)
-ticks-more lines items k ticks alike lt so =
-    let within : k < length lines = (let e = ap length alike in omega (arith, lt, e)) in
-    let all = sum_by_more (λ (l : Line). cond (is_tick l.act) 1 0) lines k no_line within in
-    let same : cond {A = ℕ} (is_tick (get_or items k no_line).act) 1 0 ≡ cond (is_tick (get_or lines k no_line).act) 1 0 =
-    ap {B = ℕ} (λ (l : List Line). cond {A = ℕ} (is_tick (get_or l k no_line).act) 1 0) alike in
-    omega (arith, so, all, same)
 
 -- there are fewer than fit in 32 bits
 pub ticks-few : (config : Config) (script : Script) (k ticks : ℕ) → IsScript config script → ticks ≡ ticks_in (take k script.lines) → ticks ≤ 4096

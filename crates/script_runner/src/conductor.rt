@@ -1,9 +1,10 @@
 //! The lines of a script that aren't its threads', in order, with the gate round each tick.
 ghost use Rattle.std.specs.Prelude.{◌≡◌, [], IsSome, OnOk, reverse, if◌then◌else◌};
 ghost use Rattle.ua_base.specs.Links.{KeepsLink};
-ghost use Rattle.ps_script.specs.Sessions.{is_tick};
+ghost use Rattle.ps_script.specs.Sessions.{is_tick, ticks_in};
 ghost use Rattle.ps_script.specs.Sound.{IsScript};
 ghost use Rattle.pubsub_engine.specs.Holding.{AreTargetsOf, IsBankOf, IsSession, plan_of};
+ghost use Rattle.script_player.specs.Passing.{nothings_by};
 ghost use Rattle.script_runner.specs.Conducting.{HasConducted, MayRun, RunsTo, TurnsTo};
 
 use cell_bank::Bank;
@@ -38,7 +39,8 @@ pub(crate) fn conduct<R: Wait, L: Link, G: Gate>(
     ensures targets { OnOk result (AreTargetsOf session.new targets.now) }
     ensures conducted { OnOk result (HasConducted (plan_of session.old).config script.now
         (reverse script.now.lines) (L.told link.new) session.new) }
-    ensures link { KeepsLink L.opened_with L.faults L.made L.openings link.old link.new }
+    ensures link { KeepsLink L.told L.patience L.opened_with L.faults L.made L.openings
+        (ticks_in script.now.lines) link.old link.new }
 {
     let mut ticks = 0;
     for line in script.lines.as_slice() {
@@ -69,7 +71,8 @@ fn conduct_line<R: Wait, L: Link, G: Gate>(
     ensures targets { OnOk result (AreTargetsOf session.new targets.now) }
     ensures runs { OnOk result
         (RunsTo act.now session.old session.new (L.told link.old) (L.told link.new)) }
-    ensures link { KeepsLink L.opened_with L.faults L.made L.openings link.old link.new }
+    ensures link { KeepsLink L.told L.patience L.opened_with L.faults L.made L.openings
+        (nothings_by act.now) link.old link.new }
 {
     let Act::Tick(ms) = act else {
         switch(session, act);

@@ -38,7 +38,8 @@ pub(crate) fn finish<R: Wait, L: Link>(
     requires may { MayPass 0 true session }
     ensures finishes { IfOk result (Finishes bank.now targets.now.cells session.entry dones.items
         (L.told link.old) (L.told link.new)) }
-    ensures link { KeepsLink L.opened_with L.faults L.made L.openings link.old link.new }
+    ensures link { KeepsLink L.told L.patience L.opened_with L.faults L.made L.openings
+        1 link.old link.new }
 {
     meet_all(rt, alloc, &mut session, bank, &mut dones)?;
     level_all(rt, &mut session, targets, &mut dones);

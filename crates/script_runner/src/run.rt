@@ -1,14 +1,14 @@
 //! A whole script, from the opening of its session to its close.
-ghost use Rattle.std.specs.Prelude.{◌≡◌, ◌≢◌, ◌≤◌, [], IsOk, IfOk, OnOk, IsSome, Some, Err, reverse};
-ghost use Rattle.ua_base.specs.Cause.{Rose};
+ghost use Rattle.std.specs.Prelude.{◌≡◌, [], IsOk, IfOk, OnOk, IsSome, Err, reverse};
 ghost use Rattle.ua_base.specs.Links.{KeepsLink};
 ghost use Rattle.ps_config.specs.Types.{HasTypes};
 ghost use Rattle.ps_report.specs.Conditions.{IsClosedOf};
+ghost use Rattle.ps_script.specs.Sessions.{ticks_in};
 ghost use Rattle.ps_script.specs.Sound.{IsScript};
 ghost use Rattle.writer_group.specs.Standing.{IsGood};
 ghost use Rattle.app_threads.specs.Crews.{AreDone, AreReady};
 ghost use Rattle.pubsub_engine.specs.Holding.{AreTargetsOf, IsBankOf, IsSession, plan_of};
-ghost use Rattle.script_player.specs.Openings.{OpensOnce};
+ghost use Rattle.script_player.specs.Openings.{PerformsOver};
 ghost use Rattle.script_player.specs.Plays.{opening_of};
 ghost use Rattle.script_runner.specs.Conducting.{HasConducted};
 ghost use Rattle.script_runner.specs.Runs.{IsRunOf};
@@ -48,15 +48,9 @@ pub fn run_script<R: Threads + Wait + Sync, L: Link, G: Gate>(
     requires script { IsScript config.now script.now }
     ensures ran { IfOk result (IsRunOf config.now script.now (L.told link.new)) }
     ensures closed { IfOk result (IsClosedOf config.now) }
-    ensures opened { OnOk result (L.opened_with link.new ≡ Some (opening_of config.now script.now)) }
-    ensures opens { L.opened_with link.new ≢ L.opened_with link.old
-        → L.opened_with link.new ≡ Some (opening_of config.now script.now) }
-    ensures once { OpensOnce L.made L.openings (IsOk result) link.old link.new }
-    ensures unopened { result ≡ Err PlayEnd.Unopened → Rose (L.faults link.old) (L.faults link.new) }
-    ensures unused { result ≡ Err PlayEnd.Unopened
-        → (L.told link.new ≡ L.told link.old) × (L.opened_with link.new ≡ L.opened_with link.old)
-        × (L.openings link.new ≡ L.openings link.old) }
-    ensures faults { L.faults link.old ≤ L.faults link.new }
+    ensures over { PerformsOver L.told L.patience L.opened_with L.faults L.made L.openings
+        (opening_of config.now script.now) (IsOk result) (result ≡ Err PlayEnd.Unopened)
+        link.old link.new }
 {
     histories_are_the_models();
     closed_histories_are_legal();
@@ -104,7 +98,8 @@ fn run_beside<R: Threads + Wait + Sync, L: Link, G: Gate>(
     ensures conducted { OnOk result (HasConducted (plan_of session.old).config script.now
         (reverse script.now.lines) (L.told link.new) session.new) }
     ensures done { IfOk result (λ dones. AreDone bank.now targets.now.cells crew dones.items) }
-    ensures link { KeepsLink L.opened_with L.faults L.made L.openings link.old link.new }
+    ensures link { KeepsLink L.told L.patience L.opened_with L.faults L.made L.openings
+        (ticks_in script.now.lines) link.old link.new }
 {
     let (dones, conducted) = crew.run(
         rt,

@@ -1,17 +1,21 @@
 -- What a session is when it is closed, as a report tells it.
-use Rattle.std.specs.Prelude.{◌≡◌, ℕ, ◌+◌, ◌==◌, List, [], ◌∷◌, map, flat_map, reverse, count_by, is_some, Bool, true, false, ◌||◌, if◌then◌else◌, option_map, IfSome}
+use Rattle.std.specs.Prelude.{◌≡◌, ℕ, ◌+◌, ◌==◌, List, [], ◌∷◌, map, flat_map, reverse, count_by, is_some, Bool, true, false, ◌||◌, if◌then◌else◌, None, option_map, IfSome}
 use Rattle.std.specs.List.{AllZip}
+use Rattle.std.specs.List.Sorted.{IsNonDecreasing}
 use Rattle.dataset_meta.specs.Metas.{MetaData}
 use Rattle.row_words.specs.Belonging.{row_in, Belongs}
 use Rattle.ua_base.specs.Journal.{Entry, Sent, SendFailed, Got, Empty, Long, ReceiveFailed, sent_datagram, received_datagram}
 use Rattle.ps_config.specs.declared.parts.Config.{Config}
+use Rattle.ps_config.specs.declared.parts.ReadGroupPart.{ReadGroupPart}
+use Rattle.ps_config.specs.declared.parts.ReaderPart.{ReaderPart}
 use Rattle.ps_report.specs.declared.closed.Closed.{Closed}
 use Rattle.ps_report.specs.declared.closed.GroupEnd.{GroupEnd}
+use Rattle.ps_report.specs.declared.closed.HeldEnd.{HeldEnd}
 use Rattle.ps_report.specs.declared.closed.WriterEnd.{WriterEnd}
 use Rattle.ps_report.specs.declared.closed.ReadGroupEnd.{ReadGroupEnd}
 use Rattle.ps_report.specs.declared.closed.ReaderEnd.{ReaderEnd}
 use Rattle.ps_report.specs.declared.closed.LinkEnd.{LinkEnd}
-use Rattle.ps_report.specs.Told.{TellsEnds}
+use Rattle.ps_report.specs.Told.{TellsEnds, TellsNumber, grouped_readers}
 use Rattle.pubsub_states.specs.declared.component.Component.TheVariants.{Group, Writer, ReadGroup, Reader}
 use Rattle.reader_group.specs.Members.{MemberValue, seat_at}
 use Rattle.reader_group.specs.Settings.{setting_of}
@@ -107,7 +111,7 @@ read_group_end p steps r =
     let answered = answers_at p.config r steps in
     record { state = state_at p steps (ReadGroup r); taken = taken_by answered; causes = causes_by answered }
 
--- what a reader keeps, as a report tells it; the version that it tells is for `TellsEnds`
+-- what a reader keeps, as a report tells it; the version that it tells is for `TellsEndsIf`
 pub record Shows (meta : MetaData) (member : MemberValue) (end : ReaderEnd) : Type 0 where
   pub row : option_map (λ held. row_in meta.fields held.row.words) end.held ≡ member.kept.row
   pub number : IfSome end.held (λ held. held.number ≡ member.kept.number)
@@ -122,15 +126,37 @@ pub record IsReaderEnd (p : Plan) (steps : List Step) (place : MemberPlace) (end
 
 -- ---- the whole
 
--- all that a closed session with these logs shows of these steps; its histories and its watches are those of the threads
-pub record IsClosedWith (logs : ℕ → ℕ → List (ℕ × ℕ)) (p : Plan) (steps : List Step) (closed : Closed) : Type 0 where
+-- where versions aren't told, a row that a reader holds has the number that the reader's numbering asks for, and no version
+pub record TellsNumberAlone (part : ReaderPart) (held : HeldEnd) : Type 0 where
+  pub number : TellsNumber part.numbering held.number
+  pub version : held.version ≡ None
+
+abbrev pub TellsReaderAlone : ReadGroupPart × ReaderPart → ReaderEnd → Type 0
+TellsReaderAlone at end = IfSome end.held (TellsNumberAlone at.1)
+
+-- so of each reader, and the watches in the order of their threads
+pub record TellsNumbersAlone (config : Config) (closed : Closed) : Type 0 where
+  pub readers : AllZip TellsReaderAlone (grouped_readers config.readgroup) closed.readers
+  pub watches : IsNonDecreasing (map (λ end. end.thread) closed.watches)
+
+-- with versions or without
+abbrev pub TellsEndsIf : Bool → Config → Closed → Type 0
+TellsEndsIf true config closed = TellsEnds config closed
+TellsEndsIf false config closed = TellsNumbersAlone config closed
+
+-- all that a closed session with these logs shows of these steps, with versions or without; its histories and its watches are those of the threads
+pub record IsClosedTelling (versions : Bool) (logs : ℕ → ℕ → List (ℕ × ℕ)) (p : Plan) (steps : List Step) (closed : Closed) : Type 0 where
   pub groups : closed.groups ≡ map (group_end p steps) (group_indexes p.config)
   pub writers : AllZip (IsWriterEndWith logs p steps) (writer_places p.config) closed.writers
   pub read_groups : closed.read_groups ≡ map (read_group_end p steps) (read_group_indexes p.config)
   pub readers : AllZip (IsReaderEnd p steps) (reader_places p.config) closed.readers
   pub link : closed.link ≡ link_end p steps
-  pub told : TellsEnds p.config closed
+  pub told : TellsEndsIf versions p.config closed
 
--- with its whole logs
+-- with versions
+abbrev pub IsClosedWith : (ℕ → ℕ → List (ℕ × ℕ)) → Plan → List Step → Closed → Type 0
+IsClosedWith logs p steps closed = IsClosedTelling true logs p steps closed
+
+-- and with its whole logs
 abbrev pub IsClosedAfter : Plan → List Step → Closed → Type 0
 IsClosedAfter p steps closed = IsClosedWith (logs_at p steps) p steps closed

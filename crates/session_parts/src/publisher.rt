@@ -21,7 +21,7 @@ ghost use Rattle.session_parts.specs.declared.sends.GroupSends.{GroupSends as Se
 use crate::sends::{GroupSends, LinkSends};
 use dataset_meta::Meta;
 use message_guard::Sender;
-use ps_config::{Config, GroupPart};
+use ps_config::{Config, GroupPart, MOST_WRITERS};
 use pubsub_states::{Component, Tree, ids_are_places_in_order};
 use ua_base::{Link, Sent, Ticked};
 use writer_group::{Datagrams, Group, Sampled};
@@ -54,9 +54,6 @@ pub struct Told<'a> {
     /// Whether it is the closing tick, in which each Operational group has its turn.
     pub closing: bool,
 }
-
-/// The most writers of a group.
-pub const MOST_WRITERS: usize = 16;
 
 impl Publisher {
     /// Each sender turns to the moment, in milliseconds. A changed token refreshes the writers of its groups: the next frame
@@ -215,7 +212,8 @@ impl Publisher {
         ensures halted { result ≡ Ticked.Memory → HaveHalted told.now self.old self.new tree.old
             (L.told link.old) (L.told link.new) }
         ensures memory { result ≡ Ticked.Memory → IsTrue L.takes_memory }
-        ensures link { KeepsLink L.opened_with L.faults L.made L.openings link.old link.new }
+        ensures link { KeepsLink L.told L.patience L.opened_with L.faults L.made L.openings
+            0 link.old link.new }
     {
         for g in 0..self.groups.len() {
             match self.pass(told, g, tree, link) {
@@ -243,7 +241,8 @@ impl Publisher {
         ensures halted { result ≡ Ticked.Memory → HasHalted told.now g self.old self.new tree.old
             (L.told link.old) (L.told link.new) }
         ensures memory { result ≡ Ticked.Memory → IsTrue L.takes_memory }
-        ensures link { KeepsLink L.opened_with L.faults L.made L.openings link.old link.new }
+        ensures link { KeepsLink L.told L.patience L.opened_with L.faults L.made L.openings
+            0 link.old link.new }
     {
         if !self.has_turn(told, g, tree) {
             return Ticked::Done;
@@ -315,7 +314,8 @@ impl Publisher {
         ensures halted { result ≡ Ticked.Memory → SendsHalt g (datagrams_in self.old.out)
             self.old self.new (L.told link.old) (L.told link.new) }
         ensures memory { result ≡ Ticked.Memory → IsTrue L.takes_memory }
-        ensures link { KeepsLink L.opened_with L.faults L.made L.openings link.old link.new }
+        ensures link { KeepsLink L.told L.patience L.opened_with L.faults L.made L.openings
+            0 link.old link.new }
         ensures count { vec_len self.new.sends ≡ vec_len self.old.sends }
         ensures rest { self.new ≡ record self.old {
           sends = self.new.sends;
@@ -343,7 +343,8 @@ impl Publisher {
         ensures unsent { result ≡ Ticked.Memory → IsUnsent self.old self.new
             (L.told link.old) (L.told link.new) }
         ensures memory { result ≡ Ticked.Memory → IsTrue L.takes_memory }
-        ensures link { KeepsLink L.opened_with L.faults L.made L.openings link.old link.new }
+        ensures link { KeepsLink L.told L.patience L.opened_with L.faults L.made L.openings
+            0 link.old link.new }
         ensures count { vec_len self.new.sends ≡ vec_len self.old.sends }
         ensures rest { self.new ≡ record self.old {
           sends = self.new.sends;

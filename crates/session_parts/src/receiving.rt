@@ -1,10 +1,10 @@
 //! Receives, and the counts of them.
-ghost use Rattle.std.specs.Prelude.{true, false, ◌≡◌, ◌<◌, ◌≤◌, ◌↔◌, IsTrue, IsSome, IfOk, length, take};
+ghost use Rattle.std.specs.Prelude.{true, false, ◌≡◌, ◌<◌, ◌≤◌, ◌↔◌, IsTrue, IsSome, IfOk, length, take, if◌then◌else◌};
 ghost use Rattle.ua_base.specs.Cause.{counted_if};
 ghost use Rattle.ua_base.specs.Journal.{Got};
 ghost use Rattle.ua_base.specs.Journal.{Tells};
 ghost use Rattle.ua_base.specs.Links.{KeepsLink};
-ghost use Rattle.ua_base.specs.Net.{FitsBuffer, Receives as BringsInto};
+ghost use Rattle.ua_base.specs.Net.{FitsBuffer, Receives as BringsInto, nothings_in};
 ghost use Rattle.pubsub_states.specs.Components.{counts_of};
 ghost use Rattle.writer_group.specs.Standing.{IsGood};
 ghost use Rattle.session_model.specs.Counts.{longest_datagram, most_taken};
@@ -75,7 +75,8 @@ impl Receiving {
         ensures pumps { PumpsTo config.now tree.now moment result.taken self.old self.new
             subscriber.old subscriber.new (L.told link.old) (L.told link.new) }
         ensures limit { IsTrue result.limit ↔ (result.taken ≡ most_taken) }
-        ensures link { KeepsLink L.opened_with L.faults L.made L.openings link.old link.new }
+        ensures link { KeepsLink L.told L.patience L.opened_with L.faults L.made L.openings
+            1 link.old link.new }
     {
         for taken in 0..MOST_DATAGRAMS {
             if !self.receive(config, tree, moment, subscriber, link) {
@@ -119,7 +120,8 @@ impl Receiving {
         ensures room { HasBuffers self.new }
         ensures receives { ReceivesOne config.now tree.now moment result self.old self.new
             subscriber.old subscriber.new (L.told link.old) (L.told link.new) }
-        ensures link { KeepsLink L.opened_with L.faults L.made L.openings link.old link.new }
+        ensures link { KeepsLink L.told L.patience L.opened_with L.faults L.made L.openings
+            (if result then 0 else 1) link.old link.new }
     {
         match self.take_in(link) {
             Received::Datagram(count) => self.hand_on(
@@ -144,7 +146,8 @@ impl Receiving {
         ensures sizes { FitsBuffer result self.new.buffer.items }
         ensures room { HasBuffers self.new }
         ensures rest { self.new ≡ record self.old { buffer = self.new.buffer } }
-        ensures link { KeepsLink L.opened_with L.faults L.made L.openings link.old link.new }
+        ensures link { KeepsLink L.told L.patience L.opened_with L.faults L.made L.openings
+            (nothings_in result) link.old link.new }
     {
         link.receive(&mut self.buffer)
     }

@@ -76,7 +76,8 @@ impl Round {
         ensures halted { result ≡ Ticked.Memory
             → RoundHalts told.now self.old (L.told link.old) (L.told link.new) }
         ensures memory { result ≡ Ticked.Memory → IsTrue L.takes_memory }
-        ensures link { KeepsLink L.opened_with L.faults L.made L.openings link.old link.new }
+        ensures link { KeepsLink L.told L.patience L.opened_with L.faults L.made L.openings
+            0 link.old link.new }
     {
         self.begin(told);
         self.publisher.pass_all(told, &mut self.tree, link)
@@ -112,7 +113,8 @@ impl Round {
           subscriber = self.new.subscriber;
           receiving = self.new.receiving;
         } }
-        ensures link { KeepsLink L.opened_with L.faults L.made L.openings link.old link.new }
+        ensures link { KeepsLink L.told L.patience L.opened_with L.faults L.made L.openings
+            1 link.old link.new }
     {
         let pumped = self.receiving.pump(
             config,

@@ -48,3 +48,10 @@ FitsBuffer (received.Datagram n) into = n ≤ length into
 FitsBuffer (received.Long n) into = length into < n
 FitsBuffer received.Nothing into = Unit {0}
 FitsBuffer received.Failed into = Unit {0}
+
+-- how often an answer is Nothing
+abbrev pub nothings_in : Received → ℕ
+nothings_in (received.Datagram n) = 0
+nothings_in received.Nothing = 1
+nothings_in (received.Long n) = 0
+nothings_in received.Failed = 0

@@ -1,5 +1,5 @@
 //! Laws of journals and of links, each the contract of a function that does nothing.
-ghost use Rattle.std.specs.Prelude.{◌++◌, List, Contains};
+ghost use Rattle.std.specs.Prelude.{◌++◌, ◌+◌, ℕ, List, Contains};
 ghost use Rattle.std.specs.List.{All};
 ghost use Rattle.ua_base.specs.Journal.{Entry, IsHonest, sent_list, received_list};
 ghost use Rattle.ua_base.specs.Links.{KeepsLink};
@@ -19,8 +19,9 @@ pub fn an_honest_journal_begins_honestly()
 
 /// What each of two calls in a row keeps of a link, both keep.
 pub fn calls_in_a_row_keep_a_link<L: Link>()
-    ensures { (first next last : L)
-        → KeepsLink L.opened_with L.faults L.made L.openings first next
-        → KeepsLink L.opened_with L.faults L.made L.openings next last
-        → KeepsLink L.opened_with L.faults L.made L.openings first last }
+    ensures { (first next last : L) (one other : ℕ)
+        → KeepsLink L.told L.patience L.opened_with L.faults L.made L.openings one first next
+        → KeepsLink L.told L.patience L.opened_with L.faults L.made L.openings other next last
+        → KeepsLink L.told L.patience L.opened_with L.faults L.made L.openings
+        (one + other) first last }
 {}

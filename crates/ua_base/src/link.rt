@@ -3,8 +3,8 @@ ghost use Rattle.std.specs.Prelude.{◌≡◌, ◌≢◌, ◌<◌, ◌^◌, ℕ,
 ghost use Rattle.ua_base.specs.Cause.{HasCause, Rose, counted_if};
 ghost use Rattle.ua_base.specs.Fates.{AreFates};
 ghost use Rattle.ua_base.specs.Journal.{LinkState, Tells};
-ghost use Rattle.ua_base.specs.Links.{Making, Opening, KeepsLink};
-ghost use Rattle.ua_base.specs.Net.{Opens, is_done, Sends, Queues, Receives, FitsBuffer};
+ghost use Rattle.ua_base.specs.Links.{Making, Opening, TellsOn, KeepsLink};
+ghost use Rattle.ua_base.specs.Net.{Opens, is_done, Sends, Queues, Receives, FitsBuffer, nothings_in};
 
 /// What happens to a datagram on its way. `after` is the number of a later datagram.
 #[derive(Clone, Copy, Debug, PartialEq, Eq)]
@@ -62,6 +62,9 @@ pub trait Link {
     /// The journal and what waits, where they are told.
     ghost told: { Self → Option LinkState };
 
+    /// How many answers `Nothing` more it tells for sure, while it tells.
+    ghost patience: { Self → ℕ };
+
     /// How often the link has failed.
     ghost faults: { Self → ℕ };
 
@@ -84,6 +87,7 @@ pub trait Link {
         ensures refused { result ≢ Opened.Done
             → (told self.new ≡ told self.old) × (opened_with self.new ≡ opened_with self.old) }
         ensures cause { HasCause (faults self.old) (faults self.new) (result ≡ Opened.Failed) }
+        ensures lasts { TellsOn told patience 0 self.old self.new }
         ensures making { made self.new ≡ made self.old }
         ensures counted { openings self.new ≡ counted_if (is_done result) (openings self.old) };
 
@@ -93,7 +97,8 @@ pub trait Link {
         requires short { length datagram.now < 2 ^ 32 }
         ensures entry { Tells (told self.old) (told self.new) (Sends datagram.now result) }
         ensures waiting { Tells (told self.old) (told self.new) (Queues result) }
-        ensures link { KeepsLink opened_with faults made openings self.old self.new }
+        ensures link { KeepsLink told patience opened_with faults made openings
+            0 self.old self.new }
         ensures only_where_taken { result ≡ Sent.Memory → IsTrue takes_memory }
         ensures cause { result ≡ Sent.Failed → Rose (faults self.old) (faults self.new) };
 
@@ -102,6 +107,7 @@ pub trait Link {
         requires { IsSome (opened_with self.old) }
         ensures entry { Tells (told self.old) (told self.new) (Receives result into.new) }
         ensures sizes { FitsBuffer result into.new }
-        ensures link { KeepsLink opened_with faults made openings self.old self.new }
+        ensures link { KeepsLink told patience opened_with faults made openings
+            (nothings_in result) self.old self.new }
         ensures cause { result ≡ Received.Failed → Rose (faults self.old) (faults self.new) };
 }

@@ -45,11 +45,11 @@ pub fn top<R: Threads + Wait + Sync, F: Folder, A: Link, B: Link, G: Gate, K: Si
     ensures ends { (shape : Shape) → shape_of words.now ≡ Some shape
         → EndsAs (λ status. Does shape status
         (world_of (outside_of F.tells F.faults K.written K.faults folder.old out.old)
-        (wire_of A.told A.faults A.opened_with A.made A.openings lab.old)
-        (wire_of B.told B.faults B.opened_with B.made B.openings wire.old))
+        (wire_of A.told A.patience A.faults A.opened_with A.made A.openings lab.old)
+        (wire_of B.told B.patience B.faults B.opened_with B.made B.openings wire.old))
         (world_of (outside_of F.tells F.faults K.written K.faults folder.new out.new)
-        (wire_of A.told A.faults A.opened_with A.made A.openings lab.new)
-        (wire_of B.told B.faults B.opened_with B.made B.openings wire.new)))
+        (wire_of A.told A.patience A.faults A.opened_with A.made A.openings lab.new)
+        (wire_of B.told B.patience B.faults B.opened_with B.made B.openings wire.new)))
         result (E.written err.old) (E.written err.new) (E.faults err.old) (E.faults err.new) }
 
     // Each data message stands for one whole version, and each reader holds the one that its messages name: of the history that
@@ -59,13 +59,13 @@ pub fn top<R: Threads + Wait + Sync, F: Folder, A: Link, B: Link, G: Gate, K: Si
         → WritesPlay script config
         (outside_of F.tells F.faults K.written K.faults folder.old out.old)
         (outside_of F.tells F.faults K.written K.faults folder.new out.new)
-        (wire_of A.told A.faults A.opened_with A.made A.openings lab.new) }
+        (wire_of A.told A.patience A.faults A.opened_with A.made A.openings lab.new) }
     ensures ran { (script : List ℕ) (config : Option (List ℕ))
         → shape_of words.now ≡ Some (Run script config) → result ≡ 0
         → WritesRun script config
         (outside_of F.tells F.faults K.written K.faults folder.old out.old)
         (outside_of F.tells F.faults K.written K.faults folder.new out.new)
-        (wire_of B.told B.faults B.opened_with B.made B.openings wire.new) }
+        (wire_of B.told B.patience B.faults B.opened_with B.made B.openings wire.new) }
 
     // Each data frame of a gateway has the number of its source's stores, and the row of that store, whose version is told; and
     // each reader holds the row of the store and version that are printed, which don't fall.
@@ -74,8 +74,8 @@ pub fn top<R: Threads + Wait + Sync, F: Folder, A: Link, B: Link, G: Gate, K: Si
         → WritesRelay (names_of script first second)
         (outside_of F.tells F.faults K.written K.faults folder.old out.old)
         (outside_of F.tells F.faults K.written K.faults folder.new out.new)
-        (wire_of A.told A.faults A.opened_with A.made A.openings lab.new)
-        (wire_of B.told B.faults B.opened_with B.made B.openings wire.new) }
+        (wire_of A.told A.patience A.faults A.opened_with A.made A.openings lab.new)
+        (wire_of B.told B.patience B.faults B.opened_with B.made B.openings wire.new) }
 
     // Other words.
     ensures usage { shape_of words.now ≡ None
@@ -119,11 +119,11 @@ fn act<'w, R: Threads + Wait + Sync, F: Folder, A: Link, B: Link, G: Gate, K: Si
     requires bounded { IsBounded command.now }
     ensures does { Does (shape_by command.now) result
         (world_of (outside_of F.tells F.faults K.written K.faults folder.old out.old)
-        (wire_of A.told A.faults A.opened_with A.made A.openings lab.old)
-        (wire_of B.told B.faults B.opened_with B.made B.openings wire.old))
+        (wire_of A.told A.patience A.faults A.opened_with A.made A.openings lab.old)
+        (wire_of B.told B.patience B.faults B.opened_with B.made B.openings wire.old))
         (world_of (outside_of F.tells F.faults K.written K.faults folder.new out.new)
-        (wire_of A.told A.faults A.opened_with A.made A.openings lab.new)
-        (wire_of B.told B.faults B.opened_with B.made B.openings wire.new)) }
+        (wire_of A.told A.patience A.faults A.opened_with A.made A.openings lab.new)
+        (wire_of B.told B.patience B.faults B.opened_with B.made B.openings wire.new)) }
     ensures folder { uses_folder (shape_by command.now) ≡ false → folder.new ≡ folder.old }
     ensures lab { uses_lab (shape_by command.now) ≡ false → lab.new ≡ lab.old }
     ensures wire { uses_wire (shape_by command.now) ≡ false → wire.new ≡ wire.old }

@@ -1,3 +1,4 @@
+pub mod Lines
 pub mod LooseValues
 pub mod SlotValues
 pub mod Telling

@@ -1,5 +1,5 @@
 //! Handles.
-ghost use Rattle.std.specs.Prelude.{◌≡◌, ◌≢◌, [], ◌∷◌, IfSome, IfNone};
+ghost use Rattle.std.specs.Prelude.{◌≡◌, ◌≢◌, [], ◌∷◌, IfSome, IfNone, None};
 ghost use Rattle.uapubsub_c.specs.Handles.{Holds, IsOneOf, IsReady, IsSound};
 
 use crate::kept::Kept;
@@ -18,6 +18,18 @@ pub struct Handle {
 }
 
 impl Handle {
+    /// The handle of zeros, as one begins in C (`UAP_CLOSED_HANDLE`): it is closed, and each call may be made with it.
+    pub fn zeros() -> Handle
+        ensures ready { IsReady result }
+        ensures closed { result.is_open ≡ 0 }
+        ensures nothing { result.slot.held ≡ None }
+    {
+        Handle {
+            is_open: 0,
+            slot: Slot::none(),
+        }
+    }
+
     /// Takes what is held out of the handle, which is closed from then on. None where it is closed, and then nothing changes.
     pub fn take(&mut self, alloc: Global) -> Option<Box<Kept>>
         requires { IsReady self.old }

@@ -1,5 +1,6 @@
 //! Bytes for C.
-ghost use Rattle.std.specs.Prelude.{◌≡◌, ◌≤◌, ◌++◌, drop, length};
+ghost use Rattle.std.specs.Prelude.{◌≡◌, ◌≤◌, ◌++◌, drop, length, take};
+ghost use Rattle.uapubsub_c.specs.Lines.{IsFrontLaid};
 
 /// Lays the bytes at the front of the buffer, and tells how many there are.
 pub fn lay(bytes: &[u8], buffer: &mut [u8]) -> usize
@@ -9,4 +10,26 @@ pub fn lay(bytes: &[u8], buffer: &mut [u8]) -> usize
 {
     buffer[..bytes.len()].copy_from_slice(bytes);
     bytes.len()
+}
+
+/// Lays the bytes at the front of the buffer, as far as there is room, and tells how many of them.
+pub fn lay_front(bytes: &[u8], buffer: &mut [u8]) -> usize
+    ensures laid { IsFrontLaid bytes.now buffer.old buffer.new result }
+    ensures room { result ≤ length buffer.old }
+{
+    let front = front_of(bytes, buffer.len());
+    lay(front, buffer)
+}
+
+/// The front of the bytes: so many of them, or all where there aren't more.
+#[tactic(auto, using(crate::proofs::Lines::all_bytes))]
+fn front_of(bytes: &[u8], most: usize) -> &[u8]
+    ensures front { result.now ≡ take most bytes.now }
+    ensures most { length result.now ≤ most }
+{
+    if bytes.len() <= most {
+        bytes
+    } else {
+        &bytes[..most]
+    }
 }

@@ -73,6 +73,7 @@ pub extern "C" fn uapubsub_field_index(
     ensures none { result ≡ INDEX
         → Tells handle.old (λ kept. HasNoFieldNamed (config_in kept) set name.now) }
     ensures bad_text { result ≡ BAD_TEXT → ¬ IsUtf8 name.now }
+    ensures opened { result ≡ BAD_TEXT → handle.old.is_open ≢ 0 }
     ensures untold { result ≢ OK → index.new ≡ index.old }
     ensures closed { result ≡ CLOSED → handle.old.is_open ≡ 0 }
     ensures shut { result ≡ CLOSED → handle.new ≡ handle.old }

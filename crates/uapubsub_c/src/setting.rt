@@ -99,6 +99,7 @@ pub extern "C" fn uapubsub_set_text(
     ensures other_side { result ≡ OTHER_SIDE → Tells handle.old IsSubscriberSide }
     ensures unset { result ≢ OK → StaysUnset handle.old handle.new }
     ensures bad_text { result ≡ BAD_TEXT → IsErr (text_of text.now) }
+    ensures unread { result ≡ BAD_TEXT → handle.new ≡ handle.old }
     ensures closed { result ≡ CLOSED → handle.old.is_open ≡ 0 }
     ensures shut { result ≡ CLOSED → handle.new ≡ handle.old }
 {
@@ -128,6 +129,7 @@ pub extern "C" fn uapubsub_set_bytes(
     ensures other_side { result ≡ OTHER_SIDE → Tells handle.old IsSubscriberSide }
     ensures unset { result ≢ OK → StaysUnset handle.old handle.new }
     ensures bad_text { result ≡ BAD_TEXT → IsErr (blob_of bytes.now) }
+    ensures unread { result ≡ BAD_TEXT → handle.new ≡ handle.old }
     ensures closed { result ≡ CLOSED → handle.old.is_open ≡ 0 }
     ensures shut { result ≡ CLOSED → handle.new ≡ handle.old }
 {

@@ -3,8 +3,8 @@ ghost use Rattle.std.specs.Prelude.{◌≡◌, ◌≢◌, ◌<◌, ◌≤◌, �
 ghost use Rattle.ua_base.specs.Cause.{HasCause, Rose, counted_if};
 ghost use Rattle.ua_base.specs.Fates.{AreFates};
 ghost use Rattle.ua_base.specs.Journal.{Tells};
-ghost use Rattle.ua_base.specs.Links.{KeepsLink};
-ghost use Rattle.ua_base.specs.Net.{Opens, is_done, Sends, Queues, Receives, FitsBuffer};
+ghost use Rattle.ua_base.specs.Links.{KeepsLink, TellsOn};
+ghost use Rattle.ua_base.specs.Net.{Opens, is_done, Sends, Queues, Receives, FitsBuffer, nothings_in};
 
 use crate::traffic::Traffic;
 use std::alloc::{AllocError, Global};
@@ -171,11 +171,13 @@ fn memory(alloc: Global, fates: &[(u64, Fate)]) -> Result<(Vec<(u64, Fate)>, Buf
 }
 
 impl<R: Net> Link for UdpLink<'_, R> {
-    ghost use Rattle.udp_edge.specs.UdpLinks.{told_by, opened_by, faults_of, made_by, openings_of};
+    ghost use Rattle.udp_edge.specs.UdpLinks.{told_by, patience_of, opened_by, faults_of, made_by, openings_of};
 
     ghost takes_memory = { false };
 
     ghost told = { λ l. told_by l };
+
+    ghost patience = { λ l. patience_of l };
 
     ghost faults = { λ l. faults_of l };
 
@@ -197,6 +199,7 @@ impl<R: Net> Link for UdpLink<'_, R> {
             → (told_by self.new ≡ told_by self.old) × (opened_by self.new ≡ opened_by self.old) }
         ensures cause { HasCause
             (faults_of self.old) (faults_of self.new) (result ≡ Opened.Failed) }
+        ensures lasts { TellsOn told_by patience_of 0 self.old self.new }
         ensures making { made_by self.new ≡ made_by self.old }
         ensures counted { openings_of self.new ≡ counted_if (is_done result) (openings_of self.old) }
 
@@ -231,7 +234,8 @@ impl<R: Net> Link for UdpLink<'_, R> {
 
         ensures entry { Tells (told_by self.old) (told_by self.new) (Sends datagram.now result) }
         ensures waiting { Tells (told_by self.old) (told_by self.new) (Queues result) }
-        ensures link { KeepsLink opened_by faults_of made_by openings_of self.old self.new }
+        ensures link { KeepsLink told_by patience_of opened_by faults_of made_by openings_of
+            0 self.old self.new }
         ensures only_where_taken { result ≡ Sent.Memory → IsTrue false }
         ensures cause { result ≡ Sent.Failed → Rose (faults_of self.old) (faults_of self.new) }
 
@@ -260,7 +264,8 @@ impl<R: Net> Link for UdpLink<'_, R> {
 
         ensures entry { Tells (told_by self.old) (told_by self.new) (Receives result into.new) }
         ensures sizes { FitsBuffer result into.new }
-        ensures link { KeepsLink opened_by faults_of made_by openings_of self.old self.new }
+        ensures link { KeepsLink told_by patience_of opened_by faults_of made_by openings_of
+            (nothings_in result) self.old self.new }
         ensures cause { result ≡ Received.Failed → Rose (faults_of self.old) (faults_of self.new) }
 
         ensures failed { result ≡ Received.Failed

@@ -1,4 +1,7 @@
 use Rattle.std.proofs.Common.{refl}
+use Rattle.script_player.specs.Plays.{opening_of}
+use Rattle.script_player.proofs.Openings.{as-failed, for-memory, performed-opened, performs-as}
+use Rattle.cmd_json.specs.declared.playing.Written.{Written}
 use Rattle.cmd_json.proofs.Jsoned.{is-json}
 use Rattle.cmd_json.proofs.command.written.Goals as goal
 
@@ -11,7 +14,19 @@ returns-clause-text g c =
       own = c.lines_have_their_writers_frames.ensures;
     })
 
-pub returns-in_err-text_of_lines-clause-once : goal.returns-in_err-text_of_lines-clause-once
-returns-in_err-text_of_lines-clause-once g c =
-    let once = c.in_ok-written.ensures.once in
-    record { making = once.making; at_most_once = once.at_most_once; once = λ is. once.once refl }
+pub returns-in_err-written-clause-over : goal.returns-in_err-written-clause-over
+returns-in_err-written-clause-over g c =
+    let same = as-failed {U = Written} c.from_residual-in_err-written.result c.in_err-written.field-0.0 c.from_residual-in_err-written.ensures.1 in
+    performs-as g.A.Link.told g.A.Link.patience g.A.Link.opened_with g.A.Link.faults g.A.Link.made g.A.Link.openings (opening_of c.args.accepted.now.config c.args.accepted.now.script) _ _ _ _ _ _
+    same.0 same.1 c.in_err-written.ensures.over
+
+pub returns-in_err-text_of_lines-clause-over : goal.returns-in_err-text_of_lines-clause-over
+returns-in_err-text_of_lines-clause-over g c =
+    let none = for-memory c.from_residual-in_err-text_of_lines.result c.from_residual-in_err-text_of_lines.ensures.1 in
+    performs-as g.A.Link.told g.A.Link.patience g.A.Link.opened_with g.A.Link.faults g.A.Link.made g.A.Link.openings (opening_of c.args.accepted.now.config c.args.accepted.now.script) _ _ _ _ _ _
+    (λ is. refl) (λ is. absurd (none.1 is)) c.in_ok-written.ensures.over
+
+pub returns-clause-over : goal.returns-clause-over
+returns-clause-over g c =
+    performs-as g.A.Link.told g.A.Link.patience g.A.Link.opened_with g.A.Link.faults g.A.Link.made g.A.Link.openings (opening_of c.args.accepted.now.config c.args.accepted.now.script) _ _ _ _ _ _
+    (λ is. refl) (λ is. absurd (performed-opened is)) c.in_ok-written.ensures.over

@@ -1,9 +1,12 @@
-use Rattle.std.proofs.Common.{List, sym, subst}
+use Rattle.std.proofs.Common.{List, refl, sym, ◌∙◌, subst, arith}
+use Rattle.std.proofs.lemmas.Bool.{false≢true}
+use Rattle.ua_base.specs.declared.link.Opened.TheVariants.{Failed, Memory}
 use Rattle.lane_groups.specs.declared.turn.TurnIn.{TurnIn}
 use Rattle.lane_groups.specs.Deeds.{turns_deeds}
 use Rattle.cmd_lanes.specs.Courses.{AreTurnsOf}
 use Rattle.cmd_lanes.proofs.Played.{have-groups, is-lanes, opened-new, stand-all}
-use Rattle.script_player.proofs.Openings.{opens-once}
+use Rattle.script_player.specs.Plays.{opening_of}
+use Rattle.script_player.proofs.Openings.{for-memory, opened-as, performed-opened, performs-opened, performs-refused, performs-unused}
 use Rattle.cmd_lanes.proofs.playing.play_lanes.Goals as goal
 
 pub lanes_text-requires-clause-lanes : goal.lanes_text-requires-clause-lanes
@@ -24,15 +27,53 @@ returns-clause-text g c =
     (c.in_ok-lanes_text.ensures.numbers (turns_deeds config turns)
     (stand-all config turns c.len.result c.in_ok-lanes.lanes.items c.in_ok-ran.ran.lanes.items c.in_ok-lanes.ensures c.in_ok-ran.ensures.behind))
 
--- the link was opened once, and no call behind that opened it again
-pub returns-in_err-ran-clause-once : goal.returns-in_err-ran-clause-once
-returns-in_err-ran-clause-once g c = opens-once g.L.Link.opened_with g.L.Link.faults g.L.Link.made g.L.Link.openings _ _ _ _ c.in-Done.ensures.making c.in-Done.ensures.counted
-    c.run_lanes.ensures.link
+-- the link wasn't used
+pub returns-in_err-turns-clause-over : goal.returns-in_err-turns-clause-over
+returns-in_err-turns-clause-over g c =
+    performs-unused g.L.Link.told g.L.Link.patience g.L.Link.opened_with g.L.Link.faults g.L.Link.made g.L.Link.openings (opening_of c.args.config.now c.args.script.now) _ _ c.args.link.now
+    (for-memory c.from_residual-in_err-turns.result c.from_residual-in_err-turns.ensures.1)
 
-pub returns-in_err-lanes_text-clause-once : goal.returns-in_err-lanes_text-clause-once
-returns-in_err-lanes_text-clause-once g c = opens-once g.L.Link.opened_with g.L.Link.faults g.L.Link.made g.L.Link.openings _ _ _ _ c.in-Done.ensures.making c.in-Done.ensures.counted
-    c.run_lanes.ensures.link
+pub returns-in_err-lanes-clause-over : goal.returns-in_err-lanes-clause-over
+returns-in_err-lanes-clause-over g c =
+    performs-unused g.L.Link.told g.L.Link.patience g.L.Link.opened_with g.L.Link.faults g.L.Link.made g.L.Link.openings (opening_of c.args.config.now c.args.script.now) _ _ c.args.link.now
+    (for-memory c.from_residual-in_err-lanes.result c.from_residual-in_err-lanes.ensures.1)
 
-pub returns-clause-once : goal.returns-clause-once
-returns-clause-once g c = opens-once g.L.Link.opened_with g.L.Link.faults g.L.Link.made g.L.Link.openings _ _ _ _ c.in-Done.ensures.making c.in-Done.ensures.counted
-    c.run_lanes.ensures.link
+pub returns-in_err-fates-clause-over : goal.returns-in_err-fates-clause-over
+returns-in_err-fates-clause-over g c =
+    performs-unused g.L.Link.told g.L.Link.patience g.L.Link.opened_with g.L.Link.faults g.L.Link.made g.L.Link.openings (opening_of c.args.config.now c.args.script.now) _ _ c.args.link.now
+    (for-memory c.from_residual-in_err-fates.result c.from_residual-in_err-fates.ensures.1)
+
+-- its opening was refused
+pub returns-in-Failed-clause-over : goal.returns-in-Failed-clause-over
+returns-in-Failed-clause-over g c =
+    let e = c.in-Failed.ensures in
+    performs-refused g.L.Link.told g.L.Link.patience g.L.Link.opened_with g.L.Link.faults g.L.Link.made g.L.Link.openings (opening_of c.args.config.now c.args.script.now) _ _ Failed c.args.link.now c.open.new.self
+    refl (λ is. false≢true is) e.refused e.cause.later (λ is. e.cause.rose refl) e.lasts e.making e.counted
+
+pub returns-in-Memory-clause-over : goal.returns-in-Memory-clause-over
+returns-in-Memory-clause-over g c =
+    let e = c.in-Memory.ensures in
+    performs-refused g.L.Link.told g.L.Link.patience g.L.Link.opened_with g.L.Link.faults g.L.Link.made g.L.Link.openings (opening_of c.args.config.now c.args.script.now) _ _ Memory c.args.link.now c.open.new.self
+    refl (λ is. false≢true is) e.refused e.cause.later (λ is. absurd cc) e.lasts e.making e.counted
+
+-- it was opened, and sends alone came behind that
+pub returns-in_err-ran-clause-over : goal.returns-in_err-ran-clause-over
+returns-in_err-ran-clause-over g c =
+    let e = c.in-Done.ensures in
+    performs-opened g.L.Link.told g.L.Link.patience g.L.Link.opened_with g.L.Link.faults g.L.Link.made g.L.Link.openings (opening_of c.args.config.now c.args.script.now) _ _ 0 c.args.link.now c.open.new.self c.run_lanes.new.link
+    (omega arith) (for-memory c.from_residual-in_err-ran.result c.from_residual-in_err-ran.ensures.1).1
+    (opened-as c.args.config.now c.args.script.now (g.L.Link.opened_with c.open.new.self) c.deref.result.now (c.deref.ensures.value ∙ c.in_ok-fates.ensures) (e.opening refl)) e.cause.later e.lasts e.making e.counted c.run_lanes.ensures.link
+
+pub returns-in_err-lanes_text-clause-over : goal.returns-in_err-lanes_text-clause-over
+returns-in_err-lanes_text-clause-over g c =
+    let e = c.in-Done.ensures in
+    performs-opened g.L.Link.told g.L.Link.patience g.L.Link.opened_with g.L.Link.faults g.L.Link.made g.L.Link.openings (opening_of c.args.config.now c.args.script.now) _ _ 0 c.args.link.now c.open.new.self c.run_lanes.new.link
+    (omega arith) (for-memory c.from_residual-in_err-lanes_text.result c.from_residual-in_err-lanes_text.ensures.1).1
+    (opened-as c.args.config.now c.args.script.now (g.L.Link.opened_with c.open.new.self) c.deref.result.now (c.deref.ensures.value ∙ c.in_ok-fates.ensures) (e.opening refl)) e.cause.later e.lasts e.making e.counted c.run_lanes.ensures.link
+
+pub returns-clause-over : goal.returns-clause-over
+returns-clause-over g c =
+    let e = c.in-Done.ensures in
+    performs-opened g.L.Link.told g.L.Link.patience g.L.Link.opened_with g.L.Link.faults g.L.Link.made g.L.Link.openings (opening_of c.args.config.now c.args.script.now) _ _ 0 c.args.link.now c.open.new.self c.run_lanes.new.link
+    (omega arith) (λ is. performed-opened is)
+    (opened-as c.args.config.now c.args.script.now (g.L.Link.opened_with c.open.new.self) c.deref.result.now (c.deref.ensures.value ∙ c.in_ok-fates.ensures) (e.opening refl)) e.cause.later e.lasts e.making e.counted c.run_lanes.ensures.link

@@ -14,6 +14,7 @@ returns-in-Ok-relayed_text-clause-ends g c =
     e.lab_opens e.wire_opens
     (record { making = e.lab_once.making; at_most_once = e.lab_once.at_most_once; once = λ is. e.lab_once.once refl })
     (record { making = e.wire_once.making; at_most_once = e.wire_once.at_most_once; once = λ is. e.wire_once.once refl })
+    (record { tells = e.lab_lasts.tells; left = e.lab_lasts.left }) (record { tells = e.wire_lasts.tells; left = e.wire_lasts.left })
     e.lab_counts e.wire_counts written c.write_text.ensures.cause (c.in-Ok.ensures.folder.files, c.in-Ok.ensures.folder.counted)
 
 pub returns-in-Ok-relayed_text-clause-unlinked : goal.returns-in-Ok-relayed_text-clause-unlinked
@@ -33,6 +34,7 @@ returns-clause-ends g c =
     ends_so _ _ _ _ _ _ _ c.in-Ok.accepted c.in-Ok.ensures.accepts c.status_of.result c.in-Err-relayed_text.end c.status_of.ensures e.lab_opens e.wire_opens (λ is. e.unopened (ap Err is))
     (record { making = e.lab_once.making; at_most_once = e.lab_once.at_most_once; once = λ is. absurd is })
     (record { making = e.wire_once.making; at_most_once = e.wire_once.at_most_once; once = λ is. absurd is })
+    (record { tells = e.lab_lasts.tells; left = e.lab_lasts.left }) (record { tells = e.wire_lasts.tells; left = e.wire_lasts.left })
     e.lab_counts e.wire_counts (c.in-Ok.ensures.folder.files, c.in-Ok.ensures.folder.counted) refl
 
 pub returns-in-Ok-relayed_text-clause-relayed : goal.returns-in-Ok-relayed_text-clause-relayed

@@ -1,15 +1,14 @@
 use Rattle.std.proofs.Common.{List, ℕ, Err, refl, ap, subst}
 use Rattle.commands.specs.Outputs.{EndsWriting}
 use Rattle.commands.proofs.Ended.{written_late}
-use Rattle.commands.proofs.Ends.{ends_as, ends_unaccepted, ends_unplayed, ends_written}
+use Rattle.commands.proofs.Ends.{ends_as, ends_unplayed, ends_written, over-wire}
 use Rattle.cmd_run.proofs.command.run.Goals as goal
 
 pub returns-in-Ok-ran-clause-ends : goal.returns-in-Ok-ran-clause-ends
 returns-in-Ok-ran-clause-ends g c =
     let written = subst (λ (text : List ℕ). EndsWriting (g.K.Sink.written c.args.out.now) (g.K.Sink.written c.write_text.new.out) text c.write_text.result) c.deref.ensures.value c.write_text.ensures.written in
-    ends_written _ _ _ _ _ _ _ _ _ _ _ _ c.in-Ok-ran.text.items c.in-Ok.ensures.accepts refl c.in-Ok-ran.ensures.report c.in-Ok-ran.ensures.opened c.in-Ok-ran.ensures.faults
-    c.in-Ok-ran.ensures.once.making (c.in-Ok-ran.ensures.once.once refl)
-    written c.write_text.ensures.cause (c.in-Ok.ensures.folder.files, c.in-Ok.ensures.folder.counted)
+    ends_written _ _ _ _ _ _ _ _ _ _ _ _ c.in-Ok-ran.text.items c.in-Ok.ensures.accepts refl c.in-Ok-ran.ensures.report
+    (over-wire g.B.Link.told g.B.Link.patience g.B.Link.opened_with g.B.Link.faults g.B.Link.made g.B.Link.openings _ _ _ _ _ c.in-Ok-ran.ensures.over) refl written c.write_text.ensures.cause (c.in-Ok.ensures.folder.files, c.in-Ok.ensures.folder.counted)
 
 pub returns-in-Ok-ran-clause-unlinked : goal.returns-in-Ok-ran-clause-unlinked
 returns-in-Ok-ran-clause-unlinked g c = λ is. absurd ((written_late _ _ _ _ c.write_text.ensures.written).behind_link is)
@@ -21,5 +20,5 @@ pub returns-clause-ends : goal.returns-clause-ends
 returns-clause-ends g c =
     let failed = c.in-Err-ran.ensures in
     ends_as _ _ _ _ _ _ _ _ _ _ _ c.status_of.ensures
-    (ends_unplayed _ _ _ c.in-Err-ran.end _ _ _ _ _ _ _ _ c.in-Ok.ensures.accepts refl failed.opens (λ is. failed.unused (ap Err is)) (λ is. failed.unopened (ap Err is)) failed.faults
-    failed.once.making failed.once.at_most_once (c.in-Ok.ensures.folder.files, c.in-Ok.ensures.folder.counted) refl)
+    (ends_unplayed _ _ _ c.in-Err-ran.end _ _ _ _ _ _ _ _ c.in-Ok.ensures.accepts refl (over-wire g.B.Link.told g.B.Link.patience g.B.Link.opened_with g.B.Link.faults g.B.Link.made g.B.Link.openings _ _ _ _ _ failed.over) (λ is. ap Err is)
+    (c.in-Ok.ensures.folder.files, c.in-Ok.ensures.folder.counted) refl)

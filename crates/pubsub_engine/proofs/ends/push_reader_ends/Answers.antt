@@ -4,7 +4,7 @@ use Rattle.reader_group.specs.Settings.{group_at as read_group_at}
 use Rattle.session_model.specs.Closing.{MemberPlace}
 use Rattle.session_parts.proofs.TellingReaders.{few-readers}
 use Rattle.pubsub_engine.specs.LifeEnds.{IsToldBy, reader_in}
-use Rattle.pubsub_engine.specs.Logs.{log_after}
+use Rattle.pubsub_engine.specs.Logs.{log_after, logs_told}
 use Rattle.pubsub_engine.specs.Storing.{first_reader}
 use Rattle.pubsub_engine.proofs.ByPlace.{reader-behind}
 use Rattle.pubsub_engine.proofs.EndParts.{reader-told}
@@ -36,8 +36,8 @@ loop-i-preserved c =
     record {
       behind = omega (arith, ap length c.in_ok-push.ensures.items, length_push c.loop-i.ends.items end, c.loop-i.invariant.behind);
       told = λ most p steps a places published have pairs.
-          pairs-more (IsToldBy (log_after most p.config a.deeds) p steps a) places place i c.loop-i.ends.items c.push.new.self.items end c.in_ok-push.ensures.items
-          (reader-told config most p steps a c.args.tree.now c.args.publisher.now subscriber r i group c.reader.result.now c.log_read-log.result.now end
+          pairs-more (IsToldBy (logs_told c.args.versions (log_after most p.config a.deeds)) p steps a) places place i c.loop-i.ends.items c.push.new.self.items end c.in_ok-push.ensures.items
+          (reader-told c.args.versions config most p steps a c.args.tree.now c.args.publisher.now subscriber r i group c.reader.result.now c.log_read-log.result.now end
           c.requires.readers published have c.requires.within within at c.reader.ensures.kept c.reader.ensures.passed c.reader.ensures.made read
           (c.reader_end.ensures.state ∙ c.state_of-state.ensures) c.reader_end.ensures.shows c.reader_end.ensures.version)
           (c.loop-i.invariant.told most p steps a places published have pairs);

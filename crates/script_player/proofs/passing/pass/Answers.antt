@@ -1,4 +1,5 @@
-use Rattle.std.proofs.Common.{refl, ◌∙◌, arith}
+use Rattle.std.proofs.Common.{refl, arith}
+use Rattle.ua_base.proofs.Links.{KeepsLink-then, KeepsLink-more}
 use Rattle.script_player.proofs.Turning.{AreTurns, bank-passes, passes-on, pump-may, targets-ticked, tick-may}
 use Rattle.script_player.proofs.passing.pass.Goals as goal
 
@@ -47,10 +48,9 @@ returns g c =
       targets = u.targets;
       passes = passes-on c.args.ms c.args.closing old sampled ticked new told between after turns;
       memory = tt;
-      link = record {
-        opening = u.link.opening ∙ t.link.opening;
-        counted = omega (arith, u.link.counted, t.link.counted);
-        making = u.link.making ∙ t.link.making;
-        opened = u.link.opened ∙ t.link.opened;
-      };
+      link = KeepsLink-then g.L.Link.told g.L.Link.patience g.L.Link.opened_with g.L.Link.faults g.L.Link.made g.L.Link.openings 0 1 c.args.link.now c.tick.new.link c.pump.new.link t.link u.link;
     }
+
+pub returns-in-Memory-clause-link : goal.returns-in-Memory-clause-link
+returns-in-Memory-clause-link g c =
+    KeepsLink-more g.L.Link.told g.L.Link.patience g.L.Link.opened_with g.L.Link.faults g.L.Link.made g.L.Link.openings 0 1 c.args.link.now c.tick.new.link (omega arith) c.tick.ensures.link

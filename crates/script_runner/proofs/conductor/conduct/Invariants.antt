@@ -12,5 +12,5 @@ invariant-loop-line g l = record {
   targets : AreTargetsOf l.session l.targets;
   ticks : l.ticks ≡ ticks_in (take l.line-index l.script.lines);
   conducted : HasConducted (plan_of l.fn.session).config l.script (reverse (take l.line-index l.script.lines)) (g.L.Link.told l.link) l.session;
-  link : KeepsLink g.L.Link.opened_with g.L.Link.faults g.L.Link.made g.L.Link.openings l.fn.link l.link;
+  link : KeepsLink g.L.Link.told g.L.Link.patience g.L.Link.opened_with g.L.Link.faults g.L.Link.made g.L.Link.openings (ticks_in (take l.line-index l.script.lines)) l.fn.link l.link;
 }

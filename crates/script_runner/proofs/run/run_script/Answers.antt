@@ -1,18 +1,21 @@
-use Rattle.std.proofs.Common.{◌≡◌, ℕ, List, [], Some, refl, length, map, reverse, sym, ap, ◌∙◌, subst, arith}
+use Rattle.std.proofs.Common.{◌≡◌, ℕ, ◌+◌, List, [], Err, refl, length, map, reverse, sym, ap, ◌∙◌, subst, arith}
 use Rattle.std.specs.List.{range_with_len}
+use Rattle.std.proofs.lemmas.Bool.{false≢true}
 use Rattle.std.proofs.lemmas.List.{length-map}
 use Rattle.std.proofs.lemmas.List.FromFn.{length-range_with_len}
 use Rattle.dataset_meta.specs.Metas.{MetaData}
-use Rattle.ua_base.specs.declared.link.Fate.{Fate}
+use Rattle.ua_base.specs.declared.link.Opened.TheVariants.{Failed, Memory}
 use Rattle.app_threads.specs.Crews.{AreDone, AreReady}
 use Rattle.app_threads.specs.Duties.{Duty}
 use Rattle.ps_config.specs.declared.parts.Config.{Config}
+use Rattle.ps_report.specs.declared.closed.Closed.{Closed}
 use Rattle.ps_script.specs.declared.script.Script.{Script}
-use Rattle.ps_script.specs.Sessions.{writes_in}
+use Rattle.ps_script.specs.Sessions.{ticks_in, writes_in}
 use Rattle.session_model.specs.Steps.{Plan}
 use Rattle.session_model.specs.Keeping.{IsPlan}
 use Rattle.pubsub_engine.specs.Holding.{opening_left, plan_of}
-use Rattle.script_player.specs.Plays.{plan_by}
+use Rattle.script_player.specs.declared.play.PlayEnd.TheVariants as ends
+use Rattle.script_player.specs.Plays.{opening_of, plan_by}
 use Rattle.script_player.proofs.Newly.{opened-empty}
 use Rattle.script_player.proofs.Staying.{opened-script}
 use Rattle.script_runner.specs.Conducting.{HasConducted}
@@ -22,7 +25,8 @@ use Rattle.script_runner.proofs.Handing.{lists-short}
 use Rattle.script_runner.proofs.Opened.{IsOpened, are-cells, are-duties, are-own}
 use Rattle.script_runner.proofs.run.run_script.Given.{Over}
 use Rattle.ua_base.proofs.Links.{KeepsLink-then}
-use Rattle.script_player.proofs.Openings.{opens-once}
+use Rattle.script_player.proofs.Openings.{for-memory, opened-as, performed-opened, performs-opened, performs-refused, performs-unused}
+use Rattle.script_player.proofs.Ticks.{few-nothings}
 use Rattle.script_runner.proofs.run.run_script.Goals as goal
 
 pub open-requires-clause-sets : goal.open-requires-clause-sets
@@ -112,26 +116,64 @@ returns-clause-ran g c = (completed g c).ran c.histories_are_the_models.ensures.
 pub returns-clause-closed : goal.returns-clause-closed
 returns-clause-closed g c = (completed g c).closed_of
 
-pub returns-clause-opened : goal.returns-clause-opened
-returns-clause-opened g c =
-    c.finish.ensures.link.opening ∙ c.run_beside.ensures.link.opening ∙ c.in-Done.ensures.opening refl
-    ∙ ap (λ (fates : List (ℕ × Fate)). Some (record { port = c.args.config.now.publisher.port; fates = fates })) (c.deref.ensures.value ∙ c.in_ok-fates.ensures)
+-- memory ran out before the link was opened
+pub returns-in_err-session-clause-over : goal.returns-in_err-session-clause-over
+returns-in_err-session-clause-over g c =
+    performs-unused g.L.Link.told g.L.Link.patience g.L.Link.opened_with g.L.Link.faults g.L.Link.made g.L.Link.openings (opening_of c.args.config.now c.args.script.now) _ _ c.args.link.now (for-memory c.from_residual-in_err-session.result c.from_residual-in_err-session.ensures.1)
 
-pub returns-clause-opens : goal.returns-clause-opens
-returns-clause-opens g c =
-    λ other.
-    c.finish.ensures.link.opening ∙ c.run_beside.ensures.link.opening ∙ c.in-Done.ensures.opening refl
-    ∙ ap (λ (fates : List (ℕ × Fate)). Some (record { port = c.args.config.now.publisher.port; fates = fates })) (c.deref.ensures.value ∙ c.in_ok-fates.ensures)
+pub returns-in_err-lists-clause-over : goal.returns-in_err-lists-clause-over
+returns-in_err-lists-clause-over g c =
+    performs-unused g.L.Link.told g.L.Link.patience g.L.Link.opened_with g.L.Link.faults g.L.Link.made g.L.Link.openings (opening_of c.args.config.now c.args.script.now) _ _ c.args.link.now (for-memory c.from_residual-in_err-lists.result c.from_residual-in_err-lists.ensures.1)
 
--- the link was opened once, and no call behind that opened it again
-pub returns-in_err-dones-clause-once : goal.returns-in_err-dones-clause-once
-returns-in_err-dones-clause-once g c = opens-once g.L.Link.opened_with g.L.Link.faults g.L.Link.made g.L.Link.openings _ _ _ _ c.in-Done.ensures.making c.in-Done.ensures.counted
+pub returns-in_err-crew-clause-over : goal.returns-in_err-crew-clause-over
+returns-in_err-crew-clause-over g c =
+    performs-unused g.L.Link.told g.L.Link.patience g.L.Link.opened_with g.L.Link.faults g.L.Link.made g.L.Link.openings (opening_of c.args.config.now c.args.script.now) _ _ c.args.link.now (for-memory c.from_residual-in_err-crew.result c.from_residual-in_err-crew.ensures.1)
+
+pub returns-in_err-fates-clause-over : goal.returns-in_err-fates-clause-over
+returns-in_err-fates-clause-over g c =
+    performs-unused g.L.Link.told g.L.Link.patience g.L.Link.opened_with g.L.Link.faults g.L.Link.made g.L.Link.openings (opening_of c.args.config.now c.args.script.now) _ _ c.args.link.now (for-memory c.from_residual-in_err-fates.result c.from_residual-in_err-fates.ensures.1)
+
+-- its opening was refused
+pub returns-in-Failed-clause-over : goal.returns-in-Failed-clause-over
+returns-in-Failed-clause-over g c =
+    let e = c.in-Failed.ensures in
+    performs-refused g.L.Link.told g.L.Link.patience g.L.Link.opened_with g.L.Link.faults g.L.Link.made g.L.Link.openings (opening_of c.args.config.now c.args.script.now) _ _ Failed c.args.link.now c.open-2.new.self
+    refl (λ is. false≢true is) e.refused e.cause.later (λ is. e.cause.rose refl) e.lasts e.making e.counted
+
+pub returns-in-Memory-clause-over : goal.returns-in-Memory-clause-over
+returns-in-Memory-clause-over g c =
+    let e = c.in-Memory.ensures in
+    let none = for-memory {T = Closed} (Err ends.Memory) refl in
+    performs-refused g.L.Link.told g.L.Link.patience g.L.Link.opened_with g.L.Link.faults g.L.Link.made g.L.Link.openings (opening_of c.args.config.now c.args.script.now) _ _ Memory c.args.link.now c.open-2.new.self
+    refl none.0 e.refused e.cause.later (λ is. absurd (none.1 is)) e.lasts e.making e.counted
+
+-- it was opened, and each call behind that kept it
+pub returns-in_err-dones-clause-over : goal.returns-in_err-dones-clause-over
+returns-in_err-dones-clause-over g c =
+    let config : Config = c.args.config.now in
+    let script : Script = c.args.script.now in
+    let e = c.in-Done.ensures in
+    performs-opened g.L.Link.told g.L.Link.patience g.L.Link.opened_with g.L.Link.faults g.L.Link.made g.L.Link.openings (opening_of config script) _ _ (ticks_in script.lines) c.args.link.now c.open-2.new.self c.run_beside.new.link
+    (omega (arith, few-nothings config script c.requires.script)) (for-memory c.from_residual-in_err-dones.result c.from_residual-in_err-dones.ensures.1).1
+    (opened-as config script (g.L.Link.opened_with c.open-2.new.self) c.deref.result.now (c.deref.ensures.value ∙ c.in_ok-fates.ensures) (e.opening refl)) e.cause.later e.lasts e.making e.counted
     c.run_beside.ensures.link
 
-pub returns-in_err-finish-clause-once : goal.returns-in_err-finish-clause-once
-returns-in_err-finish-clause-once g c = opens-once g.L.Link.opened_with g.L.Link.faults g.L.Link.made g.L.Link.openings _ _ _ _ c.in-Done.ensures.making c.in-Done.ensures.counted
-    (KeepsLink-then g.L.Link.opened_with g.L.Link.faults g.L.Link.made g.L.Link.openings _ _ _ c.run_beside.ensures.link c.finish.ensures.link)
+pub returns-in_err-finish-clause-over : goal.returns-in_err-finish-clause-over
+returns-in_err-finish-clause-over g c =
+    let config : Config = c.args.config.now in
+    let script : Script = c.args.script.now in
+    let e = c.in-Done.ensures in
+    performs-opened g.L.Link.told g.L.Link.patience g.L.Link.opened_with g.L.Link.faults g.L.Link.made g.L.Link.openings (opening_of config script) _ _ (ticks_in script.lines + 1) c.args.link.now c.open-2.new.self c.finish.new.link
+    (few-nothings config script c.requires.script) (for-memory c.from_residual-in_err-finish.result c.from_residual-in_err-finish.ensures.1).1
+    (opened-as config script (g.L.Link.opened_with c.open-2.new.self) c.deref.result.now (c.deref.ensures.value ∙ c.in_ok-fates.ensures) (e.opening refl)) e.cause.later e.lasts e.making e.counted
+    (KeepsLink-then g.L.Link.told g.L.Link.patience g.L.Link.opened_with g.L.Link.faults g.L.Link.made g.L.Link.openings (ticks_in script.lines) 1 c.open-2.new.self c.run_beside.new.link c.finish.new.link c.run_beside.ensures.link c.finish.ensures.link)
 
-pub returns-clause-once : goal.returns-clause-once
-returns-clause-once g c = opens-once g.L.Link.opened_with g.L.Link.faults g.L.Link.made g.L.Link.openings _ _ _ _ c.in-Done.ensures.making c.in-Done.ensures.counted
-    (KeepsLink-then g.L.Link.opened_with g.L.Link.faults g.L.Link.made g.L.Link.openings _ _ _ c.run_beside.ensures.link c.finish.ensures.link)
+pub returns-clause-over : goal.returns-clause-over
+returns-clause-over g c =
+    let config : Config = c.args.config.now in
+    let script : Script = c.args.script.now in
+    let e = c.in-Done.ensures in
+    performs-opened g.L.Link.told g.L.Link.patience g.L.Link.opened_with g.L.Link.faults g.L.Link.made g.L.Link.openings (opening_of config script) _ _ (ticks_in script.lines + 1) c.args.link.now c.open-2.new.self c.finish.new.link
+    (few-nothings config script c.requires.script) (λ is. performed-opened is)
+    (opened-as config script (g.L.Link.opened_with c.open-2.new.self) c.deref.result.now (c.deref.ensures.value ∙ c.in_ok-fates.ensures) (e.opening refl)) e.cause.later e.lasts e.making e.counted
+    (KeepsLink-then g.L.Link.told g.L.Link.patience g.L.Link.opened_with g.L.Link.faults g.L.Link.made g.L.Link.openings (ticks_in script.lines) 1 c.open-2.new.self c.run_beside.new.link c.finish.new.link c.run_beside.ensures.link c.finish.ensures.link)

@@ -15,10 +15,10 @@ returns-clause-played g c = λ script config is zero.
     let status = c.act-status.result in
     let old = outside_of g.F.Folder.tells g.F.Folder.faults g.K.Sink.written g.K.Sink.faults c.args.folder.now c.args.out.now in
     let new = outside_of g.F.Folder.tells g.F.Folder.faults g.K.Sink.written g.K.Sink.faults c.act-status.new.folder c.act-status.new.out in
-    let lab = wire_of g.A.Link.told g.A.Link.faults g.A.Link.opened_with g.A.Link.made g.A.Link.openings c.args.lab.now in
-    let after = wire_of g.A.Link.told g.A.Link.faults g.A.Link.opened_with g.A.Link.made g.A.Link.openings c.act-status.new.lab in
-    let before = wire_of g.B.Link.told g.B.Link.faults g.B.Link.opened_with g.B.Link.made g.B.Link.openings c.args.wire.now in
-    let behind = wire_of g.B.Link.told g.B.Link.faults g.B.Link.opened_with g.B.Link.made g.B.Link.openings c.act-status.new.wire in
+    let lab = wire_of g.A.Link.told g.A.Link.patience g.A.Link.faults g.A.Link.opened_with g.A.Link.made g.A.Link.openings c.args.lab.now in
+    let after = wire_of g.A.Link.told g.A.Link.patience g.A.Link.faults g.A.Link.opened_with g.A.Link.made g.A.Link.openings c.act-status.new.lab in
+    let before = wire_of g.B.Link.told g.B.Link.patience g.B.Link.faults g.B.Link.opened_with g.B.Link.made g.B.Link.openings c.args.wire.now in
+    let behind = wire_of g.B.Link.told g.B.Link.patience g.B.Link.faults g.B.Link.opened_with g.B.Link.made g.B.Link.openings c.act-status.new.wire in
     let ends : PlayEnds status script config old new lab after =
     subst (λ (shape : Shape). Does shape status (world_of old lab before) (world_of new after behind))
     (one-shape c.args.words.now c.in-Some.command (Play script config) c.in-Some.ensures.shape is) c.act-status.ensures.does in
@@ -29,10 +29,10 @@ returns-clause-ran g c = λ script config is zero.
     let status = c.act-status.result in
     let old = outside_of g.F.Folder.tells g.F.Folder.faults g.K.Sink.written g.K.Sink.faults c.args.folder.now c.args.out.now in
     let new = outside_of g.F.Folder.tells g.F.Folder.faults g.K.Sink.written g.K.Sink.faults c.act-status.new.folder c.act-status.new.out in
-    let lab = wire_of g.A.Link.told g.A.Link.faults g.A.Link.opened_with g.A.Link.made g.A.Link.openings c.args.lab.now in
-    let after = wire_of g.A.Link.told g.A.Link.faults g.A.Link.opened_with g.A.Link.made g.A.Link.openings c.act-status.new.lab in
-    let before = wire_of g.B.Link.told g.B.Link.faults g.B.Link.opened_with g.B.Link.made g.B.Link.openings c.args.wire.now in
-    let behind = wire_of g.B.Link.told g.B.Link.faults g.B.Link.opened_with g.B.Link.made g.B.Link.openings c.act-status.new.wire in
+    let lab = wire_of g.A.Link.told g.A.Link.patience g.A.Link.faults g.A.Link.opened_with g.A.Link.made g.A.Link.openings c.args.lab.now in
+    let after = wire_of g.A.Link.told g.A.Link.patience g.A.Link.faults g.A.Link.opened_with g.A.Link.made g.A.Link.openings c.act-status.new.lab in
+    let before = wire_of g.B.Link.told g.B.Link.patience g.B.Link.faults g.B.Link.opened_with g.B.Link.made g.B.Link.openings c.args.wire.now in
+    let behind = wire_of g.B.Link.told g.B.Link.patience g.B.Link.faults g.B.Link.opened_with g.B.Link.made g.B.Link.openings c.act-status.new.wire in
     let ends : RunEnds status script config old new before behind =
     subst (λ (shape : Shape). Does shape status (world_of old lab before) (world_of new after behind))
     (one-shape c.args.words.now c.in-Some.command (Run script config) c.in-Some.ensures.shape is) c.act-status.ensures.does in
@@ -44,10 +44,10 @@ returns-clause-relayed g c = λ script first second is zero.
     let names = names_of script first second in
     let old = outside_of g.F.Folder.tells g.F.Folder.faults g.K.Sink.written g.K.Sink.faults c.args.folder.now c.args.out.now in
     let new = outside_of g.F.Folder.tells g.F.Folder.faults g.K.Sink.written g.K.Sink.faults c.act-status.new.folder c.act-status.new.out in
-    let lab = wire_of g.A.Link.told g.A.Link.faults g.A.Link.opened_with g.A.Link.made g.A.Link.openings c.args.lab.now in
-    let after = wire_of g.A.Link.told g.A.Link.faults g.A.Link.opened_with g.A.Link.made g.A.Link.openings c.act-status.new.lab in
-    let before = wire_of g.B.Link.told g.B.Link.faults g.B.Link.opened_with g.B.Link.made g.B.Link.openings c.args.wire.now in
-    let behind = wire_of g.B.Link.told g.B.Link.faults g.B.Link.opened_with g.B.Link.made g.B.Link.openings c.act-status.new.wire in
+    let lab = wire_of g.A.Link.told g.A.Link.patience g.A.Link.faults g.A.Link.opened_with g.A.Link.made g.A.Link.openings c.args.lab.now in
+    let after = wire_of g.A.Link.told g.A.Link.patience g.A.Link.faults g.A.Link.opened_with g.A.Link.made g.A.Link.openings c.act-status.new.lab in
+    let before = wire_of g.B.Link.told g.B.Link.patience g.B.Link.faults g.B.Link.opened_with g.B.Link.made g.B.Link.openings c.args.wire.now in
+    let behind = wire_of g.B.Link.told g.B.Link.patience g.B.Link.faults g.B.Link.opened_with g.B.Link.made g.B.Link.openings c.act-status.new.wire in
     let ends : RelayEnds status names old new lab after before behind =
     subst (λ (shape : Shape). Does shape status (world_of old lab before) (world_of new after behind))
     (one-shape c.args.words.now c.in-Some.command (Relay script first second) c.in-Some.ensures.shape is) c.act-status.ensures.does in

@@ -1,4 +1,6 @@
+use Rattle.std.proofs.Common.{arith}
 use Rattle.std.proofs.lemmas.Result.{on_ok_weaker}
+use Rattle.ua_base.proofs.Links.{KeepsLink-more, KeepsLink-refl}
 use Rattle.cmd_relay.proofs.Passed.{may-follow, passed-holds}
 use Rattle.cmd_relay.proofs.relaying.Relay.end.Goals as goal
 
@@ -15,3 +17,7 @@ returns-clause-relays g c =
       ends = c.in_ok-end.ensures.ends;
       behind = follows second (passed-holds second 0 _ c.args.self.now c.end.new.self _ _ holds c.in_ok-end.ensures.player c.in_ok-end.ensures.ends);
     }) c.follow.ensures.follows
+
+pub returns-in_err-end-clause-wire : goal.returns-in_err-end-clause-wire
+returns-in_err-end-clause-wire g c =
+    KeepsLink-more g.B.Link.told g.B.Link.patience g.B.Link.opened_with g.B.Link.faults g.B.Link.made g.B.Link.openings 0 1 c.args.wire.now c.args.wire.now (omega arith) (KeepsLink-refl g.B.Link.told g.B.Link.patience g.B.Link.opened_with g.B.Link.faults g.B.Link.made g.B.Link.openings c.args.wire.now)

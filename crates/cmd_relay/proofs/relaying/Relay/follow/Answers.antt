@@ -1,4 +1,5 @@
-use Rattle.std.proofs.Common.{◌∷◌, List, refl, sym, subst}
+use Rattle.std.proofs.Common.{◌∷◌, List, refl, sym, subst, arith}
+use Rattle.ua_base.proofs.Links.{KeepsLink-more, KeepsLink-then}
 use Rattle.target_cells.specs.declared.origin.Origin.{Origin}
 use Rattle.version_cell.specs.Known.{Known}
 use Rattle.gateway_core.specs.Lived.{Collect}
@@ -41,3 +42,11 @@ returns-clause-follows g c = λ second holds.
       kept_pumped = c.pump.ensures.collected;
       gateway = c.pump.ensures.gateway;
     }) count second
+
+pub returns-in-Memory-clause-link : goal.returns-in-Memory-clause-link
+returns-in-Memory-clause-link g c =
+    KeepsLink-more g.B.Link.told g.B.Link.patience g.B.Link.opened_with g.B.Link.faults g.B.Link.made g.B.Link.openings 0 1 c.args.wire.now c.tick.new.link (omega arith) c.tick.ensures.link
+
+pub returns-clause-link : goal.returns-clause-link
+returns-clause-link g c =
+    KeepsLink-then g.B.Link.told g.B.Link.patience g.B.Link.opened_with g.B.Link.faults g.B.Link.made g.B.Link.openings 0 1 c.args.wire.now c.tick.new.link c.pump.new.link c.tick.ensures.link c.pump.ensures.link

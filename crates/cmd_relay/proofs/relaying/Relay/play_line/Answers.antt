@@ -1,6 +1,7 @@
-use Rattle.std.proofs.Common.{ℕ, false, refl, sym, subst}
+use Rattle.std.proofs.Common.{◌≡◌, ℕ, false, refl, sym, ap, subst, arith}
 use Rattle.std.proofs.lemmas.Result.{on_ok_weaker}
-use Rattle.ua_base.proofs.Links.{KeepsLink-refl}
+use Rattle.ua_base.proofs.Links.{KeepsLink-more, KeepsLink-refl}
+use Rattle.script_player.specs.Passing.{nothings_by}
 use Rattle.cmd_relay.specs.Relaying.{Follows, MayFollow}
 use Rattle.cmd_relay.proofs.Passed.{behind-other, behind-tick, may-follow, passed-holds, tick-may, tick-passes}
 use Rattle.cmd_relay.proofs.relaying.Relay.play_line.Goals as goal
@@ -28,6 +29,15 @@ returns-in-Tick-clause-relays g c =
           (follows second (passed-holds second ms _ c.args.self.now c.play_line.new.self _ _ holds c.in_ok-play_line.ensures.player passes)));
     }) c.follow.ensures.follows
 
+pub returns-in_err-play_line-clause-wire : goal.returns-in_err-play_line-clause-wire
+returns-in_err-play_line-clause-wire g c =
+    KeepsLink-more g.B.Link.told g.B.Link.patience g.B.Link.opened_with g.B.Link.faults g.B.Link.made g.B.Link.openings 0 (nothings_by c.args.line.now.act) c.args.wire.now c.args.wire.now (omega arith) (KeepsLink-refl g.B.Link.told g.B.Link.patience g.B.Link.opened_with g.B.Link.faults g.B.Link.made g.B.Link.openings c.args.wire.now)
+
+pub returns-in-Tick-clause-wire : goal.returns-in-Tick-clause-wire
+returns-in-Tick-clause-wire g c =
+    let one : nothings_by c.args.line.now.act ≡ 1 = ap nothings_by c.in-Tick.is in
+    KeepsLink-more g.B.Link.told g.B.Link.patience g.B.Link.opened_with g.B.Link.faults g.B.Link.made g.B.Link.openings 1 (nothings_by c.args.line.now.act) c.args.wire.now c.follow.new.wire (omega (arith, one)) c.follow.ensures.link
+
 pub returns-in_default : goal.returns-in_default
 returns-in_default g c = record {
   relays = λ second holds. record {
@@ -37,5 +47,5 @@ returns-in_default g c = record {
     behind = behind-other second c.args.line.now.act (record c.args.self.now { player = c.play_line.new.self }) (record c.args.self.now { player = c.play_line.new.self }) (g.B.Link.told c.args.wire.now) (g.B.Link.told c.args.wire.now) (λ ms is. c.in_default.not-Tick ms is) refl refl;
   };
   lab = c.in_ok-play_line.ensures.link;
-  wire = KeepsLink-refl g.B.Link.opened_with g.B.Link.faults g.B.Link.made g.B.Link.openings c.args.wire.now;
+  wire = KeepsLink-more g.B.Link.told g.B.Link.patience g.B.Link.opened_with g.B.Link.faults g.B.Link.made g.B.Link.openings 0 (nothings_by c.args.line.now.act) c.args.wire.now c.args.wire.now (omega arith) (KeepsLink-refl g.B.Link.told g.B.Link.patience g.B.Link.opened_with g.B.Link.faults g.B.Link.made g.B.Link.openings c.args.wire.now);
 }

@@ -1,7 +1,11 @@
-use Rattle.std.proofs.Common.{[]}
+use Rattle.std.proofs.Common.{[], ◌+◌, arith}
 use Rattle.std.proofs.lemmas.Result.{IfOk-weaker}
+use Rattle.ua_base.proofs.Links.{KeepsLink-more, KeepsLink-then}
+use Rattle.ps_script.specs.Sessions.{ticks_in}
+use Rattle.session_model.specs.Counts.{session_nothings}
 use Rattle.pubsub_engine.proofs.OpenSets.{is-plan}
 use Rattle.script_player.proofs.Newly.{may-close}
+use Rattle.script_player.proofs.Ticks.{few-nothings}
 use Rattle.cmd_relay.proofs.Following.{config-of-gateway}
 use Rattle.cmd_relay.proofs.Stepping.{holds-relay}
 use Rattle.cmd_relay.proofs.Whole.{closed-of, relayed}
@@ -67,3 +71,52 @@ returns-clause-text g c =
     c.requires.new.plan (is-plan a.second [] c.requires.second.0 c.requires.second.1 tt) _ _ _ _ c.play.new.self c.end.new.self h e c.in_ok-closed.closed c.in_ok-closed.ensures.closes
     c.the_lines_of_a_gateway_tell_stores.ensures.text text.items told
     c.readers_are_told_by_their_names.ensures c.closed_sessions_have_numbers.ensures) c.text_of.ensures
+
+-- so many answers Nothing come at most
+pub returns-in_err-play-clause-lab : goal.returns-in_err-play-clause-lab
+returns-in_err-play-clause-lab g c =
+    let a = c.args.accepted.now in
+    let few = few-nothings a.first a.script c.requires.script in
+    KeepsLink-more g.A.Link.told g.A.Link.patience g.A.Link.opened_with g.A.Link.faults g.A.Link.made g.A.Link.openings (ticks_in a.script.lines) session_nothings c.args.lab.now c.play.new.lab (omega (arith, few)) c.play.ensures.lab
+
+pub returns-in_err-end-clause-lab : goal.returns-in_err-end-clause-lab
+returns-in_err-end-clause-lab g c =
+    let a = c.args.accepted.now in
+    KeepsLink-more g.A.Link.told g.A.Link.patience g.A.Link.opened_with g.A.Link.faults g.A.Link.made g.A.Link.openings (ticks_in a.script.lines + 1) session_nothings c.args.lab.now c.end.new.lab (few-nothings a.first a.script c.requires.script)
+    (KeepsLink-then g.A.Link.told g.A.Link.patience g.A.Link.opened_with g.A.Link.faults g.A.Link.made g.A.Link.openings (ticks_in a.script.lines) 1 c.args.lab.now c.play.new.lab c.end.new.lab c.play.ensures.lab c.end.ensures.lab)
+
+pub returns-in_err-closed-clause-lab : goal.returns-in_err-closed-clause-lab
+returns-in_err-closed-clause-lab g c =
+    let a = c.args.accepted.now in
+    KeepsLink-more g.A.Link.told g.A.Link.patience g.A.Link.opened_with g.A.Link.faults g.A.Link.made g.A.Link.openings (ticks_in a.script.lines + 1) session_nothings c.args.lab.now c.end.new.lab (few-nothings a.first a.script c.requires.script)
+    (KeepsLink-then g.A.Link.told g.A.Link.patience g.A.Link.opened_with g.A.Link.faults g.A.Link.made g.A.Link.openings (ticks_in a.script.lines) 1 c.args.lab.now c.play.new.lab c.end.new.lab c.play.ensures.lab c.end.ensures.lab)
+
+pub returns-clause-lab : goal.returns-clause-lab
+returns-clause-lab g c =
+    let a = c.args.accepted.now in
+    KeepsLink-more g.A.Link.told g.A.Link.patience g.A.Link.opened_with g.A.Link.faults g.A.Link.made g.A.Link.openings (ticks_in a.script.lines + 1) session_nothings c.args.lab.now c.end.new.lab (few-nothings a.first a.script c.requires.script)
+    (KeepsLink-then g.A.Link.told g.A.Link.patience g.A.Link.opened_with g.A.Link.faults g.A.Link.made g.A.Link.openings (ticks_in a.script.lines) 1 c.args.lab.now c.play.new.lab c.end.new.lab c.play.ensures.lab c.end.ensures.lab)
+
+pub returns-in_err-play-clause-wire : goal.returns-in_err-play-clause-wire
+returns-in_err-play-clause-wire g c =
+    let a = c.args.accepted.now in
+    let few = few-nothings a.first a.script c.requires.script in
+    KeepsLink-more g.B.Link.told g.B.Link.patience g.B.Link.opened_with g.B.Link.faults g.B.Link.made g.B.Link.openings (ticks_in a.script.lines) session_nothings c.args.wire.now c.play.new.wire (omega (arith, few)) c.play.ensures.wire
+
+pub returns-in_err-end-clause-wire : goal.returns-in_err-end-clause-wire
+returns-in_err-end-clause-wire g c =
+    let a = c.args.accepted.now in
+    KeepsLink-more g.B.Link.told g.B.Link.patience g.B.Link.opened_with g.B.Link.faults g.B.Link.made g.B.Link.openings (ticks_in a.script.lines + 1) session_nothings c.args.wire.now c.end.new.wire (few-nothings a.first a.script c.requires.script)
+    (KeepsLink-then g.B.Link.told g.B.Link.patience g.B.Link.opened_with g.B.Link.faults g.B.Link.made g.B.Link.openings (ticks_in a.script.lines) 1 c.args.wire.now c.play.new.wire c.end.new.wire c.play.ensures.wire c.end.ensures.wire)
+
+pub returns-in_err-closed-clause-wire : goal.returns-in_err-closed-clause-wire
+returns-in_err-closed-clause-wire g c =
+    let a = c.args.accepted.now in
+    KeepsLink-more g.B.Link.told g.B.Link.patience g.B.Link.opened_with g.B.Link.faults g.B.Link.made g.B.Link.openings (ticks_in a.script.lines + 1) session_nothings c.args.wire.now c.end.new.wire (few-nothings a.first a.script c.requires.script)
+    (KeepsLink-then g.B.Link.told g.B.Link.patience g.B.Link.opened_with g.B.Link.faults g.B.Link.made g.B.Link.openings (ticks_in a.script.lines) 1 c.args.wire.now c.play.new.wire c.end.new.wire c.play.ensures.wire c.end.ensures.wire)
+
+pub returns-clause-wire : goal.returns-clause-wire
+returns-clause-wire g c =
+    let a = c.args.accepted.now in
+    KeepsLink-more g.B.Link.told g.B.Link.patience g.B.Link.opened_with g.B.Link.faults g.B.Link.made g.B.Link.openings (ticks_in a.script.lines + 1) session_nothings c.args.wire.now c.end.new.wire (few-nothings a.first a.script c.requires.script)
+    (KeepsLink-then g.B.Link.told g.B.Link.patience g.B.Link.opened_with g.B.Link.faults g.B.Link.made g.B.Link.openings (ticks_in a.script.lines) 1 c.args.wire.now c.play.new.wire c.end.new.wire c.play.ensures.wire c.end.ensures.wire)

@@ -6,7 +6,7 @@ use Rattle.std.proofs.lemmas.List.Elements.{All-set}
 use Rattle.group_keys.specs.Ring.{key_sets}
 use Rattle.message_guard.specs.Senders.{IsSender, SenderState}
 use Rattle.ps_config.specs.declared.parts.KeyGroupPart.{KeyGroupPart}
-use Rattle.device_sides.specs.Sides.{IsNoLower, IsResumed, WouldRepeat}
+use Rattle.device_sides.specs.Sides.{IsNoLess, IsNoLower, IsResumed, WouldRepeat}
 use Rattle.device_sides.proofs.Places.{holds-at, put-at}
 use Rattle.device_sides.proofs.publisher.Publisher.go_on.Goals as goal
 
@@ -51,7 +51,7 @@ returns-clause-behind c =
     let at = c.from-index.ensures in
     let low : index < length senders = omega (arith, c.if-index-len.false, c.len.ensures, c.args.self.now.senders.ok.0) in
     let there : index < length keygroups = omega (arith, c.if-index-keygroups.false) in
-    let no_lower : IsNoLower (sender.keys.token, sender.used) (resumed.keys.token, resumed.used) =
+    let no_lower : IsNoLess sender resumed =
     subst (λ (standing : ℕ × ℕ). IsNoLower standing (resumed.keys.token, resumed.used)) c.standing-2.ensures
     (subst (λ (standing : ℕ × ℕ). IsNoLower c.standing-2.result standing) c.standing.ensures (c.if-not-is_behind.ensures.0 refl)) in
     record {
@@ -60,9 +60,9 @@ returns-clause-behind c =
       is_resumed = holds-at (λ (p : KeyGroupPart). HoldsAt (IsResumed p sets c.args.now c.args.used) (set senders index resumed) c.args.keygroup) keygroups c.args.self.now.config.keygroup index
           c.args.keygroup part c.as_slice-keygroups.ensures at there c.index-keygroups-index.is
           (put-at (IsResumed part sets c.args.now c.args.used) senders index c.args.keygroup resumed at low c.sender_with-sender.ensures.resumed);
-      no_lower = holds-at (λ (was : SenderState). HoldsAt (λ (is : SenderState). IsNoLower (was.keys.token, was.used) (is.keys.token, is.used)) (set senders index resumed) c.args.keygroup)
+      no_lower = holds-at (λ (was : SenderState). HoldsAt (IsNoLess was) (set senders index resumed) c.args.keygroup)
           senders senders index c.args.keygroup sender refl at low c.index.ensures
-          (put-at (λ (is : SenderState). IsNoLower (sender.keys.token, sender.used) (is.keys.token, is.used)) senders index c.args.keygroup resumed at low no_lower);
+          (put-at (IsNoLess sender) senders index c.args.keygroup resumed at low no_lower);
       others = put-at (λ (is : SenderState). set senders index resumed ≡ set senders c.args.keygroup is) senders index c.args.keygroup resumed at low (ap (λ (k : ℕ). set senders k resumed) at);
       rest = refl;
     }

@@ -1,4 +1,4 @@
-use Rattle.std.proofs.Common.{List, ℕ, arith, sym, subst, ◌∙◌}
+use Rattle.std.proofs.Common.{Bool, List, ℕ, arith, sym, subst, ◌∙◌}
 use Rattle.std.specs.List.{AllZip}
 use Rattle.ps_report.specs.declared.closed.Closed.{Closed}
 use Rattle.ps_report.specs.declared.closed.History.{History}
@@ -7,12 +7,12 @@ use Rattle.ps_report.specs.declared.closed.WriterEnd.{WriterEnd}
 use Rattle.session_model.specs.Closing.{reader_places, writer_places}
 use Rattle.session_model.specs.Lives.{account_in, account_of, steps_in}
 use Rattle.pubsub_engine.specs.Authored.{AreHistories}
-use Rattle.pubsub_engine.specs.Holding.{plan_of}
+use Rattle.pubsub_engine.specs.Holding.{plan_of, tells_versions}
 use Rattle.pubsub_engine.specs.LifeEnds.{IsToldBy, IsWriterEndBy}
-use Rattle.pubsub_engine.specs.Logs.{log_after}
+use Rattle.pubsub_engine.specs.Logs.{log_after, logs_told}
 use Rattle.pubsub_engine.proofs.Lives.{as-stands}
 use Rattle.pubsub_engine.proofs.Watched.{same-watches}
-use Rattle.pubsub_engine.proofs.Whole.{TellsParts, closed-by, few-sets, is-closed, is-closed-of, is-whole, is-whole-lived, passes-count}
+use Rattle.pubsub_engine.proofs.Whole.{TellsParts, are-told, closed-by, few-sets, is-closed, is-closed-of, is-whole, is-whole-lived, numbers-in, passes-count}
 use Rattle.pubsub_engine.proofs.session.Session.close.Goals as goal
 
 pub overflow_cast-sets : goal.overflow_cast-sets
@@ -44,15 +44,17 @@ returns c =
           (c.in_ok-writers.ensures most p steps a have);
       read_groups = λ p steps a have. c.new-4.ensures ∙ c.in_ok-read_groups.ensures p steps a have;
       readers = λ most p steps a published have.
-          subst (λ (l : List ReaderEnd). AllZip (IsToldBy (log_after most p.config a.deeds) p steps a) (reader_places p.config) l) (sym c.new-5.ensures)
-          (c.in_ok-readers.ensures most p steps a published have);
+          subst (λ (versions : Bool). AllZip (IsToldBy (logs_told versions (log_after most p.config a.deeds)) p steps a) (reader_places p.config) c.new-5.result) c.tells_versions.ensures
+          (subst (λ (l : List ReaderEnd). AllZip (IsToldBy (logs_told c.tells_versions.result (log_after most p.config a.deeds)) p steps a) (reader_places p.config) l) (sym c.new-5.ensures)
+          (c.in_ok-readers.ensures most p steps a published have));
       watches = c.new-6.ensures ∙ c.in_ok-watches.ensures;
       link = λ steps a. c.link_end.ensures a.journal steps;
     } in
+    let law = c.each_held_row_has_its_number.ensures in
     record {
-      closed = λ p steps stands order. is-closed c.each_held_row_has_its_number.ensures p steps s dones sets closed tells c.requires.session stands order;
-      whole = λ keeps p steps stands order.
-          is-whole p steps s closed keeps stands (is-closed c.each_held_row_has_its_number.ensures p steps s dones sets closed tells c.requires.session stands order);
+      closed = λ p steps stands order. is-closed law.plain p steps s dones sets closed tells c.requires.session stands order;
+      whole = λ keeps few p steps stands order.
+          is-whole p steps s closed keeps few stands (is-closed law.plain p steps s dones sets closed tells c.requires.session stands order);
       histories = λ few set threads low authored long.
           tells.histories.named few set threads (omega (arith, low, tells.count, passes-count s c.requires.session)) authored long;
       watches = λ order. tells.watches ∙ same-watches dones order;
@@ -60,5 +62,7 @@ returns c =
       lives = λ p life stands. closed-by p (steps_in life) (account_in p life) s dones sets closed tells c.requires.session stands.parts;
       whole_lives = λ keeps p life stands.
           is-whole-lived p life s closed keeps stands (closed-by p (steps_in life) (account_in p life) s dones sets closed tells c.requires.session stands.parts);
+      ends = λ p life stands order.
+          are-told p (steps_in life) (account_in p life) s dones sets closed (numbers-in law.opened law.stepped p life) tells c.requires.session stands.parts order;
       of_lives = λ life stands looks. is-closed-of (steps_in life) (account_in (plan_of s) life) s dones sets closed tells c.requires.session stands.parts looks;
     }

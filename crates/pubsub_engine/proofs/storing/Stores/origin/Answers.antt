@@ -11,7 +11,7 @@ use Rattle.session_model.specs.Closing.{MemberPlace, reader_places}
 use Rattle.session_model.specs.Stores.{Store}
 use Rattle.pubsub_engine.specs.declared.storing.Last.{Last}
 use Rattle.pubsub_engine.specs.declared.storing.Stores.{Stores}
-use Rattle.pubsub_engine.specs.Logs.{IsLogRead, log_after}
+use Rattle.pubsub_engine.specs.Logs.{IsLogRead, log_after, logs_told}
 use Rattle.pubsub_engine.specs.Storing.{HaveStored, IsLast, meta_at_place}
 use Rattle.pubsub_engine.proofs.Origins.{is-origin, no-origin}
 use Rattle.pubsub_engine.proofs.storing.Stores.origin.Goals as goal
@@ -26,7 +26,7 @@ last-at p list place s k j last stored at is found =
 
 pub returns-then-not-last : goal.returns-then-not-last
 returns-then-not-last c = λ most p metas deeds list place same logged past stored at.
-    no-origin (log_after most p.config deeds) p place (list place) (meta_at_place p.config place) (row_after (pass_at c.args.self.now.keeper c.args.reader).seen) c.index-last.result.now c.if-not-last.true
+    no-origin (logs_told c.args.versions (log_after most p.config deeds)) p place (list place) (meta_at_place p.config place) (row_after (pass_at c.args.self.now.keeper c.args.reader).seen) c.index-last.result.now c.if-not-last.true
     (last-at p list place c.args.self.now c.args.reader c.from.result c.index-last.result.now stored at c.from.ensures c.index-last.ensures)
 
 pub returns : goal.returns
@@ -34,11 +34,11 @@ returns c = λ most p metas deeds list place same logged past stored at.
     let k = c.args.reader in
     let log = c.log_read-log.result.now in
     let publisher = c.args.publisher.now in
-    is-origin most p metas deeds place (list place) (meta_at_place p.config place) (row_after (pass_at c.args.self.now.keeper c.args.reader).seen) c.index-last.result.now (pass_at c.args.self.now.keeper k) publisher log
+    is-origin c.args.versions most p metas deeds place (list place) (meta_at_place p.config place) (row_after (pass_at c.args.self.now.keeper c.args.reader).seen) c.index-last.result.now (pass_at c.args.self.now.keeper k) publisher log
     (record { store = c.version.result; number = c.index-last.result.now.number; version = c.version_at.result }) k c.if-not-last.false
     (last-at p list place c.args.self.now k c.from.result c.index-last.result.now stored at c.from.ensures c.index-last.ensures)
     (stored k place at).seen at logged past
-    (subst (λ (config : Config). (it : ReadGroupPart × ReaderPart) → slice_get (grouped_readers config.readgroup) k ≡ Some it → IsLogRead config publisher it log) (sym same)
-    (subst (λ (n : ℕ). (it : ReadGroupPart × ReaderPart) → slice_get (grouped_readers c.args.config.now.readgroup) n ≡ Some it → IsLogRead c.args.config.now publisher it log)
+    (subst (λ (config : Config). (it : ReadGroupPart × ReaderPart) → slice_get (grouped_readers config.readgroup) k ≡ Some it → IsLogRead c.args.versions config publisher it log) (sym same)
+    (subst (λ (n : ℕ). (it : ReadGroupPart × ReaderPart) → slice_get (grouped_readers c.args.config.now.readgroup) n ≡ Some it → IsLogRead c.args.versions c.args.config.now publisher it log)
     c.from-2.ensures c.log_read-log.ensures.log))
     (c.version.ensures ∙ ap (λ (pass : Known). length pass.seen) c.pass.ensures.pass) refl c.version_at.ensures

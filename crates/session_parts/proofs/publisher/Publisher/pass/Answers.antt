@@ -31,7 +31,7 @@ returns-then-not-has_turn-clause-passes g c =
     (sym (c.has_turn.ensures.has t so_far sends (record { told_is = told; at = at; none_failed = none })) ∙ off) at none
 
 pub returns-then-not-has_turn-clause-link : goal.returns-then-not-has_turn-clause-link
-returns-then-not-has_turn-clause-link g c = KeepsLink-refl g.L.Link.opened_with g.L.Link.faults g.L.Link.made g.L.Link.openings c.args.link.now
+returns-then-not-has_turn-clause-link g c = KeepsLink-refl g.L.Link.told g.L.Link.patience g.L.Link.opened_with g.L.Link.faults g.L.Link.made g.L.Link.openings c.args.link.now
 
 pub turn-count-requires-clause-unspent : goal.turn-count-requires-clause-unspent
 turn-count-requires-clause-unspent g c =

@@ -14,12 +14,12 @@ loop-g-init g c =
       spent = may.spent;
       goes_on = λ turns goes. go-none c.args.told.now.config.now c.args.told.now.metas.now turns (turns + 1) c.args.self.now.groups.items refl goes;
       logs = λ most all. all;
-      link = KeepsLink-refl g.L.Link.opened_with g.L.Link.faults g.L.Link.made g.L.Link.openings c.args.link.now;
+      link = KeepsLink-refl g.L.Link.told g.L.Link.patience g.L.Link.opened_with g.L.Link.faults g.L.Link.made g.L.Link.openings c.args.link.now;
       passed = λ t told at. passed-none t c.args.self.now c.args.tree.now (g.L.Link.told c.args.link.now) at;
     }
 
 pub pass-requires-clause-open : goal.pass-requires-clause-open
-pass-requires-clause-open g c = stays_open g.L.Link.opened_with g.L.Link.faults g.L.Link.made g.L.Link.openings c.args.link.now c.loop-g.link c.loop-g.invariant.link c.requires.open
+pass-requires-clause-open g c = stays_open g.L.Link.told g.L.Link.patience g.L.Link.opened_with g.L.Link.faults g.L.Link.made g.L.Link.openings 0 c.args.link.now c.loop-g.link c.loop-g.invariant.link c.requires.open
 
 pub pass-requires-clause-may : goal.pass-requires-clause-may
 pass-requires-clause-may g c =
@@ -50,7 +50,7 @@ loop-g-preserved g c =
       spent = e.spent;
       goes_on = λ turns goes. go-more told.config.now told.metas.now turns c.loop-g.g c.loop-g.self.groups.items c.pass.new.self.groups.items low e.others e.goes_on (inv.goes_on turns goes);
       logs = λ most all. e.logs most (inv.logs most all);
-      link = KeepsLink-then g.L.Link.opened_with g.L.Link.faults g.L.Link.made g.L.Link.openings c.args.link.now c.loop-g.link c.pass.new.link inv.link e.link;
+      link = KeepsLink-then g.L.Link.told g.L.Link.patience g.L.Link.opened_with g.L.Link.faults g.L.Link.made g.L.Link.openings 0 0 c.args.link.now c.loop-g.link c.pass.new.link inv.link e.link;
       passed = λ t is at.
           let before = inv.passed t is at in
           passed-more t c.loop-g.g c.loop-g.self c.pass.new.self c.loop-g.tree c.pass.new.tree (g.L.Link.told c.args.link.now) (g.L.Link.told c.loop-g.link) (g.L.Link.told c.pass.new.link)
@@ -72,7 +72,7 @@ returns-in-Memory-clause-logs g c = λ most all. c.in-Memory.ensures.logs most (
 
 pub returns-in-Memory-clause-link : goal.returns-in-Memory-clause-link
 returns-in-Memory-clause-link g c =
-    KeepsLink-then g.L.Link.opened_with g.L.Link.faults g.L.Link.made g.L.Link.openings c.args.link.now c.loop-g.link c.pass.new.link c.loop-g.invariant.link c.in-Memory.ensures.link
+    KeepsLink-then g.L.Link.told g.L.Link.patience g.L.Link.opened_with g.L.Link.faults g.L.Link.made g.L.Link.openings 0 0 c.args.link.now c.loop-g.link c.pass.new.link c.loop-g.invariant.link c.in-Memory.ensures.link
 
 pub returns-clause-goes_on : goal.returns-clause-goes_on
 returns-clause-goes_on g c =

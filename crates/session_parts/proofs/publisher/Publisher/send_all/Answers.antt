@@ -15,12 +15,12 @@ loop-i-init g c = record {
   sent = ([], none-been c.args.self.now (g.L.Link.told c.args.link.now));
   count = refl;
   rest = refl;
-  link = KeepsLink-refl g.L.Link.opened_with g.L.Link.faults g.L.Link.made g.L.Link.openings c.args.link.now;
+  link = KeepsLink-refl g.L.Link.told g.L.Link.patience g.L.Link.opened_with g.L.Link.faults g.L.Link.made g.L.Link.openings c.args.link.now;
 }
 
 pub send_one-requires-clause-open : goal.send_one-requires-clause-open
 send_one-requires-clause-open g c =
-    stays_open g.L.Link.opened_with g.L.Link.faults g.L.Link.made g.L.Link.openings c.args.link.now c.loop-i.link c.loop-i.invariant.link c.requires.open
+    stays_open g.L.Link.told g.L.Link.patience g.L.Link.opened_with g.L.Link.faults g.L.Link.made g.L.Link.openings 0 c.args.link.now c.loop-i.link c.loop-i.invariant.link c.requires.open
 
 pub send_one-requires-clause-reserved : goal.send_one-requires-clause-reserved
 send_one-requires-clause-reserved g c =
@@ -53,12 +53,12 @@ loop-i-preserved g c =
       );
       count = e.count ∙ inv.count;
       rest = e.rest ∙ ap (λ (p : Publisher). record p { sends = new.sends; link = new.link }) inv.rest;
-      link = KeepsLink-then g.L.Link.opened_with g.L.Link.faults g.L.Link.made g.L.Link.openings c.args.link.now c.loop-i.link c.send_one.new.link inv.link e.link;
+      link = KeepsLink-then g.L.Link.told g.L.Link.patience g.L.Link.opened_with g.L.Link.faults g.L.Link.made g.L.Link.openings 0 0 c.args.link.now c.loop-i.link c.send_one.new.link inv.link e.link;
     }
 
 pub returns-in-Memory-clause-link : goal.returns-in-Memory-clause-link
 returns-in-Memory-clause-link g c =
-    KeepsLink-then g.L.Link.opened_with g.L.Link.faults g.L.Link.made g.L.Link.openings c.args.link.now c.loop-i.link c.send_one.new.link c.loop-i.invariant.link c.in-Memory.ensures.link
+    KeepsLink-then g.L.Link.told g.L.Link.patience g.L.Link.opened_with g.L.Link.faults g.L.Link.made g.L.Link.openings 0 0 c.args.link.now c.loop-i.link c.send_one.new.link c.loop-i.invariant.link c.in-Memory.ensures.link
 
 pub returns-clause-sent : goal.returns-clause-sent
 returns-clause-sent g c =

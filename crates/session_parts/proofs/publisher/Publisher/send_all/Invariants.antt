@@ -11,5 +11,5 @@ invariant-loop-i g l = record {
   sent : (done : List Bool) × HaveBeenSent (sends_by l.g (take l.i (datagrams_in l.fn.self.out))) done l.fn.self l.self (g.L.Link.told l.fn.link) (g.L.Link.told l.link);
   count : vec_len l.self.sends ≡ vec_len l.fn.self.sends;
   rest : l.self ≡ record l.fn.self { sends = l.self.sends; link = l.self.link };
-  link : KeepsLink g.L.Link.opened_with g.L.Link.faults g.L.Link.made g.L.Link.openings l.fn.link l.link;
+  link : KeepsLink g.L.Link.told g.L.Link.patience g.L.Link.opened_with g.L.Link.faults g.L.Link.made g.L.Link.openings 0 l.fn.link l.link;
 }

@@ -1,6 +1,7 @@
 use Rattle.std.proofs.Common.{take, ap, arith}
 use Rattle.std.proofs.lemmas.List.{length-take}
 use Rattle.ua_base.specs.Journal.{Got, Long}
+use Rattle.ua_base.proofs.Links.{KeepsLink-more}
 use Rattle.ua_base.proofs.Told.{Tells-weaker}
 use Rattle.session_model.specs.Events.{receives}
 use Rattle.session_parts.specs.declared.receiving.Receiving.{Receiving}
@@ -38,3 +39,13 @@ returns-in-Long-clause-receives g c = (
   c.note_long.ensures.taken,
   Tells-weaker _ _ _ _ (λ x y p. p.0) c.in-Long.ensures.entry,
 )
+
+-- where a datagram came, or none since the receive failed, none of the answers was Nothing
+pub returns-in-Datagram-clause-link : goal.returns-in-Datagram-clause-link
+returns-in-Datagram-clause-link g c = KeepsLink-more g.L.Link.told g.L.Link.patience g.L.Link.opened_with g.L.Link.faults g.L.Link.made g.L.Link.openings 0 _ c.args.link.now c.take_in.new.link (omega arith) c.in-Datagram.ensures.link
+
+pub returns-in-Long-clause-link : goal.returns-in-Long-clause-link
+returns-in-Long-clause-link g c = KeepsLink-more g.L.Link.told g.L.Link.patience g.L.Link.opened_with g.L.Link.faults g.L.Link.made g.L.Link.openings 0 _ c.args.link.now c.take_in.new.link (omega arith) c.in-Long.ensures.link
+
+pub returns-in-Failed-clause-link : goal.returns-in-Failed-clause-link
+returns-in-Failed-clause-link g c = KeepsLink-more g.L.Link.told g.L.Link.patience g.L.Link.opened_with g.L.Link.faults g.L.Link.made g.L.Link.openings 0 _ c.args.link.now c.take_in.new.link (omega arith) c.in-Failed.ensures.link
