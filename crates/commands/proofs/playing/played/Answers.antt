@@ -6,7 +6,7 @@ use Rattle.commands.proofs.playing.played.Goals as goal
 
 pub returns-in_err-closed-clause-over : goal.returns-in_err-closed-clause-over
 returns-in_err-closed-clause-over g c =
-    let same = as-failed {U = Closed} c.from_residual-in_err-closed.result c.in_err-closed.field-0.0 c.from_residual-in_err-closed.ensures.1 in
+    let same = as-failed {U = Closed} c.from_residual.result c.in_err-closed.field-0.0 c.from_residual.ensures.1 in
     performs-as g.A.Link.told g.A.Link.patience g.A.Link.opened_with g.A.Link.faults g.A.Link.made g.A.Link.openings (opening_of c.args.accepted.now.config c.args.accepted.now.script) _ _ _ _ _ _
     same.0 same.1 c.in_err-closed.ensures.over
 
