@@ -1,5 +1,5 @@
 //! Fields that don't differ, passed by words.
-ghost use Rattle.std.specs.Prelude.{◌≡◌, ◌≢◌, ◌<◌, ◌≤◌, ◌+◌, true, length, take};
+ghost use Rattle.std.specs.Prelude.{◌≡◌, ◌≢◌, ◌<◌, ◌≤◌, ◌+◌, true, false, length, take};
 ghost use Rattle.dataset_meta.specs.Metas.{start_of};
 ghost use Rattle.row_words.specs.Belonging.{Belongs, row_in};
 ghost use Rattle.key_delta.specs.Changes.{changes_upto, HaveSameValues, HaveSameStatuses};
