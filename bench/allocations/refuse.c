@@ -1,13 +1,18 @@
 // Refuses the allocation with the number FAIL_AT of a program that is started with this library before the C library, and with
 // COUNT tells their number on the error output behind all else. With LARGE it refuses each allocation of so many bytes or more from the
-// moment on at which the program binds a socket or, with AFTER, first asks for just so many bytes.
+// moment on at which the program binds a socket or, with AFTER, first asks for just so many bytes or, with AT, first comes to the function
+// at this place of its file, where a breakpoint of x86-64 stands until then.
 #define _GNU_SOURCE
 #include <dlfcn.h>
 #include <errno.h>
+#include <link.h>
+#include <signal.h>
 #include <stdio.h>
 #include <stdlib.h>
+#include <sys/mman.h>
 #include <sys/socket.h>
 #include <sys/syscall.h>
+#include <ucontext.h>
 #include <unistd.h>
 
 void *__libc_malloc(size_t);
@@ -27,6 +32,35 @@ static void refuse_large(void) { large = number_of("LARGE"); }
 int bind(int socket, const struct sockaddr *address, socklen_t length) {
   refuse_large();
   return ((int (*)(int, const struct sockaddr *, socklen_t))dlsym(RTLD_NEXT, "bind"))(socket, address, length);
+}
+
+static unsigned char *stop, there;
+
+// Behind the one byte of the breakpoint: the function goes on as it is.
+static void come(int number, siginfo_t *told, void *context) {
+  (void)number, (void)told;
+  *stop = there;
+  ((ucontext_t *)context)->uc_mcontext.gregs[REG_RIP] = (greg_t)stop;
+  refuse_large();
+}
+
+// The program itself comes first.
+static int loaded(struct dl_phdr_info *info, size_t size, void *base) {
+  (void)size;
+  *(unsigned char **)base = (unsigned char *)info->dlpi_addr;
+  return 1;
+}
+
+__attribute__((constructor)) static void set_breakpoint(void) {
+  const char *place = getenv("AT");
+  unsigned char *base;
+  if (!place || !dl_iterate_phdr(loaded, &base)) return;
+  stop = base + strtoul(place, NULL, 16);
+  long page = sysconf(_SC_PAGESIZE);
+  sigaction(SIGTRAP, &(struct sigaction){.sa_sigaction = come, .sa_flags = SA_SIGINFO}, NULL);
+  if (mprotect(stop - (size_t)stop % page, page, PROT_READ | PROT_WRITE | PROT_EXEC)) abort();
+  there = *stop;
+  *stop = 0xcc;
 }
 
 static int refuses(size_t size) {

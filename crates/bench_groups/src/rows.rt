@@ -38,7 +38,7 @@ fn row_of(meta: &Meta, middle: u32) -> Row
 fn opening(meta: &Meta) -> Row
     ensures { Belongs meta.now result.words }
 {
-    let _ = meta.fields();
+    let _fields = meta.fields();
     Row::opening()
 }
 

@@ -153,7 +153,7 @@ fn reader(sets: &[Meta], part: &ReaderPart) -> Result<ReaderEnd, Unmeasured>
 fn opening(meta: &Meta) -> Row
     ensures { Belongs meta.now result.words }
 {
-    let _ = meta.fields();
+    let _fields = meta.fields();
     Row::opening()
 }
 

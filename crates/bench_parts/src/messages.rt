@@ -100,7 +100,7 @@ fn frame_of(meta: &Meta) -> Frame
     ensures bare_major { result.major ≡ None }
     ensures bare_minor { result.minor ≡ None }
 {
-    let _ = meta.fields();
+    let _fields = meta.fields();
     Frame {
         number: Some(65535),
         kind: FrameKind::Whole(Row::opening()),

@@ -45,6 +45,6 @@ module _ {L T : Type 0} (told : L → Option LinkState) (patience : L → ℕ) (
         once = over.once;
         failed = over.failed;
         unused = λ is. ((over.unused is).0, unused (is_open new) refl is, (over.unused is).2);
-        faults = over.faults;
+        counted = over.counted;
         lasts = over.lasts;
       })

@@ -41,7 +41,7 @@ over-wire told patience opened_with faults made openings opening performed unope
   once = record { making = over.once.making; at_most_once = over.once.at_most_once; once = over.once.once };
   failed = over.failed;
   unused = over.unused;
-  faults = over.faults;
+  counted = over.counted;
   lasts = record { tells = over.lasts.tells; left = over.lasts.left };
 }
 
@@ -53,7 +53,7 @@ uses-wire Opens opening fails performs before after over done failed opens = rec
   unused = λ is. over.unused (failed is);
   once = record { making = over.once.making; at_most_once = over.once.at_most_once; once = λ is. over.once.once (done is) };
   lasts = over.lasts;
-  cause = record { later = over.faults; rose = λ is. over.failed (failed is) };
+  cause = record { later = over.counted; rose = λ is. over.failed (failed is) };
 }
 
 -- a link that isn't used tells on

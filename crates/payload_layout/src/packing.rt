@@ -48,7 +48,7 @@ impl Filling {
         ensures { result
             ≡ (not self.now.pack.chunked
             && nat_le (2 * (self.now.pack.count + 1) + (self.now.bytes + size)
-                + 2 * self.now.pack.count) room) }
+            + 2 * self.now.pack.count) room) }
     {
         let count = u32::from(self.pack.count);
         let payload = 2 * (count + 1) + (self.bytes + u32::from(size));

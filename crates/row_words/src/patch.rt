@@ -40,7 +40,7 @@ impl Patch {
         ensures of { IsPatchOf meta.now result }
         ensures empty { patch_in meta.now.fields result ≡ [] }
     {
-        let _ = meta.fields();
+        let _fields = meta.fields();
         Patch::empty()
     }
 

@@ -47,7 +47,7 @@ impl Row {
         ensures belongs { Belongs meta.now result.words }
         ensures row { row_in meta.now.fields result.words ≡ opening_row meta.now.fields }
     {
-        let _ = meta.fields();
+        let _fields = meta.fields();
         Row::opening()
     }
 

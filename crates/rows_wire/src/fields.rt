@@ -173,7 +173,7 @@ pub fn changes_of(alloc: Global, line: &mut Line) -> Result<(Case, Vec<Put>), Li
 pub fn patch_of(meta: &Meta, puts: &[Put]) -> Result<Patch, LineFault>
     ensures { IfOk result (IsPatchOf meta.now) }
 {
-    let _ = meta.fields();
+    let _fields = meta.fields();
     let mut patch = Patch::empty();
     put_all(meta, &mut patch, puts)?;
     Ok(patch)

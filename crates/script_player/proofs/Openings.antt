@@ -64,7 +64,7 @@ module _ {L : Type 0} (told : L → Option LinkState) (patience : L → ℕ) (op
     once = record { making = refl; at_most_once = inl refl; once = λ is. absurd (none.0 is) };
     failed = λ is. absurd (none.1 is);
     unused = λ is. absurd (none.1 is);
-    faults = omega arith;
+    counted = omega arith;
     lasts = TellsOn-more told patience 0 session_nothings link link (omega arith) (TellsOn-refl told patience link);
   }
 
@@ -82,7 +82,7 @@ module _ {L : Type 0} (told : L → Option LinkState) (patience : L → ℕ) (op
         once = record { making = making; at_most_once = inl stands; once = λ is. absurd (never is) };
         failed = rose;
         unused = λ is. (stays.0, stays.1, stands);
-        faults = later;
+        counted = later;
         lasts = TellsOn-more told patience 0 session_nothings old new (omega arith) lasts;
       }
 
@@ -97,7 +97,7 @@ module _ {L : Type 0} (told : L → Option LinkState) (patience : L → ℕ) (op
     once = record { making = kept.making ∙ making; at_most_once = inr (kept.opened ∙ counted); once = λ is. kept.opened ∙ counted };
     failed = λ is. absurd (never is);
     unused = λ is. absurd (never is);
-    faults = omega (arith, later, kept.counted);
+    counted = omega (arith, later, kept.counted);
     lasts = TellsOn-more told patience (0 + nothings) session_nothings old new (omega (arith, few)) (TellsOn-then told patience 0 nothings old opened new lasts kept.lasts);
   }
 
@@ -110,7 +110,7 @@ module _ {L : Type 0} (told : L → Option LinkState) (patience : L → ℕ) (op
     once = record { making = over.once.making; at_most_once = over.once.at_most_once; once = λ is. over.once.once (one is) };
     failed = λ is. over.failed (other is);
     unused = λ is. over.unused (other is);
-    faults = over.faults;
+    counted = over.counted;
     lasts = over.lasts;
   }
 
@@ -125,7 +125,7 @@ module _ {L : Type 0} (told : L → Option LinkState) (patience : L → ℕ) (op
         once = record { making = over.once.making; at_most_once = over.once.at_most_once; once = over.once.once };
         failed = over.failed;
         unused = over.unused;
-        faults = over.faults;
+        counted = over.counted;
         lasts = record { tells = over.lasts.tells; left = over.lasts.left };
       } in
       subst (λ (l : L). PerformsOver told patience opened_with faults made openings opening performed unopened l last) from

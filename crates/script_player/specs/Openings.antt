@@ -19,5 +19,5 @@ pub record PerformsOver {L : Type 0} (told : L → Option LinkState) (patience :
   pub once : OpensOnce made openings performed old new
   pub failed : unopened → Rose (faults old) (faults new)
   pub unused : unopened → (told new ≡ told old) × (opened_with new ≡ opened_with old) × (openings new ≡ openings old)
-  pub faults : faults old ≤ faults new
+  pub counted : faults old ≤ faults new
   pub lasts : TellsOn told patience session_nothings old new

@@ -212,7 +212,8 @@ pub fn a_new_token_begins_with_key_frames()
         ≡ answered_at p g w steps }
     ensures at_once { (p : Plan) (before : List Step) (now : ℕ) (closing : Bool)
         (samples : List Sampled) (g w : ℕ) (turn : WriterTurn) → g < length p.config.group
-        → w < length (group_at p.config g).writer → is_rekeyed p.config now (deeds p before) g ≡ true
+        → w < length (group_at p.config g).writer
+        → is_rekeyed p.config now (deeds p before) g ≡ true
         → let past = group_past p.config g (deeds_before p before now closing samples g) in
         IsAnsweredWhole p.config past g w turn }
 {

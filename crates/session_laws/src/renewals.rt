@@ -53,7 +53,7 @@ pub fn tokens_never_fall_in_a_life()
 pub fn a_ring_has_short_tokens(ring: &Ring)
     ensures { HaveShortTokens (key_sets ring.now) }
 {
-    let _ = ring.key_sets();
+    let _sets = ring.key_sets();
 }
 
 /// A session of a signed group that a ring renews behind its closing tick lives so: its plan, its steps and its ring are what the laws
