@@ -3,7 +3,7 @@ use Rattle.std.proofs.Common.{◌≡◌, ℕ, zero, suc, ◌+◌, ◌-◌, ◌*�
 use Rattle.std.specs.Prelude.{map, ltb}
 use Rattle.std.proofs.lemmas.Bool.Decides.{nat_tests, Decides-ltb}
 use Rattle.std.proofs.Math.Seq.{drop-append-add, drop-append_seam, take-nil, drop-nil}
-use Rattle.std.proofs.lemmas.List.{drop-drop, drop-replicate, length-take-le, length-replicate, replicate-append-replicate}
+use Rattle.std.proofs.lemmas.List.{drop-drop, drop-replicate, length-take-le, length-replicate, length-take, take_all, replicate-append-replicate}
 use Rattle.dataset_meta.specs.declared.field.Field.{Field}
 use Rattle.dataset_meta.specs.DataValues.{DataValue}
 use Rattle.dataset_meta.specs.Metas.{MetaData, IsMeta, words_of, value_words, status_words}
@@ -117,6 +117,13 @@ same_before one other count of_one of_other same =
     ∙ ap (λ (ws : List ℕ). ws ++ drop count one) same
     ∙ ap (λ (ws : List ℕ). take count other ++ ws) (of_one.zeros ∙ sym of_other.zeros)
     ∙ take-append-drop count other
+
+-- all the words in front, taken twice
+pub same_taken : (one other : List ℕ) (count same : ℕ) → count ≤ same → take same (take count one) ≡ take same (take count other) → take count one ≡ take count other
+same_taken one other count same all taken =
+    let first : length (take count one) ≤ same = omega (arith, length-take count one) in
+    let second : length (take count other) ≤ same = omega (arith, length-take count other) in
+    sym (take_all same (take count one) first) ∙ taken ∙ take_all same (take count other) second
 
 pub not_less : (a b : ℕ) → ltb a b ≡ false → b ≤ a
 not_less a b e = grind (arith, nat_tests)

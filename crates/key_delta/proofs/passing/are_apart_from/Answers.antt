@@ -1,4 +1,4 @@
-use Rattle.std.proofs.Common.{◌≤◌, length, sym, ◌∙◌, arith}
+use Rattle.std.proofs.Common.{◌≤◌, take, length, sym, ◌∙◌, arith}
 use Rattle.std.proofs.lemmas.List.{take_all}
 use Rattle.key_delta.proofs.FrontLaws.{not_less, is_less}
 use Rattle.key_delta.proofs.passing.are_apart_from.Goals as goal
