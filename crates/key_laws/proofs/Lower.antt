@@ -1,12 +1,11 @@
 -- A ring of lower tokens changes nothing that is sent.
-use Rattle.std.proofs.Common.{◌≡◌, refl, sym, ap, ◌∙◌, subst, arith, ℕ, ◌<◌, ◌≤◌, nat_lt, nat_le, Bool, true, false, List, [], ◌∷◌, All, Option, Some, None}
+use Rattle.std.proofs.Common.{◌≡◌, refl, sym, ap, ◌∙◌, subst, arith, ℕ, ◌<◌, ◌≤◌, nat_lt, nat_le, Bool, true, false, List, [], ◌∷◌, Option, Some, None}
 use Rattle.std.specs.Prelude.{if◌then◌else◌}
 use Rattle.std.proofs.lemmas.Bool.Decides.{nat_tests}
 use Rattle.std.proofs.lemmas.List.Elements.{All-get_or}
 use Rattle.group_keys.specs.declared.key_set.KeySet.{KeySet}
 use Rattle.group_keys.specs.KeySets.{current}
 use Rattle.group_keys.proofs.Finding.{last_found_listed}
-use Rattle.message_guard.specs.declared.mode.Mode.{Mode}
 use Rattle.message_guard.specs.Protection.{keys_in}
 use Rattle.message_guard.specs.Senders.{SenderState, SenderStep, TurnTo, Renew, Front, Protect, advanced, datagrams_of, made_of, renewed, turned, turned_by}
 use Rattle.key_laws.specs.Lower.{AreNoHigher, ChangesNothingSent, RenewNoHigher, sends_in}

@@ -18,5 +18,5 @@ returns-in_err-report-clause-over g c =
 
 pub returns-clause-over : goal.returns-clause-over
 returns-clause-over g c =
-    performs-as g.B.Link.told g.B.Link.patience g.B.Link.opened_with g.B.Link.faults g.B.Link.made g.B.Link.openings (opening_of c.args.accepted.now.config c.args.accepted.now.script) _ _ _ _ c.args.wire.now c.run_script.new.link
+    performs-as g.B.Link.told g.B.Link.patience g.B.Link.opened_with g.B.Link.faults g.B.Link.made g.B.Link.openings (opening_of c.args.accepted.now.config c.args.accepted.now.script) _ _ _ _ _ _
     (λ is. refl) (λ is. absurd (performed-opened is)) c.in_ok-closed.ensures.over

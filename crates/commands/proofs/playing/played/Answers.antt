@@ -18,5 +18,5 @@ returns-in_err-report-clause-over g c =
 
 pub returns-clause-over : goal.returns-clause-over
 returns-clause-over g c =
-    performs-as g.A.Link.told g.A.Link.patience g.A.Link.opened_with g.A.Link.faults g.A.Link.made g.A.Link.openings (opening_of c.args.accepted.now.config c.args.accepted.now.script) _ _ _ _ c.args.lab.now c.play_script.new.link
+    performs-as g.A.Link.told g.A.Link.patience g.A.Link.opened_with g.A.Link.faults g.A.Link.made g.A.Link.openings (opening_of c.args.accepted.now.config c.args.accepted.now.script) _ _ _ _ _ _
     (λ is. refl) (λ is. absurd (performed-opened is)) c.in_ok-closed.ensures.over
