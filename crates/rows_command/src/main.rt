@@ -12,11 +12,27 @@ mod play;
 mod playing;
 mod relay;
 
-use case_lines::answer_lines;
-use cases::Bench;
+use case_lines::{AnsweredLine, Line, is_note};
+use cases::Cases;
 use std::io;
 
 fn main(rt: HostRuntime) -> io::Result<()> {
-    let mut bench = Bench::new(rt.alloc());
-    answer_lines(&rt, rt.alloc(), &mut bench)
+    let mut cases = Cases::new(rt.alloc());
+    for line in rt.lines(rt.alloc()) {
+        let line = line?;
+        let text = line.as_str();
+        let answer = if is_note(text) {
+            Ok(None)
+        } else if let Some(command) = text.strip_prefix("command ") {
+            cases.begin(rt.alloc(), command)
+        } else {
+            cases.answer(&rt, rt.alloc(), &mut Line::new(text))
+        };
+        let told = AnsweredLine {
+            line: text,
+            answer: &answer,
+        };
+        println!(&rt; "{told}")?;
+    }
+    Ok(())
 }
