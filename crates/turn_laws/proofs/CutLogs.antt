@@ -9,11 +9,15 @@ use Rattle.std.proofs.lemmas.Option.{none-some, slice_get-get_or}
 use Rattle.pubsub_model.specs.Answers.{version_of}
 use Rattle.pubsub_model.proofs.PlaceLaws.{log-in_row}
 use Rattle.group_keys.proofs.Finding.{last_found_listed, last_found_passes}
+use Rattle.writer_group.specs.Parts.{group_at}
+use Rattle.writer_group.specs.Turns.{writer_past}
 use Rattle.session_model.specs.Steps.{Plan}
 use Rattle.session_model.specs.Keeping.{AreStepsOf}
-use Rattle.session_model.specs.Lives.{Lived, log_in, steps_in}
+use Rattle.session_model.specs.Deeds.{group_past}
+use Rattle.session_model.specs.Lives.{Lived, account_in, log_in, steps_in}
 use Rattle.session_model.proofs.Lasting.{ticks-few}
 use Rattle.session_model.proofs.Ticks.{log-few-in, log-whole-in}
+use Rattle.session_laws.specs.Pasts.{settings_at}
 use Rattle.turn_laws.specs.Cut.{TellsAsWhole}
 
 abbrev has_number : ℕ → ℕ × ℕ → Bool
@@ -80,6 +84,8 @@ pub tells-as-whole : (ticks most : ℕ) (p : Plan) (life : List Lived) → AreSt
 tells-as-whole ticks most p life are (inl few) g w number version told =
     let short = log-few-in p g w life in
     let came = ticks-few ticks p (steps_in life) are in
-    cut-same _ most number version (log_in p life g w) (λ j entry at. log-in_row _ _ j entry at) (omega (arith, short, came, few)) told
+    let settings = settings_at (group_at p.config g) w in
+    let past = writer_past w (group_past p.config g (account_in p life).deeds) in
+    cut-same settings.first_number most number version (log_in p life g w) (λ j entry at. log-in_row settings past j entry at) (omega (arith, short, came, few)) told
 tells-as-whole ticks most p life are (inr whole) g w number version told =
     subst (λ (log : List (ℕ × ℕ)). version_of log number ≡ Some version) (log-whole-in most ticks p life are whole g w) told
